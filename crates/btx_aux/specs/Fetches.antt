@@ -1,0 +1,17 @@
+-- What the answer of a fetch says of its device.
+use Rattle.std.specs.Prelude.{Bool, true, false, Result, Ok, Err}
+use Rattle.btx_text.specs.declared.fault.Fault.{Fault}
+use Rattle.btx_text.specs.declared.fault.Fault.TheVariants as fault
+use Rattle.btx_aux.specs.declared.fetch_fault.FetchFault.{FetchFault}
+use Rattle.btx_aux.specs.declared.fetch_fault.FetchFault.TheVariants.{Memory, Device}
+
+-- the fetch failed by its device
+abbrev pub is_device_fetch : {T : Type 0} → Result T FetchFault → Bool
+is_device_fetch (Ok found) = false
+is_device_fetch (Err Memory) = false
+is_device_fetch (Err Device) = true
+
+-- the same fault of any call
+abbrev pub fault_of : FetchFault → Fault
+fault_of Memory = fault.Memory
+fault_of Device = fault.Device

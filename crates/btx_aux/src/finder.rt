@@ -1,0 +1,28 @@
+//! A source of files by name.
+ghost use Rattle.std.specs.Prelude.{◌≡◌, ℕ, [], Option, IfSome, IfOk, OnErr, Ok, Err, false, List};
+ghost use Rattle.btx_aux.specs.Files.{Files, file_of};
+ghost use Rattle.btx_text.specs.Counts.{count_after};
+ghost use Rattle.btx_aux.specs.Fetches.{is_device_fetch};
+
+use crate::fetch_fault::FetchFault;
+use std::alloc::Global;
+
+/// A source of files by name. Its content, which no call changes, says for each name the file's bytes or that there is no such
+/// file. A finder tells its content or doesn't, as one over real files.
+pub trait Finder {
+    /// The content, for a finder that tells it.
+    ghost content: { Self → Option Files };
+
+    /// How often the device has failed; a `u64`, which goes from its greatest value to 0.
+    ghost failures: { Self → ℕ };
+
+    /// Fetches a file. `Ok(true)`: `into` is the file's bytes. `Ok(false)`: there is no such file, and `into` is empty. After a
+    /// fault `into` is empty, and the count of failures rose, by one, exactly where the fault is the device's.
+    fn fetch(&mut self, alloc: Global, name: &[u8], into: &mut Vec<u8>) -> Result<bool, FetchFault>
+        ensures stays { content self.new ≡ content self.old }
+        ensures bytes { IfSome (content self.old) (λ files.
+            IfOk result (λ found. files name.now ≡ file_of found into.new.items)) }
+        ensures absent { result ≡ Ok false → into.new.items ≡ [] }
+        ensures fault { OnErr result (into.new.items ≡ []) }
+        ensures counts { failures self.new ≡ count_after (is_device_fetch result) (failures self.old) };
+}

@@ -1,0 +1,37 @@
+-- The classes of bytes. Alpha is `A-Z`, `a-z` and the bytes from 128 up, which have no case (this project's own rule);
+-- separators are `~` and `-` (btxhak, section 5.3, at `purify$`); white is space, tab and, this project's own, carriage return.
+use Rattle.std.specs.Prelude.{ℕ, ◌==◌, ◌||◌, ◌&&◌, nat_le, Bool, if◌then◌else◌}
+use Rattle.btx_text.specs.declared.byte_class.Class.{Class}
+use Rattle.btx_text.specs.declared.byte_class.Class.TheVariants.{White, Alpha, Digit, Sep, Other}
+
+-- space, tab and carriage return
+abbrev pub is_white : ℕ → Bool
+is_white b = b == 32 || b == 9 || b == 13
+
+-- the byte lies from one to another
+abbrev pub is_between : ℕ → ℕ → ℕ → Bool
+is_between low high b = nat_le low b && nat_le b high
+
+-- `A-Z`
+abbrev pub is_upper : ℕ → Bool
+is_upper = is_between 65 90
+
+-- `a-z`
+abbrev pub is_lower : ℕ → Bool
+is_lower = is_between 97 122
+
+-- a letter, or a byte from 128 up
+abbrev pub is_alpha : ℕ → Bool
+is_alpha b = is_upper b || is_lower b || nat_le 128 b
+
+-- `0-9`
+abbrev pub is_digit : ℕ → Bool
+is_digit = is_between 48 57
+
+-- `~` and `-`
+abbrev pub is_sep : ℕ → Bool
+is_sep b = b == 126 || b == 45
+
+-- the class of a byte
+unfoldable pub class_of : ℕ → Class
+class_of b = if is_white b then White else if is_alpha b then Alpha else if is_digit b then Digit else if is_sep b then Sep else Other

@@ -1,0 +1,4 @@
+pub mod Class
+pub mod Keys
+pub mod Lines
+pub mod Counts
