@@ -1,1 +1,7 @@
 pub mod LineLemmas
+pub mod ClassLemmas
+pub mod SequenceLemmas
+pub mod ElementLemmas
+pub mod DivisionLemmas
+pub mod WorkedElements
+pub mod EncodingLemmas

@@ -1,6 +1,6 @@
 -- The classes of bytes. Alpha is `A-Z`, `a-z` and the bytes from 128 up, which have no case (this project's own rule);
 -- separators are `~` and `-` (btxhak, section 5.3, at `purify$`); white is space, tab and, this project's own, carriage return.
-use Rattle.std.specs.Prelude.{ℕ, ◌==◌, ◌||◌, ◌&&◌, nat_le, Bool, if◌then◌else◌}
+use Rattle.std.specs.Prelude.{ℕ, ◌==◌, ◌||◌, ◌&&◌, nat_le, Bool, not, if◌then◌else◌}
 use Rattle.btx_text.specs.declared.byte_class.Class.{Class}
 use Rattle.btx_text.specs.declared.byte_class.Class.TheVariants.{White, Alpha, Digit, Sep, Other}
 
@@ -35,3 +35,11 @@ is_sep b = b == 126 || b == 45
 -- the class of a byte
 unfoldable pub class_of : ℕ → Class
 class_of b = if is_white b then White else if is_alpha b then Alpha else if is_digit b then Digit else if is_sep b then Sep else Other
+
+-- a byte is of a class: the tests of the four, and for the fifth that none of them passes
+abbrev pub is_of_class : Class → ℕ → Bool
+is_of_class White b = is_white b
+is_of_class Alpha b = is_alpha b
+is_of_class Digit b = is_digit b
+is_of_class Sep b = is_sep b
+is_of_class Other b = not (is_white b || is_alpha b || is_digit b || is_sep b)

@@ -2,3 +2,6 @@ pub mod Class
 pub mod Keys
 pub mod Lines
 pub mod Counts
+pub mod Sequences
+pub mod Elements
+pub mod Parts

@@ -1,4 +1,5 @@
--- The lines of a text: the pieces between bytes 10, each without its trailing white. A last piece counts if it has a byte.
+-- The lines of a text: it is cut at its line feeds, and each line loses the white at its end. What follows the last line feed is a
+-- line too, unless nothing does.
 use Rattle.std.specs.Prelude.{ℕ, ◌==◌, List, [], ◌∷◌, map, if◌then◌else◌}
 use Rattle.btx_text.specs.Class.{is_white}
 
@@ -7,7 +8,7 @@ abbrev pub in_front : ℕ → List (List ℕ) → List (List ℕ)
 in_front b [] = (b ∷ []) ∷ []
 in_front b (piece ∷ pieces) = (b ∷ piece) ∷ pieces
 
--- the pieces between bytes 10, where a last one counts if it has a byte
+-- the pieces between line feeds, the last one only if it has a byte
 unfoldable pub pieces_of : List ℕ → List (List ℕ)
 pieces_of [] = []
 pieces_of (b ∷ bs) = if b == 10 then [] ∷ pieces_of bs else in_front b (pieces_of bs)

@@ -1,6 +1,6 @@
 //! Which class a byte has.
 ghost use Rattle.std.specs.Prelude.{◌≡◌};
-ghost use Rattle.btx_text.specs.Class.{class_of, is_white};
+ghost use Rattle.btx_text.specs.Class.{class_of, is_alpha, is_white};
 
 use crate::byte_class::Class;
 
@@ -23,4 +23,11 @@ pub fn is_white(byte: u8) -> bool
     ensures { result ≡ is_white byte }
 {
     matches!(byte, b' ' | b'\t' | b'\r')
+}
+
+/// Whether a byte is alpha: a letter `A-Z` or `a-z`, or a byte from 128 up.
+pub fn is_alpha(byte: u8) -> bool
+    ensures { result ≡ is_alpha byte }
+{
+    byte.is_ascii_alphabetic() || byte >= 128
 }

@@ -1,0 +1,138 @@
+-- The division of a string into elements (btxhak, section 5.3, at the functions on strings, and 5.4; btxdoc, section 4, at special
+-- characters): braces, special characters, characters of more than one byte where the text is UTF-8, and all other bytes, each by itself.
+-- First the division is stated on the whole list, without saying how it is found; the same list is then computed.
+use Rattle.std.specs.Prelude.{◌≡◌, ℕ, zero, suc, ◌+◌, ◌-◌, ◌<◌, Bool, true, false, ◌&&◌, ◌==◌, nat_eq, List, [], ◌∷◌, ◌++◌, length, take, fold, ◌⊎◌, if◌then◌else◌, slice_index, IsTrue}
+use Rattle.std.specs.List.{flat_map, starts_with}
+use Rattle.btx_text.specs.declared.element_kind.Kind.{Kind}
+use Rattle.btx_text.specs.declared.element_kind.Kind.TheVariants.{Byte, Open, Close, Special, Wide}
+use Rattle.btx_text.specs.declared.element_kind.TextMode.{TextMode}
+use Rattle.btx_text.specs.declared.element_kind.TextMode.TheVariants.{Bytes, Utf8}
+use Rattle.btx_text.specs.Sequences.{sequence_size, is_sequence, begins_sequence}
+
+-- `{`
+abbrev pub open_brace : ℕ
+open_brace = 123
+
+-- `}`
+abbrev pub close_brace : ℕ
+close_brace = 125
+
+-- the backslash
+abbrev pub backslash : ℕ
+backslash = 92
+
+-- ---- depth
+
+-- the brace depth after a byte: one more after `{`, one less after `}`, but never below 0 (this project's own rule)
+abbrev pub depth_after : ℕ → ℕ → ℕ
+depth_after depth b = if b == open_brace then depth + 1 else if b == close_brace then depth - 1 else depth
+
+-- the brace depth after a text
+abbrev pub depth_of : List ℕ → ℕ
+depth_of text = fold depth_after 0 text
+
+-- ---- the division, stated
+
+-- an element of a string: its kind, its text, the index of its first byte, and the brace depth before it
+pub record Part : Type 0 where
+  pub kind : Kind
+  pub text : List ℕ
+  pub start : ℕ
+  pub depth : ℕ
+
+-- the texts of elements, joined
+abbrev pub text_of : List Part → List ℕ
+text_of parts = flat_map (λ part. part.text) parts
+
+-- a special character begins where, at depth 0, a `{` stands directly before a backslash
+abbrev pub begins_special : ℕ → List ℕ → Bool
+begins_special depth rest = depth == 0 && starts_with nat_eq rest (open_brace ∷ backslash ∷ [])
+
+-- characters of more than one byte are told apart in UTF-8 alone
+abbrev pub is_utf8 : TextMode → Bool
+is_utf8 Bytes = false
+is_utf8 Utf8 = true
+
+-- the kind of a byte by itself
+abbrev pub kind_of : ℕ → Kind
+kind_of b = if b == open_brace then Open else if b == close_brace then Close else Byte
+
+-- the kind of the element that begins at a depth, with the string from there on
+unfoldable pub kind_at : TextMode → ℕ → List ℕ → Kind
+kind_at mode depth rest =
+    if begins_special depth rest then Special
+    else if is_utf8 mode && begins_sequence rest then Wide else kind_of (slice_index rest 0)
+
+-- the text of a special character, and what follows: inside it the depth is above 0, and it ends at depth 0 or at the end of the string
+pub record IsSpecial (text after : List ℕ) : Type 0 where
+  pub inside : (n : ℕ) → 0 < n → n < length text → 0 < depth_of (take n text)
+  pub ends : (depth_of text ≡ 0) ⊎ (after ≡ [])
+  pub some : 0 < length text
+
+-- how far an element of a kind reaches: a special character as above, a wide one is one sequence, any other is one byte
+abbrev pub Reaches : Kind → List ℕ → List ℕ → Type 0
+Reaches Special text after = IsSpecial text after
+Reaches Wide text after = IsTrue (is_sequence text)
+Reaches _ text after = length text ≡ 1
+
+-- the part is the element of its place, which stands between these texts
+pub record IsElement (mode : TextMode) (before : List ℕ) (part : Part) (after : List ℕ) : Type 0 where
+  pub start : part.start ≡ length before
+  pub depth : part.depth ≡ depth_of before
+  pub kind : part.kind ≡ kind_at mode part.depth (part.text ++ after)
+  pub reaches : Reaches part.kind part.text after
+
+-- the parts joined are the string, and each is the element of its place
+pub record IsDivision (mode : TextMode) (string : List ℕ) (parts : List Part) : Type 0 where
+  pub joined : text_of parts ≡ string
+  pub each : (left : List Part) (part : Part) (right : List Part) → parts ≡ left ++ part ∷ right → IsElement mode (text_of left) part (text_of right)
+
+-- ---- the same list, computed
+
+-- how many bytes there are from a depth until it is 0 after one of them, or to the end
+unfoldable pub group_len : ℕ → List ℕ → ℕ
+group_len depth [] = 0
+group_len depth (b ∷ bs) = if depth_after depth b == 0 then 1 else suc (group_len (depth_after depth b) bs)
+
+-- how many bytes the element of a kind has that a text begins with
+abbrev pub extent : Kind → List ℕ → ℕ
+extent Special rest = group_len 0 rest
+extent Wide rest = sequence_size (slice_index rest 0)
+extent _ rest = 1
+
+-- the element that begins at a place, with the string from there on
+abbrev pub element_at : TextMode → ℕ → ℕ → List ℕ → Part
+element_at mode start depth rest =
+    let kind = kind_at mode depth rest in
+    record { kind = kind; text = take (extent kind rest) rest; start = start; depth = depth }
+
+-- the elements that begin in the rest of a string, whose first `skip` bytes belong to an element before
+unfoldable pub elements_from : TextMode → ℕ → ℕ → ℕ → List ℕ → List Part
+elements_from mode skip start depth [] = []
+elements_from mode (suc skip) start depth (b ∷ bs) = elements_from mode skip (start + 1) (depth_after depth b) bs
+elements_from mode zero start depth (b ∷ bs) =
+    let part = element_at mode start depth (b ∷ bs) in
+    part ∷ elements_from mode (length part.text - 1) (start + 1) (depth_after depth b) bs
+
+-- the one division of a string
+unfoldable pub elements_of : TextMode → List ℕ → List Part
+elements_of mode string = elements_from mode 0 0 0 string
+
+-- ---- what elements count as
+
+-- a byte that is no brace, a special character and a wide one count as one character of text
+abbrev pub is_character : Kind → Bool
+is_character Open = false
+is_character Close = false
+is_character _ = true
+
+-- a character of more than one byte
+abbrev pub is_wide : Kind → Bool
+is_wide Wide = true
+is_wide _ = false
+
+-- the depth after an element of a kind: a special character ends at 0, or nothing follows it
+abbrev pub depth_past : Kind → ℕ → ℕ → ℕ
+depth_past Special depth first = 0
+depth_past Wide depth first = depth
+depth_past _ depth first = depth_after depth first

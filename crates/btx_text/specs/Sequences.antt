@@ -1,0 +1,35 @@
+-- The sequences of UTF-8 that are one character of more than one byte (this project's own rule; the table is Unicode's, "Well-Formed
+-- UTF-8 Byte Sequences"). An overlong form, a surrogate and a number past 10FFFF are no sequence.
+use Rattle.std.specs.Prelude.{ℕ, ◌==◌, ◌&&◌, Bool, false, List, [], ◌∷◌, length, take, if◌then◌else◌, slice_index}
+use Rattle.std.specs.List.{list_all}
+use Rattle.btx_text.specs.Class.{is_between}
+
+-- a byte that goes on with a sequence, 80 to BF
+abbrev pub is_further : ℕ → Bool
+is_further = is_between 0x80 0xBF
+
+-- how many bytes a sequence has that begins with a byte, 0 where none does
+unfoldable pub sequence_size : ℕ → ℕ
+sequence_size first =
+    if is_between 0xC2 0xDF first then 2
+    else if is_between 0xE0 0xEF first then 3
+    else if is_between 0xF0 0xF4 first then 4 else 0
+
+-- the second byte fits the first: after four of them not every further byte does
+unfoldable pub second_fits : ℕ → ℕ → Bool
+second_fits first second =
+    if first == 0xE0 then is_between 0xA0 0xBF second
+    else if first == 0xED then is_between 0x80 0x9F second
+    else if first == 0xF0 then is_between 0x90 0xBF second
+    else if first == 0xF4 then is_between 0x80 0x8F second else is_further second
+
+-- a text is one well-formed sequence: it has as many bytes as its first says, the second fits, and the others go on
+unfoldable pub is_sequence : List ℕ → Bool
+is_sequence [] = false
+is_sequence (first ∷ []) = false
+is_sequence (first ∷ second ∷ others) =
+    length (first ∷ second ∷ others) == sequence_size first && second_fits first second && list_all is_further others
+
+-- a text begins with a well-formed sequence
+unfoldable pub begins_sequence : List ℕ → Bool
+begins_sequence rest = is_sequence (take (sequence_size (slice_index rest 0)) rest)
