@@ -31,7 +31,7 @@ impl Log {
 }
 
 /// Writes all of a piece, or stops at the first failure, with a beginning of the piece received.
-pub fn write_whole<S: Sink>(bytes: &[u8], sink: &mut S) -> Result<(), Fault>
+pub(crate) fn write_whole<S: Sink>(bytes: &[u8], sink: &mut S) -> Result<(), Fault>
     ensures ok { OnOk result (Appends (S.received sink.old) (S.received sink.new) bytes.now) }
     ensures err { OnErr result (AppendsBeginning (S.received sink.old) (S.received sink.new) bytes.now) }
     ensures fault { IfErr result (λ fault. fault ≡ Fault.Device) }

@@ -20,18 +20,20 @@ pub trait Sink {
     /// How often a write has failed; a `u64`, which goes from its greatest value to 0.
     ghost failures: { Self → ℕ };
 
-    /// Takes the first bytes of a piece, at `Ok(n)` n of them, and none at an error. The count of failures rises by one exactly where
-    /// the write gives an error, an interrupted one too, or takes nothing of a piece that isn't empty.
+    /// Takes bytes from the front of a piece: `Ok(n)` says how many, and an error that it took none. A write has failed where it
+    /// answers an error, be it that it was interrupted, or 0 although it was given bytes. Such a write raises the count by one, no other.
     fn write(&mut self, bytes: &[u8]) -> Result<usize, SinkFault>
         ensures bound { IfOk result (λ n. n ≤ length bytes.now) }
         ensures bytes { WriteAppends (received self.old) (received self.new) result bytes.now }
         ensures counts { failures self.new ≡ count_after (is_failed_write result (length bytes.now)) (failures self.old) };
 }
 
-/// A sink over any writer: it hands on what the writer answered, and stores the count of failures.
+/// A sink over any writer. Each write is one write of that writer and has its answer.
 #[derive(Drop)]
 pub struct Over<W> {
+    /// What is written to.
     pub writer: W,
+    /// How often a write has failed.
     pub failures: u64,
 }
 
@@ -54,18 +56,14 @@ impl<W: Write> Sink for Over<W> {
     ghost failures = { λ sink. sink.failures };
 
     fn write(&mut self, bytes: &[u8]) -> Result<usize, SinkFault> {
-        match self.writer.write(bytes) {
-            Ok(taken) => {
-                if taken == 0 && !bytes.is_empty() {
-                    self.failures = self.failures.wrapping_add(1);
-                }
-                Ok(taken)
-            }
-            Err(_) => {
-                let risen = self.failures.wrapping_add(1);
-                self.failures = risen;
-                Err(SinkFault)
-            }
+        let answer = self.writer.write(bytes);
+        let failed = match answer {
+            Ok(taken) => taken == 0 && !bytes.is_empty(),
+            Err(_) => true,
+        };
+        if failed {
+            self.failures = self.failures.wrapping_add(1);
         }
+        answer.map_err(|_| SinkFault)
     }
 }

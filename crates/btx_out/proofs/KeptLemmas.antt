@@ -1,0 +1,199 @@
+-- Lemmas on the bytes that a breaker keeps.
+use Rattle.std.proofs.Common.{◌≡◌, ℕ, zero, suc, ◌+◌, ◌-◌, ◌<◌, ◌≤◌, cond, List, [], ◌∷◌, ◌++◌, length, take, drop, set, get_or, ◌⊎◌, ⊎_elim, Some, None, refl, sym, subst, ◌∙◌, ap, arith, append_assoc, Bool, true, false}
+use Rattle.std.proofs.lemmas.Bool.{le-leb}
+use Rattle.std.proofs.lemmas.List.{append-nil, take_more, take_more_set, drop_all, drop-set-lt, drop-set, drop-set-add, take_all, take-take, length-take-le, length-set, length-drop}
+use Rattle.std.proofs.lemmas.List.Edits.{take-paste}
+use Rattle.std.proofs.Math.Seq.{drop-cons}
+use Rattle.std.specs.List.{copy_within}
+use Rattle.btx_text.specs.Class.{is_white}
+use Rattle.btx_text.specs.Lines.{trimmed, white_before}
+use Rattle.btx_out.specs.Breaking.{line, ended, last_white, indented, skip_white, till_white, from_white}
+
+-- ---- the last white
+
+pub last_white_step : (end : ℕ) (text : List ℕ) → 3 ≤ end → last_white (end + 1) text ≡ cond (is_white (get_or text end 0)) (Some end) (last_white end text)
+unfolding last_white
+last_white_step end text h = let e : end + 1 ≡ suc end = omega arith in rw (e, le-leb 3 end h) refl
+
+pub last_white_three : (end : ℕ) (text : List ℕ) → end ≤ 3 → last_white end text ≡ None
+unfolding last_white
+last_white_three zero text h = refl
+last_white_three (suc zero) text h = refl
+last_white_three (suc (suc zero)) text h = refl
+last_white_three (suc (suc (suc zero))) text h = refl
+last_white_three (suc (suc (suc (suc n)))) text h = absurd (omega arith)
+
+pub ruleset last_whites = (last_white_step, last_white_three)
+
+-- ---- a line and its end
+
+-- what is kept of a line is its front
+pub trimmed_front : (text : List ℕ) → (length (trimmed text) ≤ length text) × (trimmed text ≡ take (length (trimmed text)) text)
+unfolding trimmed
+trimmed_front [] = (omega arith, refl)
+trimmed_front (b ∷ bs) = at (is_white b) (trimmed bs) (trimmed_front bs) where
+  at : (t : Bool) (kept : List ℕ) → (length kept ≤ length bs) × (kept ≡ take (length kept) bs) →
+      (length (cond t (white_before b kept) (b ∷ kept)) ≤ suc (length bs)) × (cond t (white_before b kept) (b ∷ kept) ≡ take (length (cond t (white_before b kept) (b ∷ kept))) (b ∷ bs))
+  at true [] h = (omega arith, refl)
+  at true (c ∷ cs) h = (omega (arith, h.0), ap (λ xs. b ∷ xs) h.1)
+  at false kept h = (omega (arith, h.0), ap (λ xs. b ∷ xs) h.1)
+
+-- a line of white alone is nothing
+pub line_gone : (text : List ℕ) → 0 < length text → length (trimmed text) ≡ 0 → line text ≡ []
+line_gone [] some h = absurd (omega arith)
+line_gone (b ∷ bs) some h = at (trimmed (b ∷ bs)) h where
+  at : (kept : List ℕ) → length kept ≡ 0 → ended kept ≡ []
+  at [] h = refl
+  at (c ∷ cs) h = absurd (omega arith)
+
+-- any other is what is kept of it, and byte 10
+pub line_kept : (text : List ℕ) → (length text ≡ 0 → ⊥) → (length (trimmed text) ≡ 0 → ⊥) → line text ≡ trimmed text ++ 10 ∷ []
+unfolding trimmed
+line_kept [] some h = absurd (some refl)
+line_kept (b ∷ bs) some h = at (trimmed (b ∷ bs)) h where
+  at : (kept : List ℕ) → (length kept ≡ 0 → ⊥) → ended kept ≡ kept ++ 10 ∷ []
+  at [] h = absurd (h refl)
+  at (c ∷ cs) h = refl
+
+pub line_empty : (text : List ℕ) → length text ≡ 0 → line text ≡ trimmed text ++ 10 ∷ []
+unfolding trimmed
+line_empty [] h = refl
+line_empty (b ∷ bs) h = absurd (omega arith)
+
+-- what is kept of the line before an index
+pub kept_within : (text kept : List ℕ) (at : ℕ) → at < length text → kept ≡ trimmed (take at text) → length kept ≤ at
+kept_within text kept at inside is =
+    let front = trimmed_front (take at text) in
+    let len : length (take at text) ≡ at = length-take-le at text (omega arith) in
+    rw is (omega (arith, front.0))
+
+-- it and byte 10 are the line as it is written
+pub kept_line : (text kept : List ℕ) (at : ℕ) → at < length text → kept ≡ trimmed (take at text) → ((length kept ≡ 0) × (at ≤ 0)) ⊎ (length kept ≡ 0 → ⊥) →
+    take (length kept + 1) (set text (length kept) 10) ≡ line (take at text)
+kept_line text kept at inside is either =
+    let within = kept_within text kept at inside is in
+    let front = trimmed_front (take at text) in
+    let short : length kept < length text = omega arith in
+    let kept_is : take (length kept) text ≡ kept = sym (take-take (length kept) at text within) ∙ sym (rw (← is) at front.1) in
+    rw (take_more_set text (length kept) 10 short, kept_is)
+    (⊎_elim (λ none. rw is (sym (line_empty (take at text) (let len : length (take at text) ≡ at = length-take-le at text (omega arith) in omega arith))))
+    (λ some. let some' : length (trimmed (take at text)) ≡ 0 → ⊥ = rw is at some in
+    rw is (sym (line_kept (take at text) (λ none. some' (let le = front.0 in omega arith)) some'))) either)
+
+-- what stands behind the index stays
+pub kept_rest : (text kept : List ℕ) (at : ℕ) → at < length text → kept ≡ trimmed (take at text) → drop (at + 1) (set text (length kept) 10) ≡ drop (at + 1) text
+kept_rest text kept at inside is = let within = kept_within text kept at inside is in drop-set-lt (at + 1) text (length kept) 10 (omega arith)
+
+-- a line of white alone is not written
+pub kept_none : (text kept : List ℕ) (at : ℕ) → at < length text → kept ≡ trimmed (take at text) → length kept ≡ 0 → 0 < at → line (take at text) ≡ []
+kept_none text kept at inside is none some =
+    let len : length (take at text) ≡ at = length-take-le at text (omega arith) in
+    line_gone (take at text) (omega arith) (rw is at none)
+
+-- ---- what goes on after a break
+
+-- two spaces before what stands behind an index
+spaced : (text : List ℕ) (start : ℕ) → start + 1 < length text → drop start (set (set text start 32) (start + 1) 32) ≡ indented (drop (start + 2) text)
+spaced text start inside =
+    let first = drop-set text start 32 (omega arith) in
+    let cut = drop-cons text (start + 1) 0 inside in
+    let more : suc (start + 1) ≡ start + 2 = omega arith in
+    drop-set-add start (set text start 32) 1 32 ∙ rw (first, cut, more) refl
+
+-- a copy of the end to the front
+copied : (both moved : List ℕ) (start : ℕ) → start ≤ length both → moved ≡ copy_within both start (length both) 0 → length moved ≡ length both →
+    take (length moved - start) moved ≡ drop start both
+copied both moved start inside is len =
+    let rest = length-drop start both in
+    let room : length both - start ≤ length (drop start both) = omega arith in
+    let none : 0 ≤ length both = omega arith in
+    let taken = take-paste both 0 (drop start both) (length both - start) none room in
+    let same : 0 + (length both - start) ≡ length both - start = omega arith in
+    let Taken : ℕ → Type 0 = λ n. take n (copy_within both start (length both) 0) ≡ take (length both - start) (drop start both) in
+    let taken' = subst Taken same taken in
+    rw (len, is) (taken' ∙ take_all (length both - start) (drop start both) (omega arith))
+
+pub carried : (text moved : List ℕ) (at : ℕ) → 0 < at → at < length text →
+    moved ≡ copy_within (set (set text (at - 1) 32) at 32) (at - 1) (length (set (set text (at - 1) 32) at 32)) 0 →
+    length moved ≡ length (set (set text (at - 1) 32) at 32) →
+    take (length moved - (at - 1)) moved ≡ indented (drop (at + 1) text)
+carried text moved at some inside is len = carried_from (at - 1) (omega arith) (omega arith) where
+  carried_from : (start : ℕ) → start ≡ at - 1 → at ≡ start + 1 → take (length moved - (at - 1)) moved ≡ indented (drop (at + 1) text)
+  carried_from start same next =
+      let both = set (set text (at - 1) 32) at 32 in
+      let length_both : length both ≡ length text = length-set (set text (at - 1) 32) at 32 ∙ length-set text (at - 1) 32 in
+      let more : at + 1 ≡ start + 2 = omega arith in
+      let front = copied both moved (at - 1) (omega arith) is len in
+      let gap = spaced text start (omega arith) in
+      front ∙ rw (more, ← same, next) gap
+
+-- ---- the first white
+
+-- how far a search for the first white has come
+pub record IsInk (bytes : List ℕ) (at : ℕ) : Type 0 where
+  pub before : till_white bytes ≡ take at bytes ++ till_white (drop at bytes)
+  pub from : from_white bytes ≡ from_white (drop at bytes)
+
+pub IsInk-none : (bytes : List ℕ) → IsInk bytes 0
+IsInk-none bytes = record { before = refl; from = refl }
+
+ink_step : (b : ℕ) (bs : List ℕ) → is_white b ≡ false → (till_white (b ∷ bs) ≡ b ∷ till_white bs) × (from_white (b ∷ bs) ≡ from_white bs)
+unfolding till_white from_white
+ink_step b bs ink = rw ink (refl, refl)
+
+white_step : (b : ℕ) (bs : List ℕ) → is_white b ≡ true → (till_white (b ∷ bs) ≡ []) × (from_white (b ∷ bs) ≡ b ∷ bs)
+unfolding till_white from_white
+white_step b bs white = rw white (refl, refl)
+
+pub IsInk-more : (bytes : List ℕ) (at : ℕ) → at < length bytes → is_white (get_or bytes at 0) ≡ false → IsInk bytes at → IsInk bytes (at + 1)
+IsInk-more bytes at inside ink far =
+    let cut = drop-cons bytes at 0 inside in
+    let next : at + 1 ≡ suc at = omega arith in
+    let step = ink_step (get_or bytes at 0) (drop (suc at) bytes) ink in
+    record {
+      before = far.before ∙ rw (cut, step.0, take_more bytes at 0 inside, next) (sym (append_assoc (take at bytes) (get_or bytes at 0 ∷ []) (till_white (drop (suc at) bytes))));
+      from = far.from ∙ rw (cut, step.1, next) refl;
+    }
+
+IsInk-here : (bytes : List ℕ) (at : ℕ) → at < length bytes → is_white (get_or bytes at 0) ≡ true → IsInk bytes at → (take at bytes ≡ till_white bytes) × (drop at bytes ≡ from_white bytes)
+IsInk-here bytes at inside white far =
+    let cut = drop-cons bytes at 0 inside in
+    let step = rw (← cut) at (white_step (get_or bytes at 0) (drop (suc at) bytes) white) in
+    (sym (far.before ∙ rw step.0 (append-nil (take at bytes))), sym (far.from ∙ step.1))
+
+pub till_white-here : (bytes : List ℕ) (at : ℕ) → at < length bytes → is_white (get_or bytes at 0) ≡ true → IsInk bytes at → take at bytes ≡ till_white bytes
+till_white-here bytes at inside white far = (IsInk-here bytes at inside white far).0
+
+pub from_white-here : (bytes : List ℕ) (at : ℕ) → at < length bytes → is_white (get_or bytes at 0) ≡ true → IsInk bytes at → drop at bytes ≡ from_white bytes
+from_white-here bytes at inside white far = (IsInk-here bytes at inside white far).1
+
+IsInk-all : (bytes : List ℕ) (at : ℕ) → length bytes ≤ at → IsInk bytes at → (bytes ≡ till_white bytes) × ([] ≡ from_white bytes)
+unfolding till_white from_white
+IsInk-all bytes at all far =
+    let none = drop_all at bytes all in
+    (sym (far.before ∙ rw (none, take_all at bytes all) (append-nil bytes)), sym (far.from ∙ rw none refl))
+
+pub till_white-all : (bytes : List ℕ) (at : ℕ) → length bytes ≤ at → IsInk bytes at → bytes ≡ till_white bytes
+till_white-all bytes at all far = (IsInk-all bytes at all far).0
+
+pub from_white-all : (bytes : List ℕ) (at : ℕ) → length bytes ≤ at → IsInk bytes at → [] ≡ from_white bytes
+from_white-all bytes at all far = (IsInk-all bytes at all far).1
+
+pub ruleset first_whites = (IsInk-none, IsInk-more, till_white-here, from_white-here, till_white-all, from_white-all)
+
+-- ---- the white at the front
+
+pub skip_white-more : (bytes : List ℕ) (b : ℕ) (bs : List ℕ) → bytes ≡ b ∷ bs → is_white b ≡ true → skip_white bs ≡ skip_white bytes
+unfolding skip_white
+skip_white-more bytes b bs is white = rw (is, white) refl
+
+pub skip_white-here : (bytes : List ℕ) (b : ℕ) (bs : List ℕ) → bytes ≡ b ∷ bs → is_white b ≡ false → bytes ≡ skip_white bytes
+unfolding skip_white
+skip_white-here bytes b bs is ink = rw (is, ink) refl
+
+pub skip_white-none : (bytes : List ℕ) → length bytes ≡ 0 → bytes ≡ skip_white bytes
+unfolding skip_white
+skip_white-none [] none = refl
+skip_white-none (b ∷ bs) none = absurd (omega arith)
+
+pub ruleset white_fronts = (skip_white-more, skip_white-here, skip_white-none)

@@ -1,0 +1,416 @@
+//! The breaker of long lines.
+ghost use Rattle.std.specs.Prelude.{◌≡◌, ◌+◌, ◌<◌, ◌≤◌, [], ℕ, List, Option, length, drop, take, Some, None, IfOk, IfErr, IfSome, IsSome, OnOk, OnErr, Err, is_err};
+ghost use Rattle.std.specs.Io.KnownBytes.{Appends};
+ghost use Rattle.arrayvec.specs.ArrayVec.{array_vec_len};
+ghost use Rattle.btx_text.specs.Counts.{count_after};
+ghost use Rattle.btx_out.specs.Breakers.{Ends, EndsPart, Finishes, FinishesPart, Puts, PutsPart, failed, holding, is_fresh};
+ghost use Rattle.btx_out.specs.Breaking.{Collecting, Passing, Swallowing, from_white, indented, last_white, line as line_of, skip_white, till_white};
+ghost use Rattle.btx_out.specs.Lengths.{IsLineLength};
+ghost use Rattle.btx_out.specs.Parts.{GoesOn, left_of};
+ghost use Rattle.btx_out.specs.Pieces.{AppendsBeginning};
+ghost use Rattle.btx_out.specs.States.{break_full, end_of, left_after, sure_after};
+
+use crate::line_length::LineLength;
+use crate::log::write_whole;
+use crate::sink::Sink;
+use arrayvec::ArrayVec;
+use btx_text::Fault;
+use btx_text::classify::is_white;
+use btx_text::trimming::without_trailing_white;
+use std::marker::Model;
+
+// The bytes of a line that may still be broken. The longest line is one byte shorter: byte 10 stands behind it when it is written.
+type Kept = ArrayVec<u8, 1001>;
+
+// The first index at which a line is broken: a shorter head isn't worth a line, and a line is never broken at the two spaces before it.
+const FIRST_BREAK: usize = 3;
+
+/// What is done with the bytes that come.
+#[derive(Clone, Copy, Debug, PartialEq, Eq)]
+enum State {
+    /// They are kept: the line may still be broken at its last white.
+    Collecting,
+    /// They are passed on up to the next white, which ends the line: it had no white where it could be broken.
+    Passing,
+    /// White is dropped: it follows a break past the line.
+    Swallowing,
+}
+
+// What is done with which bytes.
+#[derive(Clone, Copy)]
+struct Next<'a> {
+    state: State,
+    rest: &'a [u8],
+}
+
+// Puts byte 10 behind the line that stands before an index, where the byte is no longer needed, and answers the length of both, or 0 for
+// a line of white alone.
+fn end_line(text: &mut [u8], at: usize) -> usize
+    requires { at < length text.old }
+    ensures line { take result text.new ≡ line_of (take at text.old) }
+    ensures within { result ≤ length text.old }
+    ensures rest { drop (at + 1) text.new ≡ drop (at + 1) text.old }
+{
+    let kept = without_trailing_white(&text[..at]).len();
+    if kept == 0 && at > 0 {
+        return 0;
+    }
+    text[kept] = b'\n';
+    kept + 1
+}
+
+// Moves what stands after an index to the front, behind two spaces, and answers the length of both.
+fn carry_over(text: &mut [u8], at: usize) -> usize
+    requires inside { at < length text.old }
+    requires room { 0 < at }
+    ensures next { take result text.new ≡ indented (drop (at + 1) text.old) }
+    ensures len { result + at ≡ length text.old + 1 }
+{
+    let start = at - 1;
+    text[start] = b' ';
+    text[at] = b' ';
+    text.copy_within(start.., 0);
+    text.len() - start
+}
+
+// The last white at which a line is broken.
+#[tactic(auto, using(crate::proofs::KeptLemmas::last_whites))]
+fn last_white(text: &[u8]) -> Option<usize>
+    ensures value { result ≡ last_white (length text.now) text.now }
+    ensures within { IfSome result (λ at. (3 ≤ at) × (at < length text.now)) }
+{
+    let mut end = text.len();
+    while end > FIRST_BREAK {
+        end -= 1;
+        if is_white(text[end]) {
+            return Some(end);
+        }
+    }
+    None
+}
+
+// Breaks a line of one byte more than fits at its last white. One without such white is passed on.
+fn break_full<W: Sink>(line: &mut Kept, sink: &mut W) -> Result<State, Fault>
+    ensures state { IfOk result (λ after. left_of after line.new.items
+        ≡ (break_full line.old.items (last_white (array_vec_len line.old) line.old.items)).0) }
+    ensures fits { OnOk result (0 < array_vec_len line.old → array_vec_len line.new < array_vec_len line.old) }
+    ensures ok { OnOk result (Appends (W.received sink.old) (W.received sink.new)
+        (break_full line.old.items (last_white (array_vec_len line.old) line.old.items)).1) }
+    ensures err { OnErr result (AppendsBeginning (W.received sink.old) (W.received sink.new)
+        (break_full line.old.items (last_white (array_vec_len line.old) line.old.items)).1) }
+    ensures fault { IfErr result (λ fault. fault ≡ Fault.Device) }
+    ensures counts { W.failures sink.new ≡ count_after (is_err result) (W.failures sink.old) }
+{
+    match last_white(line.as_slice()) {
+        Some(at) => {
+            let end = end_line(line.as_mut_slice(), at);
+            write_whole(&line.as_slice()[..end], sink)?;
+            let next = carry_over(line.as_mut_slice(), at);
+            line.truncate(next);
+            Ok(State::Collecting)
+        }
+        None => {
+            write_whole(line.as_slice(), sink)?;
+            line.clear();
+            Ok(State::Passing)
+        }
+    }
+}
+
+// What stands before the first white, and what stands from it on.
+#[tactic(auto, using(crate::proofs::KeptLemmas::first_whites))]
+fn split_at_white(bytes: &[u8]) -> (&[u8], &[u8])
+    ensures before { result.0.now ≡ till_white bytes.now }
+    ensures from { result.1.now ≡ from_white bytes.now }
+{
+    for (at, byte) in bytes.iter().enumerate() {
+        if is_white(*byte) {
+            return bytes.split_at(at);
+        }
+    }
+    (bytes, &[])
+}
+
+// What stands behind the white at the front.
+#[tactic(auto, using(crate::proofs::KeptLemmas::white_fronts))]
+fn after_white(bytes: &[u8]) -> &[u8]
+    ensures { result.now ≡ skip_white bytes.now }
+{
+    let mut rest = bytes;
+    while let Some((first, others)) = rest.split_first() {
+        if !is_white(*first) {
+            return rest;
+        }
+        rest = others;
+    }
+    rest
+}
+
+// Keeps bytes up to one more than fits a line, where the line is broken. Answers what is done with the bytes that are left.
+fn collect<'a, W: Sink>(
+    limit: usize,
+    line: &mut Kept,
+    bytes: &'a [u8],
+    sink: &mut W,
+) -> Result<Next<'a>, Fault>
+    requires some { 0 < length bytes.now }
+    requires kept { array_vec_len line.old ≤ limit }
+    requires range { IsLineLength limit }
+    ensures goes_on { IfOk result (λ next. GoesOn limit (Collecting line.old.items) bytes.now (left_of next.state line.new.items) next.rest.now
+        (W.received sink.old) (W.received sink.new)) }
+    ensures fewer { IfOk result (λ next. length next.rest.now < length bytes.now) }
+    ensures fits { OnOk result (array_vec_len line.new ≤ limit) }
+    ensures err { OnErr result (AppendsBeginning (W.received sink.old) (W.received sink.new)
+        (sure_after limit (Collecting line.old.items) bytes.now)) }
+    ensures fault { IfErr result (λ fault. fault ≡ Fault.Device) }
+    ensures counts { W.failures sink.new ≡ count_after (is_err result) (W.failures sink.old) }
+{
+    // One byte more than a line has room.
+    let room = limit + 1 - line.len();
+    if bytes.len() < room {
+        line.try_extend_from_slice(bytes).unwrap();
+        return Ok(Next {
+            state: State::Collecting,
+            rest: &[],
+        });
+    }
+    let (first, rest) = bytes.split_at(room);
+    line.try_extend_from_slice(first).unwrap();
+    let state = break_full(line, sink)?;
+    Ok(Next { state, rest })
+}
+
+// Passes on what stands before the first white, which ends the line. Answers what is done with the bytes that are left.
+fn pass<'a, W: Sink>(bytes: &'a [u8], sink: &mut W) -> Result<Next<'a>, Fault>
+    requires { 0 < length bytes.now }
+    ensures goes_on { IfOk result (λ next. (limit : ℕ) (kept : List ℕ) → GoesOn limit Passing bytes.now (left_of next.state kept) next.rest.now
+        (W.received sink.old) (W.received sink.new)) }
+    ensures fewer { IfOk result (λ next. length next.rest.now < length bytes.now) }
+    ensures err { OnErr result ((limit : ℕ) → AppendsBeginning (W.received sink.old) (W.received sink.new) (sure_after limit Passing bytes.now)) }
+    ensures fault { IfErr result (λ fault. fault ≡ Fault.Device) }
+    ensures counts { W.failures sink.new ≡ count_after (is_err result) (W.failures sink.old) }
+{
+    let (ink, rest) = split_at_white(bytes);
+    write_whole(ink, sink)?;
+    let Some((_, others)) = rest.split_first() else {
+        return Ok(Next {
+            state: State::Passing,
+            rest: &[],
+        });
+    };
+    write_whole(b"\n", sink)?;
+    Ok(Next {
+        state: State::Swallowing,
+        rest: others,
+    })
+}
+
+// Drops the white at the front. What follows it goes on behind two spaces. Answers what is done with the bytes that are left.
+fn swallow<'a>(line: &mut Kept, bytes: &'a [u8]) -> Next<'a>
+    requires some { 0 < length bytes.now }
+    ensures goes_on { (limit : ℕ) (received : Option (List ℕ)) →
+        GoesOn limit Swallowing bytes.now (left_of result.state line.new.items) result.rest.now received received }
+    ensures fewer { length result.rest.now < length bytes.now }
+    ensures fits { (limit : ℕ) → IsLineLength limit → array_vec_len line.old ≤ limit → array_vec_len line.new ≤ limit }
+{
+    let Some((first, rest)) = after_white(bytes).split_first() else {
+        return Next {
+            state: State::Swallowing,
+            rest: &[],
+        };
+    };
+    line.clear();
+    line.push(b' ');
+    line.push(b' ');
+    line.push(*first);
+    Next {
+        state: State::Collecting,
+        rest,
+    }
+}
+
+// Takes the first bytes of those that come. Answers what is done with the rest.
+fn take_some<'a, W: Sink>(
+    limit: usize,
+    state: State,
+    line: &mut Kept,
+    bytes: &'a [u8],
+    sink: &mut W,
+) -> Result<Next<'a>, Fault>
+    requires some { 0 < length bytes.now }
+    requires kept { array_vec_len line.old ≤ limit }
+    requires range { IsLineLength limit }
+    ensures goes_on { IfOk result (λ next. GoesOn limit (left_of state line.old.items) bytes.now (left_of next.state line.new.items) next.rest.now
+        (W.received sink.old) (W.received sink.new)) }
+    ensures fewer { IfOk result (λ next. length next.rest.now < length bytes.now) }
+    ensures fits { OnOk result (array_vec_len line.new ≤ limit) }
+    ensures err { OnErr result (AppendsBeginning (W.received sink.old) (W.received sink.new)
+        (sure_after limit (left_of state line.old.items) bytes.now)) }
+    ensures fault { IfErr result (λ fault. fault ≡ Fault.Device) }
+    ensures counts { W.failures sink.new ≡ count_after (is_err result) (W.failures sink.old) }
+{
+    match state {
+        State::Collecting => collect(limit, line, bytes, sink),
+        State::Passing => pass(bytes, sink),
+        State::Swallowing => Ok(swallow(line, bytes)),
+    }
+}
+
+// Takes all bytes that come.
+fn take_all<W: Sink>(
+    limit: usize,
+    state: State,
+    line: &mut Kept,
+    bytes: &[u8],
+    sink: &mut W,
+) -> Result<State, Fault>
+    requires kept { array_vec_len line.old ≤ limit }
+    requires range { IsLineLength limit }
+    ensures state { IfOk result (λ after. left_of after line.new.items ≡ left_after limit (left_of state line.old.items) bytes.now) }
+    ensures fits { OnOk result (array_vec_len line.new ≤ limit) }
+    ensures ok { OnOk result (Appends (W.received sink.old) (W.received sink.new)
+        (sure_after limit (left_of state line.old.items) bytes.now)) }
+    ensures err { OnErr result (AppendsBeginning (W.received sink.old) (W.received sink.new)
+        (sure_after limit (left_of state line.old.items) bytes.now)) }
+    ensures fault { IfErr result (λ fault. fault ≡ Fault.Device) }
+    ensures counts { W.failures sink.new ≡ count_after (is_err result) (W.failures sink.old) }
+{
+    let mut state = state;
+    let mut rest = bytes;
+    while !rest.is_empty() {
+        let next = take_some(limit, state, line, rest, sink)?;
+        state = next.state;
+        rest = next.rest;
+    }
+    Ok(state)
+}
+
+// Writes what the end of the pending line writes.
+fn write_end<W: Sink>(state: State, line: &mut Kept, sink: &mut W) -> Result<(), Fault>
+    requires { array_vec_len line.old ≤ 1000 }
+    ensures ok { OnOk result (Appends (W.received sink.old) (W.received sink.new) (end_of (left_of state line.old.items))) }
+    ensures err { OnErr result (AppendsBeginning (W.received sink.old) (W.received sink.new) (end_of (left_of state line.old.items))) }
+    ensures fault { IfErr result (λ fault. fault ≡ Fault.Device) }
+    ensures counts { W.failures sink.new ≡ count_after (is_err result) (W.failures sink.old) }
+{
+    match state {
+        State::Collecting => {
+            let at = line.len();
+            line.push(b'\n');
+            let end = end_line(line.as_mut_slice(), at);
+            write_whole(&line.as_slice()[..end], sink)
+        }
+        State::Passing => write_whole(b"\n", sink),
+        State::Swallowing => Ok(()),
+    }
+}
+
+/// Breaks logical lines into lines of at most so many bytes, where white allows it. It is seen as that length and what is left of the
+/// pending line. It takes no memory. After a failed write every call answers Device and writes nothing.
+#[derive(Drop)]
+pub struct Breaker {
+    limit: usize,
+    line: Kept,
+    // None after a failed write.
+    state: Option<State>,
+}
+
+impl Model for Breaker {
+    ghost use Rattle.std.specs.Prelude.{◌≤◌};
+    ghost use Rattle.arrayvec.specs.ArrayVec.{array_vec_len};
+    ghost use Rattle.btx_out.specs.Breakers.{Held};
+    ghost use Rattle.btx_out.specs.Lengths.{IsLineLength};
+
+    ghost Value = { Held };
+
+    ghost use Rattle.btx_out.specs.Parts.{held_of};
+
+    ghost view = { λ breaker. held_of breaker.limit breaker.state breaker.line.items };
+
+    ghost invariant = { λ breaker. IsLineLength breaker.limit × (array_vec_len breaker.line ≤ breaker.limit) };
+}
+
+impl Breaker {
+    /// A breaker with nothing pending.
+    pub fn new(limit: LineLength) -> Self
+        ensures { result ≡ holding limit (Collecting []) }
+    {
+        Breaker {
+            limit: limit.get() as usize,
+            line: ArrayVec::new(),
+            state: Some(State::Collecting),
+        }
+    }
+
+    /// Takes more bytes of the pending line, and writes what becomes sure. The only fault is the device's: a beginning of that was then
+    /// written, and nothing after the write that failed.
+    pub fn put<W: Sink>(&mut self, bytes: &[u8], sink: &mut W) -> Result<(), Fault>
+        ensures ok { OnOk result (Puts self.old self.new bytes.now (W.received sink.old) (W.received sink.new)) }
+
+        ensures err { OnErr result (self.new ≡ failed self.old.limit) }
+        ensures part { OnErr result (PutsPart self.old bytes.now (W.received sink.old) (W.received sink.new)) }
+        ensures fault { IfErr result (λ fault. fault ≡ Fault.Device) }
+
+        ensures counts { IsSome self.old.pending → W.failures sink.new ≡ count_after (is_err result) (W.failures sink.old) }
+        ensures after_failure { self.old.pending ≡ None → (result ≡ Err Fault.Device) × (sink.new ≡ sink.old) }
+    {
+        let state = self.state.ok_or(Fault::Device)?;
+        match take_all(self.limit, state, &mut self.line, bytes, sink) {
+            Ok(next) => {
+                self.state = Some(next);
+                Ok(())
+            }
+            Err(fault) => {
+                self.state = None;
+                self.line.clear();
+                Err(fault)
+            }
+        }
+    }
+
+    /// Ends the pending line: writes the rest of its lines, and begins a new one. The only fault is the device's: a beginning of that
+    /// was then written, and nothing after the write that failed.
+    pub fn newline<W: Sink>(&mut self, sink: &mut W) -> Result<(), Fault>
+        ensures ok { OnOk result (Ends self.old (W.received sink.old) (W.received sink.new)) }
+        ensures fresh { OnOk result (self.new ≡ holding self.old.limit (Collecting [])) }
+
+        ensures err { OnErr result (self.new ≡ failed self.old.limit) }
+        ensures part { OnErr result (EndsPart self.old (W.received sink.old) (W.received sink.new)) }
+        ensures fault { IfErr result (λ fault. fault ≡ Fault.Device) }
+
+        ensures counts { IsSome self.old.pending → W.failures sink.new ≡ count_after (is_err result) (W.failures sink.old) }
+        ensures after_failure { self.old.pending ≡ None → (result ≡ Err Fault.Device) × (sink.new ≡ sink.old) }
+    {
+        let state = self.state.ok_or(Fault::Device)?;
+        let result = write_end(state, &mut self.line, sink);
+        self.state = result.is_ok().then_some(State::Collecting);
+        self.line.clear();
+        result
+    }
+
+    /// Ends the pending line as `newline` does, if there is anything in it, and writes nothing else.
+    pub fn finish<W: Sink>(&mut self, sink: &mut W) -> Result<(), Fault>
+        ensures ok { OnOk result (Finishes self.old (W.received sink.old) (W.received sink.new)) }
+        ensures fresh { OnOk result (self.new ≡ holding self.old.limit (Collecting [])) }
+
+        ensures err { OnErr result (self.new ≡ failed self.old.limit) }
+        ensures part { OnErr result (FinishesPart self.old (W.received sink.old) (W.received sink.new)) }
+        ensures fault { IfErr result (λ fault. fault ≡ Fault.Device) }
+
+        ensures counts { IsSome self.old.pending → W.failures sink.new ≡ count_after (is_err result) (W.failures sink.old) }
+        ensures after_failure { self.old.pending ≡ None → (result ≡ Err Fault.Device) × (sink.new ≡ sink.old) }
+    {
+        if self.is_fresh() {
+            return Ok(());
+        }
+        self.newline(sink)
+    }
+
+    // Whether nothing is pending.
+    fn is_fresh(&self) -> bool
+        ensures fresh { result ≡ is_fresh self.now.pending }
+        ensures range { IsLineLength self.now.limit }
+    {
+        matches!(self.state, Some(State::Collecting)) && self.line.is_empty()
+    }
+}
