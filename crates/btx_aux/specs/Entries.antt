@@ -7,5 +7,10 @@ use Rattle.std.specs.declared.alloc.Global.{Global}
 abbrev pub Bytes : Type 0
 Bytes = Vec ℕ Global
 
+-- the entries as what they hold
 abbrev pub pairs_in : List (Bytes × Bytes) → List (List ℕ × List ℕ)
 pairs_in entries = map (λ (entry : Bytes × Bytes). (entry.0.items, entry.1.items)) entries
+
+-- owned names or keys as what they hold
+abbrev pub texts_of : List Bytes → List (List ℕ)
+texts_of names = map (λ (name : Bytes). name.items) names

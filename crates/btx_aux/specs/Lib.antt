@@ -3,3 +3,15 @@ pub mod Fetches
 pub mod Pairs
 pub mod Entries
 pub mod Borrowed
+pub mod Grammar
+pub mod Names
+pub mod Pieces
+pub mod Commands
+pub mod Events
+pub mod Notes
+pub mod Told
+pub mod KeyTable
+pub mod Job
+pub mod Drafts
+pub mod Reads
+pub mod Faults

@@ -1,10 +1,27 @@
-//! Where files come from.
+//! Where files come from, and what the `.aux` files of a job say.
 #![tactic(auto)]
 
+pub mod citations;
+mod command;
+mod draft;
+pub mod end;
 pub mod fetch_fault;
 pub mod finder;
+pub mod job;
+mod keys;
+mod line_words;
+mod log_lines;
 pub mod memory;
+mod name;
+mod name_set;
+mod notes;
+mod pieces;
+mod reading;
 
+pub use citations::read_aux;
+pub use end::End;
 pub use fetch_fault::FetchFault;
 pub use finder::Finder;
+pub use job::AuxJob;
+pub use log_lines::LogLine;
 pub use memory::MemoryFinder;

@@ -1,0 +1,106 @@
+-- What a line of an `.aux` file says (the manuals leave it open; the rules are those of the original program). A line counts only if
+-- its text up to its first `{` is exactly a command. What follows is the argument: for `\citation` and `\bibdata` a list of pieces cut
+-- at commas, for the other two one piece.
+use Rattle.std.specs.Prelude.{ℕ, ◌+◌, ◌==◌, ◌&&◌, Bool, true, false, List, [], ◌∷◌, map, take, drop, position, Option, None, Some, if◌then◌else◌, codes}
+use Rattle.std.specs.Str.{bytes_eq}
+use Rattle.btx_text.specs.Class.{is_white}
+use Rattle.btx_aux.specs.declared.end.End.{End}
+use Rattle.btx_aux.specs.declared.end.End.TheVariants as end
+use Rattle.btx_aux.specs.declared.command.Command.{Command}
+use Rattle.btx_aux.specs.declared.command.Command.TheVariants.{Citation, Bibdata, Bibstyle, Input}
+use Rattle.btx_aux.specs.declared.command.Slip.{Slip}
+use Rattle.btx_aux.specs.declared.command.Slip.TheVariants.{WhiteSpace, Unclosed, StuffAfter}
+
+-- a piece of an argument: one that is taken, or the place at which the rest of the line is given up
+pub data Piece : Type 0 where
+  Taken : (text : List ℕ) → Piece
+  Cut : (slip : Slip) → Piece
+
+-- a byte in front of the first piece
+abbrev pub in_front : ℕ → List Piece → List Piece
+in_front b [] = []
+in_front b (Taken text ∷ pieces) = Taken (b ∷ text) ∷ pieces
+in_front b (Cut slip ∷ pieces) = Cut slip ∷ pieces
+
+-- what a `}` closes, where this follows it
+abbrev pub closed_before : List ℕ → List Piece
+closed_before [] = Taken [] ∷ []
+closed_before (b ∷ bs) = Cut StuffAfter ∷ []
+
+-- the pieces of an argument. A piece ends at the first `}`, white or end of the line, and in a list at a `,` too; white, the end
+-- of the line and anything behind the `}` are slips
+unfoldable pub pieces_of : Bool → List ℕ → List Piece
+pieces_of is_list [] = Cut Unclosed ∷ []
+pieces_of is_list (b ∷ bs) =
+    if is_white b then Cut WhiteSpace ∷ []
+    else (if b == 125 then closed_before bs
+    else (if is_list && b == 44 then Taken [] ∷ pieces_of is_list bs
+    else in_front b (pieces_of is_list bs)))
+
+-- the first of some pieces
+abbrev pub first_piece : List Piece → Piece
+first_piece [] = Cut Unclosed
+first_piece (piece ∷ pieces) = piece
+
+-- the one piece of an argument that is no list
+abbrev pub piece_of : List ℕ → Piece
+piece_of argument = first_piece (pieces_of false argument)
+
+-- the command of this name
+unfoldable pub command_named : List ℕ → Option Command
+command_named name =
+    if bytes_eq name (codes "\\citation") then Some Citation
+    else (if bytes_eq name (codes "\\bibdata") then Some Bibdata
+    else (if bytes_eq name (codes "\\bibstyle") then Some Bibstyle
+    else (if bytes_eq name (codes "\\@input") then Some Input
+    else None)))
+
+-- what is said, or what happens: a piece of a `\citation`, a `\bibdata` line, a `\bibstyle` line, an `\@input` line; and what
+-- becomes of a file: it is opened, while so many files are open; it isn't there; it isn't opened since 20 are open; it is too
+-- long; there is no top file
+pub data Word : Type 0 where
+  Cites : (piece : Piece) → Word
+  Databases : (pieces : List Piece) → Word
+  Styles : (piece : Piece) → Word
+  Includes : (piece : Piece) → Word
+  Opens : (level : ℕ) → Word
+  Absent : (name : List ℕ) → Word
+  Full : Word
+  TooLong : Word
+  NoTop : Word
+
+-- what a command says with an argument
+abbrev pub words_of_command : Option Command → List ℕ → List Word
+words_of_command None argument = []
+words_of_command (Some Citation) argument = map Cites (pieces_of true argument)
+words_of_command (Some Bibdata) argument = Databases (pieces_of true argument) ∷ []
+words_of_command (Some Bibstyle) argument = Styles (piece_of argument) ∷ []
+words_of_command (Some Input) argument = Includes (piece_of argument) ∷ []
+
+-- what a line with this first `{` says
+abbrev pub words_at : Option ℕ → List ℕ → List Word
+words_at None line = []
+words_at (Some brace) line = words_of_command (command_named (take brace line)) (drop (brace + 1) line)
+
+-- what a line says
+unfoldable pub words_of : List ℕ → List Word
+words_of line = words_at (position (λ b. b == 123) line) line
+
+-- the end that something brings
+abbrev pub end_by : Word → End
+end_by Full = end.TooManyOpen
+end_by TooLong = end.FileLimit
+end_by NoTop = end.TopMissing
+end_by (Cites piece) = end.Whole
+end_by (Databases pieces) = end.Whole
+end_by (Styles piece) = end.Whole
+end_by (Includes piece) = end.Whole
+end_by (Opens level) = end.Whole
+end_by (Absent name) = end.Whole
+
+-- the end is that of a whole reading
+abbrev pub is_whole : End → Bool
+is_whole end.Whole = true
+is_whole end.TooManyOpen = false
+is_whole end.TopMissing = false
+is_whole end.FileLimit = false

@@ -1,0 +1,266 @@
+-- What the events of a job come to: keys, the place of `*`, databases, the style, the log and the end. Each is a filter of the list
+-- of events, where an event is judged by those before it (of `*` btxdoc speaks in section 2, at `\nocite{*}`).
+use Rattle.std.specs.Prelude.{ℕ, zero, suc, not, ◌&&◌, Bool, true, false, List, [], ◌∷◌, ◌++◌, map, fold, length, Option, None, Some, is_some, is_none, if◌then◌else◌, codes}
+use Rattle.std.specs.List.{flat_map}
+use Rattle.std.specs.Str.{bytes_eq}
+use Rattle.btx_aux.specs.declared.end.End.{End}
+use Rattle.btx_aux.specs.declared.end.End.TheVariants as end
+use Rattle.btx_aux.specs.Files.{Files}
+use Rattle.btx_aux.specs.Names.{has_ending, with_ending, is_among, with_name, distinct, listed_as, with_key}
+use Rattle.btx_aux.specs.Grammar.{Piece, Taken, Cut, Word, Cites, Databases, Styles, Includes, Opens, Absent, Full, TooLong, NoTop, end_by, is_whole}
+use Rattle.btx_aux.specs.Events.{Event, files_named, events_of}
+use Rattle.btx_aux.specs.Notes.{Complaint, Slipped, AnotherBibdata, AnotherBibstyle, CaseMismatch, SecondStar, WrongExtension, AlreadyMet, NotOpened, RepeatedDatabase, Note, TopFile, LevelFile, Wrong, NoCitations, NoBibdata, NoBibstyle, Line, line_of}
+
+-- ---- reading along the events
+
+-- what each event gives, judged by the events before it, all in a row
+abbrev pub gathered : {T : Type 0} → (List Event → Event → List T) → List Event → List Event → List T
+gathered judge earlier [] = []
+gathered judge earlier (event ∷ events) = judge earlier event ++ gathered judge (earlier ++ event ∷ []) events
+
+-- the first of a list
+abbrev pub first_of : {T : Type 0} → List T → Option T
+first_of [] = None
+first_of (x ∷ xs) = Some x
+
+-- ---- keys
+
+-- the key that stands for all entries, `*`
+abbrev pub is_star : List ℕ → Bool
+is_star key = bytes_eq key (codes "*")
+
+-- the key that a piece of a `\citation` is, if it was taken and isn't `*`
+abbrev pub key_in : Piece → List (List ℕ)
+key_in (Taken key) = if is_star key then [] else key ∷ []
+key_in (Cut slip) = []
+
+-- the key of a piece of a `\citation`; nothing else has one
+abbrev pub cited_by : Word → List (List ℕ)
+cited_by (Cites piece) = key_in piece
+cited_by (Databases pieces) = []
+cited_by (Styles piece) = []
+cited_by (Includes piece) = []
+cited_by (Opens level) = []
+cited_by (Absent name) = []
+cited_by Full = []
+cited_by TooLong = []
+cited_by NoTop = []
+
+-- the key that an event cites, if it cites one
+abbrev pub cited : Event → List (List ℕ)
+cited event = cited_by event.word
+
+-- the keys: a key is listed if no earlier listed key equals it without case
+abbrev pub keys_of : List Event → List (List ℕ)
+keys_of events = fold with_key [] (flat_map cited events)
+
+-- this count, if the piece is `*`
+abbrev pub star_in : Piece → ℕ → List ℕ
+star_in (Taken key) count = if is_star key then count ∷ [] else []
+star_in (Cut slip) count = []
+
+-- this count at the piece `*` of a `\citation`; nothing else has it
+abbrev pub star_by : Word → ℕ → List ℕ
+star_by (Cites piece) count = star_in piece count
+star_by (Databases pieces) count = []
+star_by (Styles piece) count = []
+star_by (Includes piece) count = []
+star_by (Opens level) count = []
+star_by (Absent name) count = []
+star_by Full count = []
+star_by TooLong count = []
+star_by NoTop count = []
+
+-- the number of keys listed before an event, if it is `*`
+abbrev pub star_at : List Event → Event → List ℕ
+star_at earlier event = star_by event.word (length (keys_of earlier))
+
+-- the place of the first `*`: the number of keys listed before it
+abbrev pub all_of : List Event → Option ℕ
+all_of events = first_of (gathered star_at [] events)
+
+-- ---- databases and the style
+
+-- the pieces of a `\bibdata` line; nothing else has them
+abbrev pub bibdata_by : Word → List (List Piece)
+bibdata_by (Databases pieces) = pieces ∷ []
+bibdata_by (Cites piece) = []
+bibdata_by (Styles piece) = []
+bibdata_by (Includes piece) = []
+bibdata_by (Opens level) = []
+bibdata_by (Absent name) = []
+bibdata_by Full = []
+bibdata_by TooLong = []
+bibdata_by NoTop = []
+
+-- the pieces of the first `\bibdata` line, faulty or not
+abbrev pub bibdata_of : List Event → Option (List Piece)
+bibdata_of events = first_of (flat_map (λ (event : Event). bibdata_by event.word) events)
+
+-- the name of a piece that was taken, with this ending
+abbrev pub taken_with : List ℕ → Piece → List (List ℕ)
+taken_with ending (Taken name) = with_ending ending name ∷ []
+taken_with ending (Cut slip) = []
+
+-- the databases that these pieces name: a database is taken if it is named first there
+abbrev pub databases_in : Option (List Piece) → List (List ℕ)
+databases_in None = []
+databases_in (Some pieces) = distinct (flat_map (taken_with (codes ".bib")) pieces)
+
+-- the databases that the first `\bibdata` line names
+abbrev pub databases_of : List Event → List (List ℕ)
+databases_of events = databases_in (bibdata_of events)
+
+-- the piece of a `\bibstyle` line; nothing else has one
+abbrev pub bibstyle_by : Word → List Piece
+bibstyle_by (Styles piece) = piece ∷ []
+bibstyle_by (Cites piece) = []
+bibstyle_by (Databases pieces) = []
+bibstyle_by (Includes piece) = []
+bibstyle_by (Opens level) = []
+bibstyle_by (Absent name) = []
+bibstyle_by Full = []
+bibstyle_by TooLong = []
+bibstyle_by NoTop = []
+
+-- the piece of the first `\bibstyle` line, faulty or not
+abbrev pub bibstyle_of : List Event → Option Piece
+bibstyle_of events = first_of (flat_map (λ (event : Event). bibstyle_by event.word) events)
+
+-- the style that a piece names
+abbrev pub style_in : Option Piece → Option (List ℕ)
+style_in None = None
+style_in (Some piece) = first_of (taken_with (codes ".bst") piece)
+
+-- the style that the first `\bibstyle` line names, if its piece was taken
+abbrev pub style_of : List Event → Option (List ℕ)
+style_of events = style_in (bibstyle_of events)
+
+-- ---- the log
+
+-- a complaint if something is so
+abbrev pub complain_if : Bool → Complaint → List Complaint
+complain_if true complaint = complaint ∷ []
+complain_if false complaint = []
+
+-- what is wrong with a key that equals this listed one without case: that it has another spelling
+abbrev pub spelling_complaints : Option (List ℕ) → List ℕ → List Complaint
+spelling_complaints None key = []
+spelling_complaints (Some earlier) key = complain_if (not (bytes_eq earlier key)) (CaseMismatch earlier key)
+
+-- what is wrong with a piece of a `\citation`, after these keys and this place of `*`
+abbrev pub citation_complaints : List (List ℕ) → Option ℕ → Piece → List Complaint
+citation_complaints keys all (Taken key) = if is_star key then complain_if (is_some all) SecondStar else spelling_complaints (listed_as keys key) key
+citation_complaints keys all (Cut slip) = Slipped slip ∷ []
+
+-- what is wrong with the pieces of the first `\bibdata` line, where these databases are taken already
+abbrev pub database_complaints : List (List ℕ) → List Piece → List Complaint
+database_complaints databases [] = []
+database_complaints databases (Taken name ∷ pieces) =
+    let database = with_ending (codes ".bib") name in
+    complain_if (is_among databases database) (RepeatedDatabase database) ++ database_complaints (with_name databases database) pieces
+database_complaints databases (Cut slip ∷ pieces) = Slipped slip ∷ database_complaints databases pieces
+
+-- what is wrong with a `\bibdata` line, where there was one before or not
+abbrev pub bibdata_complaints : Bool → List Piece → List Complaint
+bibdata_complaints true pieces = AnotherBibdata ∷ []
+bibdata_complaints false pieces = database_complaints [] pieces
+
+-- what is wrong with a piece in itself
+abbrev pub slip_complaints : Piece → List Complaint
+slip_complaints (Taken name) = []
+slip_complaints (Cut slip) = Slipped slip ∷ []
+
+-- what is wrong with a `\bibstyle` line, where there was one before or not
+abbrev pub bibstyle_complaints : Bool → Piece → List Complaint
+bibstyle_complaints true piece = AnotherBibstyle ∷ []
+bibstyle_complaints false piece = slip_complaints piece
+
+-- what is wrong with an `\@input` line, where these files are named already
+abbrev pub include_complaints : List (List ℕ) → Piece → List Complaint
+include_complaints files (Taken name) = if has_ending (codes ".aux") name then complain_if (is_among files name) (AlreadyMet name) else WrongExtension name ∷ []
+include_complaints files (Cut slip) = Slipped slip ∷ []
+
+-- what an opened file is told as
+abbrev pub file_note : ℕ → List ℕ → Note
+file_note zero name = TopFile name
+file_note (suc level) name = LevelFile (suc level) name
+
+-- complaints as notes, with their place
+abbrev pub placed : Event → List Complaint → List Note
+placed event complaints = map (λ (complaint : Complaint). Wrong complaint event.line event.file) complaints
+
+-- what is told at an event, after these keys, this place of `*`, a `\bibdata` line or none, a `\bibstyle` line or none, these files
+abbrev pub notes_by : List (List ℕ) → Option ℕ → Bool → Bool → List (List ℕ) → Event → Word → List Note
+notes_by keys all bibdata bibstyle files event (Cites piece) = placed event (citation_complaints keys all piece)
+notes_by keys all bibdata bibstyle files event (Databases pieces) = placed event (bibdata_complaints bibdata pieces)
+notes_by keys all bibdata bibstyle files event (Styles piece) = placed event (bibstyle_complaints bibstyle piece)
+notes_by keys all bibdata bibstyle files event (Includes piece) = placed event (include_complaints files piece)
+notes_by keys all bibdata bibstyle files event (Opens level) = file_note level event.file ∷ []
+notes_by keys all bibdata bibstyle files event (Absent name) = placed event (NotOpened name ∷ [])
+notes_by keys all bibdata bibstyle files event Full = []
+notes_by keys all bibdata bibstyle files event TooLong = []
+notes_by keys all bibdata bibstyle files event NoTop = []
+
+-- what is told at an event, after the earlier ones
+abbrev pub notes_at : List Event → Event → List Note
+notes_at earlier event = notes_by (keys_of earlier) (all_of earlier) (is_some (bibdata_of earlier)) (is_some (bibstyle_of earlier)) (files_named earlier) event event.word
+
+-- ---- the end
+
+-- the end that the first ending event brings
+abbrev pub end_of : List Event → End
+end_of [] = end.Whole
+end_of (event ∷ events) = if is_whole (end_by event.word) then end_of events else end_by event.word
+
+-- a note if something is so
+abbrev pub note_if : Bool → Note → List Note
+note_if true note = note ∷ []
+note_if false note = []
+
+-- there is no key
+abbrev pub is_empty : List (List ℕ) → Bool
+is_empty [] = true
+is_empty (key ∷ keys) = false
+
+-- what is missing in a whole reading: keys and `*`, a `\bibdata` line, a `\bibstyle` line
+abbrev pub missing_notes : List (List ℕ) → Option ℕ → Bool → Bool → List Note
+missing_notes keys all bibdata bibstyle =
+    note_if (is_empty keys && is_none all) NoCitations ++ note_if (not bibdata) NoBibdata ++ note_if (not bibstyle) NoBibstyle
+
+-- what is told at the end: what is missing, after a whole reading alone
+abbrev pub closing_notes : End → List (List ℕ) → Option ℕ → Bool → Bool → List Note
+closing_notes end.Whole keys all bibdata bibstyle = missing_notes keys all bibdata bibstyle
+closing_notes end.TooManyOpen keys all bibdata bibstyle = []
+closing_notes end.TopMissing keys all bibdata bibstyle = []
+closing_notes end.FileLimit keys all bibdata bibstyle = []
+
+-- all that is told: at each event in turn, and then at the end
+abbrev pub notes_of : List Event → List Note
+notes_of events = gathered notes_at [] events ++ closing_notes (end_of events) (keys_of events) (all_of events) (is_some (bibdata_of events)) (is_some (bibstyle_of events))
+
+-- ---- the job
+
+-- what the `.aux` files of a job say
+pub record Job : Type 0 where
+  pub keys : List (List ℕ)
+  pub all : Option ℕ
+  pub databases : List (List ℕ)
+  pub style : Option (List ℕ)
+  pub log : List Line
+  pub ending : End
+
+-- what the events come to
+abbrev pub job_of : List Event → Job
+job_of events = record {
+  keys = keys_of events;
+  all = all_of events;
+  databases = databases_of events;
+  style = style_of events;
+  log = map line_of (notes_of events);
+  ending = end_of events;
+}
+
+-- what the files of a job with this top file come to
+unfoldable pub job_of_files : Files → List ℕ → Job
+job_of_files files top = job_of (events_of files top)

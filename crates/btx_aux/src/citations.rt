@@ -1,0 +1,107 @@
+//! The `.aux` files of a job.
+ghost use Rattle.std.specs.Prelude.{◌≡◌, ◌∷◌, ◌++◌, map, not, IfOk, IfSome, OnOk};
+ghost use Rattle.btx_aux.specs.Faults.{CountsOfOne};
+ghost use Rattle.btx_aux.specs.Job.{job_of_files, missing_notes, note_if};
+ghost use Rattle.btx_aux.specs.Drafts.{blank};
+ghost use Rattle.btx_aux.specs.Reads.{closed, topped};
+ghost use Rattle.btx_aux.specs.Notes.{line_of};
+ghost use Rattle.btx_aux.specs.Told.{note_told};
+
+use crate::draft::Draft;
+use crate::end::End;
+use crate::finder::Finder;
+use crate::job::AuxJob;
+use crate::notes::Note;
+use crate::reading::{MOST_OPEN, open_file};
+use btx_text::Fault;
+use std::alloc::{AllocError, Global};
+
+/// Reads the `.aux` files of a job: the file of this name, and those that it includes, each at the place of its `\@input` line. The
+/// faults are want of memory and the device's alone; all else that is wrong stands in the job's log.
+pub fn read_aux<F: Finder>(alloc: Global, finder: &mut F, top: &[u8]) -> Result<AuxJob, Fault>
+    ensures job { IfOk result (λ job. IfSome (F.content finder.old) (λ files. job ≡ job_of_files files top.now)) }
+    ensures counts { CountsOfOne result (F.failures finder.old, F.failures finder.new) }
+    ensures stays { F.content finder.new ≡ F.content finder.old }
+{
+    let mut draft = Draft::new(alloc);
+    read_top(alloc, finder, &mut draft, top)?;
+    let job = close(alloc, draft)?;
+    Ok(job)
+}
+
+/// The top file.
+fn read_top<F: Finder>(
+    alloc: Global,
+    finder: &mut F,
+    draft: &mut Draft,
+    top: &[u8],
+) -> Result<(), Fault>
+    requires { draft.old ≡ blank }
+    ensures draft { OnOk result (IfSome (F.content finder.old) (λ files. draft.new ≡ topped files top.now (files top.now))) }
+    ensures counts { CountsOfOne result (F.failures finder.old, F.failures finder.new) }
+    ensures stays { F.content finder.new ≡ F.content finder.old }
+{
+    let mut text = Vec::new(alloc);
+    if !finder.fetch(alloc, top, &mut text)? {
+        draft.ending = End::TopMissing;
+        return Ok(());
+    }
+    open_file(alloc, finder, draft, top, text.as_slice(), MOST_OPEN)
+}
+
+/// What is known, with what is missing in the whole.
+fn close(alloc: Global, draft: Draft) -> Result<AuxJob, AllocError>
+    ensures { IfOk result (λ job. job ≡ closed draft) }
+{
+    let mut draft = draft;
+    if draft.ending == End::Whole {
+        tell_missing(alloc, &mut draft)?;
+    }
+    let Draft {
+        keys,
+        all,
+        databases,
+        has_bibdata: _,
+        style,
+        has_bibstyle: _,
+        files: _,
+        log,
+        ending,
+    } = draft;
+    let keys = keys.into_list(alloc)?;
+    Ok(AuxJob {
+        keys,
+        all,
+        databases,
+        style,
+        log,
+        ending,
+    })
+}
+
+/// Tells what is missing: keys and `*`, a `\bibdata` line, a `\bibstyle` line.
+fn tell_missing(alloc: Global, draft: &mut Draft) -> Result<(), AllocError>
+    ensures { OnOk result (draft.new ≡ record draft.old { log = draft.old.log ++ map line_of (missing_notes draft.old.keys draft.old.all draft.old.has_bibdata draft.old.has_bibstyle) }) }
+{
+    let has_citation = !draft.keys.is_empty() || draft.all.is_some();
+    tell_unless(alloc, draft, has_citation, Note::NoCitations)?;
+    let has_bibdata = draft.has_bibdata;
+    tell_unless(alloc, draft, has_bibdata, Note::NoBibdata)?;
+    let has_bibstyle = draft.has_bibstyle;
+    tell_unless(alloc, draft, has_bibstyle, Note::NoBibstyle)
+}
+
+/// Tells that something is missing, unless it is there.
+fn tell_unless(
+    alloc: Global,
+    draft: &mut Draft,
+    is_there: bool,
+    note: Note<'_>,
+) -> Result<(), AllocError>
+    ensures { OnOk result (draft.new ≡ record draft.old { log = draft.old.log ++ map line_of (note_if (not is_there) (note_told note.entry)) }) }
+{
+    if is_there {
+        return Ok(());
+    }
+    draft.tell(alloc, note)
+}

@@ -1,0 +1,90 @@
+//! What the `.aux` files of a job say.
+ghost use Rattle.std.specs.Prelude.{◌≡◌, ◌==◌, length, option_copied, count_by};
+ghost use Rattle.btx_aux.specs.Entries.{texts_of};
+ghost use Rattle.btx_aux.specs.Notes.{Line};
+
+use crate::end::End;
+use crate::log_lines::{LogLine, LogLines};
+use crate::name::Name;
+use crate::name_set::NameSet;
+use std::marker::Model;
+
+/// What the `.aux` files of a job say.
+#[derive(Drop)]
+pub struct AuxJob {
+    pub(crate) keys: Vec<Vec<u8>>,
+    pub(crate) all: Option<usize>,
+    pub(crate) databases: NameSet,
+    pub(crate) style: Option<Name>,
+    pub(crate) log: LogLines,
+    pub(crate) ending: End,
+}
+
+impl Model for AuxJob {
+    ghost use Rattle.btx_aux.specs.Job.{Job};
+    ghost use Rattle.btx_aux.specs.Entries.{texts_of};
+
+    ghost Value = { Job };
+
+    ghost view = { λ job. record {
+      keys = texts_of job.keys.items;
+      all = job.all;
+      databases = job.databases;
+      style = job.style;
+      log = job.log;
+      ending = job.ending;
+    } };
+}
+
+impl AuxJob {
+    /// The keys that are cited, in order, each as it was spelled first.
+    pub fn keys(&self) -> &[Vec<u8>]
+        ensures { texts_of result.now ≡ self.now.keys }
+    {
+        self.keys.as_slice()
+    }
+
+    /// The place of `*`, which stands for all entries, if it was cited: the number of keys that stand before it.
+    pub fn all(&self) -> Option<usize>
+        ensures { result ≡ self.now.all }
+    {
+        self.all
+    }
+
+    /// The names of the databases, in order, with `.bib`.
+    pub fn databases(&self) -> &[Vec<u8>]
+        ensures { texts_of result.now ≡ self.now.databases }
+    {
+        self.databases.as_slice()
+    }
+
+    /// The name of the style, with `.bst`, if there is one.
+    pub fn style(&self) -> Option<&[u8]>
+        ensures { option_copied result ≡ self.now.style }
+    {
+        let name = self.style.as_ref()?;
+        Some(name.as_slice())
+    }
+
+    /// The lines of the log, in order.
+    pub fn log(&self) -> &[LogLine]
+        ensures { result.now ≡ self.now.log }
+    {
+        self.log.as_slice()
+    }
+
+    /// How many lines of the log are errors.
+    pub fn errors(&self) -> usize
+        ensures { result ≡ count_by (λ line. line.is_error) self.now.log }
+    {
+        let lines = self.log().iter();
+        lines.filter(|line| line.is_error()).count()
+    }
+
+    /// How the reading ended. After any end but `Whole` the rest is what was read so far.
+    pub fn end(&self) -> End
+        ensures { result ≡ self.now.ending }
+    {
+        self.ending
+    }
+}

@@ -1,0 +1,125 @@
+//! The reading of the `.aux` files.
+ghost use Rattle.std.specs.Prelude.{◌≡◌, ◌≤◌, length, map, true, IfSome, OnOk};
+ghost use Rattle.btx_aux.specs.Faults.{CountsOfOne};
+ghost use Rattle.btx_aux.specs.Grammar.{is_whole, words_of};
+ghost use Rattle.btx_aux.specs.Events.{event_at, said};
+ghost use Rattle.btx_aux.specs.Reads.{included, opened_by, run};
+
+use crate::draft::Draft;
+use crate::end::End;
+use crate::finder::Finder;
+use crate::notes::Place;
+use btx_text::{Fault, lines};
+use std::alloc::Global;
+
+/// How many files may be open at once.
+pub const MOST_OPEN: usize = 20;
+
+/// How many bytes a file may have.
+const MOST_BYTES: usize = 2_147_483_647;
+
+/// An include of a file at a place, where so many more files may be opened.
+#[cycle(reading)]
+fn include<F: Finder>(
+    alloc: Global,
+    finder: &mut F,
+    draft: &mut Draft,
+    name: &[u8],
+    place: Place<'_>,
+    room: usize,
+) -> Result<(), Fault>
+    requires whole { is_whole draft.old.ending ≡ true }
+    requires room { room ≤ 20 }
+    ensures draft { OnOk result (IfSome (F.content finder.old) (λ files. draft.new ≡ included (opened_by files room) draft.old place.entry.file.now place.entry.line name.now (files name.now))) }
+    ensures counts { CountsOfOne result (F.failures finder.old, F.failures finder.new) }
+    ensures stays { F.content finder.new ≡ F.content finder.old }
+{
+    let mut text = Vec::new(alloc);
+    if !finder.fetch(alloc, name, &mut text)? {
+        draft.miss_file(alloc, name, place)?;
+        return Ok(());
+    }
+    open_file(alloc, finder, draft, name, text.as_slice(), room)
+}
+
+/// A file that was found, where so many more files may be opened.
+#[cycle(reading)]
+pub fn open_file<F: Finder>(
+    alloc: Global,
+    finder: &mut F,
+    draft: &mut Draft,
+    name: &[u8],
+    text: &[u8],
+    room: usize,
+) -> Result<(), Fault>
+    requires whole { is_whole draft.old.ending ≡ true }
+    requires room { room ≤ 20 }
+    ensures draft { OnOk result (IfSome (F.content finder.old) (λ files. draft.new ≡ opened_by files room draft.old name.now text.now)) }
+    ensures counts { CountsOfOne result (F.failures finder.old, F.failures finder.new) }
+    ensures stays { F.content finder.new ≡ F.content finder.old }
+{
+    if room == 0 {
+        draft.ending = End::TooManyOpen;
+        return Ok(());
+    }
+    draft.open_file(alloc, name, MOST_OPEN - room)?;
+    if text.len() > MOST_BYTES {
+        draft.ending = End::FileLimit;
+        return Ok(());
+    }
+    read_lines(alloc, finder, draft, name, text, room - 1)
+}
+
+/// The lines of an open file, where so many more files may be opened.
+#[cycle(reading)]
+fn read_lines<F: Finder>(
+    alloc: Global,
+    finder: &mut F,
+    draft: &mut Draft,
+    name: &[u8],
+    text: &[u8],
+    room: usize,
+) -> Result<(), Fault>
+    requires whole { is_whole draft.old.ending ≡ true }
+    requires room { room ≤ 20 }
+    requires length { length text.now ≤ 2147483647 }
+    ensures draft { OnOk result (IfSome (F.content finder.old) (λ files. draft.new ≡ run files (opened_by files room) draft.old (said name.now text.now))) }
+    ensures counts { CountsOfOne result (F.failures finder.old, F.failures finder.new) }
+    ensures stays { F.content finder.new ≡ F.content finder.old }
+{
+    let mut number = 0;
+    for line in lines(text) {
+        number += 1;
+        let place = Place {
+            file: name,
+            line: number,
+        };
+        read_line(alloc, finder, draft, line, place, room)?;
+        if draft.has_ended() {
+            return Ok(());
+        }
+    }
+    Ok(())
+}
+
+/// A line of an open file, where so many more files may be opened.
+#[cycle(reading)]
+fn read_line<F: Finder>(
+    alloc: Global,
+    finder: &mut F,
+    draft: &mut Draft,
+    line: &[u8],
+    place: Place<'_>,
+    room: usize,
+) -> Result<(), Fault>
+    requires whole { is_whole draft.old.ending ≡ true }
+    requires room { room ≤ 20 }
+    ensures draft { OnOk result (IfSome (F.content finder.old) (λ files. draft.new ≡ run files (opened_by files room) draft.old (map (event_at place.entry.file.now place.entry.line) (words_of line.now)))) }
+    ensures counts { CountsOfOne result (F.failures finder.old, F.failures finder.new) }
+    ensures stays { F.content finder.new ≡ F.content finder.old }
+{
+    match draft.read_line(alloc, line, place)? {
+        None => Ok(()),
+        Some(name) => include(alloc, finder, draft, name, place, room),
+    }
+}
