@@ -1,0 +1,7 @@
+use Rattle.btx_text.specs.Elements.{elements_of, text_of}
+use Rattle.btx_strings.specs.Lengths.{take_characters}
+use Rattle.btx_strings.proofs.LengthLemmas.{IsFront}
+use Rattle.btx_strings.proofs.prefixes.front.Given as goal
+
+abbrev pub invariant-loop-element : goal.invariant-loop-element
+invariant-loop-element l = IsFront l.string l.end l.left l.element-iterator (text_of (take_characters l.count (elements_of l.fn.mode l.string)))

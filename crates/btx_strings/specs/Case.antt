@@ -1,0 +1,139 @@
+-- A string in another case (btxhak, section 5.3, at `change.case$`). Only `A-Z` and `a-z` have a case (this project's own rule).
+use Rattle.std.specs.Prelude.{◌≡◌, ℕ, ◌<◌, ◌==◌, ◌&&◌, Bool, true, false, List, [], ◌∷◌, ◌++◌, length, map, codes, Option, Some, None, IsTrue, if◌then◌else◌}
+use Rattle.std.specs.List.{flat_map, list_all}
+use Rattle.std.specs.Str.{bytes_eq}
+use Rattle.std.specs.Char.{to_ascii_lowercase, to_ascii_uppercase}
+use Rattle.btx_text.specs.Class.{is_white}
+use Rattle.btx_text.specs.declared.element_kind.Kind.{Kind}
+use Rattle.btx_text.specs.declared.element_kind.Kind.TheVariants.{Byte, Special}
+use Rattle.btx_text.specs.declared.element_kind.TextMode.TheVariants.{Bytes}
+use Rattle.btx_text.specs.Elements.{Part, elements_of, backslash}
+use Rattle.btx_strings.specs.Answers.{no_complaints, wrong_conversion}
+use Rattle.btx_strings.specs.Controls.{Glyph, Control, Plain, glyphs_of, is_among, without_white}
+use Rattle.btx_strings.specs.declared.answers.Complaints.{Complaints}
+use Rattle.btx_strings.specs.declared.conversions.Conversion.{Conversion}
+use Rattle.btx_strings.specs.declared.conversions.Conversion.TheVariants.{Title, Lower, Upper}
+
+-- ---- the conversion
+
+-- the conversion of a letter, in either case
+abbrev pub conversion_by : ℕ → Option Conversion
+conversion_by letter = if letter == 116 then Some Title else if letter == 108 then Some Lower else if letter == 117 then Some Upper else None
+
+-- a conversion is one letter `t`, `l` or `u`, in either case
+abbrev pub conversion_of : List ℕ → Option Conversion
+conversion_of [] = None
+conversion_of (letter ∷ []) = conversion_by (to_ascii_lowercase letter)
+conversion_of (letter ∷ more ∷ letters) = None
+
+-- ---- a special character
+
+-- a byte raised or lowered
+abbrev pub case_of : Conversion → ℕ → ℕ
+case_of Upper b = to_ascii_uppercase b
+case_of _ b = to_ascii_lowercase b
+
+-- the foreign control sequences that are lowered
+abbrev pub lowered : List (List ℕ)
+lowered = codes "O" ∷ codes "OE" ∷ codes "AE" ∷ codes "AA" ∷ codes "L" ∷ []
+
+-- the foreign control sequences that are raised
+abbrev pub raised : List (List ℕ)
+raised = codes "o" ∷ codes "oe" ∷ codes "ae" ∷ codes "aa" ∷ codes "l" ∷ []
+
+-- those that no raised sequence stands for: raised they become letters, without a backslash
+abbrev pub bare : List (List ℕ)
+bare = codes "i" ∷ codes "j" ∷ codes "ss" ∷ []
+
+-- a control sequence in another case; any other than those above stays
+unfoldable pub cased_control : Conversion → List ℕ → List ℕ
+cased_control Upper name =
+    if is_among bare name then map to_ascii_uppercase name
+    else if is_among raised name then backslash ∷ map to_ascii_uppercase name else backslash ∷ name
+cased_control _ name = if is_among lowered name then backslash ∷ map to_ascii_lowercase name else backslash ∷ name
+
+-- a glyph in another case
+abbrev pub cased_glyph : Conversion → Glyph → List ℕ
+cased_glyph conversion (Control name) = cased_control conversion name
+cased_glyph conversion (Plain b) = case_of conversion b ∷ []
+
+-- a control sequence becomes letters, and the white after it goes
+abbrev pub becomes_letters : Conversion → List ℕ → Bool
+becomes_letters Upper name = is_among bare name
+becomes_letters _ name = false
+
+-- a special character in another case
+abbrev pub cased_special : Conversion → List ℕ → List ℕ
+cased_special conversion text = flat_map (cased_glyph conversion) (without_white (becomes_letters conversion) [] (glyphs_of text))
+
+-- ---- elements
+
+-- one byte of white
+abbrev pub is_white_text : List ℕ → Bool
+is_white_text (b ∷ []) = is_white b
+is_white_text _ = false
+
+-- a colon at depth 0
+abbrev pub is_colon : Part → Bool
+is_colon part = part.depth == 0 && bytes_eq part.text (codes ":")
+
+-- the elements before, nearest first, are a depth-0 colon with nothing but white after it
+abbrev pub after_colon : List Part → Bool
+after_colon [] = false
+after_colon (part ∷ before) = if is_white_text part.text then after_colon before else is_colon part
+
+-- an element begins a title, or a part of one: nothing stands before it, or white does, and before that white a colon outside all braces
+abbrev pub begins_title : List Part → Bool
+begins_title [] = true
+begins_title (part ∷ before) = is_white_text part.text && after_colon before
+
+-- the same, stated: the elements before, nearest first, are white bytes, then a colon at depth 0, then others
+pub record EndInColonAndWhite (before : List Part) : Type 0 where
+  pub white : List Part
+  pub colon : Part
+  pub others : List Part
+  pub parts : before ≡ white ++ colon ∷ others
+  pub some : 0 < length white
+  pub all_white : IsTrue (list_all (λ part. is_white_text part.text) white)
+  pub is_colon : IsTrue (is_colon colon)
+
+-- a title
+abbrev pub is_title : Conversion → Bool
+is_title Title = true
+is_title _ = false
+
+-- an element that changes, by its kind: bytes at depth 0 and special characters do
+abbrev pub cased_as : Conversion → Kind → ℕ → List ℕ → List ℕ
+cased_as conversion Byte depth text = if depth == 0 then map (case_of conversion) text else text
+cased_as conversion Special depth text = cased_special conversion text
+cased_as conversion _ depth text = text
+
+-- an element in another case; as a title, what begins one is kept
+abbrev pub cased_part : Conversion → Bool → Part → List ℕ
+cased_part conversion begins part = if is_title conversion && begins then part.text else cased_as conversion part.kind part.depth part.text
+
+-- elements in another case, that stand after those before (nearest first)
+unfoldable pub cased_parts : Conversion → List Part → List Part → List ℕ
+cased_parts conversion before [] = []
+cased_parts conversion before (part ∷ parts) = cased_part conversion (begins_title before) part ++ cased_parts conversion (part ∷ before) parts
+
+-- a string in another case
+abbrev pub cased : Conversion → List ℕ → List ℕ
+cased conversion string = cased_parts conversion [] (elements_of Bytes string)
+
+-- ---- `change.case$`
+
+-- a string in the case of a conversion, if it is one
+abbrev pub cased_by : Option Conversion → List ℕ → List ℕ
+cased_by None string = string
+cased_by (Some conversion) string = cased conversion string
+
+abbrev pub complaints_by : Option Conversion → Complaints
+complaints_by None = wrong_conversion
+complaints_by (Some conversion) = no_complaints
+
+abbrev pub change_case_of : List ℕ → List ℕ → List ℕ
+change_case_of string conversion = cased_by (conversion_of conversion) string
+
+abbrev pub case_complaints : List ℕ → Complaints
+case_complaints conversion = complaints_by (conversion_of conversion)

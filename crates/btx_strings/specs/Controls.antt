@@ -1,0 +1,116 @@
+-- The control sequences of special characters (btxhak, section 5.3, at `purify$`, and btxdoc, section 4, at accented and foreign
+-- characters). A glyph of a special character is a control sequence, or any other byte.
+use Rattle.std.specs.Prelude.{◌≡◌, ℕ, zero, suc, ◌==◌, ◌||◌, ◌&&◌, Bool, false, not, List, [], ◌∷◌, ◌++◌, length, take, codes, take_while, IsTrue, if◌then◌else◌}
+use Rattle.std.specs.List.{flat_map, list_all, list_any}
+use Rattle.std.specs.Str.{bytes_eq}
+use Rattle.btx_text.specs.Class.{is_alpha, is_white}
+use Rattle.btx_text.specs.Elements.{open_brace, close_brace, backslash}
+
+-- a control sequence, by what stands after its backslash, or a byte by itself
+pub data Glyph : Type 0 where
+  Control : List ℕ → Glyph
+  Plain : ℕ → Glyph
+
+-- `{` or `}`
+abbrev pub is_brace : ℕ → Bool
+is_brace b = b == open_brace || b == close_brace
+
+-- after a backslash that no alpha byte follows: the one next byte, but no brace (this project's own rule)
+abbrev pub lone : List ℕ → List ℕ
+lone [] = []
+lone (b ∷ bs) = if is_brace b then [] else b ∷ []
+
+-- what belongs to a backslash, of the bytes after it: the longest run of alpha bytes, else the one next byte
+unfoldable pub control_name : List ℕ → List ℕ
+control_name bs = let letters = take_while is_alpha bs in if length letters == 0 then lone bs else letters
+
+-- the glyphs that begin in a text, whose first `skip` bytes belong to one before
+unfoldable pub glyphs_from : ℕ → List ℕ → List Glyph
+glyphs_from skip [] = []
+glyphs_from (suc skip) (b ∷ bs) = glyphs_from skip bs
+glyphs_from zero (b ∷ bs) =
+    if b == backslash then Control (control_name bs) ∷ glyphs_from (length (control_name bs)) bs
+    else Plain b ∷ glyphs_from zero bs
+
+-- the glyphs of a special character, its braces among them
+unfoldable pub glyphs_of : List ℕ → List Glyph
+glyphs_of text = glyphs_from 0 text
+
+-- ---- foreign ones
+
+-- a name is one of these
+abbrev pub is_among : List (List ℕ) → List ℕ → Bool
+is_among names name = list_any (bytes_eq name) names
+
+-- the foreign control sequences that stand for two letters
+abbrev pub two_letters : List (List ℕ)
+two_letters = codes "oe" ∷ codes "OE" ∷ codes "ae" ∷ codes "AE" ∷ codes "ss" ∷ []
+
+-- the foreign control sequences that stand for one letter
+abbrev pub one_letter : List (List ℕ)
+one_letter = codes "i" ∷ codes "j" ∷ codes "o" ∷ codes "aa" ∷ codes "l" ∷ codes "O" ∷ codes "AA" ∷ codes "L" ∷ []
+
+-- the letters that a control sequence stands for: both of five foreign ones, the first of eight others, none of any other
+unfoldable pub letters_of : List ℕ → List ℕ
+letters_of name =
+    if is_among two_letters name then name
+    else if is_among one_letter name then take 1 name else []
+
+-- ---- white after a control sequence
+
+-- the glyphs before, nearest first, end in a control sequence that passes a test, with only white after it
+abbrev pub follows : (List ℕ → Bool) → List Glyph → Bool
+follows test [] = false
+follows test (Control name ∷ before) = test name
+follows test (Plain b ∷ before) = is_white b && follows test before
+
+-- a byte of white
+abbrev pub is_white_glyph : Glyph → Bool
+is_white_glyph (Control name) = false
+is_white_glyph (Plain b) = is_white b
+
+-- glyphs, that stand after those before (nearest first), without the white that directly follows a sequence which passes a test
+unfoldable pub without_white : (List ℕ → Bool) → List Glyph → List Glyph → List Glyph
+without_white test before [] = []
+without_white test before (glyph ∷ glyphs) =
+    let others = without_white test (glyph ∷ before) glyphs in
+    if follows test before && is_white_glyph glyph then others else glyph ∷ others
+
+-- the same, carried on from glyph to glyph: whether white goes after this one
+abbrev pub gone_after : (List ℕ → Bool) → Bool → Glyph → Bool
+gone_after test gone (Control name) = test name
+gone_after test gone (Plain b) = is_white b && gone
+
+-- ---- the same, stated
+
+-- the bytes of a glyph
+abbrev pub glyph_text : Glyph → List ℕ
+glyph_text (Control name) = backslash ∷ name
+glyph_text (Plain b) = b ∷ []
+
+-- the bytes of glyphs, joined
+abbrev pub glyphs_text : List Glyph → List ℕ
+glyphs_text glyphs = flat_map glyph_text glyphs
+
+-- a text begins with a byte that passes a test
+abbrev pub begins_with : (ℕ → Bool) → List ℕ → Bool
+begins_with test [] = false
+begins_with test (b ∷ bs) = test b
+
+-- the name of a control sequence, with what follows it: alpha bytes that no other follows; or one other byte, but no brace; or nothing,
+-- before a brace and at the end
+abbrev pub is_name : List ℕ → List ℕ → Bool
+is_name [] after = not (begins_with (λ b. not (is_brace b)) after)
+is_name (b ∷ bs) after =
+    if is_alpha b then list_all is_alpha bs && not (begins_with is_alpha after)
+    else (length bs == 0) && not (is_brace b)
+
+-- a glyph, with what follows it: a backslash begins a control sequence, any other byte is by itself
+abbrev pub is_glyph : Glyph → List ℕ → Bool
+is_glyph (Control name) after = is_name name after
+is_glyph (Plain b) after = not (b == backslash)
+
+-- the glyphs joined are the text, and each is the glyph of its place
+pub record IsReading (text : List ℕ) (glyphs : List Glyph) : Type 0 where
+  pub joined : glyphs_text glyphs ≡ text
+  pub each : (left : List Glyph) (glyph : Glyph) (right : List Glyph) → glyphs ≡ left ++ glyph ∷ right → IsTrue (is_glyph glyph (glyphs_text right))

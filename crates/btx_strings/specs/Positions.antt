@@ -1,0 +1,46 @@
+-- The functions on positions of bytes (btxhak, section 5.3, at `add.period$` and `substring$`).
+use Rattle.std.specs.Prelude.{ℕ, zero, suc, ◌-◌, ◌==◌, ◌||◌, Bool, false, not, ℤ, pos, negsuc, List, [], ◌∷◌, ◌++◌, length, take, drop, find, reverse, Option, Some, None, if◌then◌else◌}
+use Rattle.btx_text.specs.Elements.{close_brace}
+
+-- ---- `add.period$`
+
+-- `.`
+abbrev pub period : ℕ
+period = 46
+
+-- `.`, `?` or `!`
+abbrev pub is_stop : ℕ → Bool
+is_stop b = b == period || b == 63 || b == 33
+
+-- the last byte that is no closing brace
+abbrev pub last_mark : List ℕ → Option ℕ
+last_mark string = find (λ b. not (b == close_brace)) (reverse string)
+
+abbrev pub is_ended : Option ℕ → Bool
+is_ended None = false
+is_ended (Some b) = is_stop b
+
+-- a string with a period, unless it has a stop already; the empty string stays
+abbrev pub add_period_of : List ℕ → List ℕ
+add_period_of [] = []
+add_period_of (b ∷ bs) = if is_ended (last_mark (b ∷ bs)) then b ∷ bs else (b ∷ bs) ++ period ∷ []
+
+-- ---- `substring$`
+
+-- the first `n` bytes of what stands from the `start`-th byte on, counted from 1; nothing where there is no such byte
+abbrev pub from_left : List ℕ → ℕ → ℕ → List ℕ
+from_left string start n = take n (drop (start - 1) string)
+
+-- the last `n` bytes of what ends with the `start`-th byte from the right, counted from 1; nothing where there is no such byte
+abbrev pub from_right : List ℕ → ℕ → ℕ → List ℕ
+from_right string start n =
+    let front = take (length string - (start - 1)) string in
+    drop (length front - n) front
+
+-- a piece of a string: a positive start counts from the left and begins it, a negative one counts from the right and ends it; it has
+-- as many bytes as are asked for, or as there are
+abbrev pub substring_of : List ℕ → ℤ → ℤ → List ℕ
+substring_of string start (negsuc n) = []
+substring_of string (pos zero) (pos n) = []
+substring_of string (pos (suc start)) (pos n) = from_left string (suc start) n
+substring_of string (negsuc start) (pos n) = from_right string (suc start) n

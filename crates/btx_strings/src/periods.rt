@@ -1,0 +1,41 @@
+//! A period at the end of a string.
+ghost use Rattle.std.specs.Prelude.{◌≡◌};
+ghost use Rattle.btx_strings.specs.Answers.{Answers, no_complaints};
+ghost use Rattle.btx_strings.specs.Positions as spec;
+
+use crate::answers::{Answer, Complaints, within_limit};
+use btx_text::Fault;
+use std::alloc::Global;
+
+/// A string with a period at its end. It stays where its last byte that is no `}` is `.`, `?` or `!`, and where it is empty.
+///
+/// Errors: [`Fault::Memory`]; [`Fault::StringLimit`] where the text would be over 1,000,000 bytes.
+pub fn add_period(alloc: Global, string: &[u8]) -> Result<Answer, Fault>
+    ensures { Answers result (spec.add_period_of string.now) no_complaints }
+{
+    if string.is_empty() || is_ended(string) {
+        return Answer::copy_of(alloc, string, Complaints::NONE);
+    }
+    within_limit(string.len() + 1)?;
+    let mut text = Vec::with_capacity(alloc, string.len() + 1)?;
+    text.extend_from_slice(string)?;
+    text.push(b'.')?;
+    Ok(Answer {
+        text,
+        complaints: Complaints::NONE,
+    })
+}
+
+// Whether a string ends in a stop, closing braces aside.
+fn is_ended(string: &[u8]) -> bool
+    ensures { result ≡ spec.is_ended (spec.last_mark string.now) }
+{
+    matches!(last_mark(string), Some(b'.' | b'?' | b'!'))
+}
+
+// The last byte that is no closing brace.
+fn last_mark(string: &[u8]) -> Option<u8>
+    ensures { result ≡ spec.last_mark string.now }
+{
+    string.iter().rev().find(|byte| **byte != b'}').copied()
+}
