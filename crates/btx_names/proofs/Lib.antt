@@ -1,0 +1,21 @@
+pub mod NameLemmas
+pub mod RunLemmas
+pub mod TokenLemmas
+pub mod VonLemmas
+pub mod CountLemmas
+pub mod SectionLemmas
+pub mod RangeLemmas
+pub mod PartLemmas
+pub mod FormatLemmas
+pub mod InitialLemmas
+pub mod ShortLemmas
+pub mod TieLemmas
+pub mod PieceLemmas
+pub mod FormattedLemmas
+mod WorkedNames
+pub mod SplitLemmas
+pub mod LawLemmas
+pub mod SeparatorLemmas
+pub mod GapLemmas
+pub mod CommaLemmas
+pub mod ItemLemmas

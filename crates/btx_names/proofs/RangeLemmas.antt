@@ -1,0 +1,78 @@
+-- Lemmas on the ranges of the parts of a name.
+use Rattle.std.proofs.Common.{◌≡◌, ℕ, zero, suc, ◌+◌, ◌-◌, ◌<◌, ◌≤◌, Bool, true, false, cond, ltb, List, [], ◌∷◌, length, drop, refl, sym, arith}
+use Rattle.std.proofs.lemmas.Bool.{ltb-true, lt-ltb}
+use Rattle.std.proofs.lemmas.List.{drop_all, drop-drop}
+use Rattle.btx_names.specs.Tokens.{Token, tokens_of, tokens_from}
+use Rattle.btx_names.specs.declared.token_counts.Test.{Test}
+use Rattle.btx_names.specs.declared.token_counts.Test.TheVariants.{Von, Apart}
+use Rattle.btx_names.specs.NameParts.{passes, before_final, up_to_last, before_first, von_end, last_start, von_start}
+
+-- up to the last before the final token: fewer than all
+pub up_to_last-lt : (test : Test) (token : Token) (tokens : List Token) → up_to_last (passes test) (before_final (token ∷ tokens)) < length (token ∷ tokens)
+unfolding up_to_last before_final
+up_to_last-lt test token [] = omega arith
+up_to_last-lt test token (next ∷ tokens) =
+    at (passes test token) (up_to_last (passes test) (before_final (next ∷ tokens))) (up_to_last-lt test next tokens) where
+      at : (t : Bool) (n : ℕ) → n < length (next ∷ tokens) → cond (ltb 0 n) (suc n) (cond t 1 0) < suc (length (next ∷ tokens))
+      at t zero h = low t where
+        low : (t : Bool) → cond t 1 0 < suc (length (next ∷ tokens))
+        low true = omega arith
+        low false = omega arith
+      at t (suc n) h = let some : ltb 0 (suc n) ≡ true = lt-ltb 0 (suc n) (omega arith) in rw some (omega arith)
+
+pub up_to_last-le : (test : Test) (tokens : List Token) → up_to_last (passes test) (before_final tokens) ≤ length tokens
+unfolding up_to_last before_final
+up_to_last-le test [] = omega arith
+up_to_last-le test (token ∷ tokens) = let h = up_to_last-lt test token tokens in omega arith
+
+-- where a von token stands before the final one, the first von token does
+pub before_first-le : (test : Test) (tokens : List Token) → 0 < up_to_last (passes test) (before_final tokens) →
+    before_first (passes test) tokens ≤ up_to_last (passes test) (before_final tokens)
+unfolding up_to_last before_final before_first
+before_first-le test [] some = absurd (omega arith)
+before_first-le test (token ∷ []) some = absurd (omega arith)
+before_first-le test (token ∷ next ∷ tokens) some =
+    at (passes test token) (up_to_last (passes test) (before_final (next ∷ tokens))) some (before_first-le test (next ∷ tokens)) where
+      at : (t : Bool) (n : ℕ) → 0 < cond (ltb 0 n) (suc n) (cond t 1 0) → (0 < n → before_first (passes test) (next ∷ tokens) ≤ n) →
+          cond t 0 (suc (before_first (passes test) (next ∷ tokens))) ≤ cond (ltb 0 n) (suc n) (cond t 1 0)
+      at true n some more = omega arith
+      at false zero some more = absurd (omega arith)
+      at false (suc n) some more =
+          let is : ltb 0 (suc n) ≡ true = lt-ltb 0 (suc n) (omega arith) in
+          let h = more (omega arith) in
+          rw is (omega arith)
+
+-- ---- the ranges of a name without commas
+
+pub last_start-le : (tokens : List Token) → last_start tokens ≤ length tokens
+last_start-le tokens = at (ltb 0 (von_end tokens)) (up_to_last-le Von tokens) (up_to_last-le Apart tokens) where
+  at : (t : Bool) → von_end tokens ≤ length tokens → up_to_last (passes Apart) (before_final tokens) ≤ length tokens →
+      cond t (von_end tokens) (up_to_last (passes Apart) (before_final tokens)) ≤ length tokens
+  at true h g = h
+  at false h g = g
+
+pub von_start-le : (tokens : List Token) → von_start tokens ≤ last_start tokens
+von_start-le tokens = at (ltb 0 (von_end tokens)) refl where
+  at : (t : Bool) → ltb 0 (von_end tokens) ≡ t →
+      cond t (before_first (passes Von) tokens) (cond t (von_end tokens) (up_to_last (passes Apart) (before_final tokens)))
+      ≤ cond t (von_end tokens) (up_to_last (passes Apart) (before_final tokens))
+  at true is = before_first-le Von tokens (ltb-true 0 (von_end tokens) is)
+  at false is = omega arith
+
+pub ruleset ranges = (up_to_last-le, last_start-le, von_start-le)
+
+-- ---- going on in a list of tokens
+
+pub drop_one_more : (tokens rest : List Token) (token : Token) (n : ℕ) → drop n tokens ≡ token ∷ rest → drop (n + 1) tokens ≡ rest
+drop_one_more tokens rest token n is = rw (sym (drop-drop 1 n tokens), is) refl
+
+pub drop_none_left : (tokens : List Token) (n count : ℕ) → drop n tokens ≡ [] → n ≤ count → drop count tokens ≡ []
+drop_none_left tokens n count is le =
+    let e : n + (count - n) ≡ count = omega arith in
+    rw (sym e, sym (drop-drop (count - n) n tokens), is) (drop_all (count - n) [] (omega arith))
+
+pub tokens_of_nothing : tokens_of [] ≡ []
+unfolding tokens_of tokens_from
+tokens_of_nothing = refl
+
+pub ruleset drop_steps = (drop_one_more, drop_none_left, tokens_of_nothing)

@@ -1,0 +1,6 @@
+use Rattle.std.proofs.Common.{◌≡◌, ◌+◌, ◌≤◌, drop}
+use Rattle.btx_names.specs.NameLists.{name_len}
+use Rattle.btx_names.proofs.separators.name_len.Given as goal
+
+abbrev pub invariant-loop-place : goal.invariant-loop-place
+invariant-loop-place l = (l.place + name_len l.depth (drop l.place l.text) ≡ name_len 0 l.text) × (l.depth ≤ l.place)

@@ -1,0 +1,51 @@
+-- What `format_name` answers.
+use Rattle.std.specs.Prelude.{ℕ, zero, suc, ℤ, pos, negsuc, Bool, true, false, not, List, [], Option, Some, None, option_and_then, slice_get, if◌then◌else◌}
+use Rattle.btx_text.specs.declared.element_kind.TextMode.{TextMode}
+use Rattle.btx_strings.specs.declared.answers.Complaints.{Complaints}
+use Rattle.btx_strings.specs.Answers.{no_complaints}
+use Rattle.btx_names.specs.NameLists.{names_of}
+use Rattle.btx_names.specs.NameParts.{sections_of, ends_in_comma, has_third_comma, parts_of}
+use Rattle.btx_names.specs.Formats.{is_legal}
+use Rattle.btx_names.specs.FormattedNames.{formatted}
+
+-- how many names stand before the one of a number: numbers count from 1
+unfoldable pub names_before : ℤ → Option ℕ
+names_before (pos zero) = None
+names_before (pos (suc n)) = Some n
+names_before (negsuc n) = None
+
+-- a name of a string, by its number
+unfoldable pub nth_name : List ℕ → ℤ → Option (List ℕ)
+nth_name names number = option_and_then (slice_get (names_of names)) (names_before number)
+
+-- a name in a format: nothing where the format is illegal
+unfoldable pub one_name_text : TextMode → List ℕ → List ℕ → List ℕ
+one_name_text mode name format = if is_legal format then formatted mode (parts_of name) format else []
+
+-- what is wrong: a comma at the name's end, a third comma, the format
+abbrev pub complaints_with : Bool → Bool → Bool → Complaints
+complaints_with ends_in_comma has_third_comma is_legal =
+    record { x9 = false; x10 = false; x11 = ends_in_comma; x12 = has_third_comma; x13 = not is_legal }
+
+unfoldable pub one_name_complaints : List ℕ → List ℕ → Complaints
+one_name_complaints name format = complaints_with (ends_in_comma name) (has_third_comma (sections_of name)) (is_legal format)
+
+-- where there is no name of the number, that alone is wrong
+abbrev pub there_is_none : Complaints
+there_is_none = record no_complaints { x10 = true }
+
+abbrev pub text_by : TextMode → Option (List ℕ) → List ℕ → List ℕ
+text_by mode None format = []
+text_by mode (Some name) format = one_name_text mode name format
+
+abbrev pub complaints_by : Option (List ℕ) → List ℕ → Complaints
+complaints_by None format = there_is_none
+complaints_by (Some name) format = one_name_complaints name format
+
+-- the text: nothing where there is no name of the number
+abbrev pub format_name_text : TextMode → List ℕ → ℤ → List ℕ → List ℕ
+format_name_text mode names number format = text_by mode (nth_name names number) format
+
+-- the complaints
+abbrev pub format_name_complaints : List ℕ → ℤ → List ℕ → Complaints
+format_name_complaints names number format = complaints_by (nth_name names number) format

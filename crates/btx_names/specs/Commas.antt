@@ -1,0 +1,20 @@
+-- The commas of a name that count.
+use Rattle.std.specs.Prelude.{ℕ, ◌+◌, ◌==◌, ◌&&◌, Bool, not, List, length, take, drop, slice_index, filter}
+use Rattle.std.specs.List.{range_with_len}
+use Rattle.btx_text.specs.Elements.{depth_of}
+use Rattle.btx_names.specs.Runs.{comma}
+use Rattle.btx_names.specs.NameParts.{Sections, One, Two, Three, is_all_breaks}
+
+-- a comma stands at this place of a name, at depth 0, and a token follows it
+abbrev pub counts_at : List ℕ → ℕ → Bool
+counts_at name place = depth_of (take place name) == 0 && slice_index name place == comma && not (is_all_breaks (drop (place + 1) name))
+
+-- the places of those commas
+abbrev pub commas_of : List ℕ → List ℕ
+commas_of name = filter (counts_at name) (range_with_len 0 (length name))
+
+-- how many commas a form has
+abbrev pub commas_in : Sections → ℕ
+commas_in (One name) = 0
+commas_in (Two surname first) = 1
+commas_in (Three surname jr first) = 2

@@ -1,0 +1,112 @@
+-- A name in a format (btxhak, section 5.4, at `format.name$`).
+use Rattle.std.specs.Prelude.{ℕ, ◌-◌, ◌==◌, ◌||◌, ◌&&◌, Bool, List, [], ◌∷◌, ◌++◌, Option, Some, None, length, take, slice_index, nat_lt, if◌then◌else◌}
+use Rattle.std.specs.List.{flat_map}
+use Rattle.btx_text.specs.declared.element_kind.TextMode.{TextMode}
+use Rattle.btx_text.specs.Class.{is_alpha}
+use Rattle.btx_text.specs.Elements.{Part, elements_of, open_brace, backslash}
+use Rattle.btx_strings.specs.Lengths.{text_length_of}
+use Rattle.btx_names.specs.declared.name_tokens.Joint.{Joint}
+use Rattle.btx_names.specs.declared.name_tokens.Joint.TheVariants.{Space, Tie, Hyphen}
+use Rattle.btx_names.specs.declared.format_items.PartName.{PartName}
+use Rattle.btx_names.specs.declared.format_items.PartName.TheVariants.{First, Von, Last, Jr}
+use Rattle.btx_names.specs.Tokens.{Token, tilde, hyphen}
+use Rattle.btx_names.specs.NameParts.{NameParts}
+use Rattle.btx_names.specs.Formats.{Item, Literal, Plain, Name, Illegal, Piece, items_of}
+
+-- ---- a token
+
+-- an abbreviation begins here: with a letter or a byte from 128 up, or with a `{` directly before a backslash, at any depth
+abbrev pub begins_initial : List ℕ → Bool
+begins_initial text = is_alpha (slice_index text 0) || (slice_index text 0 == open_brace && slice_index text 1 == backslash)
+
+-- the text of the first of some elements
+abbrev pub first_text : List Part → List ℕ
+first_text [] = []
+first_text (part ∷ parts) = part.text
+
+-- what stands for a token that is abbreviated: the first element of what is left of it where an abbreviation first begins, so that a `{`
+-- before a backslash takes its whole group inside braces too; nothing where none begins
+unfoldable pub initial_of : TextMode → List ℕ → List ℕ
+initial_of mode [] = []
+initial_of mode (b ∷ bs) = if begins_initial (b ∷ bs) then first_text (elements_of mode (b ∷ bs)) else initial_of mode bs
+
+-- a token in full or abbreviated
+abbrev pub shown : TextMode → Bool → List ℕ → List ℕ
+shown mode is_full token = if is_full then token else initial_of mode token
+
+-- ---- between tokens
+
+-- a text has fewer than three characters
+abbrev pub is_short : TextMode → List ℕ → Bool
+is_short mode text = nat_lt (text_length_of mode text) 3
+
+-- what joins a token to the next: the `~` or `-` of the name; else a tie before the part's last token and in a text that is still short,
+-- the piece's own beginning included; else a space
+abbrev pub tie_of : TextMode → List ℕ → Joint → Bool → ℕ
+tie_of mode so_far Tie is_last = tilde
+tie_of mode so_far Hyphen is_last = hyphen
+tie_of mode so_far Space is_last = if is_last || is_short mode so_far then tilde else 32
+
+-- the period after an abbreviated token
+abbrev pub period_of : Bool → List ℕ
+period_of is_full = if is_full then [] else 46 ∷ []
+
+-- what the piece says, or else a period and a tie
+abbrev pub joined_by : TextMode → Bool → Option (List ℕ) → List ℕ → Joint → Bool → List ℕ
+joined_by mode is_full (Some between) so_far joint is_last = between
+joined_by mode is_full None so_far joint is_last = period_of is_full ++ tie_of mode (so_far ++ period_of is_full) joint is_last ∷ []
+
+-- what stands behind a token, with how many are left: nothing behind the last one
+unfoldable pub between_text : TextMode → Piece → List ℕ → Joint → ℕ → List ℕ
+between_text mode piece so_far joint left =
+    if left == 0 then [] else joined_by mode piece.is_full piece.between so_far joint (left == 1)
+
+-- the text of a piece with some more tokens, each after the text so far
+unfoldable pub with_tokens : TextMode → Piece → List ℕ → List Token → List ℕ
+with_tokens mode piece so_far [] = so_far
+with_tokens mode piece so_far (token ∷ tokens) =
+    let next = so_far ++ shown mode piece.is_full token.text in
+    with_tokens mode piece (next ++ between_text mode piece next token.joint (length tokens)) tokens
+
+-- ---- a piece
+
+-- a text without its last byte
+abbrev pub front_of : List ℕ → List ℕ
+front_of text = take (length text - 1) text
+
+-- a text ends in `~`
+abbrev pub ends_in_tie : List ℕ → Bool
+ends_in_tie text = slice_index text (length text - 1) == tilde
+
+-- a piece's text, finished: of a final `~~` one goes; a single final `~` becomes a space, unless what stands before it is short
+unfoldable pub finished : TextMode → List ℕ → List ℕ
+finished mode text =
+    if ends_in_tie text then
+    (if ends_in_tie (front_of text) then front_of text
+    else if is_short mode (front_of text) then text else front_of text ++ 32 ∷ [])
+    else text
+
+-- the tokens of a part
+abbrev pub tokens_by : PartName → NameParts → List Token
+tokens_by First parts = parts.first
+tokens_by Von parts = parts.von
+tokens_by Last parts = parts.last
+tokens_by Jr parts = parts.jr
+
+-- a piece with a part: nothing where the part has no tokens
+unfoldable pub piece_text : TextMode → Piece → List Token → List ℕ
+piece_text mode piece [] = []
+piece_text mode piece (token ∷ tokens) = finished mode (with_tokens mode piece piece.before (token ∷ tokens) ++ piece.after)
+
+-- ---- the name
+
+-- what an item of a format gives
+abbrev pub item_text : TextMode → NameParts → Item → List ℕ
+item_text mode parts (Literal text) = text
+item_text mode parts (Plain inside) = finished mode inside
+item_text mode parts (Name piece) = piece_text mode piece (tokens_by piece.part parts)
+item_text mode parts Illegal = []
+
+-- a name's parts in a format: the join of the format's literal bytes and its pieces
+abbrev pub formatted : TextMode → NameParts → List ℕ → List ℕ
+formatted mode parts format = flat_map (item_text mode parts) (items_of format)

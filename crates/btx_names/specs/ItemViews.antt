@@ -1,0 +1,24 @@
+-- What clauses see of an item of a format in the code.
+use Rattle.btx_names.specs.Formats as spec
+use Rattle.btx_names.specs.declared.format_items.Piece.{Piece}
+use Rattle.btx_names.specs.declared.format_items.Item.{Item}
+use Rattle.btx_names.specs.declared.format_items.Item.TheVariants.{Literal, Plain, Name, Illegal}
+use Rattle.std.specs.Option.{option_copied}
+
+-- a piece, without where its texts lie in memory
+abbrev pub piece_view : Piece → spec.Piece
+piece_view piece =
+    record {
+      before = piece.before.now;
+      part = piece.part;
+      is_full = piece.is_full;
+      between = option_copied piece.between;
+      after = piece.after.now;
+    }
+
+-- an item, without where its texts lie in memory
+abbrev pub item_view : Item → spec.Item
+item_view (Literal text) = spec.Literal text.now
+item_view (Plain text) = spec.Plain text.now
+item_view (Name piece) = spec.Name (piece_view piece)
+item_view Illegal = spec.Illegal

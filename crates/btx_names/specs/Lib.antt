@@ -1,0 +1,16 @@
+pub mod NameLists
+pub mod Runs
+pub mod Tokens
+pub mod TokenViews
+pub mod VonTokens
+pub mod NameParts
+pub mod Commas
+pub mod SectionViews
+pub mod PartViews
+pub mod Formats
+pub mod FormatTexts
+pub mod ItemViews
+pub mod FormattedNames
+pub mod Becomes
+pub mod Answered
+pub mod Gaps

@@ -1,0 +1,159 @@
+-- The parts of a name (btxhak, section 5.4). Commas say which of three forms it has: First von Last; von Last, First; von Last, Jr, First.
+use Rattle.std.specs.Prelude.{◌≡◌, ◌++◌, slice_get, ℕ, suc, ◌+◌, ◌-◌, ◌==◌, ◌&&◌, ◌||◌, Bool, true, false, not, List, [], ◌∷◌, Option, Some, None, length, take, drop, find, reverse, nat_lt, if◌then◌else◌}
+use Rattle.std.specs.List.{list_all}
+use Rattle.std.specs.Option.{option_map_or, is_some}
+use Rattle.btx_text.specs.Class.{is_white, is_sep}
+use Rattle.btx_text.specs.Elements.{depth_of}
+use Rattle.btx_names.specs.declared.name_tokens.Joint.{Joint}
+use Rattle.btx_names.specs.declared.name_tokens.Joint.TheVariants.{Hyphen}
+use Rattle.btx_names.specs.declared.runs.Stop.TheVariants.{Comma}
+use Rattle.btx_names.specs.declared.token_counts.Test.{Test}
+use Rattle.btx_names.specs.declared.token_counts.Test.TheVariants.{Von, Apart}
+use Rattle.btx_names.specs.Runs.{is_break, comma, run_len}
+use Rattle.btx_names.specs.Tokens.{Token, tokens_of}
+use Rattle.btx_names.specs.VonTokens.{is_von}
+
+-- ---- commas
+
+-- a text has no token
+abbrev pub is_all_breaks : List ℕ → Bool
+is_all_breaks text = list_all is_break text
+
+-- the texts before and after the first comma at depth 0, if a token follows it: a comma that no token follows says nothing
+unfoldable pub split_at_comma : List ℕ → Option (List ℕ × List ℕ)
+split_at_comma text =
+    let size = run_len Comma 0 text in
+    let after = drop (size + 1) text in
+    if is_all_breaks after then None else Some (take size text, after)
+
+-- a name, cut at its first two commas: more of them are as white
+pub data Sections : Type 0 where
+  One : List ℕ → Sections
+  Two : List ℕ → List ℕ → Sections
+  Three : List ℕ → List ℕ → List ℕ → Sections
+
+-- the second cut, behind the first section
+abbrev pub cut_again : List ℕ → List ℕ → Option (List ℕ × List ℕ) → Sections
+cut_again one rest None = Two one rest
+cut_again one rest (Some cut) = Three one cut.0 cut.1
+
+abbrev pub cut_first : List ℕ → Option (List ℕ × List ℕ) → Sections
+cut_first name None = One name
+cut_first name (Some cut) = cut_again cut.0 cut.1 (split_at_comma cut.1)
+
+-- the sections of a name
+unfoldable pub sections_of : List ℕ → Sections
+sections_of name = cut_first name (split_at_comma name)
+
+-- a byte that is neither white nor `~` nor `-`
+abbrev pub is_ink : ℕ → Bool
+is_ink b = not (is_white b || is_sep b)
+
+-- the last byte of a text that is neither white nor `~` nor `-`
+abbrev pub last_ink : List ℕ → Option ℕ
+last_ink text = find is_ink (reverse text)
+
+-- that byte is a comma, at depth 0
+unfoldable pub ends_in_comma : List ℕ → Bool
+ends_in_comma name = option_map_or (λ b. b == comma) (last_ink name) false && depth_of name == 0
+
+-- a name has a third comma that a token follows
+abbrev pub has_third_comma : Sections → Bool
+has_third_comma (Three one two three) = is_some (split_at_comma three)
+has_third_comma _ = false
+
+-- ---- places in a list of tokens
+
+-- the tokens before the final one
+unfoldable pub before_final : List Token → List Token
+before_final [] = []
+before_final (token ∷ []) = []
+before_final (token ∷ next ∷ tokens) = token ∷ before_final (next ∷ tokens)
+
+-- how many tokens there are up to the last one that passes a test, 0 where none does
+unfoldable pub up_to_last : (Token → Bool) → List Token → ℕ
+up_to_last passes [] = 0
+up_to_last passes (token ∷ tokens) =
+    if nat_lt 0 (up_to_last passes tokens) then suc (up_to_last passes tokens) else if passes token then 1 else 0
+
+-- how many tokens stand before the first that passes a test
+unfoldable pub before_first : (Token → Bool) → List Token → ℕ
+before_first passes [] = 0
+before_first passes (token ∷ tokens) = if passes token then 0 else suc (before_first passes tokens)
+
+abbrev pub is_hyphen : Joint → Bool
+is_hyphen Hyphen = true
+is_hyphen _ = false
+
+-- what is asked of a token: that it is von, or that no `-` joins it to the next
+abbrev pub passes : Test → Token → Bool
+passes Von token = is_von token.text
+passes Apart token = not (is_hyphen token.joint)
+
+-- how many tokens there are up to the last von token before the final one: the final token is never von
+abbrev pub von_end : List Token → ℕ
+von_end tokens = up_to_last (passes Von) (before_final tokens)
+
+-- where Last begins in a name without commas: behind von, or, without von, with those that are joined to the final token by `-`
+abbrev pub last_start : List Token → ℕ
+last_start tokens = if nat_lt 0 (von_end tokens) then von_end tokens else up_to_last (passes Apart) (before_final tokens)
+
+-- where von begins in a name without commas
+abbrev pub von_start : List Token → ℕ
+von_start tokens = if nat_lt 0 (von_end tokens) then before_first (passes Von) tokens else last_start tokens
+
+-- ---- the parts
+
+-- the four parts of a name, each a range of its tokens
+pub record NameParts : Type 0 where
+  pub first : List Token
+  pub von : List Token
+  pub last : List Token
+  pub jr : List Token
+
+-- the parts of a name without commas, of its tokens: First von Last
+abbrev pub unsplit : List Token → NameParts
+unsplit tokens =
+    record {
+      first = take (von_start tokens) tokens;
+      von = take (last_start tokens - von_start tokens) (drop (von_start tokens) tokens);
+      last = drop (last_start tokens) tokens;
+      jr = [];
+    }
+
+-- the parts of a name with commas, of the tokens of its sections: von and Last stand in the first
+abbrev pub parted : List Token → List Token → List Token → NameParts
+parted surname jr first = record { first = first; von = take (von_end surname) surname; last = drop (von_end surname) surname; jr = jr }
+
+-- the parts of a name by its sections
+abbrev pub parts_by : Sections → NameParts
+parts_by (One name) = unsplit (tokens_of name)
+parts_by (Two surname first) = parted (tokens_of surname) [] (tokens_of first)
+parts_by (Three surname jr first) = parted (tokens_of surname) (tokens_of jr) (tokens_of first)
+
+-- the parts of a name
+abbrev pub parts_of : List ℕ → NameParts
+parts_of name = parts_by (sections_of name)
+
+-- ---- the parts as a whole
+
+-- the parts in the order in which a name of a form has them
+abbrev pub in_order : Sections → NameParts → List Token
+in_order (One name) parts = parts.first ++ parts.von ++ parts.last
+in_order (Two surname first) parts = parts.von ++ parts.last ++ parts.first
+in_order (Three surname jr first) parts = parts.von ++ parts.last ++ parts.jr ++ parts.first
+
+-- a Jr stands in the third form alone
+abbrev pub HasJrByForm : Sections → NameParts → Type 0
+HasJrByForm (Three surname jr first) parts = Unit {0}
+HasJrByForm _ parts = parts.jr ≡ []
+
+-- the section that von and Last stand in
+abbrev pub surname_of : Sections → List ℕ
+surname_of (One name) = name
+surname_of (Two surname first) = surname
+surname_of (Three surname jr first) = surname
+
+-- the final one of some tokens
+abbrev pub final_of : List Token → Option Token
+final_of tokens = slice_get tokens (length tokens - 1)

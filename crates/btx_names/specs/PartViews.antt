@@ -1,0 +1,20 @@
+-- What clauses see of a part of a name in the code.
+use Rattle.std.specs.Prelude.{List, take}
+use Rattle.btx_names.specs.Tokens.{Token, tokens_of}
+use Rattle.btx_names.specs.NameParts as spec
+use Rattle.btx_names.specs.declared.name_parts.NameParts.{NameParts}
+use Rattle.btx_names.specs.declared.name_parts.Part.{Part}
+
+-- the tokens of a part: the first of its text
+abbrev pub part_tokens : Part → List Token
+part_tokens part = take part.count (tokens_of part.text.now)
+
+-- the parts of a name, as lists of tokens
+abbrev pub parts_view : NameParts → spec.NameParts
+parts_view parts =
+    record {
+      first = part_tokens parts.first;
+      von = part_tokens parts.von;
+      last = part_tokens parts.last;
+      jr = part_tokens parts.jr;
+    }

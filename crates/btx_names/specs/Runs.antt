@@ -1,0 +1,27 @@
+-- Runs: the beginnings of a text before a byte of some kind at depth 0.
+use Rattle.std.specs.Prelude.{ℕ, suc, ◌==◌, ◌||◌, ◌&&◌, Bool, List, [], ◌∷◌, if◌then◌else◌}
+use Rattle.btx_text.specs.Class.{is_white, is_alpha, is_sep}
+use Rattle.btx_text.specs.Elements.{depth_after, open_brace, close_brace}
+use Rattle.btx_names.specs.declared.runs.Stop.{Stop}
+use Rattle.btx_names.specs.declared.runs.Stop.TheVariants.{Break, Comma, Letter, Closing, Brace}
+
+-- `,`
+abbrev pub comma : ℕ
+comma = 44
+
+-- a byte that stands between tokens where it is at depth 0: white, `~`, `-` or a comma
+abbrev pub is_break : ℕ → Bool
+is_break b = is_white b || is_sep b || b == comma
+
+-- the bytes at which a run ends
+abbrev pub stops : Stop → ℕ → Bool
+stops Break b = is_break b
+stops Comma b = b == comma
+stops Letter b = is_alpha b
+stops Closing b = b == close_brace
+stops Brace b = b == open_brace || b == close_brace
+
+-- how many bytes of a text, whose brace depth is given, stand before the first of a kind at depth 0; all, where there is none
+unfoldable pub run_len : Stop → ℕ → List ℕ → ℕ
+run_len stop depth [] = 0
+run_len stop depth (b ∷ bs) = if depth == 0 && stops stop b then 0 else suc (run_len stop (depth_after depth b) bs)

@@ -1,0 +1,150 @@
+//! A name in a format.
+ghost use Rattle.std.specs.Prelude.{◌≡◌, ◌++◌, ◌≤◌, length, MatchOption, None, Some};
+ghost use Rattle.btx_strings.specs.Answers.{Answers};
+ghost use Rattle.btx_names.specs.Becomes.{Becomes, Makes};
+ghost use Rattle.btx_names.specs.Answered as spec;
+ghost use Rattle.btx_names.specs.FormattedNames.{formatted, item_text, tokens_by};
+ghost use Rattle.btx_names.specs.ItemViews.{item_view};
+ghost use Rattle.btx_names.specs.NameParts.{ends_in_comma, has_third_comma};
+ghost use Rattle.btx_names.specs.PartViews.{part_tokens, parts_view};
+ghost use Rattle.btx_names.specs.SectionViews.{sections_view};
+
+use crate::format_items::{Item, Items, PartName, is_legal};
+use crate::name_list::Names;
+use crate::name_parts::{NameParts, Part};
+use crate::name_sections::{Sections, ends_in_comma};
+use crate::pieces::{push_piece, push_plain};
+use btx_strings::answers::{Answer, Complaints, STRING_LIMIT};
+use btx_text::{Fault, TextMode};
+use std::alloc::Global;
+
+/// A name of a string in a format, with what was wrong: `x10` where there is no name of the number, which counts from 1, and else `x11` for
+/// a comma at the name's end, `x12` for a third comma, `x13` for an illegal format. With `x10` or `x13` the text is empty.
+/// [`Fault::StringLimit`] where the text would be longer than a string may be, [`Fault::Memory`] where memory is refused.
+pub fn format_name(
+    alloc: Global,
+    names: &[u8],
+    number: i32,
+    format: &[u8],
+    mode: TextMode,
+) -> Result<Answer, Fault>
+    ensures { Answers result (spec.format_name_text mode names.now number format.now) (spec.format_name_complaints names.now number format.now) }
+{
+    match nth_name(names, number) {
+        Some(name) => format_one(alloc, name, format, mode),
+        None => Answer::new(
+            Vec::new(alloc),
+            Complaints {
+                x10: true,
+                ..Complaints::NONE
+            },
+        ),
+    }
+}
+
+// How many names stand before the one of a number.
+#[tactic(auto, using(crate::proofs::FormattedLemmas::before_steps), unfolding(crate::specs::Answered::names_before))]
+fn names_before(number: i32) -> Option<usize>
+    ensures { result ≡ spec.names_before number }
+{
+    match usize::try_from(number) {
+        Ok(0) | Err(_) => None,
+        Ok(number) => Some(number - 1),
+    }
+}
+
+// A name of a string, by its number from 1 on.
+#[tactic(auto, using(crate::proofs::FormattedLemmas::nth_steps))]
+fn nth_name(names: &[u8], number: i32) -> Option<&[u8]>
+    ensures { MatchOption result (spec.nth_name names.now number ≡ None) (λ name. spec.nth_name names.now number ≡ Some name.now) }
+{
+    let mut left = names_before(number)?;
+    for name in Names::of(names) {
+        if left == 0 {
+            return Some(name);
+        }
+        left -= 1;
+    }
+    None
+}
+
+// A name in a format.
+fn format_one(alloc: Global, name: &[u8], format: &[u8], mode: TextMode) -> Result<Answer, Fault>
+    ensures { Answers result (spec.one_name_text mode name.now format.now) (spec.one_name_complaints name.now format.now) }
+{
+    let sections = Sections::of(name);
+    let is_legal = is_legal(format);
+    let complaints = complaints_of(name, sections, is_legal);
+    if !is_legal {
+        return Answer::new(Vec::new(alloc), complaints);
+    }
+    let text = formatted(alloc, NameParts::of(sections), format, mode)?;
+    Answer::new(text, complaints)
+}
+
+// What is wrong with a name and a format.
+fn complaints_of(name: &[u8], sections: Sections<'_>, is_legal: bool) -> Complaints
+    ensures { result ≡ spec.complaints_with (ends_in_comma name.now) (has_third_comma (sections_view sections.entry)) is_legal }
+{
+    Complaints {
+        x9: false,
+        x10: false,
+        x11: ends_in_comma(name),
+        x12: sections.has_third_comma(),
+        x13: !is_legal,
+    }
+}
+
+// The parts of a name in a legal format. It goes no further than the limit of a string.
+fn formatted(
+    alloc: Global,
+    parts: NameParts<'_>,
+    format: &[u8],
+    mode: TextMode,
+) -> Result<Vec<u8>, Fault>
+    ensures { Makes 1000000 result (formatted mode (parts_view parts.entry) format.now) }
+{
+    let mut text = Vec::new(alloc);
+    for item in Items::of(format) {
+        push_item(&mut text, item, parts, mode)?;
+        if text.len() > STRING_LIMIT {
+            return Err(Fault::StringLimit);
+        }
+    }
+    Ok(text)
+}
+
+// Adds what an item of a format gives.
+fn push_item(
+    text: &mut Vec<u8>,
+    item: Item<'_>,
+    parts: NameParts<'_>,
+    mode: TextMode,
+) -> Result<(), Fault>
+    ensures { Becomes 1000000 result text.new.items (text.old.items ++ item_text mode (parts_view parts.entry) (item_view item.entry)) }
+{
+    match item {
+        Item::Literal(literal) => {
+            text.extend_from_slice(literal)?;
+            Ok(())
+        }
+        Item::Plain(inside) => {
+            push_plain(text, inside, mode)?;
+            Ok(())
+        }
+        Item::Name(piece) => push_piece(text, piece, part_of(parts, piece.part), mode),
+        Item::Illegal => Ok(()),
+    }
+}
+
+// The part of a name that a piece of a format asks for.
+fn part_of(parts: NameParts<'_>, part: PartName) -> Part<'_>
+    ensures { part_tokens result ≡ tokens_by part (parts_view parts.entry) }
+{
+    match part {
+        PartName::First => parts.first,
+        PartName::Von => parts.von,
+        PartName::Last => parts.last,
+        PartName::Jr => parts.jr,
+    }
+}

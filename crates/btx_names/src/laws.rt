@@ -1,0 +1,56 @@
+//! Laws over the definitions. Each function has an empty body, and its contract is the law.
+ghost use Rattle.std.specs.Prelude.{◌≡◌, ℕ, List, ◌∷◌, ◌+◌, length, map, filter, min, nat_lt, true};
+ghost use Rattle.btx_names.specs.NameLists.{names_of, separators_of};
+ghost use Rattle.btx_names.specs.Commas.{commas_in, commas_of};
+ghost use Rattle.btx_names.specs.NameParts.{HasJrByForm, final_of, has_third_comma, in_order, parts_of, sections_of, surname_of};
+ghost use Rattle.btx_names.specs.Gaps.{and_gap, byte_gap, pieces_between};
+ghost use Rattle.btx_names.specs.Formats.{is_legal, items_of};
+ghost use Rattle.btx_names.specs.FormatTexts.{copied_of, in_lower_case, literals_of, text_of_items};
+ghost use Rattle.btx_names.specs.Tokens.{breaks_of, is_some_text, tokens_of};
+
+/// A string that isn't empty has one more name than separators.
+#[tactic(auto, using(crate::proofs::SeparatorLemmas::counted))]
+pub fn one_more_than_separators()
+    ensures { (b : ℕ) (bs : List ℕ) → length (names_of (b ∷ bs)) ≡ length (separators_of (b ∷ bs)) + 1 }
+{}
+
+/// Names and tokens are pieces: the names of a string that isn't empty are what stands between the separators' letters, and the tokens of a
+/// text are what stands, with a byte at least, between the bytes at depth 0 that part tokens.
+#[tactic(auto, using(crate::proofs::GapLemmas::between))]
+pub fn pieces_between_separators()
+    ensures names { (b : ℕ) (bs : List ℕ) →
+        names_of (b ∷ bs) ≡ pieces_between 0 (map and_gap (separators_of (b ∷ bs))) (b ∷ bs) }
+    ensures tokens { (text : List ℕ) →
+        map (λ token. token.text) (tokens_of text) ≡ filter is_some_text (pieces_between 0 (map byte_gap (breaks_of text)) text) }
+{}
+
+/// The parts of a name cover its tokens without overlap, in the order of its form: First von Last; von Last, First; von Last, Jr, First.
+#[tactic(auto, using(crate::proofs::LawLemmas::part_laws))]
+pub fn parts_cover_the_tokens()
+    ensures covers { (name : List ℕ) → in_order (sections_of name) (parts_of name) ≡ tokens_of name }
+    ensures jr { (name : List ℕ) → HasJrByForm (sections_of name) (parts_of name) }
+{}
+
+/// The final token of the section that von and Last stand in, of the whole name if it has no comma, is the final one of Last: it is never von.
+#[tactic(auto, using(crate::proofs::LawLemmas::part_laws))]
+pub fn final_token_is_last()
+    ensures { (name : List ℕ) → final_of (parts_of name).last ≡ final_of (tokens_of (surname_of (sections_of name))) }
+{}
+
+/// How many commas count in a name says its form: without one it is First von Last, with one it is von Last, First, and with two or more it is
+/// von Last, Jr, First; a third one is told.
+#[tactic(auto, using(crate::proofs::CommaLemmas::comma_laws))]
+pub fn commas_give_the_form()
+    ensures form { (name : List ℕ) → commas_in (sections_of name) ≡ min (length (commas_of name)) 2 }
+    ensures third { (name : List ℕ) → has_third_comma (sections_of name) ≡ nat_lt 2 (length (commas_of name)) }
+{}
+
+/// The items of a legal format, written one after another, are the format, but for the case of letters: an item doesn't say in which case
+/// the letter stood that names its part. And the literals of any format, legal or not, are its bytes at depth 0
+/// that are no brace.
+#[tactic(auto, using(crate::proofs::ItemLemmas::format_laws))]
+pub fn items_joined_are_the_format()
+    ensures written { (format : List ℕ) →
+        is_legal format ≡ true → in_lower_case (text_of_items (items_of format)) ≡ in_lower_case format }
+    ensures copied { (format : List ℕ) → literals_of (items_of format) ≡ copied_of format }
+{}

@@ -1,0 +1,35 @@
+//! What stands between two names.
+ghost use Rattle.std.specs.Prelude.{◌≡◌, ◌==◌, ◌&&◌};
+ghost use Rattle.btx_names.specs.NameLists as spec;
+
+use btx_text::classify::is_white;
+use btx_text::depths::depth_after;
+
+// Whether a separator stands where the brace depth is given: a white byte, `and` in any case, and a white byte, at depth 0.
+#[tactic(auto, unfolding(crate::specs::NameLists::is_separator))]
+fn separates(depth: usize, text: &[u8]) -> bool
+    ensures { result ≡ (depth == 0 && spec.is_separator text.now) }
+{
+    depth == 0
+        && text.len() >= 5
+        && is_white(text[0])
+        && text[1].to_ascii_lowercase() == b'a'
+        && text[2].to_ascii_lowercase() == b'n'
+        && text[3].to_ascii_lowercase() == b'd'
+        && is_white(text[4])
+}
+
+/// How long the first piece of a text is: to the white byte before the first `and` that separates, this byte included, or to the end.
+#[tactic(auto, using(crate::proofs::NameLemmas::name_len_steps))]
+pub(crate) fn name_len(text: &[u8]) -> usize
+    ensures { result ≡ spec.name_len 0 text.now }
+{
+    let mut depth = 0;
+    for (place, &byte) in text.iter().enumerate() {
+        if separates(depth, &text[place..]) {
+            return place + 1;
+        }
+        depth = depth_after(depth, byte);
+    }
+    text.len()
+}
