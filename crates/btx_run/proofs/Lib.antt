@@ -1,0 +1,16 @@
+pub mod FrontLemmas
+pub mod DatabaseLemmas
+pub mod TokenLemmas
+pub mod CommandLemmas
+pub mod DraftLemmas
+pub mod TurnLemmas
+pub mod StyleLemmas
+pub mod StyleRows
+pub mod SpellingLemmas
+pub mod ActionLemmas
+pub mod OutcomeLemmas
+pub mod ProductLemmas
+pub mod ProgressLemmas
+pub mod RunLemmas
+pub mod StageLemmas
+pub mod RunRows

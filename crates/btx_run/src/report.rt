@@ -1,0 +1,81 @@
+//! What a run answers.
+ghost use Rattle.std.specs.Prelude.{◌≡◌};
+ghost use Rattle.btx_run.specs.Ends.{status_of, word_of};
+
+/// Which limit a run met.
+#[derive(Clone, Copy, Debug, PartialEq, Eq)]
+pub enum Limit {
+    /// More than 1,000 literals on the stack.
+    Literals,
+    /// More than 4,096 open bodies.
+    Calls,
+    /// More than 4,096 running loops.
+    Loops,
+    /// A string of more than 1,000,000 bytes.
+    String,
+    /// A file of more than 2,147,483,647 bytes.
+    File,
+    /// More than 20 open `.aux` files.
+    Files,
+}
+
+/// How a run ended.
+#[derive(Clone, Copy, Debug, PartialEq, Eq)]
+pub enum End {
+    /// All of the style was executed.
+    Finished,
+    /// The budget did not cover the next step.
+    Stopped,
+    /// A limit was met.
+    Limit(Limit),
+    /// There is no top-level `.aux` file.
+    NoTopFile,
+}
+
+/// What a run answers.
+#[derive(Clone, Copy, Debug, PartialEq, Eq)]
+pub struct Report {
+    /// 0 finished without error messages, 2 finished with some, 3 a limit or no top file, 4 stopped.
+    pub status: u8,
+    pub end: End,
+    /// The steps taken, at most the budget.
+    pub steps: u64,
+    /// The greatest number of bodies of functions that were open at once.
+    pub deepest: u32,
+    /// The warnings in the log; the greatest value stands for itself and all above.
+    pub warnings: u64,
+    /// The error messages in the log; the greatest value stands for itself and all above.
+    pub errors: u64,
+}
+
+impl End {
+    /// The word of the log for this end.
+    #[tactic(auto, unfolding(crate::specs::Ends::word_of))]
+    pub fn word(self) -> &'static str
+        ensures { result.now ≡ word_of self }
+    {
+        match self {
+            End::Finished => "finished",
+            End::Stopped => "stopped",
+            End::Limit(Limit::Literals) => "limit literals",
+            End::Limit(Limit::Calls) => "limit calls",
+            End::Limit(Limit::Loops) => "limit loops",
+            End::Limit(Limit::String) => "limit string",
+            End::Limit(Limit::File) => "limit file",
+            End::Limit(Limit::Files) => "limit files",
+            End::NoTopFile => "no top file",
+        }
+    }
+
+    /// The status of a run that ended so, with so many error messages.
+    pub fn status(self, errors: u64) -> u8
+        ensures { result ≡ status_of self errors }
+    {
+        match self {
+            End::Finished if errors == 0 => 0,
+            End::Finished => 2,
+            End::Limit(_) | End::NoTopFile => 3,
+            End::Stopped => 4,
+        }
+    }
+}
