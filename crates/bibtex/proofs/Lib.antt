@@ -1,0 +1,2 @@
+pub mod BudgetLemmas
+mod CommandLineRows

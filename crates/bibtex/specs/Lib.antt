@@ -1,0 +1,4 @@
+pub mod CommandLine
+pub mod FileErrors
+pub mod Paths
+pub mod Status

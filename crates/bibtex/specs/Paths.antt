@@ -1,0 +1,11 @@
+-- Where a file stands.
+use Rattle.std.specs.Prelude.{ℕ, List, ◌++◌, codes}
+use Rattle.bibtex.specs.declared.given.Settings.{Settings}
+
+-- the path of a file of a folder: the folder, `/`, the file's name
+abbrev pub path_in : List ℕ → List ℕ → List ℕ
+path_in directory name = directory ++ codes "/" ++ name
+
+-- the path of the job's output with this ending; the name has no last `.aux`
+abbrev pub output_path : Settings → List ℕ → List ℕ
+output_path settings ending = path_in settings.directory.now (settings.name.now ++ ending)

@@ -1,0 +1,123 @@
+//! A job of a folder.
+ghost use Rattle.std.specs.Prelude.{◌≡◌, IfErr, IfOk, string_bytes};
+ghost use Rattle.bibtex.specs.Paths.{output_path};
+
+use crate::directory::DirectoryFinder;
+use crate::given::Settings;
+use crate::outcome::output_fault;
+use btx_run::{Options, Over, Report, RunFault, run};
+use std::alloc::Global;
+use std::io::Write;
+use std::rt::Files;
+use std::{fs, io};
+
+/// How often a cross-referenced entry that isn't cited has to be named to be listed.
+const MIN_CROSSREFS: u32 = 2;
+
+/// The path of the job's output with this ending. The only fault is want of memory.
+pub fn path_of(alloc: Global, settings: &Settings<'_>, ending: &str) -> Result<String, RunFault>
+    ensures path { IfOk result (λ path. string_bytes path ≡ output_path settings.now ending.now) }
+    ensures fault { IfErr result (λ fault. fault ≡ RunFault.Memory) }
+{
+    let directory = settings.directory;
+    let name = settings.name;
+    let path = format!(in alloc; "{directory}/{name}{ending}")?;
+    Ok(path)
+}
+
+/// Writes the log to `JOB.blg`.
+fn store_log(
+    rt: &impl Files,
+    alloc: Global,
+    settings: &Settings<'_>,
+    log: &[u8],
+) -> Result<(), RunFault> {
+    let path = path_of(alloc, settings, ".blg")?;
+    fs::write(rt, path.as_str(), log).map_err(|error| output_fault(&error))
+}
+
+/// Writes the log to `JOB.blg` and then, also where that failed, to standard output. The first fault is answered.
+fn write_log(
+    rt: &(impl Files + Print),
+    alloc: Global,
+    settings: &Settings<'_>,
+    log: &[u8],
+) -> Result<(), RunFault> {
+    let stored = store_log(rt, alloc, settings, log);
+    let printed = io::writer(rt)
+        .write_all(log)
+        .map_err(|error| output_fault(&error));
+    stored.and(printed)
+}
+
+/// Runs the job: writes `JOB.bbl`, `JOB.blg` and, to standard output, the log again. The log is written also after a fault, except
+/// where `JOB.bbl` can't be created. The first fault is answered.
+pub fn run_job(
+    rt: &(impl Files + Print),
+    alloc: Global,
+    settings: &Settings<'_>,
+) -> Result<Report, RunFault> {
+    let path = path_of(alloc, settings, ".bbl")?;
+    let file = fs::create(rt, path.as_str()).map_err(|error| output_fault(&error))?;
+    let mut bbl = Over::new(file);
+    let mut log = Over::new(Vec::new(alloc));
+    let mut finder = DirectoryFinder::new(rt, settings.directory);
+    let options = Options {
+        min_crossrefs: MIN_CROSSREFS,
+        budget: settings.budget,
+    };
+    let answer = run(
+        alloc,
+        &mut finder,
+        settings.job.as_bytes(),
+        &options,
+        &mut bbl,
+        &mut log,
+    );
+    let written = write_log(rt, alloc, settings, log.writer.as_slice());
+    let report = answer?;
+    written?;
+    Ok(report)
+}
+
+#[cfg(test)]
+mod tests {
+    use super::*;
+    use crate::scratch::make_folder;
+    use std::test::Fail;
+
+    const LOG: &str =
+        "The top-level auxiliary file: job.aux\nThe style file: s.bst\nDatabase file #1: d.bib\nEnded: finished, warnings 0, errors 0, steps 4\n";
+
+    #[test]
+    fn writes_files(rt: HostRuntime) -> Result<(), Fail> {
+        let alloc = rt.alloc();
+        let directory = make_folder(&rt, alloc, "job")?;
+        for (name, text) in [
+            ("job.aux", "\\citation{k}\n\\bibdata{d}\n\\bibstyle{s}\n"),
+            ("d.bib", "@misc{k, title = {T}}\n"),
+            (
+                "s.bst",
+                "ENTRY {title}{}{} FUNCTION {misc}{} READ FUNCTION {f} {\"a\" write$ newline$} EXECUTE {f}\n",
+            ),
+        ] {
+            let path = format!(in alloc; "{directory}/{name}")?;
+            fs::write(&rt, path.as_str(), text)?;
+        }
+        let settings = Settings {
+            directory: directory.as_str(),
+            job: "job.aux",
+            name: "job",
+            budget: 4,
+        };
+        let report = run_job(&rt, alloc, &settings)?;
+        assert_eq!(rt; report.status, 0);
+        for (ending, text) in [(".bbl", "a\n"), (".blg", LOG)] {
+            let path = path_of(alloc, &settings, ending)?;
+            assert_eq!(rt; fs::read_to_string(&rt, path.as_str())?.as_str(), text);
+        }
+        fs::remove_dir_all(&rt, directory.as_str())?;
+        assert_eq!(rt; run_job(&rt, alloc, &settings), Err(RunFault::Device));
+        Ok(())
+    }
+}

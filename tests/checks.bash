@@ -1,0 +1,80 @@
+# What the checks are written with. `tests/run` reads this file; it sets `program`, `examples` and `room`.
+
+# The log of the first example, finished.
+first_log='The top-level auxiliary file: job.aux
+The style file: s.bst
+Database file #1: d.bib
+Ended: finished, warnings 0, errors 0, steps 4
+'
+
+# begin NAME: a check of this name, in a folder of its own that holds the files of the first example.
+begin() {
+    check=$1
+    folder=$room/$check
+    mkdir "$folder" "$folder/work"
+    cp "$examples"/first/*.{aux,bib,bst} "$folder/work"
+    complaints=()
+    cd "$folder/work"
+}
+
+# run_program WORD..: runs the program in the check's folder, for at most a minute, without standard input.
+run_program() {
+    status=0
+    timeout 60 "$program" "$@" </dev/null >"$folder/stdout" 2>"$folder/stderr" || status=$?
+}
+
+# wants_status N: the exit status was N.
+wants_status() {
+    [ "$status" -eq "$1" ] || complaints+=("the exit status is $status, not $1")
+}
+
+# wants_text FILE TEXT: the file has exactly these bytes.
+wants_text() {
+    if [ ! -f "$1" ]; then
+        complaints+=("there is no $(basename "$1")")
+    elif ! printf '%s' "$2" | cmp -s - "$1"; then
+        complaints+=("$(basename "$1") is $(printf '%q' "$(cat "$1")"), not $(printf '%q' "$2")")
+    fi
+}
+
+# wants_output TEXT, wants_error TEXT: what stands on standard output and on standard error.
+wants_output() {
+    wants_text "$folder/stdout" "$1"
+}
+
+wants_error() {
+    wants_text "$folder/stderr" "$1"
+}
+
+# wants_error_with TEXT: standard error has a line with this text.
+wants_error_with() {
+    grep -qF -- "$1" "$folder/stderr" || complaints+=("standard error has no '$1': $(printf '%q' "$(cat "$folder/stderr")")")
+}
+
+# wants_files NAME..: the work folder holds these files, named in order, and no other.
+wants_files() {
+    local found
+    found=$(ls -A "$folder/work" | tr '\n' ' ')
+    [ "$found" = "$* " ] || complaints+=("the folder holds $found, not $*")
+}
+
+# wants_beginning FILE TEXT: the file isn't there, or has a beginning of these bytes.
+wants_beginning() {
+    local LC_ALL=C
+    if [ -f "$1" ] && ! printf '%s' "${2:0:$(stat -c %s "$1")}" | cmp -s - "$1"; then
+        complaints+=("$(basename "$1") is $(printf '%q' "$(cat "$1")"), no beginning of $(printf '%q' "$2")")
+    fi
+}
+
+# end: counts the check, and says what it complains of.
+end() {
+    cd "$room"
+    if [ ${#complaints[@]} -eq 0 ]; then
+        passed=$((passed + 1))
+        echo "ok      $check"
+        return
+    fi
+    failed=$((failed + 1))
+    echo "FAILED  $check"
+    printf '        %s\n' "${complaints[@]}"
+}

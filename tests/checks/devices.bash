@@ -1,0 +1,130 @@
+# Files and outputs that fail.
+
+device_error=$'bibtex: device error\n'
+
+begin no_folder
+run_program --dir nowhere job
+wants_status 6
+wants_output ''
+wants_error "$device_error"
+wants_files d.bib job.aux s.bst
+end
+
+# The `.bbl` can't be created: no log is written.
+begin references_that_cannot_be_created
+mkdir job.bbl
+run_program job
+wants_status 6
+wants_output ''
+wants_error "$device_error"
+wants_files d.bib job.aux job.bbl s.bst
+end
+
+# The `.bbl` takes no byte: the log so far is written.
+begin references_that_cannot_be_written
+ln -s /dev/full job.bbl
+run_program job
+begun=${first_log%Ended*}
+wants_status 6
+wants_output "$begun"
+wants_error "$device_error"
+wants_text job.blg "$begun"
+end
+
+# log_is_printed_all_the_same: runs the job whose log's file takes nothing.
+log_is_printed_all_the_same() {
+    run_program job
+    wants_status 6
+    wants_output "$first_log"
+    wants_error "$device_error"
+    wants_text job.bbl $'a\n'
+}
+
+begin log_that_cannot_be_created
+mkdir job.blg
+log_is_printed_all_the_same
+end
+
+begin log_that_cannot_be_written
+ln -s /dev/full job.blg
+log_is_printed_all_the_same
+end
+
+# Standard output takes no byte: the files are written all the same.
+begin output_that_cannot_be_written
+status=0
+timeout 60 "$program" job </dev/null >/dev/full 2>"$folder/stderr" || status=$?
+wants_status 6
+wants_error "$device_error"
+wants_text job.bbl $'a\n'
+wants_text job.blg "$first_log"
+end
+
+# Both fail: one fault is told.
+begin two_failures
+ln -s /dev/full job.bbl
+mkdir job.blg
+run_program job
+wants_status 6
+wants_output "${first_log%Ended*}"
+wants_error "$device_error"
+end
+
+begin help_that_cannot_be_printed
+status=0
+timeout 60 "$program" --help </dev/null >/dev/full 2>"$folder/stderr" || status=$?
+wants_status 6
+wants_error "$device_error"
+end
+
+# A folder can be opened and not be read.
+begin style_that_cannot_be_read
+rm s.bst
+mkdir s.bst
+run_program job
+wants_status 6
+wants_text job.bbl ''
+wants_beginning job.blg "$first_log"
+wants_error "$device_error"
+end
+
+# The folder takes no file.
+begin folder_that_takes_no_file
+run_program --dir /proc job
+wants_status 6
+wants_output ''
+wants_error "$device_error"
+wants_files d.bib job.aux s.bst
+end
+
+# No file may have a byte.
+begin limit_of_file_size
+status=0
+(
+    trap '' XFSZ
+    ulimit -f 0
+    exec timeout 60 "$program" job </dev/null 2>&1
+) | cat >"$folder/both" || status=$?
+wants_status 6
+wants_text "$folder/both" "${first_log%Ended*}$device_error"
+wants_text job.bbl ''
+wants_text job.blg ''
+end
+
+# Standard output is closed: no file of the job takes its place.
+begin closed_output
+status=0
+timeout 60 "$program" job </dev/null >&- 2>"$folder/stderr" || status=$?
+wants_status 6
+wants_error "$device_error"
+wants_text job.bbl $'a\n'
+wants_text job.blg "$first_log"
+end
+
+begin closed_streams
+status=0
+timeout 60 "$program" job <&- >&- 2>&- || status=$?
+wants_status 6
+wants_text job.bbl $'a\n'
+wants_text job.blg "$first_log"
+end

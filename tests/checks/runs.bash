@@ -1,0 +1,99 @@
+# Jobs that run to an end.
+
+# wants_first_run: what the first example gives.
+wants_first_run() {
+    wants_status 0
+    wants_output "$first_log"
+    wants_error ''
+    wants_text job.bbl $'a\n'
+    wants_text job.blg "$first_log"
+    wants_files d.bib job.aux job.bbl job.blg s.bst
+}
+
+begin finished
+run_program job
+wants_first_run
+end
+
+begin with_the_ending
+run_program job.aux
+wants_first_run
+end
+
+# Outputs of an earlier run are replaced whole.
+begin again
+printf 'something longer than what is written now\n' | tee job.bbl >job.blg
+run_program job
+wants_first_run
+end
+
+begin exact_budget
+run_program --budget 4 job
+wants_first_run
+end
+
+begin in_a_folder
+cd ..
+run_program --dir work job
+cd work
+wants_first_run
+end
+
+# Only a last `.aux` isn't of the name of the outputs.
+begin ending_twice
+mv job.aux job.aux.aux
+run_program job.aux.aux
+wants_status 0
+wants_output "${first_log/job.aux/job.aux.aux}"
+wants_error ''
+wants_text job.aux.bbl $'a\n'
+wants_text job.aux.blg "${first_log/job.aux/job.aux.aux}"
+wants_files d.bib job.aux.aux job.aux.bbl job.aux.blg s.bst
+end
+
+for budget in 0 2 3; do
+    begin "stopped_at_$budget"
+    run_program --budget "$budget" job
+    stopped=${first_log/finished/stopped}
+    stopped=${stopped/steps 4/steps $budget}
+    wants_status 4
+    wants_output "$stopped"
+    wants_error ''
+    wants_text job.bbl ''
+    wants_text job.blg "$stopped"
+    wants_files d.bib job.aux job.bbl job.blg s.bst
+    end
+done
+
+no_top_file=$'Ended: no top file, warnings 0, errors 0, steps 0\n'
+
+begin no_top_file
+rm job.aux
+run_program job
+wants_status 3
+wants_output "$no_top_file"
+wants_error ''
+wants_text job.bbl ''
+wants_text job.blg "$no_top_file"
+wants_files d.bib job.bbl job.blg s.bst
+end
+
+# A link that leads to itself can't be opened: there is no such file.
+begin top_file_that_cannot_be_opened
+rm job.aux
+ln -s job.aux job.aux
+run_program job
+wants_status 3
+wants_output "$no_top_file"
+wants_error ''
+end
+
+begin outside
+printf '@comment{x}\n@misc{k, title = {T}}\n' >d.bib
+run_program job
+wants_status 7
+wants_output ''
+wants_error $'bibtex: not yet\n'
+wants_text job.bbl ''
+wants_text job.blg ''
+end
