@@ -1,0 +1,389 @@
+//! What is covered so far: inputs just inside and just outside.
+use crate::runs::{AUX, DATABASE, File, STYLE, job_of, run_over};
+use btx_run::RunFault;
+use std::alloc::Global;
+use std::process::Abort;
+use std::test::Fail;
+
+/// Asserts that a job is outside, and that nothing was written.
+fn is_outside(rt: &impl Abort, alloc: Global, files: &[File<'_>]) -> Result<(), Fail> {
+    let ran = run_over(alloc, files, 99)?;
+    assert_eq!(rt; ran.answer, Err(RunFault::NotYet), "of {files:?}");
+    assert!(rt; ran.bbl.is_empty() && ran.log.is_empty());
+    Ok(())
+}
+
+/// Asserts that a job is inside: its `.bbl` and how many errors it has.
+fn is_inside(
+    rt: &impl Abort,
+    alloc: Global,
+    files: &[File<'_>],
+    bbl: &[u8],
+    errors: u64,
+) -> Result<(), Fail> {
+    let ran = run_over(alloc, files, 99)?;
+    let report = ran.answer.map_err(|_| "a job that is covered")?;
+    assert_eq!(rt; report.errors, errors);
+    assert_eq!(rt; ran.bbl.as_slice(), bbl);
+    Ok(())
+}
+
+/// Styles that are outside.
+fn styles_outside() -> [&'static [u8]; 42] {
+    [
+        // No command.
+        b"",
+        // No READ.
+        b"ENTRY {title}{}{}",
+        // No ENTRY.
+        b"READ",
+        // READ before ENTRY.
+        b"READ ENTRY {}{}{}",
+        // READ twice.
+        b"ENTRY {}{}{} READ READ",
+        // ENTRY twice.
+        b"ENTRY {}{}{} ENTRY {}{}{} READ",
+        // FUNCTION before ENTRY.
+        b"FUNCTION {misc}{} ENTRY {}{}{} READ",
+        // EXECUTE before READ.
+        b"ENTRY {}{}{} FUNCTION {f}{} EXECUTE {f} READ",
+        // EXECUTE of a later function.
+        b"ENTRY {title}{}{} FUNCTION {misc}{} READ EXECUTE {f} FUNCTION {f} {newline$}",
+        // EXECUTE of a field.
+        b"ENTRY {title}{}{} FUNCTION {misc}{} READ EXECUTE {title}",
+        // A name without braces.
+        b"ENTRY {title}{}{} FUNCTION {misc}{} READ FUNCTION {f} {newline$} EXECUTE f",
+        // A function named as a field.
+        b"ENTRY {title}{}{} FUNCTION {misc}{} READ FUNCTION {title} {newline$}",
+        // An entry string named as a field.
+        b"ENTRY {a}{b}{a} READ",
+        // A function twice, round READ.
+        b"ENTRY {title}{}{} FUNCTION {misc}{} READ FUNCTION {misc} {}",
+        // The name crossref.
+        b"ENTRY {crossref}{}{} READ",
+        // A function crossref.
+        b"ENTRY {title}{}{} FUNCTION {misc}{} READ FUNCTION {crossref} {}",
+        // A capital in a name.
+        b"ENTRY {Title}{}{} READ",
+        // A digit in a name.
+        b"ENTRY {}{}{} FUNCTION {f2}{} READ",
+        // No name.
+        b"ENTRY {}{}{} FUNCTION {}{} READ",
+        // Two names.
+        b"ENTRY {}{}{} FUNCTION {a b}{} READ",
+        // A command in lower case.
+        b"entry {}{}{} READ",
+        // A command in mixed case.
+        b"ENTRY {}{}{} Read",
+        // Two groups.
+        b"ENTRY {}{} READ",
+        // A comment.
+        b"ENTRY {title}{}{} FUNCTION {misc}{} READ % a comment",
+        // A comment in a body.
+        b"ENTRY {title}{}{} FUNCTION {misc}{} READ FUNCTION {f} {newline$ % c\n}",
+        // A string without its write$.
+        b"ENTRY {title}{}{} FUNCTION {misc}{} READ FUNCTION {f} {\"a\" newline$}",
+        // A string not directly before its write$.
+        b"ENTRY {title}{}{} FUNCTION {misc}{} READ FUNCTION {f} {\"a\" \"b\" write$ write$}",
+        // A write$ without its string.
+        b"ENTRY {title}{}{} FUNCTION {misc}{} READ FUNCTION {f} {write$}",
+        // A word directly behind a string.
+        b"ENTRY {title}{}{} FUNCTION {misc}{} READ FUNCTION {f} {\"a\"write$}",
+        // A string directly behind a word (one word).
+        b"ENTRY {title}{}{} FUNCTION {misc}{} READ FUNCTION {f} {write$\"a\"}",
+        // Write$ in capitals.
+        b"ENTRY {title}{}{} FUNCTION {misc}{} READ FUNCTION {f} {\"a\" WRITE$}",
+        // A string across a line end.
+        b"ENTRY {title}{}{} FUNCTION {misc}{} READ FUNCTION {f} {\"a\nb\" write$}",
+        // A string without its end.
+        b"ENTRY {title}{}{} FUNCTION {misc}{} READ FUNCTION {f} {\"a write$}",
+        // A nested group.
+        b"ENTRY {title}{}{} FUNCTION {misc}{} READ FUNCTION {f} {{newline$}}",
+        // A body without its end.
+        b"ENTRY {title}{}{} FUNCTION {misc}{} READ FUNCTION {f} {newline$",
+        // A brace too many.
+        b"ENTRY {title}{}{} FUNCTION {misc}{} READ FUNCTION {f} {newline$}}",
+        // Another built-in function.
+        b"ENTRY {title}{}{} FUNCTION {misc}{} READ FUNCTION {f} {skip$}",
+        // An integer.
+        b"ENTRY {title}{}{} FUNCTION {misc}{} READ FUNCTION {f} {#1 pop$}",
+        // Another command.
+        b"ENTRY {title}{}{} FUNCTION {misc}{} READ SORT",
+        // ITERATE.
+        b"ENTRY {title}{}{} FUNCTION {misc}{} READ ITERATE {misc}",
+        // EXECUTE without a name.
+        b"ENTRY {title}{}{} FUNCTION {misc}{} READ EXECUTE",
+        // READ with a group.
+        b"ENTRY {title}{}{} FUNCTION {misc}{} READ READ{}",
+    ]
+}
+
+#[test]
+fn refuses_styles(rt: HostRuntime) -> Result<(), Fail> {
+    for style in &styles_outside() {
+        is_outside(&rt, rt.alloc(), &job_of(AUX, style, DATABASE))?;
+    }
+    Ok(())
+}
+
+/// Styles that are inside, each with the `.bbl`. The type of the entry is `misc`.
+fn styles_inside() -> [(&'static [u8], &'static [u8]); 13] {
+    [
+        (
+            b"ENTRY {title}{}{} FUNCTION {misc}{} READ FUNCTION {f} {\"a\" write$ newline$} EXECUTE {f}",
+            b"a\n",
+        ),
+        (
+            b"ENTRY {title}{count}{label} FUNCTION {misc} {\"x\" write$ newline$} READ EXECUTE {misc} EXECUTE {misc}",
+            b"x\nx\n",
+        ),
+        (
+            b"ENTRY {title}{}{} FUNCTION {misc}{} READ FUNCTION {f} {\"% { } \t#'\" write$} EXECUTE {f}",
+            b"% { } \t#'\n",
+        ),
+        (
+            b"ENTRY {title}{}{} FUNCTION {misc}{} READ FUNCTION {f} {\"\"\nwrite$}\nEXECUTE {f}",
+            b"",
+        ),
+        (
+            b"ENTRY {title}{}{} FUNCTION {misc}{} READ FUNCTION {f} {\"a\rb\x00c\x80\xff\" write$ newline$ newline$} EXECUTE {f}",
+            b"a\rb\x00c\x80\xff\n\n",
+        ),
+        (
+            b"ENTRY {title}{}{} FUNCTION {misc}{} READ FUNCTION {f} {newline$} EXECUTE {f} FUNCTION {g} {\"b\" write$} EXECUTE {g} EXECUTE {f}",
+            b"\nb\n",
+        ),
+        (
+            b"ENTRY {title}{}{} FUNCTION {misc}{} READ FUNCTION {crossrefs} {\"a\" write$ \"b\" write$} FUNCTION {unused} {newline$} EXECUTE {crossrefs}",
+            b"ab\n",
+        ),
+        (b"ENTRY{}{}{}FUNCTION{misc}{newline$ newline$}READ", b""),
+        (
+            b"\n\nENTRY\n{\ntitle\ncrossrefs\n}\n{\n}\n{\n}\nFUNCTION\n{\nmisc\n}\n{\nnewline$\n}\nREAD\nEXECUTE\n{\nmisc\n}\n",
+            b"\n",
+        ),
+        (
+            b"ENTRY{entry}{read}{function}FUNCTION{misc}{}FUNCTION{execute}{}READ EXECUTE{execute}",
+            b"",
+        ),
+        (
+            b"ENTRY{}{}{}FUNCTION{misc}{\"read\" write$}READ EXECUTE{misc}",
+            b"read\n",
+        ),
+        (
+            b"ENTRY{}{}{}FUNCTION{comment}{newline$}FUNCTION{misc}{}READ EXECUTE{comment}",
+            b"\n",
+        ),
+        (
+            b"ENTRY{}{}{}FUNCTION{misc}{\" \" write$ \"x\" write$ newline$}READ EXECUTE{misc}",
+            b" x\n",
+        ),
+    ]
+}
+
+#[test]
+fn takes_styles(rt: HostRuntime) -> Result<(), Fail> {
+    for (style, bbl) in &styles_inside() {
+        is_inside(&rt, rt.alloc(), &job_of(AUX, style, DATABASE), bbl, 0)?;
+    }
+    Ok(())
+}
+
+/// A style with types that begin other items, and a function behind its READ.
+const TYPES: &[u8] =
+    b"ENTRY {title}{count}{label} FUNCTION {b}{} FUNCTION {comment}{} FUNCTION {string}{} FUNCTION {preamble}{} FUNCTION {misc}{} READ FUNCTION {late}{}";
+
+/// Databases that are outside. The key is `k`.
+fn databases_outside() -> [&'static [u8]; 48] {
+    [
+        // No line.
+        b"",
+        // An empty line.
+        b"\n",
+        // Two lines.
+        b"@misc{k, title = {T}}\n\n",
+        b"\n@misc{k, title = {T}}",
+        b"@misc{k, title = {T}}\n@misc{j, title = {T}}",
+        b"@misc{k,\ntitle = {T}}",
+        // White before the entry.
+        b" @misc{k, title = {T}}",
+        b"misc{k, title = {T}}",
+        b"@@misc{k, title = {T}}",
+        b"@ misc{k, title = {T}}",
+        // A capital in the type.
+        b"@Misc{k, title = {T}}",
+        b"@{k, title = {T}}",
+        // A type that the style lacks.
+        b"@book{k, title = {T}}",
+        b"@bb{k, title = {T}}",
+        // A type defined after READ.
+        b"@late{k, title = {T}}",
+        b"@title{k, title = {T}}",
+        // Other items, though functions have their names.
+        b"@comment{k, title = {T}}",
+        b"@string{k, title = {T}}",
+        b"@preamble{k, title = {T}}",
+        b"@misc {k, title = {T}}",
+        b"@misc(k, title = {T})",
+        // Another key.
+        b"@misc{K, title = {T}}",
+        b"@misc{j, title = {T}}",
+        b"@misc{kk, title = {T}}",
+        b"@misc{, title = {T}}",
+        // No field.
+        b"@misc{k}",
+        b"@misc{k,}",
+        // White in another place.
+        b"@misc{k,title = {T}}",
+        b"@misc{k, title={T}}",
+        b"@misc{k,  title = {T}}",
+        b"@misc{k, title = { T}}",
+        b"@misc{k, title = {T} }",
+        // Another name of a field.
+        b"@misc{k, Title = {T}}",
+        b"@misc{k, ti2 = {T}}",
+        b"@misc{k,  = {T}}",
+        b"@misc{k, crossref = {T}}",
+        // Another value.
+        b"@misc{k, title = \"T\"}",
+        b"@misc{k, title = 1}",
+        b"@misc{k, title = {a b}}",
+        b"@misc{k, title = {{T}}}",
+        b"@misc{k, title = {a-b}}",
+        b"@misc{k, title = {\xe9}}",
+        b"@misc{k, title = {T} # {T}}",
+        // Another end.
+        b"@misc{k, title = {T}",
+        b"@misc{k, title = {T}}}",
+        b"@misc{k, title = {T},}",
+        b"@misc{k, title = {T}, note = {N}}",
+        b"@misc{k, title = {T}} x",
+    ]
+}
+
+#[test]
+fn refuses_databases(rt: HostRuntime) -> Result<(), Fail> {
+    for database in &databases_outside() {
+        is_outside(&rt, rt.alloc(), &job_of(AUX, TYPES, database))?;
+    }
+    Ok(())
+}
+
+/// Keys, and databases that are inside.
+fn databases_inside() -> [(&'static [u8], &'static [u8]); 12] {
+    [
+        (b"k", b"@misc{k, title = {T}}"),
+        (b"k", b"@misc{k, title = {T}} \t\r\n"),
+        (b"k", b"@b{k, title = {T}}"),
+        (b"k", b"@misc{k, title = {}}"),
+        (b"k", b"@misc{k, title = {aZ09}}"),
+        (b"k", b"@misc{k, crossrefs = {crossref}}"),
+        (b"k", b"@misc{k, undeclared = {T}}"),
+        (b"k", b"@misc{k, misc = {k}}"),
+        (b"K", b"@misc{K, title = {T}}"),
+        (b"", b"@misc{, title = {T}}"),
+        (b"a:b{1", b"@misc{a:b{1, title = {T}}"),
+        (b"\xe9", b"@misc{\xe9, title = {T}}"),
+    ]
+}
+
+#[test]
+fn takes_databases(rt: HostRuntime) -> Result<(), Fail> {
+    for (key, database) in &databases_inside() {
+        let mut aux = Vec::from_slice(rt.alloc(), b"\\bibdata{d}\n\\bibstyle{s}\n\\citation{")?;
+        aux.extend_from_slice(key)?;
+        aux.push(b'}')?;
+        is_inside(&rt, rt.alloc(), &job_of(&aux, TYPES, database), b"", 0)?;
+    }
+    Ok(())
+}
+
+/// Top files that are outside.
+fn jobs_outside() -> [&'static [u8]; 19] {
+    [
+        // Two keys.
+        b"\\citation{k,j}\n\\bibdata{d}\n\\bibstyle{s}",
+        b"\\citation{k}\n\\citation{j}\n\\bibdata{d}\n\\bibstyle{s}",
+        b"\\citation{k}\n\\citation{K,j}\n\\bibdata{d}\n\\bibstyle{s}",
+        b"\\citation{k,}\n\\bibdata{d}\n\\bibstyle{s}",
+        // All entries.
+        b"\\citation{*}\n\\bibdata{d}\n\\bibstyle{s}",
+        b"\\citation{k,*}\n\\bibdata{d}\n\\bibstyle{s}",
+        b"\\citation{*,k}\n\\bibdata{d}\n\\bibstyle{s}",
+        b"\\citation{k}\n\\citation{*}\n\\bibdata{d}\n\\bibstyle{s}",
+        // Two databases.
+        b"\\citation{k}\n\\bibdata{d,d.bib,e}\n\\bibstyle{s}",
+        b"\\citation{k}\n\\bibdata{d,}\n\\bibstyle{s}",
+        // A database that isn't there.
+        b"\\citation{k}\n\\bibdata{e}\n\\bibstyle{s}",
+        b"\\citation{k}\n\\bibdata{}\n\\bibstyle{s}",
+        b"\\citation{k}\n\\bibdata{D}\n\\bibstyle{s}",
+        // No key.
+        b"\\bibdata{d}\n\\bibstyle{s}",
+        b"\\citation{k\n\\bibdata{d}\n\\bibstyle{s}",
+        b"\\citation{k }\n\\bibdata{d}\n\\bibstyle{s}",
+        // No database.
+        b"\\citation{k}\n\\bibstyle{s}",
+        b"\\citation{k}\n\\bibdata{d d}\n\\bibstyle{s}",
+        b"\\bibstyle{s}",
+    ]
+}
+
+#[test]
+fn refuses_jobs(rt: HostRuntime) -> Result<(), Fail> {
+    for aux in &jobs_outside() {
+        is_outside(&rt, rt.alloc(), &job_of(aux, STYLE, DATABASE))?;
+    }
+    let files = job_of(AUX, STYLE, DATABASE);
+    is_outside(&rt, rt.alloc(), files.get(..2).ok_or("two files")?)
+}
+
+/// Top files that are inside, and how many errors they have.
+fn jobs_inside() -> [(&'static [u8], u64); 15] {
+    [
+        (b"\\citation{k}\n\\bibdata{d}\n\\bibstyle{s}", 0),
+        (b"\\bibstyle{s}\n\\bibdata{d}\n\\citation{k}\n", 0),
+        (b"\\citation{k}\r\n\\bibdata{d} \n\\bibstyle{s}\t\n", 0),
+        (
+            b"\\relax\n\\citation\n\n {\\citation{j}\n\\citations{j}\n\\citation{k}\n\\bibdata{d}\n\\bibstyle{s}",
+            0,
+        ),
+        (
+            b"\\citation{k,k}\n\\citation{k}\n\\bibdata{d}\n\\bibstyle{s}",
+            0,
+        ),
+        (b"\\citation{k}\n\\bibdata{d.bib}\n\\bibstyle{s.bst}", 0),
+        (b"\\citation{k,K,K}\n\\bibdata{d}\n\\bibstyle{s}", 2),
+        (b"\\citation{k,j }\n\\bibdata{d}\n\\bibstyle{s}", 1),
+        (b"\\citation{k,j}}\n\\bibdata{d}\n\\bibstyle{s}", 1),
+        (b"\\citation{k,j\n\\bibdata{d}\n\\bibstyle{s}", 1),
+        (b"\\citation{k}\n\\bibdata{d,d.bib}\n\\bibstyle{s}", 1),
+        (b"\\citation{k}\n\\bibdata{d,e f}\n\\bibstyle{s}", 1),
+        (
+            b"\\citation{k}\n\\bibdata{d}\n\\bibdata{e}\n\\bibstyle{s}",
+            1,
+        ),
+        (
+            b"\\citation{k}\n\\bibdata{d}\n\\bibstyle{s}\n\\bibstyle{t}",
+            1,
+        ),
+        (
+            b"\\@input{job}\n\\@input{job.aux}\n\\@input{j.aux}\n\\citation{k}\n\\bibdata{d}\n\\bibstyle{s}",
+            3,
+        ),
+    ]
+}
+
+#[test]
+fn takes_jobs(rt: HostRuntime) -> Result<(), Fail> {
+    for (aux, errors) in &jobs_inside() {
+        is_inside(
+            &rt,
+            rt.alloc(),
+            &job_of(aux, STYLE, DATABASE),
+            b"a\n",
+            *errors,
+        )?;
+    }
+    Ok(())
+}
