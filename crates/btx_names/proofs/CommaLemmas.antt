@@ -9,8 +9,16 @@ use Rattle.btx_text.specs.Elements.{depth_after, depth_of}
 use Rattle.btx_names.specs.declared.runs.Stop.TheVariants.{Comma}
 use Rattle.btx_names.specs.Runs.{is_break, run_len}
 use Rattle.btx_names.specs.NameParts.{is_all_breaks, split_at_comma, cut_first, cut_again, sections_of, has_third_comma}
-use Rattle.btx_names.specs.Commas.{counts_at, commas_of, commas_in}
+use Rattle.btx_names.specs.Commas.{is_comma_at, counts_at, commas_of, commas_in}
 use Rattle.btx_names.proofs.SeparatorLemmas.{depth_push}
+
+-- ---- a place, by what stands before and behind it
+
+pub comma_here : (string before : List ℕ) (b : ℕ) (bs : List ℕ) → string ≡ before ++ b ∷ bs → is_comma_at string (length before) ≡ (eqb (depth_of before) 0 && eqb b 44)
+comma_here string before b bs is = rw (is, take_at before (b ∷ bs) (length before) refl, get_or_at before b bs 0 (length before) refl) refl
+
+pub behind : (string before : List ℕ) (b : ℕ) (bs : List ℕ) → string ≡ before ++ b ∷ bs → drop (length before + 1) string ≡ bs
+behind string before b bs is = rw (is ∙ sym (append_assoc before (b ∷ []) bs)) (drop_at (before ++ b ∷ []) bs (length before + 1) (length-append before (b ∷ [])))
 
 -- ---- counting from front to back
 
@@ -31,9 +39,8 @@ count_places string before [] is = refl
 count_places string before (b ∷ bs) is =
     let again : string ≡ (before ++ b ∷ []) ++ bs = is ∙ sym (append_assoc before (b ∷ []) bs) in
     let next : length (before ++ b ∷ []) ≡ length before + 1 = length-append before (b ∷ []) in
-    let behind : drop (length before + 1) string ≡ bs = rw again (drop_at (before ++ b ∷ []) bs (length before + 1) next) in
     let test : counts_at string (length before) ≡ ((eqb (depth_of before) 0 && eqb b 44) && not (is_all_breaks bs)) =
-    rw behind (rw (is, take_at before (b ∷ bs) (length before) refl, get_or_at before b bs 0 (length before) refl) refl) in
+    rw (comma_here string before b bs is, behind string before b bs is) refl in
     let more = count_places string (before ++ b ∷ []) bs again in
     let rest = filter (counts_at string) (range_with_len (length before + 1) (length bs)) in
     let others : length rest ≡ commas_from (depth_after (depth_of before) b) bs =

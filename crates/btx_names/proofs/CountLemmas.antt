@@ -2,21 +2,21 @@
 use Rattle.std.proofs.Common.{◌≡◌, ℕ, zero, suc, ◌+◌, Bool, true, false, cond, ltb, List, [], ◌∷◌, refl, sym, ◌∙◌, arith}
 use Rattle.std.proofs.lemmas.Bool.{lt-ltb}
 use Rattle.btx_names.specs.Tokens.{Token}
-use Rattle.btx_names.specs.declared.token_counts.Test.{Test}
+use Rattle.btx_names.specs.declared.token_counts.TokenTest.{TokenTest}
 use Rattle.btx_names.specs.NameParts.{passes, before_final, up_to_last, before_first}
 
 -- ---- the first
 
-pub before_first_here : (test : Test) (token : Token) (tokens : List Token) → passes test token ≡ true → before_first (passes test) (token ∷ tokens) ≡ 0
+pub before_first_here : (test : TokenTest) (token : Token) (tokens : List Token) → passes test token ≡ true → before_first (passes test) (token ∷ tokens) ≡ 0
 unfolding before_first
 before_first_here test token tokens is = rw is refl
 
-pub before_first_next : (test : Test) (token : Token) (tokens : List Token) → passes test token ≡ false →
+pub before_first_next : (test : TokenTest) (token : Token) (tokens : List Token) → passes test token ≡ false →
     before_first (passes test) (token ∷ tokens) ≡ suc (before_first (passes test) tokens)
 unfolding before_first
 before_first_next test token tokens is = rw is refl
 
-pub before_first_nil : (test : Test) → before_first (passes test) [] ≡ 0
+pub before_first_nil : (test : TokenTest) → before_first (passes test) [] ≡ 0
 unfolding before_first
 before_first_nil test = refl
 
@@ -25,7 +25,7 @@ pub ruleset first_steps = (before_first_here, before_first_next, before_first_ni
 -- ---- the last before the final one, as the code carries it on: how many it has seen, whether the latest passes, and the count up to the
 -- last one that passes and isn't the latest
 
-abbrev pub end_from : Test → Bool → ℕ → ℕ → List Token → ℕ
+abbrev pub end_from : TokenTest → Bool → ℕ → ℕ → List Token → ℕ
 end_from test holds seen end [] = end
 end_from test holds seen end (token ∷ tokens) = end_from test (passes test token) (seen + 1) (cond holds seen end) tokens
 
@@ -33,7 +33,7 @@ end_from test holds seen end (token ∷ tokens) = end_from test (passes test tok
 abbrev pub joined_end : Bool → ℕ → ℕ → ℕ → ℕ
 joined_end holds seen end more = cond (ltb 0 more) (seen + more) (cond holds seen end)
 
-end_from-some : (test : Test) (holds : Bool) (seen end : ℕ) (token : Token) (tokens : List Token) →
+end_from-some : (test : TokenTest) (holds : Bool) (seen end : ℕ) (token : Token) (tokens : List Token) →
     end_from test holds seen end (token ∷ tokens) ≡ joined_end holds seen end (up_to_last (passes test) (before_final (token ∷ tokens)))
 unfolding up_to_last before_final
 end_from-some test holds seen end token [] = refl
@@ -50,7 +50,7 @@ end_from-some test holds seen end token (next ∷ tokens) =
           let some' : ltb 0 (suc (suc more)) ≡ true = lt-ltb 0 (suc (suc more)) (omega arith) in
           rw (some, some') (omega arith)
 
-pub up_to_last_carried : (test : Test) (tokens : List Token) → up_to_last (passes test) (before_final tokens) ≡ end_from test false 0 0 tokens
+pub up_to_last_carried : (test : TokenTest) (tokens : List Token) → up_to_last (passes test) (before_final tokens) ≡ end_from test false 0 0 tokens
 unfolding up_to_last before_final
 up_to_last_carried test [] = refl
 up_to_last_carried test (token ∷ tokens) = sym (end_from-some test false 0 0 token tokens ∙ at (up_to_last (passes test) (before_final (token ∷ tokens)))) where

@@ -4,10 +4,10 @@ use Rattle.std.specs.Prelude.{slice_get, nat_lt}
 use Rattle.std.proofs.lemmas.Bool.{true≢false, cases_lt}
 use Rattle.std.proofs.lemmas.List.{take-append-drop, drop_all, drop-drop, length-drop}
 use Rattle.btx_names.specs.declared.runs.Stop.TheVariants.{Comma}
-use Rattle.btx_names.specs.declared.token_counts.Test.TheVariants.{Von, Apart}
+use Rattle.btx_names.specs.declared.token_counts.TokenTest.TheVariants.{Von, Apart}
 use Rattle.btx_names.specs.Runs.{run_len}
 use Rattle.btx_names.specs.Tokens.{Token, tokens_of}
-use Rattle.btx_names.specs.NameParts.{Sections, One, Two, Three, split_at_comma, is_all_breaks, cut_first, cut_again, sections_of, unsplit, parts_by, parts_of, in_order, HasJrByForm, surname_of, final_of, von_end, von_start, last_start, passes, up_to_last, before_final}
+use Rattle.btx_names.specs.NameParts.{Sections, One, Two, Three, split_at_comma, is_all_breaks, cut_first, cut_again, sections_of, unsplit, parts_by, parts_of, in_order, HasJrByForm, surname_of, before_last, final_of, von_end, von_start, last_start, passes, up_to_last, before_final}
 use Rattle.btx_names.proofs.SplitLemmas.{tokens_of-comma}
 use Rattle.btx_names.proofs.RangeLemmas.{up_to_last-lt, von_start-le}
 
@@ -106,4 +106,58 @@ final_is_last name = at (sections_of name) where
   at (Two surname first) = final_of_von (tokens_of surname)
   at (Three surname jr first) = final_of_von (tokens_of surname)
 
-pub ruleset part_laws = (covers, jr_by_form, final_is_last)
+-- what stands before a list that isn't empty is a front of the whole without its final one
+front_of-final : (before behind front : List Token) (final : Token) → front ++ final ∷ [] ≡ before ++ behind → 0 < length behind →
+    (rest : List Token) × (front ≡ before ++ rest)
+front_of-final [] behind front final is some = (front, refl)
+front_of-final (token ∷ before) behind [] final is some = absurd (none before tail_is) where
+  tail_is : [] ≡ before ++ behind
+  tail_is = cc
+
+  none : (before : List Token) → [] ≡ before ++ behind → ⊥
+  none [] is = let is_none : length behind ≡ 0 = rw (sym is) refl in omega (arith, is_none, some)
+  none (next ∷ before) is = cc
+front_of-final (token ∷ before) behind (next ∷ front) final is some = one_more (front_of-final before behind front final tail_is some) where
+  tail_is : front ++ final ∷ [] ≡ before ++ behind
+  tail_is = cc
+
+  head_is : next ≡ token
+  head_is = cc
+
+  one_more : (rest : List Token) × (front ≡ before ++ rest) → (rest : List Token) × (next ∷ front ≡ (token ∷ before) ++ rest)
+  one_more more = (more.0, rw (head_is, more.1) refl)
+
+last_is_some : (tokens : List Token) (front : List Token) (final : Token) → tokens ≡ front ++ final ∷ [] → 0 < length (drop (last_start tokens) tokens)
+last_is_some [] [] final is = cc
+last_is_some [] (next ∷ front) final is = cc
+last_is_some (token ∷ tokens) front final is =
+    let less = last_start-lt token tokens in
+    let size = length-drop (last_start (token ∷ tokens)) (token ∷ tokens) in
+    omega (arith, size)
+
+von_leaves_some : (tokens : List Token) (front : List Token) (final : Token) → tokens ≡ front ++ final ∷ [] → 0 < length (drop (von_end tokens) tokens)
+von_leaves_some [] [] final is = cc
+von_leaves_some [] (next ∷ front) final is = cc
+von_leaves_some (token ∷ tokens) front final is =
+    let less = up_to_last-lt Von token tokens in
+    let size = length-drop (von_end (token ∷ tokens)) (token ∷ tokens) in
+    omega (arith, size)
+
+pub final_is_never_von : (name : List ℕ) (front : List Token) (final : Token) → tokens_of (surname_of (sections_of name)) ≡ front ++ final ∷ [] →
+    (rest : List Token) × (front ≡ before_last (sections_of name) (parts_of name) ++ rest)
+final_is_never_von name front final = at (sections_of name) where
+  surname_at : (tokens : List Token) → tokens ≡ front ++ final ∷ [] → (rest : List Token) × (front ≡ take (von_end tokens) tokens ++ rest)
+  surname_at tokens is =
+      front_of-final (take (von_end tokens) tokens) (drop (von_end tokens) tokens) front final
+      (sym is ∙ sym (take-append-drop (von_end tokens) tokens)) (von_leaves_some tokens front final is)
+
+  at : (sections : Sections) → tokens_of (surname_of sections) ≡ front ++ final ∷ [] →
+      (rest : List Token) × (front ≡ before_last sections (parts_by sections) ++ rest)
+  at (One whole) is =
+      let tokens = tokens_of whole in
+      front_of-final ((unsplit tokens).first ++ (unsplit tokens).von) (unsplit tokens).last front final
+      (sym is ∙ sym (covers_unsplit tokens)) (last_is_some tokens front final is)
+  at (Two surname first) is = surname_at (tokens_of surname) is
+  at (Three surname jr first) is = surname_at (tokens_of surname) is
+
+pub ruleset part_laws = (covers, jr_by_form, final_is_last, final_is_never_von)

@@ -18,4 +18,5 @@ pub mod LawLemmas
 pub mod SeparatorLemmas
 pub mod GapLemmas
 pub mod CommaLemmas
+pub mod EndingLemmas
 pub mod ItemLemmas

@@ -3,12 +3,12 @@ use Rattle.std.proofs.Common.{◌≡◌, ℕ, zero, suc, ◌+◌, ◌-◌, ◌<�
 use Rattle.std.proofs.lemmas.Bool.{ltb-true, lt-ltb}
 use Rattle.std.proofs.lemmas.List.{drop_all, drop-drop}
 use Rattle.btx_names.specs.Tokens.{Token, tokens_of, tokens_from}
-use Rattle.btx_names.specs.declared.token_counts.Test.{Test}
-use Rattle.btx_names.specs.declared.token_counts.Test.TheVariants.{Von, Apart}
+use Rattle.btx_names.specs.declared.token_counts.TokenTest.{TokenTest}
+use Rattle.btx_names.specs.declared.token_counts.TokenTest.TheVariants.{Von, Apart}
 use Rattle.btx_names.specs.NameParts.{passes, before_final, up_to_last, before_first, von_end, last_start, von_start}
 
 -- up to the last before the final token: fewer than all
-pub up_to_last-lt : (test : Test) (token : Token) (tokens : List Token) → up_to_last (passes test) (before_final (token ∷ tokens)) < length (token ∷ tokens)
+pub up_to_last-lt : (test : TokenTest) (token : Token) (tokens : List Token) → up_to_last (passes test) (before_final (token ∷ tokens)) < length (token ∷ tokens)
 unfolding up_to_last before_final
 up_to_last-lt test token [] = omega arith
 up_to_last-lt test token (next ∷ tokens) =
@@ -20,13 +20,13 @@ up_to_last-lt test token (next ∷ tokens) =
         low false = omega arith
       at t (suc n) h = let some : ltb 0 (suc n) ≡ true = lt-ltb 0 (suc n) (omega arith) in rw some (omega arith)
 
-pub up_to_last-le : (test : Test) (tokens : List Token) → up_to_last (passes test) (before_final tokens) ≤ length tokens
+pub up_to_last-le : (test : TokenTest) (tokens : List Token) → up_to_last (passes test) (before_final tokens) ≤ length tokens
 unfolding up_to_last before_final
 up_to_last-le test [] = omega arith
 up_to_last-le test (token ∷ tokens) = let h = up_to_last-lt test token tokens in omega arith
 
 -- where a von token stands before the final one, the first von token does
-pub before_first-le : (test : Test) (tokens : List Token) → 0 < up_to_last (passes test) (before_final tokens) →
+pub before_first-le : (test : TokenTest) (tokens : List Token) → 0 < up_to_last (passes test) (before_final tokens) →
     before_first (passes test) tokens ≤ up_to_last (passes test) (before_final tokens)
 unfolding up_to_last before_final before_first
 before_first-le test [] some = absurd (omega arith)

@@ -34,18 +34,18 @@ one_name_complaints name format = complaints_with (ends_in_comma name) (has_thir
 abbrev pub there_is_none : Complaints
 there_is_none = record no_complaints { x10 = true }
 
-abbrev pub text_by : TextMode → Option (List ℕ) → List ℕ → List ℕ
-text_by mode None format = []
-text_by mode (Some name) format = one_name_text mode name format
+abbrev pub text_of_answer : TextMode → Option (List ℕ) → List ℕ → List ℕ
+text_of_answer mode None format = []
+text_of_answer mode (Some name) format = one_name_text mode name format
 
-abbrev pub complaints_by : Option (List ℕ) → List ℕ → Complaints
-complaints_by None format = there_is_none
-complaints_by (Some name) format = one_name_complaints name format
+abbrev pub complaints_of_answer : Option (List ℕ) → List ℕ → Complaints
+complaints_of_answer None format = there_is_none
+complaints_of_answer (Some name) format = one_name_complaints name format
 
 -- the text: nothing where there is no name of the number
 abbrev pub format_name_text : TextMode → List ℕ → ℤ → List ℕ → List ℕ
-format_name_text mode names number format = text_by mode (nth_name names number) format
+format_name_text mode names number format = text_of_answer mode (nth_name names number) format
 
 -- the complaints
 abbrev pub format_name_complaints : List ℕ → ℤ → List ℕ → Complaints
-format_name_complaints names number format = complaints_by (nth_name names number) format
+format_name_complaints names number format = complaints_of_answer (nth_name names number) format

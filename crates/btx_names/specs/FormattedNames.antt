@@ -3,7 +3,7 @@ use Rattle.std.specs.Prelude.{ℕ, ◌-◌, ◌==◌, ◌||◌, ◌&&◌, Bool, 
 use Rattle.std.specs.List.{flat_map}
 use Rattle.btx_text.specs.declared.element_kind.TextMode.{TextMode}
 use Rattle.btx_text.specs.Class.{is_alpha}
-use Rattle.btx_text.specs.Elements.{Part, elements_of, open_brace, backslash}
+use Rattle.btx_text.specs.Elements.{Part as Element, elements_of, open_brace, backslash}
 use Rattle.btx_strings.specs.Lengths.{text_length_of}
 use Rattle.btx_names.specs.declared.name_tokens.Joint.{Joint}
 use Rattle.btx_names.specs.declared.name_tokens.Joint.TheVariants.{Space, Tie, Hyphen}
@@ -20,9 +20,9 @@ abbrev pub begins_initial : List ℕ → Bool
 begins_initial text = is_alpha (slice_index text 0) || (slice_index text 0 == open_brace && slice_index text 1 == backslash)
 
 -- the text of the first of some elements
-abbrev pub first_text : List Part → List ℕ
+abbrev pub first_text : List Element → List ℕ
 first_text [] = []
-first_text (part ∷ parts) = part.text
+first_text (element ∷ elements) = element.text
 
 -- what stands for a token that is abbreviated: the first element of what is left of it where an abbreviation first begins, so that a `{`
 -- before a backslash takes its whole group inside braces too; nothing where none begins
@@ -40,16 +40,24 @@ shown mode is_full token = if is_full then token else initial_of mode token
 abbrev pub is_short : TextMode → List ℕ → Bool
 is_short mode text = nat_lt (text_length_of mode text) 3
 
+-- a space
+abbrev pub space : ℕ
+space = 32
+
+-- `.`
+abbrev pub period : ℕ
+period = 46
+
 -- what joins a token to the next: the `~` or `-` of the name; else a tie before the part's last token and in a text that is still short,
 -- the piece's own beginning included; else a space
 abbrev pub tie_of : TextMode → List ℕ → Joint → Bool → ℕ
 tie_of mode so_far Tie is_last = tilde
 tie_of mode so_far Hyphen is_last = hyphen
-tie_of mode so_far Space is_last = if is_last || is_short mode so_far then tilde else 32
+tie_of mode so_far Space is_last = if is_last || is_short mode so_far then tilde else space
 
 -- the period after an abbreviated token
 abbrev pub period_of : Bool → List ℕ
-period_of is_full = if is_full then [] else 46 ∷ []
+period_of is_full = if is_full then [] else period ∷ []
 
 -- what the piece says, or else a period and a tie
 abbrev pub joined_by : TextMode → Bool → Option (List ℕ) → List ℕ → Joint → Bool → List ℕ
@@ -83,15 +91,15 @@ unfoldable pub finished : TextMode → List ℕ → List ℕ
 finished mode text =
     if ends_in_tie text then
     (if ends_in_tie (front_of text) then front_of text
-    else if is_short mode (front_of text) then text else front_of text ++ 32 ∷ [])
+    else if is_short mode (front_of text) then text else front_of text ++ space ∷ [])
     else text
 
 -- the tokens of a part
-abbrev pub tokens_by : PartName → NameParts → List Token
-tokens_by First parts = parts.first
-tokens_by Von parts = parts.von
-tokens_by Last parts = parts.last
-tokens_by Jr parts = parts.jr
+abbrev pub tokens_of_part : PartName → NameParts → List Token
+tokens_of_part First parts = parts.first
+tokens_of_part Von parts = parts.von
+tokens_of_part Last parts = parts.last
+tokens_of_part Jr parts = parts.jr
 
 -- a piece with a part: nothing where the part has no tokens
 unfoldable pub piece_text : TextMode → Piece → List Token → List ℕ
@@ -104,7 +112,7 @@ piece_text mode piece (token ∷ tokens) = finished mode (with_tokens mode piece
 abbrev pub item_text : TextMode → NameParts → Item → List ℕ
 item_text mode parts (Literal text) = text
 item_text mode parts (Plain inside) = finished mode inside
-item_text mode parts (Name piece) = piece_text mode piece (tokens_by piece.part parts)
+item_text mode parts (Name piece) = piece_text mode piece (tokens_of_part piece.part parts)
 item_text mode parts Illegal = []
 
 -- a name's parts in a format: the join of the format's literal bytes and its pieces

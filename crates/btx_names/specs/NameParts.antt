@@ -7,8 +7,8 @@ use Rattle.btx_text.specs.Elements.{depth_of}
 use Rattle.btx_names.specs.declared.name_tokens.Joint.{Joint}
 use Rattle.btx_names.specs.declared.name_tokens.Joint.TheVariants.{Hyphen}
 use Rattle.btx_names.specs.declared.runs.Stop.TheVariants.{Comma}
-use Rattle.btx_names.specs.declared.token_counts.Test.{Test}
-use Rattle.btx_names.specs.declared.token_counts.Test.TheVariants.{Von, Apart}
+use Rattle.btx_names.specs.declared.token_counts.TokenTest.{TokenTest}
+use Rattle.btx_names.specs.declared.token_counts.TokenTest.TheVariants.{Von, Apart}
 use Rattle.btx_names.specs.Runs.{is_break, comma, run_len}
 use Rattle.btx_names.specs.Tokens.{Token, tokens_of}
 use Rattle.btx_names.specs.VonTokens.{is_von}
@@ -86,7 +86,7 @@ is_hyphen Hyphen = true
 is_hyphen _ = false
 
 -- what is asked of a token: that it is von, or that no `-` joins it to the next
-abbrev pub passes : Test → Token → Bool
+abbrev pub passes : TokenTest → Token → Bool
 passes Von token = is_von token.text
 passes Apart token = not (is_hyphen token.joint)
 
@@ -153,6 +153,11 @@ abbrev pub surname_of : Sections → List ℕ
 surname_of (One name) = name
 surname_of (Two surname first) = surname
 surname_of (Three surname jr first) = surname
+
+-- the tokens of that section that stand before Last
+abbrev pub before_last : Sections → NameParts → List Token
+before_last (One name) parts = parts.first ++ parts.von
+before_last _ parts = parts.von
 
 -- the final one of some tokens
 abbrev pub final_of : List Token → Option Token

@@ -5,7 +5,7 @@ use Rattle.btx_text.specs.Class.{is_alpha, is_lower, is_upper}
 use Rattle.btx_text.specs.declared.element_kind.Kind.{Kind}
 use Rattle.btx_text.specs.declared.element_kind.Kind.TheVariants.{Byte, Special}
 use Rattle.btx_text.specs.declared.element_kind.TextMode.TheVariants.{Bytes}
-use Rattle.btx_text.specs.Elements.{Part, elements_of}
+use Rattle.btx_text.specs.Elements.{Part as Element, elements_of}
 use Rattle.btx_strings.specs.Controls.{letters_of}
 
 -- a control sequence is a foreign letter, as `\oe` and `\L`: it stands for one or two letters when a string is purified
@@ -33,13 +33,13 @@ casing_of Special depth text = Some (is_lower_special text)
 casing_of Byte depth text = if depth == 0 && is_cased (slice_index text 0) then Some (is_lower (slice_index text 0)) else None
 casing_of _ depth text = None
 
-abbrev pub casing : Part → Option Bool
-casing part = casing_of part.kind part.depth part.text
+abbrev pub casing : Element → Option Bool
+casing element = casing_of element.kind element.depth element.text
 
 -- the first of some elements that decides says lower case
-unfoldable pub first_is_lower : List Part → Bool
+unfoldable pub first_is_lower : List Element → Bool
 first_is_lower [] = false
-first_is_lower (part ∷ parts) = unwrap_or (casing part) (first_is_lower parts)
+first_is_lower (element ∷ elements) = unwrap_or (casing element) (first_is_lower elements)
 
 -- a token is von
 unfoldable pub is_von : List ℕ → Bool

@@ -1,9 +1,10 @@
 //! A name in a format.
 ghost use Rattle.std.specs.Prelude.{◌≡◌, ◌++◌, ◌≤◌, length, MatchOption, None, Some};
 ghost use Rattle.btx_strings.specs.Answers.{Answers};
+ghost use Rattle.btx_strings.specs.Limit.{string_limit};
 ghost use Rattle.btx_names.specs.Becomes.{Becomes, Makes};
 ghost use Rattle.btx_names.specs.Answered as spec;
-ghost use Rattle.btx_names.specs.FormattedNames.{formatted, item_text, tokens_by};
+ghost use Rattle.btx_names.specs.FormattedNames.{formatted, item_text, tokens_of_part};
 ghost use Rattle.btx_names.specs.ItemViews.{item_view};
 ghost use Rattle.btx_names.specs.NameParts.{ends_in_comma, has_third_comma};
 ghost use Rattle.btx_names.specs.PartViews.{part_tokens, parts_view};
@@ -73,9 +74,9 @@ fn format_one(alloc: Global, name: &[u8], format: &[u8], mode: TextMode) -> Resu
     ensures { Answers result (spec.one_name_text mode name.now format.now) (spec.one_name_complaints name.now format.now) }
 {
     let sections = Sections::of(name);
-    let is_legal = is_legal(format);
-    let complaints = complaints_of(name, sections, is_legal);
-    if !is_legal {
+    let legal = is_legal(format);
+    let complaints = complaints_of(name, sections, legal);
+    if !legal {
         return Answer::new(Vec::new(alloc), complaints);
     }
     let text = formatted(alloc, NameParts::of(sections), format, mode)?;
@@ -102,7 +103,7 @@ fn formatted(
     format: &[u8],
     mode: TextMode,
 ) -> Result<Vec<u8>, Fault>
-    ensures { Makes 1000000 result (formatted mode (parts_view parts.entry) format.now) }
+    ensures { Makes string_limit result (formatted mode (parts_view parts.entry) format.now) }
 {
     let mut text = Vec::new(alloc);
     for item in Items::of(format) {
@@ -121,7 +122,7 @@ fn push_item(
     parts: NameParts<'_>,
     mode: TextMode,
 ) -> Result<(), Fault>
-    ensures { Becomes 1000000 result text.new.items (text.old.items ++ item_text mode (parts_view parts.entry) (item_view item.entry)) }
+    ensures { Becomes string_limit result text.new.items (text.old.items ++ item_text mode (parts_view parts.entry) (item_view item.entry)) }
 {
     match item {
         Item::Literal(literal) => {
@@ -139,7 +140,7 @@ fn push_item(
 
 // The part of a name that a piece of a format asks for.
 fn part_of(parts: NameParts<'_>, part: PartName) -> Part<'_>
-    ensures { part_tokens result ≡ tokens_by part (parts_view parts.entry) }
+    ensures { part_tokens result ≡ tokens_of_part part (parts_view parts.entry) }
 {
     match part {
         PartName::First => parts.first,

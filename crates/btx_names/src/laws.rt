@@ -1,12 +1,12 @@
 //! Laws over the definitions. Each function has an empty body, and its contract is the law.
-ghost use Rattle.std.specs.Prelude.{◌≡◌, ℕ, List, ◌∷◌, ◌+◌, length, map, filter, min, nat_lt, true};
+ghost use Rattle.std.specs.Prelude.{◌≡◌, ℕ, List, [], ◌∷◌, ◌++◌, ◌+◌, length, map, filter, min, nat_lt, true};
 ghost use Rattle.btx_names.specs.NameLists.{names_of, separators_of};
-ghost use Rattle.btx_names.specs.Commas.{commas_in, commas_of};
-ghost use Rattle.btx_names.specs.NameParts.{HasJrByForm, final_of, has_third_comma, in_order, parts_of, sections_of, surname_of};
+ghost use Rattle.btx_names.specs.Commas.{commas_in, commas_of, final_commas_of};
+ghost use Rattle.btx_names.specs.NameParts.{HasJrByForm, before_last, ends_in_comma, final_of, has_third_comma, in_order, parts_of, sections_of, surname_of};
 ghost use Rattle.btx_names.specs.Gaps.{and_gap, byte_gap, pieces_between};
 ghost use Rattle.btx_names.specs.Formats.{is_legal, items_of};
 ghost use Rattle.btx_names.specs.FormatTexts.{copied_of, in_lower_case, literals_of, text_of_items};
-ghost use Rattle.btx_names.specs.Tokens.{breaks_of, is_some_text, tokens_of};
+ghost use Rattle.btx_names.specs.Tokens.{Token, breaks_of, is_some_text, tokens_of};
 
 /// A string that isn't empty has one more name than separators.
 #[tactic(auto, using(crate::proofs::SeparatorLemmas::counted))]
@@ -31,18 +31,23 @@ pub fn parts_cover_the_tokens()
     ensures jr { (name : List ℕ) → HasJrByForm (sections_of name) (parts_of name) }
 {}
 
-/// The final token of the section that von and Last stand in, of the whole name if it has no comma, is the final one of Last: it is never von.
+/// The final token of the section that von and Last stand in, of the whole name if it has no comma, is the final one of Last. It is never
+/// von: von, and First where it stands there too, end among the tokens before it.
 #[tactic(auto, using(crate::proofs::LawLemmas::part_laws))]
 pub fn final_token_is_last()
-    ensures { (name : List ℕ) → final_of (parts_of name).last ≡ final_of (tokens_of (surname_of (sections_of name))) }
+    ensures last { (name : List ℕ) → final_of (parts_of name).last ≡ final_of (tokens_of (surname_of (sections_of name))) }
+    ensures never_von { (name : List ℕ) (front : List Token) (final : Token) → tokens_of (surname_of (sections_of name)) ≡ front ++ final ∷ [] →
+        (rest : List Token) × (front ≡ before_last (sections_of name) (parts_of name) ++ rest) }
 {}
 
 /// How many commas count in a name says its form: without one it is First von Last, with one it is von Last, First, and with two or more it is
-/// von Last, Jr, First; a third one is told.
-#[tactic(auto, using(crate::proofs::CommaLemmas::comma_laws))]
+/// von Last, Jr, First; a third one is told. And a name is told to end in a comma exactly where it has a comma at depth 0 that no token
+/// follows.
+#[tactic(auto, using(crate::proofs::CommaLemmas::comma_laws, crate::proofs::EndingLemmas::ending_by_commas))]
 pub fn commas_give_the_form()
     ensures form { (name : List ℕ) → commas_in (sections_of name) ≡ min (length (commas_of name)) 2 }
     ensures third { (name : List ℕ) → has_third_comma (sections_of name) ≡ nat_lt 2 (length (commas_of name)) }
+    ensures ending { (name : List ℕ) → ends_in_comma name ≡ nat_lt 0 (length (final_commas_of name)) }
 {}
 
 /// The items of a legal format, written one after another, are the format, but for the case of letters: an item doesn't say in which case

@@ -74,7 +74,8 @@ impl<'a> NameParts<'a> {
     {
         let ranges = Ranges::of(name);
         let behind_first = text_after(name, ranges.von_start);
-        let behind_von = text_after(name, ranges.last_start);
+        let von_count = ranges.last_start - ranges.von_start;
+        let behind_von = text_after(behind_first, von_count);
         NameParts {
             first: Part {
                 text: name,
@@ -82,7 +83,7 @@ impl<'a> NameParts<'a> {
             },
             von: Part {
                 text: behind_first,
-                count: ranges.last_start - ranges.von_start,
+                count: von_count,
             },
             last: Part::whole(behind_von),
             jr: Part::whole(&[]),

@@ -4,7 +4,7 @@ ghost use Rattle.btx_names.specs.Tokens.{tokens_of};
 ghost use Rattle.btx_names.specs.NameParts as spec;
 
 use crate::name_tokens::Tokens;
-use crate::token_counts::{Test, before_first, up_to_last};
+use crate::token_counts::{TokenTest, before_first, up_to_last_before_final};
 
 /// Where von and Last begin in a name without commas, as counts of tokens.
 #[derive(Clone, Copy, Debug)]
@@ -27,11 +27,11 @@ impl Ranges {
         let end = von_end(name);
         if end > 0 {
             return Ranges {
-                von_start: before_first(name, Test::Von),
+                von_start: before_first(name, TokenTest::Von),
                 last_start: end,
             };
         }
-        let last_start = up_to_last(name, Test::Apart);
+        let last_start = up_to_last_before_final(name, TokenTest::Apart);
         Ranges {
             von_start: last_start,
             last_start,
@@ -45,7 +45,7 @@ pub fn von_end(surname: &[u8]) -> usize
     ensures value { result ≡ spec.von_end (tokens_of surname.now) }
     ensures bound { result ≤ length (tokens_of surname.now) }
 {
-    up_to_last(surname, Test::Von)
+    up_to_last_before_final(surname, TokenTest::Von)
 }
 
 /// The text behind its first tokens.

@@ -1,5 +1,6 @@
 //! The pieces of a formatted name.
-ghost use Rattle.std.specs.Prelude.{◌≡◌, ◌++◌, ◌≤◌, length, drop, take, OnOk};
+ghost use Rattle.std.specs.Prelude.{◌≡◌, ◌++◌, ◌+◌, ◌≤◌, length, drop, take, OnOk};
+ghost use Rattle.btx_strings.specs.Limit.{string_limit};
 ghost use Rattle.btx_names.specs.Becomes.{Becomes};
 ghost use Rattle.btx_names.specs.FormattedNames as spec;
 ghost use Rattle.btx_names.specs.ItemViews.{piece_view};
@@ -21,7 +22,7 @@ pub fn push_piece(
     part: Part<'_>,
     mode: TextMode,
 ) -> Result<(), Fault>
-    ensures { Becomes 1000000 result text.new.items (text.old.items ++ spec.piece_text mode (piece_view piece.entry) (part_tokens part.entry)) }
+    ensures { Becomes string_limit result text.new.items (text.old.items ++ spec.piece_text mode (piece_view piece.entry) (part_tokens part.entry)) }
 {
     if part.count == 0 {
         return Ok(());
@@ -54,7 +55,7 @@ fn push_tokens(
     mode: TextMode,
 ) -> Result<(), Fault>
     requires { start ≤ length text.old.items }
-    ensures { Becomes 1000001 result text.new.items
+    ensures { Becomes (string_limit + 1) result text.new.items
         (take start text.old.items ++ spec.with_tokens mode (piece_view piece.entry) (drop start text.old.items) (part_tokens part.entry)) }
 {
     let mut left = part.count;

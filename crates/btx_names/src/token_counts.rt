@@ -9,7 +9,7 @@ use crate::von_tokens::is_von;
 
 /// What is asked of a token.
 #[derive(Clone, Copy, Debug, PartialEq, Eq)]
-pub enum Test {
+pub enum TokenTest {
     /// That it is von.
     Von,
     /// That no `-` joins it to the next.
@@ -17,12 +17,12 @@ pub enum Test {
 }
 
 // Whether a token passes a test.
-fn passes(test: Test, token: Token<'_>) -> bool
+fn passes(test: TokenTest, token: Token<'_>) -> bool
     ensures { result ≡ spec.passes test (token_of token.entry) }
 {
     match test {
-        Test::Von => is_von(token.text),
-        Test::Apart => !matches!(token.joint, Joint::Hyphen),
+        TokenTest::Von => is_von(token.text),
+        TokenTest::Apart => !matches!(token.joint, Joint::Hyphen),
     }
 }
 
@@ -35,17 +35,17 @@ pub fn token_count(text: &[u8]) -> usize
 
 /// How many tokens there are up to the last one before the final token that passes a test, 0 where none does.
 #[tactic(auto, using(crate::proofs::CountLemmas::last_steps))]
-pub fn up_to_last(text: &[u8], test: Test) -> usize
+pub fn up_to_last_before_final(text: &[u8], test: TokenTest) -> usize
     ensures { result ≡ spec.up_to_last (spec.passes test) (spec.before_final (tokens_of text.now)) }
 {
     let mut seen = 0;
     let mut end = 0;
-    let mut holds = false;
+    let mut previous_passes = false;
     for token in Tokens::of(text) {
-        if holds {
+        if previous_passes {
             end = seen;
         }
-        holds = passes(test, token);
+        previous_passes = passes(test, token);
         seen += 1;
     }
     end
@@ -53,7 +53,7 @@ pub fn up_to_last(text: &[u8], test: Test) -> usize
 
 /// How many tokens stand before the first that passes a test.
 #[tactic(auto, using(crate::proofs::CountLemmas::first_steps))]
-pub fn before_first(text: &[u8], test: Test) -> usize
+pub fn before_first(text: &[u8], test: TokenTest) -> usize
     ensures { result ≡ spec.before_first (spec.passes test) (tokens_of text.now) }
 {
     let mut seen = 0;

@@ -1,5 +1,5 @@
 use Rattle.btx_names.specs.Tokens.{tokens_of}
-use Rattle.btx_names.specs.declared.token_counts.Test.TheVariants.{Von, Apart}
+use Rattle.btx_names.specs.declared.token_counts.TokenTest.TheVariants.{Von, Apart}
 use Rattle.btx_names.proofs.RangeLemmas.{up_to_last-le, before_first-le}
 use Rattle.btx_names.proofs.name_ranges.Ranges.of.Goals as goal
 
@@ -9,4 +9,4 @@ returns-then-end-gt0-clause-ordered c =
     (before_first-le Von (tokens_of c.args.name.now) (rw c.von_end-end.ensures.value at c.if-end-gt0.true))
 
 pub returns-clause-bound : goal.returns-clause-bound
-returns-clause-bound c = rw c.up_to_last-last_start.ensures (up_to_last-le Apart (tokens_of c.args.name.now))
+returns-clause-bound c = rw c.up_to_last_before_final-last_start.ensures (up_to_last-le Apart (tokens_of c.args.name.now))
