@@ -1,5 +1,6 @@
 pub mod FrontLemmas
 pub mod DatabaseLemmas
+pub mod EntryLemmas
 pub mod TokenLemmas
 pub mod CommandLemmas
 pub mod DraftLemmas
@@ -10,6 +11,7 @@ pub mod SpellingLemmas
 pub mod ActionLemmas
 pub mod OutcomeLemmas
 pub mod ProductLemmas
+pub mod StepsLemmas
 pub mod ProgressLemmas
 pub mod RunLemmas
 pub mod StageLemmas

@@ -1,5 +1,5 @@
--- The law over budgets.
-use Rattle.std.specs.Prelude.{◌≡◌, ◌≢◌, ℕ, ◌≤◌, List, ◌++◌, Some, IsSomeAnd}
+-- The laws over budgets.
+use Rattle.std.specs.Prelude.{◌≡◌, ◌≢◌, ℕ, ◌<◌, ◌≤◌, min, List, ◌++◌, Some, IsSomeAnd}
 use Rattle.btx_aux.specs.Files.{Files}
 use Rattle.btx_run.specs.declared.options.Options.{Options}
 use Rattle.btx_run.specs.declared.report.End.TheVariants.{Stopped}
@@ -25,3 +25,15 @@ BudgetLaw = (files : Files) (job : List ℕ) (options : Options) (c d : ℕ) →
     product files job (with_budget options c) ≡ Some shorter →
     IsSomeAnd (product files job (with_budget options d)) (λ longer.
     Foretells shorter longer × (shorter.report.end ≢ Stopped → longer ≡ shorter))
+
+-- Each covered job needs a number of steps, whatever the budget: a run takes that many, or as many as its budget has where that is fewer,
+-- and it is stopped exactly where its budget has fewer.
+pub record NeedsSteps (needed budget : ℕ) (product : Product) : Type 0 where
+  pub steps : product.report.steps ≡ min needed budget
+  pub stopped : budget < needed → product.report.end ≡ Stopped
+  pub goes_on : needed ≤ budget → product.report.end ≢ Stopped
+
+-- For each job there is a number of steps that it needs, one for all budgets.
+abbrev pub StepsLaw : Type 0
+StepsLaw = (files : Files) (job : List ℕ) (options : Options) → (needed : ℕ) × ((budget : ℕ) (made : Product) →
+    product files job (with_budget options budget) ≡ Some made → NeedsSteps needed budget made)

@@ -3,6 +3,7 @@ pub mod RunFaults
 pub mod LogLines
 pub mod Fronts
 pub mod Database
+pub mod EntryLines
 pub mod Styles
 pub mod StyleTokens
 pub mod StyleCommands

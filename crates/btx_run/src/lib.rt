@@ -18,7 +18,7 @@ mod writing;
 
 pub use btx_aux::{FetchFault, Finder, MemoryFinder};
 pub use btx_out::{Over, Sink, SinkFault};
-pub use law::budget_law;
+pub use law::{budget_law, database_law, steps_law};
 pub use options::Options;
 pub use report::{End, Limit, Report};
 pub use run_fault::RunFault;

@@ -27,11 +27,19 @@ use btx_out::Sink;
 use btx_text::Fault;
 use std::alloc::Global;
 
-/// A file that was found.
+/// A style that was found.
 #[derive(Clone, Copy, Debug)]
-struct Found<'a> {
+struct FoundStyle<'a> {
     name: &'a [u8],
     text: &'a [u8],
+}
+
+/// A database that was found, and the one key that is cited.
+#[derive(Clone, Copy, Debug)]
+struct FoundDatabase<'a> {
+    name: &'a [u8],
+    text: &'a [u8],
+    key: &'a [u8],
 }
 
 /// Goes on from the database, once it is found.
@@ -39,15 +47,14 @@ struct Found<'a> {
 fn with_database<W: Sink, L: Sink>(
     alloc: Global,
     mut told: Told<'_>,
-    key: &[u8],
     style: &Style<'_>,
-    database: Found<'_>,
+    database: FoundDatabase<'_>,
     budget: u64,
     bbl: &mut W,
     log: &mut L,
 ) -> Result<Report, RunFault>
     ensures runs { RunsAs result (W.received bbl.old, W.received bbl.new) (L.received log.old, L.received log.new)
-        (after_database (told_view told.entry) key.now (view_of style.now) database.entry.name.now (Some database.entry.text.now)) budget }
+        (after_database (told_view told.entry) database.entry.key.now (view_of style.now) database.entry.name.now (Some database.entry.text.now)) budget }
     ensures bound { IfOk result (λ report. report.steps ≤ budget) }
     ensures quiet { result ≡ Err RunFault.NotYet → NothingWritten (W.received bbl.old, W.received bbl.new) (L.received log.old, L.received log.new) }
     ensures counts { CountsOfOutputs result (W.failures bbl.old, W.failures bbl.new) (L.failures log.old, L.failures log.new) }
@@ -58,7 +65,7 @@ fn with_database<W: Sink, L: Sink>(
         return end_at_once(alloc, &told, End::Limit(Limit::File), log);
     }
     let types = &style.functions.as_slice()[..style.before_read];
-    if !is_database(types, key, database.text) {
+    if !is_database(types, database.key, database.text) {
         return Err(RunFault::NotYet);
     }
     execute_style(alloc, &told, style, budget, bbl, log)
@@ -90,11 +97,12 @@ fn find_database<F: Finder, W: Sink, L: Sink>(
     if !finder.fetch(alloc, name, &mut text)? {
         return Err(RunFault::NotYet);
     }
-    let database = Found {
+    let database = FoundDatabase {
         name,
         text: text.as_slice(),
+        key,
     };
-    with_database(alloc, told, key, style, database, budget, bbl, log)
+    with_database(alloc, told, style, database, budget, bbl, log)
 }
 
 /// The database and the key of a job, where there is one of each, and no `*`.
@@ -125,7 +133,7 @@ fn with_style<F: Finder, W: Sink, L: Sink>(
     alloc: Global,
     finder: &mut F,
     mut told: Told<'_>,
-    style: Found<'_>,
+    style: FoundStyle<'_>,
     budget: u64,
     bbl: &mut W,
     log: &mut L,
@@ -190,7 +198,7 @@ fn find_style<F: Finder, W: Sink, L: Sink>(
     if !finder.fetch(alloc, name, &mut text)? {
         return without_style(alloc, told, name, log);
     }
-    let style = Found {
+    let style = FoundStyle {
         name,
         text: text.as_slice(),
     };
@@ -294,7 +302,7 @@ fn citations<F: Finder>(alloc: Global, finder: &mut F, top: &[u8]) -> Result<Aux
     match read_aux(alloc, finder, top) {
         Ok(job) => Ok(job),
         Err(Fault::Device) => Err(RunFault::Device),
-        Err(_) => Err(RunFault::Memory),
+        Err(Fault::Memory | Fault::FileLimit | Fault::StringLimit) => Err(RunFault::Memory),
     }
 }
 

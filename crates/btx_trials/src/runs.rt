@@ -1,6 +1,8 @@
 //! Whole runs: what they write to both outputs, and what they answer.
 use crate::breaking::{ROWS, text_of};
-use btx_run::{End, Limit, MemoryFinder, Options, Over, Report, RunFault, budget_law, run};
+use btx_run::{End, Limit, MemoryFinder, Options, Over, Report, RunFault, budget_law, database_law, run,
+    steps_law,
+};
 use std::alloc::{AllocError, Global};
 use std::process::Abort;
 use std::test::Fail;
@@ -496,7 +498,9 @@ fn opens_twenty_files(rt: HostRuntime) -> Result<(), Fail> {
 
 #[test]
 fn says_what_failed(rt: HostRuntime) -> Result<(), Fail> {
+    database_law();
     budget_law();
+    steps_law();
     for (fault, text) in [
         (RunFault::Memory, "out of memory"),
         (RunFault::Device, "device error"),

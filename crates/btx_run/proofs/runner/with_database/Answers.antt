@@ -23,25 +23,25 @@ returns-then-is_too_long-clause-runs g c =
     let told : told_view c.push.new.self ≡ old ++ plain (database_line 1 c.args.database.name.now) ∷ [] = one_more old _ _ _ false c.in_ok-push.ensures.told c.in_ok-line.ensures in
     let long : is_too_long c.args.database.text.now ≡ true = search rules in
     runs_is c.end_at_once.result _ _ _ _ c.args.budget
-    (database_too_long old c.args.key.now style c.args.database.name.now c.args.database.text.now long ∙ ap (λ t. Some (reading t (Ends (ended.Limit File)))) (sym told))
+    (database_too_long old c.args.database.key.now style c.args.database.name.now c.args.database.text.now long ∙ ap (λ t. Some (reading t (Ends (ended.Limit File)))) (sym told))
     (c.end_at_once.ensures.runs _ _)
 
 pub returns-then-not-is_database-clause-runs : goal.returns-then-not-is_database-clause-runs
 returns-then-not-is_database-clause-runs g c =
     let style = view_of c.args.style.now in
-    let fits : is_database style.types c.args.key.now c.args.database.text.now ≡ false =
-    judged c.args.style.now.functions.items _ c.args.style.now.before_read c.args.key.now c.args.database.text.now _ (grind (arith, common_steps)) c.is_database.ensures ∙ search rules in
+    let fits : is_database style.types c.args.database.key.now c.args.database.text.now ≡ false =
+    judged c.args.style.now.functions.items _ c.args.style.now.before_read c.args.database.key.now c.args.database.text.now _ (grind (arith, common_steps)) c.is_database.ensures ∙ search rules in
     let short : is_too_long c.args.database.text.now ≡ false = search rules in
-    (database_outside (told_view c.args.told) c.args.key.now style c.args.database.name.now c.args.database.text.now short fits, nothing_written _ _)
+    (database_outside (told_view c.args.told) c.args.database.key.now style c.args.database.name.now c.args.database.text.now short fits, nothing_written _ _)
 
 pub returns-clause-runs : goal.returns-clause-runs
 returns-clause-runs g c =
     let old = told_view c.args.told in
     let style = view_of c.args.style.now in
     let told : told_view c.push.new.self ≡ old ++ plain (database_line 1 c.args.database.name.now) ∷ [] = one_more old _ _ _ false c.in_ok-push.ensures.told c.in_ok-line.ensures in
-    let fits : is_database style.types c.args.key.now c.args.database.text.now ≡ true =
-    judged c.args.style.now.functions.items _ c.args.style.now.before_read c.args.key.now c.args.database.text.now _ (grind (arith, common_steps)) c.is_database.ensures ∙ search rules in
+    let fits : is_database style.types c.args.database.key.now c.args.database.text.now ≡ true =
+    judged c.args.style.now.functions.items _ c.args.style.now.before_read c.args.database.key.now c.args.database.text.now _ (grind (arith, common_steps)) c.is_database.ensures ∙ search rules in
     let short : is_too_long c.args.database.text.now ≡ false = search rules in
     runs_is c.execute_style.result _ _ _ _ c.args.budget
-    (database_fits old c.args.key.now style c.args.database.name.now c.args.database.text.now short fits ∙ ap (λ t. Some (reading t (Executes style.bodies))) (sym told))
+    (database_fits old c.args.database.key.now style c.args.database.name.now c.args.database.text.now short fits ∙ ap (λ t. Some (reading t (Executes style.bodies))) (sym told))
     c.execute_style.ensures.runs
