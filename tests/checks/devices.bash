@@ -70,6 +70,17 @@ wants_output "${first_log%Ended*}"
 wants_error "$device_error"
 end
 
+# A job outside the language whose log can't be created: the first fault is told, and no other.
+begin outside_without_a_log
+printf '@comment{x}\n@misc{k, title = {T}}\n' >d.bib
+mkdir job.blg
+run_program job
+wants_status 7
+wants_output ''
+wants_error $'bibtex: not yet\n'
+wants_text job.bbl ''
+end
+
 begin help_that_cannot_be_printed
 status=0
 timeout 60 "$program" --help </dev/null >/dev/full 2>"$folder/stderr" || status=$?

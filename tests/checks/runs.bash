@@ -78,6 +78,24 @@ wants_text job.blg "$no_top_file"
 wants_files d.bib job.bbl job.blg s.bst
 end
 
+# A top file without a byte is read: it names nothing.
+begin empty_top_file
+: >job.aux
+run_program job
+empty_log='The top-level auxiliary file: job.aux
+Error--I found no \citation commands
+Error--I found no \bibdata command
+Error--I found no \bibstyle command
+Ended: finished, warnings 0, errors 3, steps 0
+'
+wants_status 2
+wants_output "$empty_log"
+wants_error ''
+wants_text job.bbl ''
+wants_text job.blg "$empty_log"
+wants_files d.bib job.aux job.bbl job.blg s.bst
+end
+
 # A link that leads to itself can't be opened: there is no such file.
 begin top_file_that_cannot_be_opened
 rm job.aux

@@ -121,12 +121,19 @@ mod tests {
     fn reads_real_files(rt: HostRuntime) -> Result<(), Fail> {
         let alloc = rt.alloc();
         let directory = make_folder(&rt, alloc, "directory")?;
-        let path = format!(in alloc; "{directory}/present.aux")?;
-        fs::write(&rt, path.as_str(), "text")?;
+        for (name, text) in [("present.aux", "text"), ("empty.aux", "")] {
+            let path = format!(in alloc; "{directory}/{name}")?;
+            fs::write(&rt, path.as_str(), text)?;
+        }
         let mut finder = DirectoryFinder::new(&rt, directory.as_str());
-        let mut into = Vec::new(alloc);
-        assert_eq!(rt; finder.fetch(alloc, b"present.aux", &mut into), Ok(true));
-        assert_eq!(rt; into.as_slice(), b"text".as_slice());
+        let mut into = Vec::from_slice(alloc, b"what was there")?;
+        for _ in 0..2u8 {
+            assert_eq!(rt; finder.fetch(alloc, b"present.aux", &mut into), Ok(true));
+            assert_eq!(rt; into.as_slice(), b"text".as_slice());
+        }
+        // an empty file is there
+        assert_eq!(rt; finder.fetch(alloc, b"empty.aux", &mut into), Ok(true));
+        assert!(rt; into.is_empty());
         assert_eq!(rt; finder.fetch(alloc, b"missing.aux", &mut into), Ok(false));
         assert!(rt; into.is_empty());
         assert_eq!(rt; finder.fetch(alloc, b"\xff.aux", &mut into), Ok(false));
