@@ -34,19 +34,19 @@ fn styles_outside() -> [&'static [u8]; 42] {
         // No command.
         b"",
         // No READ.
-        b"ENTRY {title}{}{}",
+        b"ENTRY {title}{}{} FUNCTION {misc}{}",
         // No ENTRY.
-        b"READ",
+        b"FUNCTION {misc}{} READ",
         // READ before ENTRY.
         b"READ ENTRY {}{}{}",
         // READ twice.
-        b"ENTRY {}{}{} READ READ",
+        b"ENTRY {}{}{} FUNCTION {misc}{} READ READ",
         // ENTRY twice.
-        b"ENTRY {}{}{} ENTRY {}{}{} READ",
+        b"ENTRY {}{}{} ENTRY {}{}{} FUNCTION {misc}{} READ",
         // FUNCTION before ENTRY.
         b"FUNCTION {misc}{} ENTRY {}{}{} READ",
         // EXECUTE before READ.
-        b"ENTRY {}{}{} FUNCTION {f}{} EXECUTE {f} READ",
+        b"ENTRY {}{}{} FUNCTION {misc}{} EXECUTE {misc} READ",
         // EXECUTE of a later function.
         b"ENTRY {title}{}{} FUNCTION {misc}{} READ EXECUTE {f} FUNCTION {f} {newline$}",
         // EXECUTE of a field.
@@ -56,27 +56,27 @@ fn styles_outside() -> [&'static [u8]; 42] {
         // A function named as a field.
         b"ENTRY {title}{}{} FUNCTION {misc}{} READ FUNCTION {title} {newline$}",
         // An entry string named as a field.
-        b"ENTRY {a}{b}{a} READ",
+        b"ENTRY {a}{b}{a} FUNCTION {misc}{} READ",
         // A function twice, round READ.
         b"ENTRY {title}{}{} FUNCTION {misc}{} READ FUNCTION {misc} {}",
         // The name crossref.
-        b"ENTRY {crossref}{}{} READ",
+        b"ENTRY {crossref}{}{} FUNCTION {misc}{} READ",
         // A function crossref.
         b"ENTRY {title}{}{} FUNCTION {misc}{} READ FUNCTION {crossref} {}",
         // A capital in a name.
-        b"ENTRY {Title}{}{} READ",
+        b"ENTRY {Title}{}{} FUNCTION {misc}{} READ",
         // A digit in a name.
-        b"ENTRY {}{}{} FUNCTION {f2}{} READ",
+        b"ENTRY {}{}{} FUNCTION {misc}{} FUNCTION {f2}{} READ",
         // No name.
-        b"ENTRY {}{}{} FUNCTION {}{} READ",
+        b"ENTRY {}{}{} FUNCTION {misc}{} FUNCTION {}{} READ",
         // Two names.
-        b"ENTRY {}{}{} FUNCTION {a b}{} READ",
+        b"ENTRY {}{}{} FUNCTION {misc}{} FUNCTION {a b}{} READ",
         // A command in lower case.
-        b"entry {}{}{} READ",
+        b"entry {}{}{} FUNCTION {misc}{} READ",
         // A command in mixed case.
-        b"ENTRY {}{}{} Read",
+        b"ENTRY {}{}{} FUNCTION {misc}{} Read",
         // Two groups.
-        b"ENTRY {}{} READ",
+        b"ENTRY {}{} FUNCTION {misc}{} READ",
         // A comment.
         b"ENTRY {title}{}{} FUNCTION {misc}{} READ % a comment",
         // A comment in a body.
@@ -114,7 +114,7 @@ fn styles_outside() -> [&'static [u8]; 42] {
         // EXECUTE without a name.
         b"ENTRY {title}{}{} FUNCTION {misc}{} READ EXECUTE",
         // READ with a group.
-        b"ENTRY {title}{}{} FUNCTION {misc}{} READ READ{}",
+        b"ENTRY {title}{}{} FUNCTION {misc}{} READ{}",
     ]
 }
 

@@ -1,6 +1,7 @@
 //! Whole runs: what they write to both outputs, and what they answer.
 use crate::breaking::{ROWS, text_of};
-use btx_run::{End, Limit, MemoryFinder, Options, Over, Report, RunFault, budget_law, database_law, run,
+use btx_run::{
+    End, Limit, MemoryFinder, Options, Over, Report, RunFault, budget_law, database_law, run,
     steps_law,
 };
 use std::alloc::{AllocError, Global};
