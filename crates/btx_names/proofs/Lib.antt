@@ -19,4 +19,5 @@ pub mod SeparatorLemmas
 pub mod GapLemmas
 pub mod CommaLemmas
 pub mod EndingLemmas
+pub mod JoinLemmas
 pub mod ItemLemmas

@@ -1,10 +1,13 @@
 //! Laws over the definitions. Each function has an empty body, and its contract is the law.
-ghost use Rattle.std.specs.Prelude.{◌≡◌, ℕ, List, [], ◌∷◌, ◌++◌, ◌+◌, length, map, filter, min, nat_lt, true};
+ghost use Rattle.std.specs.Prelude.{◌≡◌, ℕ, List, [], ◌∷◌, ◌++◌, ◌+◌, Some, length, map, filter, min, nat_lt, true};
+ghost use Rattle.std.specs.List.{join_by};
+ghost use Rattle.btx_text.specs.declared.element_kind.TextMode.{TextMode};
 ghost use Rattle.btx_names.specs.NameLists.{names_of, separators_of};
 ghost use Rattle.btx_names.specs.Commas.{commas_in, commas_of, final_commas_of};
 ghost use Rattle.btx_names.specs.NameParts.{HasJrByForm, before_last, ends_in_comma, final_of, has_third_comma, in_order, parts_of, sections_of, surname_of};
 ghost use Rattle.btx_names.specs.Gaps.{and_gap, byte_gap, pieces_between};
-ghost use Rattle.btx_names.specs.Formats.{is_legal, items_of};
+ghost use Rattle.btx_names.specs.Formats.{Piece, is_legal, items_of};
+ghost use Rattle.btx_names.specs.FormattedNames.{finished, piece_text, shown};
 ghost use Rattle.btx_names.specs.FormatTexts.{copied_of, in_lower_case, literals_of, text_of_items};
 ghost use Rattle.btx_names.specs.Tokens.{Token, breaks_of, is_some_text, tokens_of};
 
@@ -48,6 +51,15 @@ pub fn commas_give_the_form()
     ensures form { (name : List ℕ) → commas_in (sections_of name) ≡ min (length (commas_of name)) 2 }
     ensures third { (name : List ℕ) → has_third_comma (sections_of name) ≡ nat_lt 2 (length (commas_of name)) }
     ensures ending { (name : List ℕ) → ends_in_comma name ≡ nat_lt 0 (length (final_commas_of name)) }
+{}
+
+/// A piece with a string between its tokens is what stands before its letter, its tokens joined by that string, in full or abbreviated, and
+/// what stands after the letter, finished.
+#[tactic(auto, using(crate::proofs::JoinLemmas::tokens_joined))]
+pub fn tokens_joined_by_the_string_between()
+    ensures { (mode : TextMode) (piece : Piece) (between : List ℕ) (token : Token) (tokens : List Token) → piece.between ≡ Some between →
+        piece_text mode piece (token ∷ tokens)
+        ≡ finished mode (piece.before ++ join_by (λ token. shown mode piece.is_full token.text) between (token ∷ tokens) ++ piece.after) }
 {}
 
 /// The items of a legal format, written one after another, are the format, but for the case of letters: an item doesn't say in which case

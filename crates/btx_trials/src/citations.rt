@@ -1,96 +1,127 @@
+//! What the `.aux` files of a job say, and files in memory.
 use crate::finders::{EveryFinder, FailingFinder, RefusedFinder};
-use btx_aux::{AuxJob, End, FetchFault, Finder, MemoryFinder, read_aux};
+use btx_aux::{AuxJob, End, FetchFault, Finder, LogLine, MemoryFinder, read_aux};
 use btx_text::Fault;
 use std::alloc::{AllocError, Global};
+use std::ops::Range;
 use std::process::Abort;
 use std::test::Fail;
 
-/// A top file's first lines, before one for a database and one for a style; the keys that it gives, each with a semicolon; and the
-/// lines of the log behind the first, each with its end.
+/// How many lines, errors and keys a job has, and how its reading ended.
+type Counts = (usize, usize, usize, End);
+
+/// A top file's first lines, before one for a database and one for a style; its keys, its log and its counts, in the form of `Told`.
 #[derive(Clone, Copy)]
 struct Row {
     lines: &'static [u8],
     keys: &'static [u8],
     log: &'static [u8],
+    counts: Counts,
 }
 
 /// The worked rows.
-fn rows() -> [Row; 13] {
-    [
-        Row {
-            lines: b"\\citation{k,K}",
-            keys: b"k;",
-            log: b"Error--Case mismatch error between cite keys k and K--line 1 of file job.aux\n",
-        },
-        Row {
-            lines: b"\\citation{k, j}",
-            keys: b"k;",
-            log: b"Error--White space in argument--line 1 of file job.aux\n",
-        },
-        Row {
-            lines: b"\\citation{k",
-            keys: b"",
-            log: b"Error--No \"}\"--line 1 of file job.aux\nError--I found no \\citation commands\n",
-        },
-        Row {
-            lines: b"\\citation{k \t\r",
-            keys: b"",
-            log: b"Error--No \"}\"--line 1 of file job.aux\nError--I found no \\citation commands\n",
-        },
-        Row {
-            lines: b"\\citation{k} x",
-            keys: b"",
-            log: b"Error--Stuff after \"}\"--line 1 of file job.aux\nError--I found no \\citation commands\n",
-        },
-        Row {
-            lines: b"\\citation\n\\citations{x}\n {\\citation{y}\nx\\citation{z}",
-            keys: b"",
-            log: b"Error--I found no \\citation commands\n",
-        },
-        Row {
-            lines: b"\\citation{a,*,b,*}",
-            keys: b"a;b;",
-            log: b"Error--Multiple inclusions of entire database--line 1 of file job.aux\n",
-        },
-        Row {
-            lines: b"\\citation{,k,}\n\\citation{}",
-            keys: b";k;",
-            log: b"",
-        },
-        Row {
-            lines: b"\\citation{\x00,\x80,\xc9,\xe9}",
-            keys: b"\x00;\x80;\xc9;\xe9;",
-            log: b"",
-        },
-        Row {
-            lines: b"\\citation{k}\r\n\\citation{j}\r",
-            keys: b"k;j;",
-            log: b"",
-        },
-        Row {
-            lines: b"\\citation{k}\n\\bibdata{e,e.bib,,f}",
-            keys: b"k;",
-            log: b"Error--This database file appears more than once: e.bib--line 2 of file job.aux\nError--Illegal, another \\bibdata command--line 3 of file job.aux\n",
-        },
-        Row {
-            lines: b"\\citation{k}\n\\bibstyle{t t}",
-            keys: b"k;",
-            log: b"Error--White space in argument--line 2 of file job.aux\nError--Illegal, another \\bibstyle command--line 4 of file job.aux\n",
-        },
-        Row {
-            lines: b"\\citation{k}\n\\@input{x}\n\\@input{}\n\\@input{x.aux}\n\\@input{x.aux}\n\\@input{job.aux}",
-            keys: b"k;",
-            log: b"Error--x has a wrong extension--line 2 of file job.aux\nError-- has a wrong extension--line 3 of file job.aux\nError--I couldn't open auxiliary file x.aux--line 4 of file job.aux\nError--Already encountered file x.aux--line 5 of file job.aux\nError--Already encountered file job.aux--line 6 of file job.aux\n",
-        },
-    ]
-}
+const ROWS: [Row; 13] = [
+    Row {
+        lines: b"\\citation{k,K}",
+        keys: b"k;",
+        log: b"The top-level auxiliary file: job.aux\n!Error--Case mismatch error between cite keys k and K--line 1 of file job.aux\n",
+        counts: (2, 1, 1, End::Whole),
+    },
+    Row {
+        lines: b"\\citation{k, j}",
+        keys: b"k;",
+        log: b"The top-level auxiliary file: job.aux\n!Error--White space in argument--line 1 of file job.aux\n",
+        counts: (2, 1, 1, End::Whole),
+    },
+    Row {
+        lines: b"\\citation{k",
+        keys: b"",
+        log: b"The top-level auxiliary file: job.aux\n!Error--No \"}\"--line 1 of file job.aux\n!Error--I found no \\citation commands\n",
+        counts: (3, 2, 0, End::Whole),
+    },
+    Row {
+        lines: b"\\citation{k \t\r",
+        keys: b"",
+        log: b"The top-level auxiliary file: job.aux\n!Error--No \"}\"--line 1 of file job.aux\n!Error--I found no \\citation commands\n",
+        counts: (3, 2, 0, End::Whole),
+    },
+    Row {
+        lines: b"\\citation{k} x",
+        keys: b"",
+        log: b"The top-level auxiliary file: job.aux\n!Error--Stuff after \"}\"--line 1 of file job.aux\n!Error--I found no \\citation commands\n",
+        counts: (3, 2, 0, End::Whole),
+    },
+    Row {
+        lines: b"\\citation\n\\citations{x}\n {\\citation{y}\nx\\citation{z}",
+        keys: b"",
+        log: b"The top-level auxiliary file: job.aux\n!Error--I found no \\citation commands\n",
+        counts: (2, 1, 0, End::Whole),
+    },
+    Row {
+        lines: b"\\citation{a,*,b,*}",
+        keys: b"a;b;",
+        log: b"The top-level auxiliary file: job.aux\n!Error--Multiple inclusions of entire database--line 1 of file job.aux\n",
+        counts: (2, 1, 2, End::Whole),
+    },
+    Row {
+        lines: b"\\citation{,k,}\n\\citation{}",
+        keys: b";k;",
+        log: b"The top-level auxiliary file: job.aux\n",
+        counts: (1, 0, 2, End::Whole),
+    },
+    Row {
+        lines: b"\\citation{\x00,\x80,\xc9,\xe9}",
+        keys: b"\x00;\x80;\xc9;\xe9;",
+        log: b"The top-level auxiliary file: job.aux\n",
+        counts: (1, 0, 4, End::Whole),
+    },
+    Row {
+        lines: b"\\citation{k}\r\n\\citation{j}\r",
+        keys: b"k;j;",
+        log: b"The top-level auxiliary file: job.aux\n",
+        counts: (1, 0, 2, End::Whole),
+    },
+    Row {
+        lines: b"\\citation{k}\n\\bibdata{e,e.bib,,f}",
+        keys: b"k;",
+        log: b"The top-level auxiliary file: job.aux\n!Error--This database file appears more than once: e.bib--line 2 of file job.aux\n!Error--Illegal, another \\bibdata command--line 3 of file job.aux\n",
+        counts: (3, 2, 1, End::Whole),
+    },
+    Row {
+        lines: b"\\citation{k}\n\\bibstyle{t t}",
+        keys: b"k;",
+        log: b"The top-level auxiliary file: job.aux\n!Error--White space in argument--line 2 of file job.aux\n!Error--Illegal, another \\bibstyle command--line 4 of file job.aux\n",
+        counts: (3, 2, 1, End::Whole),
+    },
+    Row {
+        lines: b"\\citation{k}\n\\@input{x}\n\\@input{}\n\\@input{x.aux}\n\\@input{x.aux}\n\\@input{job.aux}",
+        keys: b"k;",
+        log: b"The top-level auxiliary file: job.aux\n!Error--x has a wrong extension--line 2 of file job.aux\n!Error-- has a wrong extension--line 3 of file job.aux\n!Error--I couldn't open auxiliary file x.aux--line 4 of file job.aux\n!Error--Already encountered file x.aux--line 5 of file job.aux\n!Error--Already encountered file job.aux--line 6 of file job.aux\n",
+        counts: (6, 5, 1, End::Whole),
+    },
+];
 
 const FOUND_TOP: &[u8] = b"The top-level auxiliary file: job.aux\n";
 
-/// The lines of a job's log, each with its end.
-fn log_of(alloc: Global, job: &AuxJob) -> Result<Vec<u8>, AllocError> {
+/// What a job says, as plain texts: the log's lines, each with its end and an error behind a `!`; the keys, each with a semicolon;
+/// and the databases, each with a semicolon, with the style behind a colon. A test that holds a job or a finder itself takes long to
+/// prove, since each `?` is a way out on which all of it is dropped.
+#[derive(Drop)]
+struct Told {
+    log: Vec<u8>,
+    keys: Vec<u8>,
+    files: Vec<u8>,
+    all: Option<usize>,
+    counts: Counts,
+}
+
+/// Lines of a log, each with its end, and an error behind a `!`.
+fn log_of(alloc: Global, lines: &[LogLine]) -> Result<Vec<u8>, AllocError> {
     let mut text = Vec::new(alloc);
-    for line in job.log() {
+    for line in lines {
+        if line.is_error() {
+            text.push(b'!')?;
+        }
         text.extend_from_slice(line.text())?;
         text.push(b'\n')?;
     }
@@ -101,19 +132,71 @@ fn log_of(alloc: Global, job: &AuxJob) -> Result<Vec<u8>, AllocError> {
 fn listed(alloc: Global, names: &[Vec<u8>]) -> Result<Vec<u8>, AllocError> {
     let mut text = Vec::new(alloc);
     for name in names {
-        text.extend_from_slice(name.as_slice())?;
+        text.extend_from_slice(name)?;
         text.push(b';')?;
     }
     Ok(text)
 }
 
-/// The job of a top file that ends in one line for a database and one for a style.
-fn job_of(alloc: Global, lines: &[u8]) -> Result<AuxJob, Fail> {
-    let mut top = Vec::from_slice(alloc, lines)?;
-    top.extend_from_slice(b"\n\\bibdata{d}\n\\bibstyle{s}\n")?;
-    let pairs = [(b"job.aux".as_slice(), top.as_slice())];
-    let mut finder = MemoryFinder::new(alloc, pairs.as_slice())?;
-    Ok(read_aux(alloc, &mut finder, b"job.aux")?)
+/// The databases of a job, each with a semicolon, and its style behind a colon.
+fn files_of(alloc: Global, job: &AuxJob) -> Result<Vec<u8>, AllocError> {
+    let mut text = listed(alloc, job.databases())?;
+    if let Some(style) = job.style() {
+        text.push(b':')?;
+        text.extend_from_slice(style)?;
+    }
+    Ok(text)
+}
+
+/// These texts, one behind the other.
+fn joined(alloc: Global, texts: &[&[u8]]) -> Result<Vec<u8>, AllocError> {
+    let mut whole = Vec::new(alloc);
+    for text in texts {
+        whole.extend_from_slice(text)?;
+    }
+    Ok(whole)
+}
+
+/// How many lines, errors and keys a job has, and how its reading ended.
+fn counts_of(job: &AuxJob) -> Counts {
+    (job.log().len(), job.errors(), job.keys().len(), job.end())
+}
+
+/// What a job says.
+fn tell(alloc: Global, job: &AuxJob) -> Result<Told, AllocError> {
+    Ok(Told {
+        log: log_of(alloc, job.log())?,
+        keys: listed(alloc, job.keys())?,
+        files: files_of(alloc, job)?,
+        all: job.all(),
+        counts: counts_of(job),
+    })
+}
+
+/// What the job of a name says, over a finder.
+fn read_from<F: Finder>(alloc: Global, finder: &mut F, name: &[u8]) -> Result<Told, Fault> {
+    let job = read_aux(alloc, finder, name)?;
+    tell(alloc, &job).map_err(Fault::from)
+}
+
+/// A file's name and bytes.
+type File<'a> = (&'a [u8], &'a [u8]);
+
+/// What the job of a name says, over files in memory.
+fn read_named(alloc: Global, files: &[File<'_>], name: &[u8]) -> Result<Told, Fault> {
+    let mut finder = MemoryFinder::new(alloc, files)?;
+    read_from(alloc, &mut finder, name)
+}
+
+/// What the job `job.aux` says, over files in memory.
+fn read(alloc: Global, files: &[File<'_>]) -> Result<Told, Fault> {
+    read_named(alloc, files, b"job.aux")
+}
+
+/// What a job says whose top file ends in one line for a database and one for a style.
+fn read_lines(alloc: Global, lines: &[u8]) -> Result<Told, Fault> {
+    let top = joined(alloc, &[lines, b"\n\\bibdata{d}\n\\bibstyle{s}\n"])?;
+    read(alloc, &[(b"job.aux", &top)])
 }
 
 /// Asserts that two texts are the same.
@@ -121,30 +204,50 @@ fn same(rt: &impl Abort, found: &[u8], wanted: &[u8]) {
     assert_eq!(rt; found, wanted);
 }
 
-/// Asserts that a job has these keys, each with a semicolon.
-fn has_keys(rt: &impl Abort, alloc: Global, job: &AuxJob, wanted: &[u8]) -> Result<(), Fail> {
-    let keys = listed(alloc, job.keys())?;
-    same(rt, keys.as_slice(), wanted);
+/// Asserts a job's keys, its log and its counts.
+fn says(
+    rt: &impl Abort,
+    told: Result<Told, Fault>,
+    keys: &[u8],
+    log: &[u8],
+    counts: Counts,
+) -> Result<(), Fail> {
+    let told = told?;
+    same(rt, &told.keys, keys);
+    same(rt, &told.log, log);
+    assert_eq!(rt; told.counts, counts);
     Ok(())
 }
 
-/// Asserts that a job's log has these lines, each with its end.
-fn has_log(rt: &impl Abort, alloc: Global, job: &AuxJob, wanted: &[u8]) -> Result<(), Fail> {
-    let log = log_of(alloc, job)?;
-    same(rt, log.as_slice(), wanted);
+/// Asserts a job's files, and the place of `*`.
+fn uses(
+    rt: &impl Abort,
+    told: Result<Told, Fault>,
+    files: &[u8],
+    all: Option<usize>,
+) -> Result<(), Fail> {
+    let told = told?;
+    same(rt, &told.files, files);
+    assert_eq!(rt; told.all, all);
     Ok(())
 }
 
-/// Asserts how many lines, errors and keys a job has, and how it ended.
-fn counts(rt: &impl Abort, job: &AuxJob, lines: usize, errors: usize, keys: usize, end: End) {
-    assert_eq!(rt; job.log().len(), lines);
-    assert_eq!(rt; job.errors(), errors);
-    assert_eq!(rt; job.keys().len(), keys);
-    assert_eq!(rt; job.end(), end);
+/// Asserts how long the text of a job's keys is and how it ends, and the job's counts.
+fn ends(
+    rt: &impl Abort,
+    told: Result<Told, Fault>,
+    size: usize,
+    last: &[u8],
+    counts: Counts,
+) -> Result<(), Fail> {
+    let told = told?;
+    assert!(rt; told.keys.len() == size && told.keys.ends_with(last));
+    assert_eq!(rt; told.counts, counts);
+    Ok(())
 }
 
 /// Files that input one another, one of them given twice.
-fn through() -> [(&'static [u8], &'static [u8]); 3] {
+fn through() -> [File<'static>; 3] {
     [
         (b"a.aux", b"an older file of this name"),
         (
@@ -156,237 +259,250 @@ fn through() -> [(&'static [u8], &'static [u8]); 3] {
 }
 
 /// A chain of files, each of which inputs the next.
-fn chain() -> [(&'static [u8], &'static [u8]); 21] {
-    [
-        (b"job.aux", b"\\@input{f1.aux}\n\\citation{k0}"),
-        (b"f1.aux", b"\\@input{f2.aux}\n\\citation{k1}"),
-        (b"f2.aux", b"\\@input{f3.aux}\n\\citation{k2}"),
-        (b"f3.aux", b"\\@input{f4.aux}\n\\citation{k3}"),
-        (b"f4.aux", b"\\@input{f5.aux}\n\\citation{k4}"),
-        (b"f5.aux", b"\\@input{f6.aux}\n\\citation{k5}"),
-        (b"f6.aux", b"\\@input{f7.aux}\n\\citation{k6}"),
-        (b"f7.aux", b"\\@input{f8.aux}\n\\citation{k7}"),
-        (b"f8.aux", b"\\@input{f9.aux}\n\\citation{k8}"),
-        (b"f9.aux", b"\\@input{f10.aux}\n\\citation{k9}"),
-        (b"f10.aux", b"\\@input{f11.aux}\n\\citation{k10}"),
-        (b"f11.aux", b"\\@input{f12.aux}\n\\citation{k11}"),
-        (b"f12.aux", b"\\@input{f13.aux}\n\\citation{k12}"),
-        (b"f13.aux", b"\\@input{f14.aux}\n\\citation{k13}"),
-        (b"f14.aux", b"\\@input{f15.aux}\n\\citation{k14}"),
-        (b"f15.aux", b"\\@input{f16.aux}\n\\citation{k15}"),
-        (b"f16.aux", b"\\@input{f17.aux}\n\\citation{k16}"),
-        (b"f17.aux", b"\\@input{f18.aux}\n\\citation{k17}"),
-        (b"f18.aux", b"\\@input{f19.aux}\n\\citation{k18}"),
-        (b"f19.aux", b"\\@input{f20.aux}\n\\citation{k19}"),
-        (b"f20.aux", b"\\@input{f21.aux}\n\\citation{k20}"),
-    ]
-}
+const CHAIN: [File<'static>; 21] = [
+    (b"job.aux", b"\\@input{f1.aux}\n\\citation{k0}"),
+    (b"f1.aux", b"\\@input{f2.aux}\n\\citation{k1}"),
+    (b"f2.aux", b"\\@input{f3.aux}\n\\citation{k2}"),
+    (b"f3.aux", b"\\@input{f4.aux}\n\\citation{k3}"),
+    (b"f4.aux", b"\\@input{f5.aux}\n\\citation{k4}"),
+    (b"f5.aux", b"\\@input{f6.aux}\n\\citation{k5}"),
+    (b"f6.aux", b"\\@input{f7.aux}\n\\citation{k6}"),
+    (b"f7.aux", b"\\@input{f8.aux}\n\\citation{k7}"),
+    (b"f8.aux", b"\\@input{f9.aux}\n\\citation{k8}"),
+    (b"f9.aux", b"\\@input{f10.aux}\n\\citation{k9}"),
+    (b"f10.aux", b"\\@input{f11.aux}\n\\citation{k10}"),
+    (b"f11.aux", b"\\@input{f12.aux}\n\\citation{k11}"),
+    (b"f12.aux", b"\\@input{f13.aux}\n\\citation{k12}"),
+    (b"f13.aux", b"\\@input{f14.aux}\n\\citation{k13}"),
+    (b"f14.aux", b"\\@input{f15.aux}\n\\citation{k14}"),
+    (b"f15.aux", b"\\@input{f16.aux}\n\\citation{k15}"),
+    (b"f16.aux", b"\\@input{f17.aux}\n\\citation{k16}"),
+    (b"f17.aux", b"\\@input{f18.aux}\n\\citation{k17}"),
+    (b"f18.aux", b"\\@input{f19.aux}\n\\citation{k18}"),
+    (b"f19.aux", b"\\@input{f20.aux}\n\\citation{k19}"),
+    (b"f20.aux", b"\\@input{f21.aux}\n\\citation{k20}"),
+];
 
 #[test]
 fn tells_what_is_wrong(rt: HostRuntime) -> Result<(), Fail> {
-    let alloc = rt.alloc();
-    for row in &rows() {
-        let job = job_of(alloc, row.lines)?;
-        let mut log = Vec::from_slice(alloc, FOUND_TOP)?;
-        log.extend_from_slice(row.log)?;
-        has_keys(&rt, alloc, &job, row.keys)?;
-        has_log(&rt, alloc, &job, log.as_slice())?;
-        assert_eq!(rt; job.errors().saturating_add(1), job.log().len());
-        assert_eq!(rt; job.end(), End::Whole);
+    for row in &ROWS {
+        let told = read_lines(rt.alloc(), row.lines);
+        says(&rt, told, row.keys, row.log, row.counts)?;
     }
     Ok(())
 }
 
+const PARTS: &[u8] = b"\\citation{a,B}\n\\citation{*,c}\n\\bibdata{x,y.bib}";
+
+/// The log of these lines: a second one for databases follows.
+fn two_bibdata() -> &'static [u8] {
+    b"The top-level auxiliary file: job.aux\n!Error--Illegal, another \\bibdata command--line 4 of file job.aux\n"
+}
+
 #[test]
 fn gives_each_part(rt: HostRuntime) -> Result<(), Fail> {
-    let alloc = rt.alloc();
-    let job = job_of(
-        alloc,
-        b"\\citation{a,B}\n\\citation{*,c}\n\\bibdata{x,y.bib}",
-    )?;
-    has_keys(&rt, alloc, &job, b"a;B;c;")?;
-    assert_eq!(rt; job.all(), Some(2));
-    let databases = listed(alloc, job.databases())?;
-    same(&rt, databases.as_slice(), b"x.bib;y.bib;");
-    same(&rt, job.style().ok_or("a style")?, b"s.bst");
-    counts(&rt, &job, 2, 1, 3, End::Whole);
-    let first = job.log().first().ok_or("a line")?;
-    same(&rt, first.text(), b"The top-level auxiliary file: job.aux");
-    assert!(rt; !first.is_error());
-    Ok(())
+    let told = read_lines(rt.alloc(), PARTS);
+    says(&rt, told, b"a;B;c;", two_bibdata(), (2, 1, 3, End::Whole))?;
+    let told = read_lines(rt.alloc(), PARTS);
+    uses(&rt, told, b"x.bib;y.bib;:s.bst", Some(2))
 }
 
 /// The log of an empty top file.
 fn all_missing() -> &'static [u8] {
-    b"The top-level auxiliary file: job.aux\nError--I found no \\citation commands\nError--I found no \\bibdata command\nError--I found no \\bibstyle command\n"
+    b"The top-level auxiliary file: job.aux\n!Error--I found no \\citation commands\n!Error--I found no \\bibdata command\n!Error--I found no \\bibstyle command\n"
 }
+
+/// An empty top file.
+const EMPTY: [File<'static>; 1] = [(b"job.aux", b"")];
 
 #[test]
 fn tells_what_is_missing(rt: HostRuntime) -> Result<(), Fail> {
-    let alloc = rt.alloc();
-    let pairs = [(b"job.aux".as_slice(), b"".as_slice())];
-    let mut finder = MemoryFinder::new(alloc, pairs.as_slice())?;
-    let job = read_aux(alloc, &mut finder, b"job.aux")?;
-    has_log(&rt, alloc, &job, all_missing())?;
-    let job = read_aux(alloc, &mut finder, b"other.aux")?;
-    counts(&rt, &job, 0, 0, 0, End::TopMissing);
-    assert!(rt; job.style().is_none());
-    Ok(())
+    let told = read(rt.alloc(), &EMPTY);
+    says(&rt, told, b"", all_missing(), (4, 3, 0, End::Whole))?;
+    let told = read_named(rt.alloc(), &EMPTY, b"other.aux");
+    says(&rt, told, b"", b"", (0, 0, 0, End::TopMissing))?;
+    let told = read_named(rt.alloc(), &EMPTY, b"other.aux");
+    uses(&rt, told, b"", None)
 }
 
 /// The log of files that input one another.
 fn through_log() -> &'static [u8] {
-    b"The top-level auxiliary file: job.aux\nA level-1 auxiliary file: a.aux\nError--Already encountered file job.aux--line 2 of file a.aux\n"
+    b"The top-level auxiliary file: job.aux\nA level-1 auxiliary file: a.aux\n!Error--Already encountered file job.aux--line 2 of file a.aux\n"
 }
 
 #[test]
 fn reads_no_file_twice(rt: HostRuntime) -> Result<(), Fail> {
-    let alloc = rt.alloc();
-    let mut finder = MemoryFinder::new(alloc, through().as_slice())?;
-    let job = read_aux(alloc, &mut finder, b"job.aux")?;
-    has_log(&rt, alloc, &job, through_log())?;
-    has_keys(&rt, alloc, &job, b"k;")
+    let told = read(rt.alloc(), &through());
+    says(&rt, told, b"k;", through_log(), (3, 1, 1, End::Whole))
 }
 
-/// A line that tells of a file that isn't there.
-fn missing_file() -> &'static [u8] {
-    b"Error--I couldn't open auxiliary file f20.aux--line 1 of file f19.aux"
+/// A text once for each of these numbers, which stands there in the place of each `#`.
+fn numbered(alloc: Global, numbers: Range<u32>, text: &[u8]) -> Result<Vec<u8>, Fail> {
+    let mut whole = Vec::new(alloc);
+    for number in numbers {
+        let digits = format!(in alloc; "{number}")?;
+        for byte in text {
+            if *byte == b'#' {
+                whole.extend_from_slice(digits.as_bytes())?;
+            } else {
+                whole.push(*byte)?;
+            }
+        }
+    }
+    Ok(whole)
+}
+
+/// A log of the top file, the nineteen files behind it, and these lines.
+fn chain_log(alloc: Global, lines: &[u8]) -> Result<Vec<u8>, Fail> {
+    let found = numbered(alloc, 1..20, b"A level-# auxiliary file: f#.aux\n")?;
+    Ok(joined(alloc, &[FOUND_TOP, &found, lines])?)
 }
 
 #[test]
 fn opens_twenty_files(rt: HostRuntime) -> Result<(), Fail> {
-    let alloc = rt.alloc();
-    let mut finder = MemoryFinder::new(alloc, chain().as_slice())?;
-    let job = read_aux(alloc, &mut finder, b"job.aux")?;
-    counts(&rt, &job, 20, 0, 0, End::TooManyOpen);
-    let last = job.log().last().ok_or("a line")?;
-    same(&rt, last.text(), b"A level-19 auxiliary file: f19.aux");
-    Ok(())
+    let log = chain_log(rt.alloc(), b"")?;
+    let told = read(rt.alloc(), &CHAIN);
+    says(&rt, told, b"", &log, (20, 0, 0, End::TooManyOpen))
+}
+
+/// The log's last lines for a chain of twenty files, the last of which inputs one that isn't there.
+fn missing_file() -> &'static [u8] {
+    b"!Error--I couldn't open auxiliary file f20.aux--line 1 of file f19.aux\n!Error--I found no \\bibdata command\n!Error--I found no \\bibstyle command\n"
+}
+
+/// The keys of the twenty files.
+fn twenty_keys() -> &'static [u8] {
+    b"k19;k18;k17;k16;k15;k14;k13;k12;k11;k10;k9;k8;k7;k6;k5;k4;k3;k2;k1;k0;"
 }
 
 #[test]
 fn goes_on_behind_the_twentieth(rt: HostRuntime) -> Result<(), Fail> {
-    let alloc = rt.alloc();
-    let mut finder = MemoryFinder::new(alloc, &chain()[..20])?;
-    let job = read_aux(alloc, &mut finder, b"job.aux")?;
-    counts(&rt, &job, 23, 3, 20, End::Whole);
-    let missing = job.log().get(20).ok_or("a line")?;
-    same(&rt, missing.text(), missing_file());
-    let first = job.keys().first().ok_or("a key")?;
-    same(&rt, first.as_slice(), b"k19");
-    Ok(())
+    let log = chain_log(rt.alloc(), missing_file())?;
+    let told = read(rt.alloc(), &CHAIN[..20]);
+    says(&rt, told, twenty_keys(), &log, (23, 3, 20, End::Whole))
 }
 
+/// How a read ended whose finder fails: its fault, and how often the finder was asked and failed.
+type Tried = (Option<Fault>, u64, u64);
+
+/// Reads the files that input one another, where the device fails at one fetch.
+fn try_failing(alloc: Global, fails_at: u64) -> Result<Tried, FetchFault> {
+    let mut finder = FailingFinder {
+        inner: MemoryFinder::new(alloc, &through())?,
+        fails_at,
+        fetches: 0,
+        failures: 0,
+    };
+    let fault = read_from(alloc, &mut finder, b"job.aux").err();
+    Ok((fault, finder.fetches, finder.failures))
+}
+
+/// Reads the files that input one another, where one fetch is refused memory.
+fn try_refused(alloc: Global, refused_at: u64) -> Result<Tried, FetchFault> {
+    let mut finder = RefusedFinder {
+        inner: MemoryFinder::new(alloc, &through())?,
+        refused_at,
+        fetches: 0,
+    };
+    let fault = read_from(alloc, &mut finder, b"job.aux").err();
+    Ok((fault, finder.fetches, 0))
+}
+
+/// Asserts how a read ended.
+fn ended(rt: &impl Abort, tried: Tried, wanted: Tried) {
+    assert_eq!(rt; tried, wanted);
+}
+
+/// Two files are fetched: a fault at a third fetch is never met.
 #[test]
 fn stops_at_a_failing_fetch(rt: HostRuntime) -> Result<(), Fail> {
-    let alloc = rt.alloc();
-    for fails_at in 0..3u64 {
-        let mut finder = FailingFinder {
-            inner: MemoryFinder::new(alloc, through().as_slice())?,
-            fails_at,
-            fetches: 0,
-            failures: 0,
-        };
-        match read_aux(alloc, &mut finder, b"job.aux") {
-            Ok(_) => assert_eq!(rt; fails_at, 2),
-            Err(fault) => {
-                assert_eq!(rt; fault, Fault::Device);
-                assert_eq!(rt; finder.fetches, fails_at + 1);
-                assert_eq!(rt; finder.failures, 1);
-            }
-        }
+    let device = Some(Fault::Device);
+    for (fails_at, wanted) in [(0, (device, 1, 1)), (1, (device, 2, 1)), (2, (None, 2, 0))] {
+        ended(&rt, try_failing(rt.alloc(), fails_at)?, wanted);
     }
     Ok(())
 }
 
 #[test]
 fn stops_at_a_refused_fetch(rt: HostRuntime) -> Result<(), Fail> {
-    let alloc = rt.alloc();
-    for refused_at in 0..3u64 {
-        let mut finder = RefusedFinder {
-            inner: MemoryFinder::new(alloc, through().as_slice())?,
-            refused_at,
-            fetches: 0,
-        };
-        match read_aux(alloc, &mut finder, b"job.aux") {
-            Ok(_) => assert_eq!(rt; refused_at, 2),
-            Err(fault) => {
-                assert_eq!(rt; fault, Fault::Memory);
-                assert_eq!(rt; finder.fetches, refused_at + 1);
-            }
-        }
+    let memory = Some(Fault::Memory);
+    for (refused_at, wanted) in [(0, (memory, 1, 0)), (1, (memory, 2, 0)), (2, (None, 2, 0))] {
+        ended(&rt, try_refused(rt.alloc(), refused_at)?, wanted);
     }
     Ok(())
 }
 
+/// Each line cites a key, the same in another case, and the first again.
 #[test]
 fn reads_many_citations(rt: HostRuntime) -> Result<(), Fail> {
-    let alloc = rt.alloc();
-    let mut top = Vec::new(alloc);
-    for number in 0..100_000u32 {
-        let line = format!(in alloc; "\\citation{{Key{number},key{number},Key{number}}}\n")?;
-        top.extend_from_slice(line.as_bytes())?;
-    }
-    let pairs = [(b"job.aux".as_slice(), top.as_slice())];
-    let mut finder = MemoryFinder::new(alloc, pairs.as_slice())?;
-    let job = read_aux(alloc, &mut finder, b"job.aux")?;
-    counts(&rt, &job, 100_003, 100_002, 100_000, End::Whole);
-    let last = job.keys().last().ok_or("a key")?;
-    same(&rt, last.as_slice(), b"Key99999");
-    Ok(())
+    let top = numbered(rt.alloc(), 0..100_000, b"\\citation{Key#,key#,Key#}\n")?;
+    let told = read(rt.alloc(), &[(b"job.aux", &top)]);
+    let counts = (100_003, 100_002, 100_000, End::Whole);
+    ends(&rt, told, 888_890, b";Key99999;", counts)
 }
 
+/// Each line inputs a file of its own.
 #[test]
 fn reads_many_files(rt: HostRuntime) -> Result<(), Fail> {
-    let alloc = rt.alloc();
-    let mut top = Vec::new(alloc);
-    for number in 0..5_000u32 {
-        let line = format!(in alloc; "\\@input{{i{number}.aux}}\n")?;
-        top.extend_from_slice(line.as_bytes())?;
-    }
+    let top = numbered(rt.alloc(), 0..5_000, b"\\@input{i#.aux}\n")?;
     let mut finder = EveryFinder {
         name: b"job.aux",
-        bytes: top.as_slice(),
+        bytes: &top,
         others: b"\\citation{k}",
     };
-    let job = read_aux(alloc, &mut finder, b"job.aux")?;
-    counts(&rt, &job, 5_003, 2, 1, End::Whole);
-    Ok(())
+    let told = read_from(rt.alloc(), &mut finder, b"job.aux");
+    ends(&rt, told, 2, b"k;", (5_003, 2, 1, End::Whole))
 }
 
-#[test]
-fn reads_a_long_line(rt: HostRuntime) -> Result<(), Fail> {
-    let alloc = rt.alloc();
+/// A line that cites a key of 10,000,000 bytes.
+fn long_line(alloc: Global) -> Result<Vec<u8>, AllocError> {
     let mut top = Vec::from_slice(alloc, b"\\citation{")?;
     for _ in 0..10_000_000u32 {
         top.push(b'K')?;
     }
     top.push(b'}')?;
-    let pairs = [(b"job.aux".as_slice(), top.as_slice())];
-    let mut finder = MemoryFinder::new(alloc, pairs.as_slice())?;
-    let job = read_aux(alloc, &mut finder, b"job.aux")?;
-    let key = job.keys().first().ok_or("a key")?;
-    assert_eq!(rt; key.len(), 10_000_000);
-    Ok(())
+    Ok(top)
+}
+
+/// The text of the keys has a semicolon more than the key.
+#[test]
+fn reads_a_long_line(rt: HostRuntime) -> Result<(), Fail> {
+    let top = long_line(rt.alloc())?;
+    let told = read(rt.alloc(), &[(b"job.aux", &top)]);
+    ends(&rt, told, 10_000_001, b"K;", (3, 2, 1, End::Whole))
+}
+
+/// Fetches one of the files that input one another.
+fn fetch(alloc: Global, name: &[u8], into: &mut Vec<u8>) -> Result<bool, FetchFault> {
+    let mut finder = MemoryFinder::new(alloc, &through())?;
+    finder.fetch(alloc, name, into)
 }
 
 #[test]
 fn fetches_from_memory(rt: HostRuntime) -> Result<(), Fail> {
-    let alloc = rt.alloc();
-    let mut finder = MemoryFinder::new(alloc, through().as_slice())?;
-    let mut into = Vec::from_slice(alloc, b"what was there")?;
-    assert_eq!(rt; finder.fetch(alloc, b"a.aux", &mut into), Ok(true));
-    same(&rt, into.as_slice(), b"\\citation{k}\n\\@input{job.aux}\n");
-    assert_eq!(rt; finder.fetch(alloc, b"A.aux", &mut into), Ok(false));
-    assert!(rt; into.is_empty());
+    let mut into = Vec::from_slice(rt.alloc(), b"what was there")?;
+    for (name, is_found, bytes) in [
+        (
+            b"a.aux",
+            true,
+            b"\\citation{k}\n\\@input{job.aux}\n".as_slice(),
+        ),
+        (b"A.aux", false, b""),
+    ] {
+        assert!(rt; fetch(rt.alloc(), name, &mut into)? == is_found);
+        same(&rt, &into, bytes);
+    }
     Ok(())
 }
 
 #[test]
 fn says_what_failed(rt: HostRuntime) -> Result<(), Fail> {
-    let device = FetchFault::Device.to_string(rt.alloc())?;
-    same(&rt, device.as_bytes(), b"device error");
-    let memory = FetchFault::Memory.to_string(rt.alloc())?;
-    same(&rt, memory.as_bytes(), b"out of memory");
+    for (fault, text) in [
+        (FetchFault::Device, "device error"),
+        (FetchFault::Memory, "out of memory"),
+    ] {
+        let told = fault.to_string(rt.alloc())?;
+        same(&rt, told.as_bytes(), text.as_bytes());
+    }
     Ok(())
 }
