@@ -121,8 +121,8 @@ mod tests {
     fn reads_real_files(rt: HostRuntime) -> Result<(), Fail> {
         let alloc = rt.alloc();
         let directory = make_folder(&rt, alloc, "directory")?;
-        for (name, text) in [("present.aux", "text"), ("empty.aux", "")] {
-            let path = format!(in alloc; "{directory}/{name}")?;
+        for (file, text) in [("present.aux", "text"), ("empty.aux", "")] {
+            let path = format!(in alloc; "{directory}/{file}")?;
             fs::write(&rt, path.as_str(), text)?;
         }
         let mut finder = DirectoryFinder::new(&rt, directory.as_str());
