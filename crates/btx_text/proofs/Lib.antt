@@ -5,3 +5,4 @@ pub mod ElementLemmas
 pub mod DivisionLemmas
 pub mod WorkedElements
 pub mod EncodingLemmas
+pub mod JoinLemmas

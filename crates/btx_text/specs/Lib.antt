@@ -5,3 +5,6 @@ pub mod Counts
 pub mod Sequences
 pub mod Elements
 pub mod Parts
+pub mod Limits
+pub mod Texts
+pub mod LogLines

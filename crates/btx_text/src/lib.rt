@@ -1,4 +1,5 @@
-//! The words of the other crates: byte classes, the lines of a text, the elements of a string, and the faults of a call.
+//! The words of the other crates: byte classes, the lines of a text, the elements of a string, strings that are
+//! lent or shared, the lines of a log, and the faults of a call.
 #![tactic(auto)]
 
 pub mod byte_class;
@@ -8,8 +9,12 @@ pub mod element_kind;
 pub mod fault;
 pub mod keys;
 pub mod laws;
+pub mod limits;
+pub mod log_line;
+pub mod log_texts;
 mod sequences;
 pub mod string_elements;
+pub mod text;
 pub mod text_lines;
 pub mod trimming;
 
@@ -19,6 +24,10 @@ pub use depths::depth_at;
 pub use element_kind::{Kind, TextMode};
 pub use fault::Fault;
 pub use keys::{fold_key, same_key};
+pub use limits::{GREATEST_FILE, GREATEST_STRING};
+pub use log_line::{LineKind, LogLine, LogLines};
+pub use log_texts::Place;
 pub use string_elements::{Element, Elements};
+pub use text::Text;
 pub use text_lines::Lines;
 pub use trimming::lines;

@@ -1,0 +1,28 @@
+-- The lines of a log. A warning and an error begin with their word, and where they are met in a file their place follows; the form of
+-- both is this project's own but for `Warning--`, which is the original's.
+use Rattle.std.specs.Prelude.{ℕ, List, [], ◌++◌, codes, decimal}
+use Rattle.btx_text.specs.declared.log_line.LineKind.{LineKind}
+use Rattle.btx_text.specs.declared.log_line.LineKind.TheVariants.{Plain, Warning, Error}
+
+-- a line, without its end
+pub record Line : Type 0 where
+  pub text : List ℕ
+  pub kind : LineKind
+
+-- how a line of this kind begins
+unfoldable pub mark_of : LineKind → List ℕ
+mark_of Plain = []
+mark_of Warning = codes "Warning--"
+mark_of Error = codes "Error--"
+
+-- the place of a message: a line of a file, from 1 up
+unfoldable pub place_text : ℕ → List ℕ → List ℕ
+place_text line file = codes "--line " ++ decimal line ++ codes " of file " ++ file
+
+-- a message on the whole
+abbrev pub message : LineKind → List ℕ → Line
+message kind text = record { text = mark_of kind ++ text; kind = kind }
+
+-- a message that is met at a line of a file
+abbrev pub message_at : LineKind → List ℕ → ℕ → List ℕ → Line
+message_at kind text line file = record { text = mark_of kind ++ text ++ place_text line file; kind = kind }
