@@ -1,7 +1,6 @@
 pub mod PairLemmas
 pub mod TableLemmas
 pub mod PieceLemmas
-pub mod NoteLemmas
 pub mod NameLemmas
 pub mod KeyLemmas
 pub mod DraftLemmas

@@ -3,11 +3,11 @@ use crate::command::{Command, Slip};
 use crate::end::End;
 use crate::keys::{Keys, lowered};
 use crate::line_words::command_line;
-use crate::log_lines::LogLines;
 use crate::name::{Name, has_ending, with_ending};
 use crate::name_set::NameSet;
-use crate::notes::{Complaint, Note, Place, log_line};
+use crate::notes::{Complaint, Note, log_line};
 use crate::pieces::{Pieces, first_piece};
+use btx_text::{LogLines, Place};
 use std::alloc::{AllocError, Global};
 
 const STAR: &[u8] = b"*";

@@ -1,12 +1,13 @@
 //! What the `.aux` files of a job say.
 ghost use Rattle.std.specs.Prelude.{◌≡◌, ◌==◌, length, option_copied, count_by};
 ghost use Rattle.btx_aux.specs.Entries.{texts_of};
-ghost use Rattle.btx_aux.specs.Notes.{Line};
+ghost use Rattle.btx_text.specs.LogLines.{Line};
+ghost use Rattle.btx_aux.specs.Notes.{is_error};
 
 use crate::end::End;
-use crate::log_lines::{LogLine, LogLines};
 use crate::name::Name;
 use crate::name_set::NameSet;
+use btx_text::{LineKind, LogLine, LogLines};
 use std::marker::Model;
 
 /// What the `.aux` files of a job say.
@@ -75,10 +76,10 @@ impl AuxJob {
 
     /// How many lines of the log are errors.
     pub fn errors(&self) -> usize
-        ensures { result ≡ count_by (λ line. line.is_error) self.now.log }
+        ensures { result ≡ count_by (λ line. is_error line.kind) self.now.log }
     {
         let lines = self.log().iter();
-        lines.filter(|line| line.is_error()).count()
+        lines.filter(|line| line.kind() == LineKind::Error).count()
     }
 
     /// How the reading ended. After any end but `Whole` the rest is what was read so far.

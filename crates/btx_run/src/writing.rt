@@ -16,9 +16,8 @@ use crate::report::{End, Report};
 use crate::run_fault::RunFault;
 use crate::style_text::style::Style;
 use crate::told::Told;
-use btx_aux::LogLine;
 use btx_out::{Log, Sink};
-use btx_text::Fault;
+use btx_text::{Fault, LogLine};
 use std::alloc::Global;
 
 /// The report of a run with so many error messages, and without a warning.

@@ -1,7 +1,7 @@
 //! What the `.aux` files of a job say, and files in memory.
 use crate::finders::{EveryFinder, FailingFinder, RefusedFinder};
-use btx_aux::{AuxJob, End, FetchFault, Finder, LogLine, MemoryFinder, read_aux};
-use btx_text::Fault;
+use btx_aux::{AuxJob, End, FetchFault, Finder, MemoryFinder, read_aux};
+use btx_text::{Fault, LineKind, LogLine};
 use std::alloc::{AllocError, Global};
 use std::ops::Range;
 use std::process::Abort;
@@ -119,7 +119,7 @@ struct Told {
 fn log_of(alloc: Global, lines: &[LogLine]) -> Result<Vec<u8>, AllocError> {
     let mut text = Vec::new(alloc);
     for line in lines {
-        if line.is_error() {
+        if line.kind() == LineKind::Error {
             text.push(b'!')?;
         }
         text.extend_from_slice(line.text())?;
