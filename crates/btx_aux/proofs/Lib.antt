@@ -6,4 +6,5 @@ pub mod KeyLemmas
 pub mod DraftLemmas
 pub mod ReadLemmas
 pub mod JobLemmas
+pub mod OpeningLemmas
 pub mod Rows

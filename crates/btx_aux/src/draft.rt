@@ -131,7 +131,7 @@ impl Draft {
     {
         let lowered = lowered(alloc, key)?;
         match self.keys.find(lowered.as_slice()) {
-            None => self.keys.add(lowered, Vec::from_slice(alloc, key)?),
+            None => self.keys.add(Vec::from_slice(alloc, key)?, lowered),
             Some(earlier) => {
                 if earlier == key {
                     return Ok(());

@@ -9,6 +9,7 @@ pub mod fetch_fault;
 pub mod finder;
 pub mod job;
 mod keys;
+pub mod laws;
 mod line_words;
 pub mod memory;
 mod name;

@@ -3,7 +3,7 @@ ghost use Rattle.std.specs.Prelude.{◌≡◌, ◌≤◌, length, map, true, IfS
 ghost use Rattle.btx_text.specs.Limits.{greatest_file};
 ghost use Rattle.btx_aux.specs.Faults.{CountsOfOne};
 ghost use Rattle.btx_aux.specs.Grammar.{is_whole, words_of};
-ghost use Rattle.btx_aux.specs.Events.{event_at, said};
+ghost use Rattle.btx_aux.specs.Events.{event_at, is_too_long, said};
 ghost use Rattle.btx_aux.specs.Reads.{included, opened_by, run};
 
 use crate::draft::Draft;
@@ -60,11 +60,18 @@ pub fn open_file<F: Finder>(
         return Ok(());
     }
     draft.open_file(alloc, name, MOST_OPEN - room)?;
-    if text.len() > GREATEST_FILE {
+    if is_too_long(text) {
         draft.ending = End::FileLimit;
         return Ok(());
     }
     read_lines(alloc, finder, draft, name, text, room - 1)
+}
+
+/// Whether a file is too long to be read.
+fn is_too_long(text: &[u8]) -> bool
+    ensures { result ≡ is_too_long text.now }
+{
+    text.len() > GREATEST_FILE
 }
 
 /// The lines of an open file, where so many more files may be opened.
