@@ -199,6 +199,13 @@ fn read_lines(alloc: Global, lines: &[u8]) -> Result<Told, Fault> {
     read(alloc, &[(b"job.aux", &top)])
 }
 
+/// The place of a key, given by its lowered form, in the job of these lines.
+fn place_of(alloc: Global, lines: &[u8], lowered: &[u8]) -> Result<Option<usize>, Fault> {
+    let mut finder = MemoryFinder::new(alloc, &[(b"job.aux", lines)])?;
+    let job = read_aux(alloc, &mut finder, b"job.aux")?;
+    Ok(job.position(lowered))
+}
+
 /// Asserts that two texts are the same.
 fn same(rt: &impl Abort, found: &[u8], wanted: &[u8]) {
     assert_eq!(rt; found, wanted);
@@ -229,6 +236,17 @@ fn uses(
     let told = told?;
     same(rt, &told.files, files);
     assert_eq!(rt; told.all, all);
+    Ok(())
+}
+
+/// Asserts at which place a key stands.
+fn stands(
+    rt: &impl Abort,
+    place: Result<Option<usize>, Fault>,
+    wanted: Option<usize>,
+) -> Result<(), Fail> {
+    let place = place?;
+    assert_eq!(rt; place, wanted);
     Ok(())
 }
 
@@ -305,6 +323,13 @@ fn gives_each_part(rt: HostRuntime) -> Result<(), Fail> {
     says(&rt, told, b"a;B;c;", two_bibdata(), (2, 1, 3, End::Whole))?;
     let told = read_lines(rt.alloc(), PARTS);
     uses(&rt, told, b"x.bib;y.bib;:s.bst", Some(2))
+}
+
+#[test]
+fn finds_keys_by_their_lowered_forms(rt: HostRuntime) -> Result<(), Fail> {
+    stands(&rt, place_of(rt.alloc(), PARTS, b"b"), Some(1))?;
+    stands(&rt, place_of(rt.alloc(), PARTS, b"c"), Some(2))?;
+    stands(&rt, place_of(rt.alloc(), PARTS, b"B"), None)
 }
 
 /// The log of an empty top file.
