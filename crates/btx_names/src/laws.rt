@@ -1,5 +1,5 @@
 //! Laws over the definitions. Each function has an empty body, and its contract is the law.
-ghost use Rattle.std.specs.Prelude.{◌≡◌, ℕ, List, [], ◌∷◌, ◌++◌, ◌+◌, Some, length, map, filter, min, nat_lt, true};
+ghost use Rattle.std.specs.Prelude.{◌≡◌, ℕ, List, [], ◌∷◌, ◌++◌, ◌+◌, ◌==◌, None, Some, length, map, filter, min, nat_lt, true};
 ghost use Rattle.std.specs.List.{join_by};
 ghost use Rattle.btx_text.specs.declared.element_kind.TextMode.{TextMode};
 ghost use Rattle.btx_names.specs.NameLists.{names_of, separators_of};
@@ -7,7 +7,7 @@ ghost use Rattle.btx_names.specs.Commas.{commas_in, commas_of, final_commas_of};
 ghost use Rattle.btx_names.specs.NameParts.{HasJrByForm, before_last, ends_in_comma, final_of, has_third_comma, in_order, parts_of, sections_of, surname_of};
 ghost use Rattle.btx_names.specs.Gaps.{and_gap, byte_gap, pieces_between};
 ghost use Rattle.btx_names.specs.Formats.{Piece, is_legal, items_of};
-ghost use Rattle.btx_names.specs.FormattedNames.{finished, piece_text, shown};
+ghost use Rattle.btx_names.specs.FormattedNames.{finished, period_of, piece_text, shown, tie_of, with_tokens};
 ghost use Rattle.btx_names.specs.FormatTexts.{copied_of, in_lower_case, literals_of, text_of_items};
 ghost use Rattle.btx_names.specs.Tokens.{Token, breaks_of, is_some_text, tokens_of};
 
@@ -60,6 +60,16 @@ pub fn tokens_joined_by_the_string_between()
     ensures { (mode : TextMode) (piece : Piece) (between : List ℕ) (token : Token) (tokens : List Token) → piece.between ≡ Some between →
         piece_text mode piece (token ∷ tokens)
         ≡ finished mode (piece.before ++ join_by (λ token. shown mode piece.is_full token.text) between (token ∷ tokens) ++ piece.after) }
+{}
+
+/// Between two tokens of a piece without a string between stands a period, if they are abbreviated, and a tie: the `~` or `-` of the name; else
+/// a `~` before the part's last token and where the piece's text is still short, its beginning and that period included; else a space.
+#[tactic(auto, using(crate::proofs::JoinLemmas::tokens_tied))]
+pub fn tokens_tied_without_a_string()
+    ensures { (mode : TextMode) (piece : Piece) (so_far : List ℕ) (token next : Token) (tokens : List Token) → piece.between ≡ None →
+        let text = so_far ++ shown mode piece.is_full token.text ++ period_of piece.is_full in
+        with_tokens mode piece so_far (token ∷ next ∷ tokens)
+        ≡ with_tokens mode piece (text ++ tie_of mode text token.joint (length tokens == 0) ∷ []) (next ∷ tokens) }
 {}
 
 /// The items of a legal format, written one after another, are the format, but for the case of letters: an item doesn't say in which case
