@@ -1,10 +1,11 @@
 //! Laws over the definitions. Each function has an empty body, and its contract is the law.
-ghost use Rattle.std.specs.Prelude.{◌≡◌, ℕ, List, [], ◌∷◌, ◌++◌, ◌+◌, ◌==◌, None, Some, length, map, filter, min, nat_lt, true};
-ghost use Rattle.std.specs.List.{join_by};
+ghost use Rattle.std.specs.Prelude.{◌≡◌, ℕ, List, [], ◌∷◌, ◌++◌, ◌+◌, ◌==◌, None, Some, length, map, filter, min, nat_lt, false, not, true};
+ghost use Rattle.std.specs.List.{join_by, list_all};
+ghost use Rattle.btx_names.specs.VonTokens.{is_von};
 ghost use Rattle.btx_text.specs.declared.element_kind.TextMode.{TextMode};
 ghost use Rattle.btx_names.specs.NameLists.{names_of, separators_of};
 ghost use Rattle.btx_names.specs.Commas.{commas_in, commas_of, final_commas_of};
-ghost use Rattle.btx_names.specs.NameParts.{HasJrByForm, before_last, ends_in_comma, final_of, has_third_comma, in_order, parts_of, sections_of, surname_of};
+ghost use Rattle.btx_names.specs.NameParts.{HasJrByForm, before_last, ends_in_comma, final_of, has_third_comma, in_order, is_hyphen, One, before_final, parts_of, sections_of, surname_of};
 ghost use Rattle.btx_names.specs.Gaps.{and_gap, byte_gap, pieces_between};
 ghost use Rattle.btx_names.specs.Formats.{Piece, is_legal, items_of};
 ghost use Rattle.btx_names.specs.FormattedNames.{finished, period_of, piece_text, shown, tie_of, with_tokens};
@@ -41,6 +42,26 @@ pub fn final_token_is_last()
     ensures last { (name : List ℕ) → final_of (parts_of name).last ≡ final_of (tokens_of (surname_of (sections_of name))) }
     ensures never_von { (name : List ℕ) (front : List Token) (final : Token) → tokens_of (surname_of (sections_of name)) ≡ front ++ final ∷ [] →
         (rest : List Token) × (front ≡ before_last (sections_of name) (parts_of name) ++ rest) }
+{}
+
+/// Von ends in a von token. Where a name has no comma, von begins in one too, and First has none.
+#[tactic(auto, using(crate::proofs::VonLawLemmas::von_laws))]
+pub fn von_between_von_tokens()
+    ensures ends { (name : List ℕ) (front : List Token) (final : Token) → (parts_of name).von ≡ front ++ final ∷ [] → is_von final.text ≡ true }
+    ensures begins { (name : List ℕ) (token : Token) (tokens : List Token) → sections_of name ≡ One name → (parts_of name).von ≡ token ∷ tokens →
+        is_von token.text ≡ true }
+    ensures first { (name : List ℕ) → sections_of name ≡ One name → list_all (λ token. not (is_von token.text)) (parts_of name).first ≡ true }
+{}
+
+/// In a name without commas, and without a von token before the final one, all tokens of Last but the final one are joined to the next by `-`,
+/// and the last token of First isn't: so Last has those that `-` joins to the final token, and no other.
+#[tactic(auto, using(crate::proofs::VonLawLemmas::von_laws))]
+pub fn hyphens_join_to_last()
+    ensures joined { (name : List ℕ) → sections_of name ≡ One name → list_all (λ token. not (is_von token.text)) (before_final (tokens_of name)) ≡ true →
+        list_all (λ token. is_hyphen token.joint) (before_final (parts_of name).last) ≡ true }
+    ensures apart { (name : List ℕ) (front : List Token) (final : Token) → sections_of name ≡ One name →
+        list_all (λ token. not (is_von token.text)) (before_final (tokens_of name)) ≡ true → (parts_of name).first ≡ front ++ final ∷ [] →
+        is_hyphen final.joint ≡ false }
 {}
 
 /// How many commas count in a name says its form: without one it is First von Last, with one it is von Last, First, and with two or more it is
