@@ -1,5 +1,6 @@
 //! What the `.aux` files of a job say, and files in memory.
 use crate::finders::{EveryFinder, FailingFinder, RefusedFinder};
+use crate::texts::joined;
 use btx_aux::{AuxJob, End, FetchFault, Finder, MemoryFinder, read_aux};
 use btx_text::{Fault, LineKind, LogLine};
 use std::alloc::{AllocError, Global};
@@ -146,15 +147,6 @@ fn files_of(alloc: Global, job: &AuxJob) -> Result<Vec<u8>, AllocError> {
         text.extend_from_slice(style)?;
     }
     Ok(text)
-}
-
-/// These texts, one behind the other.
-fn joined(alloc: Global, texts: &[&[u8]]) -> Result<Vec<u8>, AllocError> {
-    let mut whole = Vec::new(alloc);
-    for text in texts {
-        whole.extend_from_slice(text)?;
-    }
-    Ok(whole)
 }
 
 /// How many lines, errors and keys a job has, and how its reading ended.
