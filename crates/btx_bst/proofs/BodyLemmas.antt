@@ -6,6 +6,8 @@ use Rattle.std.proofs.lemmas.List.Elements.{recursion_from_All}
 use Rattle.std.proofs.Math.Seq.{drop-append_seam, take-append_seam}
 use Rattle.btx_bst.specs.declared.token.Token.{Token}
 use Rattle.btx_bst.specs.declared.bodies.Range.{Range}
+use Rattle.std.specs.Borrow.{Bor}
+use Rattle.btx_bst.specs.Views.{texts_view}
 use Rattle.btx_bst.specs.Ranges.{tokens_in}
 
 -- a range that was in bounds has the same tokens after more of them
@@ -35,3 +37,8 @@ pub map-take : {A B : Type 0} (f : A → B) (n : ℕ) (xs : List A) → map f (t
 map-take f zero xs = refl
 map-take f (suc n) [] = refl
 map-take f (suc n) (x ∷ xs) = ap (λ ys. f x ∷ ys) (map-take f n xs)
+
+-- as many strings as there are places of them
+pub texts-length : (texts : List (Bor (List ℕ))) → length (texts_view texts) ≡ length texts
+texts-length [] = refl
+texts-length (t ∷ ts) = ap suc (texts-length ts)

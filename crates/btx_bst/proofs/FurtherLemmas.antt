@@ -173,3 +173,15 @@ put-keeps known xs ys x es fs key name c (Ok u) table e further a b g h =
     let k : IsFurther (known xs) (known (xs ++ x ∷ [])) key.items c = rw e further in
     rw b (table-push es fs (known xs) (known (xs ++ x ∷ [])) key c table a k)
 put-keeps known xs ys x es fs key name c (Err u) table e further a b g h = rw (g, h) table
+
+-- ---- nameless functions before a further one
+
+pub named-padded : (names : Names) (more : List (Option (List ℕ))) (m : List ℕ) → IsPadded names.functions more → named_lower (record names { functions = more }) m ≡ named_lower names m
+named-padded names more m p = ap (λ (functions : List (Option (List ℕ))). named_lower (record names { functions = functions }) m) p.1 ∙ named-pad names p.0 m
+
+pub pad-keeps : (names : Names) (more : List (Option (List ℕ))) (es : Entries) → IsTable es names → IsPadded names.functions more → IsTable es (record names { functions = more })
+pad-keeps names more es table p m = table m ∙ sym (named-padded names more m p)
+
+pub padded-length : (n : ℕ) (functions : List (Option (List ℕ))) → length functions ≤ n → length (padded n functions) ≡ n
+padded-length n functions h =
+    omega (arith, length-append functions (replicate (n - length functions) None), length-replicate {A = Option (List ℕ)} (n - length functions) None)

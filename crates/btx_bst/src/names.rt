@@ -1,5 +1,5 @@
 //! The names that are known, found by a table.
-ghost use Rattle.std.specs.Prelude.{◌≡◌, None, IfOk, OnOk, length, slice_index_or, [], ◌<◌, ◌+◌, ◌^◌, List, ℕ};
+ghost use Rattle.std.specs.Prelude.{◌≡◌, None, IfOk, OnOk, length, slice_index_or, [], ◌<◌, ◌≤◌, ◌+◌, ◌^◌, List, ℕ};
 ghost use Rattle.btx_bst.specs.Names.{named_lower, name_of, with_name, with_function, no_names, names_of, shown_name};
 ghost use Rattle.btx_bst.specs.declared.callee.Kind.TheVariants as kind;
 
@@ -120,6 +120,28 @@ impl<'a> Names<'a> {
                 put(&mut self.table, &mut self.global_strings, key, name, callee)
             }
         }
+    }
+
+    /// Names a function, by a name that isn't known. Functions between the last one with a name and this one are nameless.
+    pub fn add_function(
+        &mut self,
+        alloc: Global,
+        number: u32,
+        name: Name<'a>,
+    ) -> Result<(), AllocError>
+        requires new { named_lower self.old name ≡ None }
+        requires further { length self.old.functions ≤ number }
+        ensures { OnOk result (self.new ≡ with_function number name.entry self.old) }
+    {
+        let key = Vec::from_slice(alloc, name.as_bytes())?;
+        pad(&mut self.functions, number as usize)?;
+        put(
+            &mut self.table,
+            &mut self.functions,
+            key,
+            Some(name),
+            Callee::User(number),
+        )
     }
 }
 

@@ -1,14 +1,25 @@
 //! A style that has been read.
-ghost use Rattle.std.specs.Prelude.{◌≡◌, ◌<◌, length, slice_index_or, [], IfOk, option_copied};
+ghost use Rattle.std.specs.Prelude.{◌≡◌, ◌<◌, ◌≤◌, length, slice_index_or, [], IfOk, option_copied};
+ghost use Rattle.btx_bst.specs.Predefined.{predefined};
+ghost use Rattle.btx_bst.specs.StyleText.{style_of};
+ghost use Rattle.btx_bst.specs.StyleReads.{Reads};
 ghost use Rattle.btx_bst.specs.Names.{named_lower, name_of, macro_lower};
 ghost use Rattle.btx_bst.specs.Style.{field_of, type_of};
 ghost use Rattle.btx_bst.specs.Views.{items_view};
+ghost use Rattle.btx_text.specs.Limits.{greatest_file};
 
 use crate::callee::{Callee, Kind};
+use crate::cursor::Cursor;
 use crate::draft::Draft;
 use crate::item::Item;
 use crate::macros::Macros;
+use crate::name::Name;
+use crate::names::Names;
+use crate::reader::items;
 use crate::token::Token;
+use btx_text::Fault;
+use btx_text::limits::GREATEST_FILE;
+use std::alloc::{AllocError, Global};
 use std::marker::Model;
 
 /// A style that has been read. What it shows is borrowed from the text of its file.
@@ -25,6 +36,49 @@ impl<'a> Model for Style<'a> {
     ghost use Rattle.btx_bst.specs.DraftViews.{draft_view};
 
     ghost view = { λ style. draft_view style.draft };
+}
+
+/// Reads a style, whose text is no longer than a file may be. Want of memory is the fault Memory, a longer text FileLimit.
+pub fn read_style<'a>(
+    alloc: Global,
+    file_name: &'a [u8],
+    text: &'a [u8],
+) -> Result<Style<'a>, Fault>
+    ensures { Reads result file_name.now text.now }
+{
+    if text.len() > GREATEST_FILE {
+        return Err(Fault::FileLimit);
+    }
+    Ok(read_text(alloc, file_name, text)?)
+}
+
+/// Reads a style.
+#[tactic(auto, unfolding(crate::specs::StyleText::style_of))]
+fn read_text<'a>(
+    alloc: Global,
+    file_name: &'a [u8],
+    text: &'a [u8],
+) -> Result<Style<'a>, AllocError>
+    requires { length text.now ≤ greatest_file }
+    ensures { IfOk result (λ style. style ≡ style_of file_name.now text.now) }
+{
+    let mut draft = Draft::new(alloc, file_name, predefined(alloc)?);
+    let mut cursor = Cursor::of(text);
+    items(alloc, &mut cursor, &mut draft)?;
+    Ok(Style { draft })
+}
+
+/// The names that are known before a style.
+#[tactic(auto, using(crate::proofs::PredefinedLemmas::new_names))]
+fn predefined<'a>(alloc: Global) -> Result<Names<'a>, AllocError>
+    ensures { IfOk result (λ names. names ≡ predefined) }
+{
+    let mut names = Names::new(alloc)?;
+    names.add(alloc, Kind::Field, Name::of(alloc, b"crossref")?)?;
+    names.add(alloc, Kind::EntryString, Name::of(alloc, b"sort.key$")?)?;
+    names.add(alloc, Kind::GlobalInteger, Name::of(alloc, b"entry.max$")?)?;
+    names.add(alloc, Kind::GlobalInteger, Name::of(alloc, b"global.max$")?)?;
+    Ok(names)
 }
 
 impl<'a> Style<'a> {
