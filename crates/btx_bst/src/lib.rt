@@ -20,6 +20,8 @@ mod name_table;
 mod names;
 mod open;
 mod reader;
+#[cfg(test)]
+mod rows;
 pub mod style;
 pub mod token;
 mod turn;
