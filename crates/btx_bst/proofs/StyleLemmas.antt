@@ -1,0 +1,450 @@
+-- Styles, item by item.
+use Rattle.std.proofs.Common.{◌≡◌, ℕ, zero, suc, ◌+◌, ◌-◌, ◌<◌, ◌≤◌, Bool, true, false, cond, List, [], ◌∷◌, ◌++◌, length, take, drop, refl, sym, ap, arith, Option, Some, None}
+use Rattle.std.specs.Prelude.{is_some, replicate}
+use Rattle.std.proofs.lemmas.List.{length-drop, length-append, take-append-le, length-replicate}
+use Rattle.btx_text.specs.Keys.{folded}
+use Rattle.btx_bst.specs.declared.callee.Callee.{Callee}
+use Rattle.btx_bst.specs.declared.callee.Kind.{Kind}
+use Rattle.btx_bst.specs.declared.callee.Kind.TheVariants as kind
+use Rattle.btx_bst.specs.declared.token.Token.{Token}
+use Rattle.btx_bst.specs.declared.token.Token.TheVariants.{Quote, Run}
+use Rattle.btx_bst.specs.declared.command.Command.{Command}
+use Rattle.btx_bst.specs.declared.command.Command.TheVariants as command
+use Rattle.btx_bst.specs.Places.{Place, ink, size, further}
+use Rattle.btx_bst.specs.Fronts.{letters_len}
+use Rattle.btx_bst.specs.Complaints.{Complaint, Defined, Unknown, EndOfFile, NoCommand, Another, BeforeEntry, BeforeRead, AfterRead}
+use Rattle.btx_bst.specs.Reads.{Read, Took, Slip}
+use Rattle.btx_bst.specs.Bodies.{Body}
+use Rattle.btx_bst.specs.Items.{Item, Read as ReadItem, Sort as SortItem}
+use Rattle.btx_bst.specs.Words.{Word, Open, Close, String, Integer, Quoted, Name, Faulty, Unended, Ended, met_at}
+use Rattle.btx_bst.specs.Names.{Names, named, macro_lower, padded, with_function}
+use Rattle.btx_bst.specs.Turns.{Turn, Again, Ends, follow}
+use Rattle.btx_bst.specs.Lists.{opening, closing, name_at, quoted_at, front_of, list_at, list_read, list_end, list_turn, Listing, Listed, listing, unlisted}
+use Rattle.btx_bst.specs.BodyText.{Inside, End, Whole, Broken, with_named, closed_inside, word_turn, body_turn, body_end}
+use Rattle.btx_bst.specs.Style.{Style}
+use Rattle.btx_bst.specs.Outcomes.{Outcome, outcome, after_read, with_item}
+use Rattle.btx_bst.specs.Commands.{after_list, after_listed, entry, entry_lists, function, function_of, function_ended, inside_at, read, run, run_of, run_name, sort, declare, macro_command, macro_of, macro_name, function_in, command_at, command_named}
+use Rattle.btx_bst.specs.StyleText.{State, state, resumed, resumed_after, word_outcome, item_in, item_turn, style_in, style_from}
+use Rattle.btx_bst.specs.Weights.{names_weight, weight, HasRoom}
+use Rattle.btx_bst.proofs.TurnLemmas.{OnTurn, turns-next, turns-keep}
+use Rattle.btx_bst.proofs.SizeLemmas.{ink-size, skipped-size}
+use Rattle.btx_bst.proofs.ListLemmas.{Sized, closing-size, opening-size, name_at-size, quoted_at-size, list_turn-size, ListTurn, list_at-weight}
+use Rattle.btx_bst.proofs.BodyTurnLemmas.{place_of, body_turn-size, BodyTurn, body_end-weight, inside_of}
+
+-- ---- what is left after a list, and after a body
+
+weaken_list : (m n : ℕ) (t : Turn Listing Listed) → m ≤ n → ListTurn m t → OnTurn (λ s. size s.place ≤ n) (λ r. size r.listing.place ≤ n) t
+weaken_list m n (Again s) h k = omega arith
+weaken_list m n (Ends r) h k = omega arith
+
+list_end-size : (kind : Kind) (s : Listing) → size (list_end kind s).listing.place ≤ size s.place
+unfolding list_end
+list_end-size kind s =
+    turns-keep (λ t. size t.place ≤ size s.place) (λ r. size r.listing.place ≤ size s.place) (list_turn kind) unlisted
+    (λ t h. weaken_list (size t.place) (size s.place) (list_turn kind t) h (list_turn-size kind t)) (λ t h. h) (suc (size s.place)) s (omega arith)
+
+list_at-size : (kind : Kind) (names : Names) (p : Place) → size (list_at kind names p).listing.place ≤ size p
+list_at-size kind names p = at (opening p) (opening-size p) where
+  at : (r : Read (Unit {0})) → Sized (size p) r → size (list_read kind names r).listing.place ≤ size p
+  at (Slip c q) h = h
+  at (Took x q) h = let k = list_end-size kind (listing names q) in omega arith
+
+weaken_body : (m n : ℕ) (t : Turn Inside End) → m ≤ n → BodyTurn m t → OnTurn (λ s. size s.place ≤ n) (λ r. size (place_of r) ≤ n) t
+weaken_body m n (Again s) h k = omega arith
+weaken_body m n (Ends r) h k = omega arith
+
+body_end-size : (names : Names) (s : Inside) → size (place_of (body_end names s)) ≤ size s.place
+unfolding body_end
+body_end-size names s =
+    turns-keep (λ t. size t.place ≤ size s.place) (λ r. size (place_of r) ≤ size s.place) (body_turn names) (Broken EndOfFile)
+    (λ t h. weaken_body (size t.place) (size s.place) (body_turn names t) h (body_turn-size names t)) (λ t h. h) (suc (size s.place)) s (omega arith)
+
+-- ---- a body adds bodies and strings alone
+
+-- one list begins another
+abbrev pub Begins : {A : Type 0} → List A → List A → Type 0
+Begins xs ys = (length xs ≤ length ys) × (take (length xs) ys ≡ xs)
+
+take-whole : {A : Type 0} (xs : List A) → take (length xs) xs ≡ xs
+take-whole [] = refl
+take-whole (x ∷ xs) = rw (take-whole xs) refl
+
+Begins-more : {A : Type 0} (xs ys : List A) (y : A) → Begins xs ys → Begins xs (ys ++ y ∷ [])
+Begins-more xs ys y h = (omega (arith, h.0, length-append ys (y ∷ [])), rw (take-append-le (length xs) ys (y ∷ []) h.0) h.1)
+
+-- what is known inside a body adds to these bodies and strings
+abbrev pub Adds : List Body → List (List ℕ) → Inside → Type 0
+Adds bodies texts s = Begins bodies s.bodies × Begins texts s.texts
+
+abbrev Grows : List Body → List (List ℕ) → Turn Inside End → Type 0
+Grows bodies texts t = OnTurn (Adds bodies texts) (λ r. Adds bodies texts (inside_of r)) t
+
+with_named-adds : (token : Callee → Token) (name : List ℕ) (bodies : List Body) (texts : List (List ℕ)) (s : Inside) (o : Option Callee) → Adds bodies texts s → Adds bodies texts (with_named token name s o)
+with_named-adds token name bodies texts s None h = h
+with_named-adds token name bodies texts s (Some callee) h = h
+
+closed_inside-grows : (bodies : List Body) (texts : List (List ℕ)) (s : Inside) (around : List Body) → Adds bodies texts s → Grows bodies texts (closed_inside s around)
+closed_inside-grows bodies texts s [] h = h
+closed_inside-grows bodies texts s (outer ∷ around) h = (Begins-more bodies s.bodies s.tokens h.0, h.1)
+
+word_turn-grows : (names : Names) (bodies : List Body) (texts : List (List ℕ)) (s : Inside) (w : Word) → Adds bodies texts s → Grows bodies texts (word_turn names s w)
+word_turn-grows names bodies texts s Open h = h
+word_turn-grows names bodies texts s Close h = closed_inside-grows bodies texts s s.around h
+word_turn-grows names bodies texts s (String text) h = (h.0, Begins-more texts s.texts text h.1)
+word_turn-grows names bodies texts s (Integer value) h = h
+word_turn-grows names bodies texts s (Quoted name) h = with_named-adds Quote name bodies texts s (named names name) h
+word_turn-grows names bodies texts s (Name name) h = with_named-adds Run name bodies texts s (named names name) h
+word_turn-grows names bodies texts s (Faulty c) h = h
+word_turn-grows names bodies texts s Unended h = h
+word_turn-grows names bodies texts s Ended h = h
+
+body_turn-grows : (names : Names) (bodies : List Body) (texts : List (List ℕ)) (s : Inside) → Adds bodies texts s → Grows bodies texts (body_turn names s)
+unfolding body_turn
+body_turn-grows names bodies texts s h = word_turn-grows names bodies texts (record s { place = (met_at s.place).place }) (met_at s.place).word h
+
+pub body_end-grows : (names : Names) (s : Inside) → Adds s.bodies s.texts (inside_of (body_end names s))
+unfolding body_end
+body_end-grows names s =
+    turns-keep (Adds s.bodies s.texts) (λ r. Adds s.bodies s.texts (inside_of r)) (body_turn names) (Broken EndOfFile)
+    (λ t h. body_turn-grows names s.bodies s.texts t h) (λ t h. h) (suc (size s.place)) s ((omega arith, take-whole s.bodies), (omega arith, take-whole s.texts))
+
+pub broken-grows : (names : Names) (s t : Inside) (c : Complaint) → Broken c t ≡ body_end names s → Adds s.bodies s.texts t
+broken-grows names s t c e = let h : Adds s.bodies s.texts (inside_of (Broken c t)) = rw (← e) at (body_end-grows names s) in h
+
+pub whole-grows : (names : Names) (s t : Inside) → Whole t ≡ body_end names s → Adds s.bodies s.texts t
+whole-grows names s t e = let h : Adds s.bodies s.texts (inside_of (Whole t)) = rw (← e) at (body_end-grows names s) in h
+
+pub whole-weight : (names : Names) (s t : Inside) → Whole t ≡ body_end names s → size t.place + length t.bodies + length t.texts ≤ size s.place + length s.bodies + length s.texts
+whole-weight names s t e = let h : size (inside_of (Whole t)).place + length (inside_of (Whole t)).bodies + length (inside_of (Whole t)).texts ≤ size s.place + length s.bodies + length s.texts = rw (← e) at (body_end-weight names s) in h
+
+-- ---- what is left after a command, and what the style weighs then
+
+abbrev pub counts : Style → ℕ
+counts style = length style.bodies + length style.texts + names_weight style.names
+
+-- so much of the text is left at most, the style and it weigh so much at most, and no function has a name before it has a body
+abbrev pub Within : ℕ → ℕ → Outcome → Type 0
+Within n m o = (size o.place ≤ n) × (weight o.style o.place ≤ m) × (length o.style.names.functions ≤ length o.style.bodies)
+
+abbrev Base : ℕ → ℕ → Style → Type 0
+Base n m style = (n + counts style ≤ m) × (length style.names.functions ≤ length style.bodies)
+
+here : (c : Option Complaint) (style : Style) (p : Place) (n m : ℕ) → size p ≤ n → Base n m style → Within n m (outcome c style p)
+here c style p n m h b = (h, omega (arith, b.0), b.1)
+
+after_read-within : {A : Type 0} (style : Style) (r : Read A) (go : A → Place → Outcome) (n m : ℕ) → Sized n r → Base n m style → ((x : A) (p : Place) → size p < n → Within n m (go x p)) → Within n m (after_read style r go)
+after_read-within style (Took x p) go n m h b k = k x p h
+after_read-within style (Slip c p) go n m h b k = here (Some c) style p n m h b
+
+weaker : {A : Type 0} (m n : ℕ) (r : Read A) → m ≤ n → Sized m r → Sized n r
+weaker m n (Took x p) h k = omega arith
+weaker m n (Slip c p) h k = omega arith
+
+after_listed-within : (c : Option Complaint) (style : Style) (p : Place) (go : Style → Place → Outcome) (n m : ℕ) → size p ≤ n → size p + counts style ≤ m → length style.names.functions ≤ length style.bodies → Within n m (go style p) → Within n m (after_listed c style p go)
+after_listed-within None style p go n m h w f k = k
+after_listed-within (Some c) style p go n m h w f k = (h, omega arith, f)
+
+after_list-within : (style : Style) (kind : Kind) (p : Place) (go : Style → Place → Outcome) (n m : ℕ) → size p ≤ n → size p + counts style ≤ m → length style.names.functions ≤ length style.bodies → ((d : Style) (q : Place) → size q ≤ n → size q + counts d ≤ m → length d.names.functions ≤ length d.bodies → Within n m (go d q)) → Within n m (after_list style (list_at kind style.names p) go)
+after_list-within style kind p go n m h w f k =
+    let l = list_at kind style.names p in
+    let d : Style = record style { names = l.listing.names } in
+    let a = list_at-weight kind style.names p in
+    let less : size l.listing.place ≤ n = let s = list_at-size kind style.names p in omega arith in
+    let heavy : size l.listing.place + counts d ≤ m = omega (arith, a.0) in
+    let named_once : length d.names.functions ≤ length d.bodies = rw a.1 f in
+    after_listed-within l.complaint d l.listing.place go n m less heavy named_once (k d l.listing.place less heavy named_once)
+
+entry-within : (style : Style) (p : Place) → length style.names.functions ≤ length style.bodies → Within (size p) (weight style p) (entry style p)
+unfolding entry
+entry-within style p f = at style.has_entry where
+  at : (t : Bool) → Within (size p) (weight style p) (cond t (outcome (Some (Another command.Entry)) style p) (entry_lists style p))
+  at true = (omega arith, omega arith, f)
+  at false =
+      after_list-within style kind.Field p _ (size p) (weight style p) (omega arith) (omega arith) f (λ d q h w g.
+      after_list-within d kind.EntryInteger q _ (size p) (weight style p) h w g (λ d q h w g.
+      after_list-within d kind.EntryString q _ (size p) (weight style p) h w g (λ d q h w g. (h, omega arith, g))))
+
+padded-len : (n : ℕ) (functions : List (Option (List ℕ))) (name : List ℕ) → length functions ≤ n → length (padded n functions ++ Some name ∷ []) ≡ suc n
+padded-len n functions name h =
+    omega (arith, length-append (padded n functions) (Some name ∷ []), length-append functions (replicate (n - length functions) None), length-replicate {A = Option (List ℕ)} (n - length functions) None)
+
+function_ended-within : (style : Style) (name : List ℕ) (s : Inside) (n m : ℕ) → size s.place < n → Base n m style → s.bodies ≡ style.bodies → s.texts ≡ style.texts → Within n m (function_ended style name (body_end style.names s))
+function_ended-within style name s n m h b e g = at (body_end style.names s) (body_end-weight style.names s) (body_end-grows style.names s) (body_end-size style.names s) where
+  at : (r : End) → size (inside_of r).place + length (inside_of r).bodies + length (inside_of r).texts ≤ size s.place + length s.bodies + length s.texts → Adds s.bodies s.texts (inside_of r) → size (place_of r) ≤ size s.place → Within n m (function_ended style name r)
+  at (Broken c i) w a z = (omega arith, omega (arith, b.0), b.1)
+  at (Whole i) w a z =
+      let eb : length s.bodies ≡ length style.bodies = ap (λ (xs : List Body). length xs) e in
+      let et : length s.texts ≡ length style.texts = ap (λ (xs : List (List ℕ)). length xs) g in
+      let f : length style.names.functions ≤ length i.bodies = omega (arith, a.0.0, eb, b.1) in
+      let l = length-append i.bodies (i.tokens ∷ []) in
+      (omega arith, omega (arith, l, eb, et, b.0), omega (arith, l, padded-len (length i.bodies) style.names.functions name f))
+
+function_of-within : (style : Style) (name : List ℕ) (p : Place) (o : Option Callee) (n m : ℕ) → size p < n → Base n m style → Within n m (function_of style name p o)
+function_of-within style name p (Some other) n m h b = here (Some (Defined name)) style p n m (omega arith) b
+function_of-within style name p None n m h b =
+    after_read-within style (closing p) _ n m (weaker (size p) n (closing p) (omega arith) (closing-size p)) b (λ x q k.
+    after_read-within style (opening q) _ n m (weaker (size q) n (opening q) (omega arith) (opening-size q)) b (λ x r l.
+    function_ended-within style (folded name) (inside_at style r) n m l b refl refl))
+
+function-within : (style : Style) (p : Place) → length style.names.functions ≤ length style.bodies → Within (size p) (weight style p) (function style p)
+unfolding function
+function-within style p f =
+    let b : Base (size p) (weight style p) style = (omega arith, f) in
+    after_read-within style (opening p) _ (size p) (weight style p) (opening-size p) b (λ x q k.
+    after_read-within style (name_at q) _ (size p) (weight style p) (weaker (size q) (size p) (name_at q) (omega arith) (name_at-size q)) b (λ name r l.
+    function_of-within style name r (named style.names name) (size p) (weight style p) l b))
+
+read-within : (style : Style) (p : Place) → length style.names.functions ≤ length style.bodies → Within (size p) (weight style p) (read style p)
+unfolding read
+read-within style p f = at (is_some style.before_read) style.has_entry where
+  at : (t u : Bool) → Within (size p) (weight style p) (cond t (outcome (Some (Another command.Read)) style p) (cond u (outcome None (with_item ReadItem (record style { before_read = Some (length style.bodies) })) p) (outcome (Some BeforeEntry) style p)))
+  at true u = (omega arith, omega arith, f)
+  at false true = (omega arith, omega arith, f)
+  at false false = (omega arith, omega arith, f)
+
+run_of-within : (item : Callee → Item) (style : Style) (name : List ℕ) (p : Place) (o : Option Callee) (n m : ℕ) → size p ≤ n → Base n m style → Within n m (run_of item style name p o)
+run_of-within item style name p None n m h b = here (Some (Unknown name)) style p n m h b
+run_of-within item style name p (Some callee) n m h b =
+    after_read-within style (closing p) _ n m (weaker (size p) n (closing p) h (closing-size p)) b (λ x q k. (omega arith, omega (arith, b.0), b.1))
+
+run-within : (c : Command) (item : Callee → Item) (style : Style) (p : Place) → length style.names.functions ≤ length style.bodies → Within (size p) (weight style p) (run c item style p)
+unfolding run
+run-within c item style p f = at (is_some style.before_read) where
+  at : (t : Bool) → Within (size p) (weight style p) (cond t (run_name item style p) (outcome (Some (BeforeRead c)) style p))
+  at true =
+      after_read-within style (opening p) _ (size p) (weight style p) (opening-size p) (omega arith, f) (λ x q k.
+      after_read-within style (name_at q) _ (size p) (weight style p) (weaker (size q) (size p) (name_at q) (omega arith) (name_at-size q)) (omega arith, f) (λ name r l.
+      run_of-within item style name r (function_in (named style.names name)) (size p) (weight style p) (omega arith) (omega arith, f)))
+  at false = (omega arith, omega arith, f)
+
+sort-within : (style : Style) (p : Place) → length style.names.functions ≤ length style.bodies → Within (size p) (weight style p) (sort style p)
+unfolding sort
+sort-within style p f = at (is_some style.before_read) where
+  at : (t : Bool) → Within (size p) (weight style p) (cond t (outcome None (with_item SortItem style) p) (outcome (Some (BeforeRead command.Sort)) style p))
+  at true = (omega arith, omega arith, f)
+  at false = (omega arith, omega arith, f)
+
+declare-within : (kind : Kind) (item : Item) (style : Style) (p : Place) → length style.names.functions ≤ length style.bodies → Within (size p) (weight style p) (declare kind item style p)
+unfolding declare
+declare-within kind item style p f = after_list-within style kind p _ (size p) (weight style p) (omega arith) (omega arith) f (λ d q h w g. (h, omega arith, g))
+
+macro_of-within : (style : Style) (name : List ℕ) (p : Place) (o : Option (List ℕ)) (n m : ℕ) → size p ≤ n → Base n m style → Within n m (macro_of style name p o)
+macro_of-within style name p (Some other) n m h b = here (Some (Defined name)) style p n m h b
+macro_of-within style name p None n m h b =
+    after_read-within style (closing p) _ n m (weaker (size p) n (closing p) h (closing-size p)) b (λ x q k.
+    after_read-within style (opening q) _ n m (weaker (size q) n (opening q) (omega arith) (opening-size q)) b (λ x r l.
+    after_read-within style (quoted_at r) _ n m (weaker (size r) n (quoted_at r) (omega arith) (quoted_at-size r)) b (λ text s o.
+    after_read-within style (closing s) _ n m (weaker (size s) n (closing s) (omega arith) (closing-size s)) b (λ x t u. (omega arith, omega (arith, b.0), b.1)))))
+
+macro-within : (style : Style) (p : Place) → length style.names.functions ≤ length style.bodies → Within (size p) (weight style p) (macro_command style p)
+unfolding macro_command
+macro-within style p f = at (is_some style.before_read) where
+  at : (t : Bool) → Within (size p) (weight style p) (cond t (outcome (Some AfterRead) style p) (macro_name style p))
+  at true = (omega arith, omega arith, f)
+  at false =
+      after_read-within style (opening p) _ (size p) (weight style p) (opening-size p) (omega arith, f) (λ x q k.
+      after_read-within style (name_at q) _ (size p) (weight style p) (weaker (size q) (size p) (name_at q) (omega arith) (name_at-size q)) (omega arith, f) (λ name r l.
+      macro_of-within style name r (macro_lower style.macros (folded name)) (size p) (weight style p) (omega arith) (omega arith, f)))
+
+command_at-within : (c : Command) (style : Style) (p : Place) → length style.names.functions ≤ length style.bodies → Within (size p) (weight style p) (command_at c style p)
+command_at-within command.Entry style p = entry-within style p
+command_at-within command.Function style p = function-within style p
+command_at-within command.Read style p = read-within style p
+command_at-within command.Execute style p = run-within _ _ style p
+command_at-within command.Iterate style p = run-within _ _ style p
+command_at-within command.Reverse style p = run-within _ _ style p
+command_at-within command.Sort style p = sort-within style p
+command_at-within command.Integers style p = declare-within _ _ style p
+command_at-within command.Strings style p = declare-within _ _ style p
+command_at-within command.Macro style p = macro-within style p
+
+word_outcome-within : (style : Style) (p : Place) (word : List ℕ) (o : Option Command) → length style.names.functions ≤ length style.bodies → Within (size p) (weight style p) (word_outcome style p word o)
+word_outcome-within style p word None f = (omega arith, omega arith, f)
+word_outcome-within style p word (Some c) f = command_at-within c style p f
+
+-- what is left after an item, and the style's weight then
+abbrev StateWithin : ℕ → ℕ → State → Type 0
+StateWithin n m s = (size s.place ≤ n) × (weight s.style s.place ≤ m) × (length s.style.names.functions ≤ length s.style.bodies)
+
+resumed-within : (c : Option Complaint) (style : Style) (p : Place) (n m : ℕ) → Within n m (outcome c style p) → StateWithin n m (resumed c style p)
+resumed-within None style p n m h = h
+resumed-within (Some c) style p n m h = (omega (arith, h.0, skipped-size p), omega (arith, h.1, skipped-size p), h.2)
+
+front_of-within : (style : Style) (p : Place) (n k : ℕ) (go : List ℕ → Place → Outcome) → size p ≤ n → 0 < length p.line → length style.names.functions ≤ length style.bodies → ((word : List ℕ) (q : Place) → Within (size q) (weight style q) (go word q)) → (size (resumed_after (after_read style (front_of NoCommand p p.line k) go)).place < n) × StateWithin n (weight style p) (resumed_after (after_read style (front_of NoCommand p p.line k) go))
+unfolding size
+front_of-within style p n zero go h some f each =
+    let a = skipped-size p in (omega arith, (omega arith, omega arith, f))
+front_of-within style p n (suc k) go h some f each =
+    let q = further p (drop (suc k) p.line) in
+    let o = go (take (suc k) p.line) q in
+    let l = length-drop (suc k) p.line in
+    let r = resumed-within o.complaint o.style o.place (size q) (weight style q) (each (take (suc k) p.line) q) in
+    (omega (arith, l, r.0), (omega (arith, l, r.0), omega (arith, l, r.1), r.2))
+
+item_in-within : (style : Style) (p : Place) (line : List ℕ) (n : ℕ) → p.line ≡ line → size p ≤ n → length style.names.functions ≤ length style.bodies → OnTurn (λ t. (size t.place < n) × StateWithin n (weight style p) t) (λ (r : Style). Unit {0}) (item_in style p line)
+item_in-within style p [] n e h f = tt
+item_in-within style p (b ∷ bs) n e h f =
+    let some : 0 < length p.line = rw e (omega arith) in
+    front_of-within style p n (letters_len p.line) _ h some f (λ word q. word_outcome-within style q word (command_named (folded word)) f)
+
+-- ---- each item leaves less, whatever the style
+
+after_read-size : {A : Type 0} (style : Style) (r : Read A) (go : A → Place → Outcome) (n : ℕ) → Sized n r → ((x : A) (p : Place) → size p < n → size (go x p).place ≤ n) → size (after_read style r go).place ≤ n
+after_read-size style (Took x p) go n h k = k x p h
+after_read-size style (Slip c p) go n h k = h
+
+after_listed-size : (c : Option Complaint) (style : Style) (p : Place) (go : Style → Place → Outcome) (n : ℕ) → size p ≤ n → ((d : Style) → size (go d p).place ≤ n) → size (after_listed c style p go).place ≤ n
+after_listed-size None style p go n h k = k style
+after_listed-size (Some c) style p go n h k = h
+
+after_list-size : (style : Style) (kind : Kind) (p : Place) (go : Style → Place → Outcome) (n : ℕ) → size p ≤ n → ((d : Style) (q : Place) → size q ≤ n → size (go d q).place ≤ n) → size (after_list style (list_at kind style.names p) go).place ≤ n
+after_list-size style kind p go n h k =
+    let l = list_at kind style.names p in
+    let less : size l.listing.place ≤ n = let s = list_at-size kind style.names p in omega arith in
+    after_listed-size l.complaint (record style { names = l.listing.names }) l.listing.place go n less (λ d. k d l.listing.place less)
+
+entry-size : (style : Style) (p : Place) → size (entry style p).place ≤ size p
+unfolding entry
+entry-size style p = at style.has_entry where
+  at : (t : Bool) → size (cond t (outcome (Some (Another command.Entry)) style p) (entry_lists style p)).place ≤ size p
+  at true = omega arith
+  at false =
+      after_list-size style kind.Field p _ (size p) (omega arith) (λ d q h.
+      after_list-size d kind.EntryInteger q _ (size p) h (λ d q h.
+      after_list-size d kind.EntryString q _ (size p) h (λ d q h. h)))
+
+function_ended-size : (style : Style) (name : List ℕ) (e : End) (n : ℕ) → size (place_of e) ≤ n → size (function_ended style name e).place ≤ n
+function_ended-size style name (Broken c i) n h = h
+function_ended-size style name (Whole i) n h = h
+
+function_of-size : (style : Style) (name : List ℕ) (p : Place) (o : Option Callee) (n : ℕ) → size p ≤ n → size (function_of style name p o).place ≤ n
+function_of-size style name p (Some other) n h = h
+function_of-size style name p None n h =
+    after_read-size style (closing p) _ n (weaker (size p) n (closing p) h (closing-size p)) (λ x q k.
+    after_read-size style (opening q) _ n (weaker (size q) n (opening q) (omega arith) (opening-size q)) (λ x r l.
+    function_ended-size style (folded name) (body_end style.names (inside_at style r)) n (let s = body_end-size style.names (inside_at style r) in omega arith)))
+
+function-size : (style : Style) (p : Place) → size (function style p).place ≤ size p
+unfolding function
+function-size style p =
+    after_read-size style (opening p) _ (size p) (opening-size p) (λ x q k.
+    after_read-size style (name_at q) _ (size p) (weaker (size q) (size p) (name_at q) (omega arith) (name_at-size q)) (λ name r l.
+    function_of-size style name r (named style.names name) (size p) (omega arith)))
+
+read-size : (style : Style) (p : Place) → size (read style p).place ≤ size p
+unfolding read
+read-size style p = at (is_some style.before_read) style.has_entry where
+  at : (t u : Bool) → size (cond t (outcome (Some (Another command.Read)) style p) (cond u (outcome None (with_item ReadItem (record style { before_read = Some (length style.bodies) })) p) (outcome (Some BeforeEntry) style p))).place ≤ size p
+  at true u = omega arith
+  at false true = omega arith
+  at false false = omega arith
+
+run_of-size : (item : Callee → Item) (style : Style) (name : List ℕ) (p : Place) (o : Option Callee) (n : ℕ) → size p ≤ n → size (run_of item style name p o).place ≤ n
+run_of-size item style name p None n h = h
+run_of-size item style name p (Some callee) n h =
+    after_read-size style (closing p) _ n (weaker (size p) n (closing p) h (closing-size p)) (λ x q k. omega arith)
+
+run-size : (c : Command) (item : Callee → Item) (style : Style) (p : Place) → size (run c item style p).place ≤ size p
+unfolding run
+run-size c item style p = at (is_some style.before_read) where
+  at : (t : Bool) → size (cond t (run_name item style p) (outcome (Some (BeforeRead c)) style p)).place ≤ size p
+  at true =
+      after_read-size style (opening p) _ (size p) (opening-size p) (λ x q k.
+      after_read-size style (name_at q) _ (size p) (weaker (size q) (size p) (name_at q) (omega arith) (name_at-size q)) (λ name r l.
+      run_of-size item style name r (function_in (named style.names name)) (size p) (omega arith)))
+  at false = omega arith
+
+sort-size : (style : Style) (p : Place) → size (sort style p).place ≤ size p
+unfolding sort
+sort-size style p = at (is_some style.before_read) where
+  at : (t : Bool) → size (cond t (outcome None (with_item SortItem style) p) (outcome (Some (BeforeRead command.Sort)) style p)).place ≤ size p
+  at true = omega arith
+  at false = omega arith
+
+declare-size : (kind : Kind) (item : Item) (style : Style) (p : Place) → size (declare kind item style p).place ≤ size p
+unfolding declare
+declare-size kind item style p = after_list-size style kind p _ (size p) (omega arith) (λ d q h. h)
+
+macro_of-size : (style : Style) (name : List ℕ) (p : Place) (o : Option (List ℕ)) (n : ℕ) → size p ≤ n → size (macro_of style name p o).place ≤ n
+macro_of-size style name p (Some other) n h = h
+macro_of-size style name p None n h =
+    after_read-size style (closing p) _ n (weaker (size p) n (closing p) h (closing-size p)) (λ x q k.
+    after_read-size style (opening q) _ n (weaker (size q) n (opening q) (omega arith) (opening-size q)) (λ x r l.
+    after_read-size style (quoted_at r) _ n (weaker (size r) n (quoted_at r) (omega arith) (quoted_at-size r)) (λ text s m.
+    after_read-size style (closing s) _ n (weaker (size s) n (closing s) (omega arith) (closing-size s)) (λ x t o. omega arith))))
+
+macro-size : (style : Style) (p : Place) → size (macro_command style p).place ≤ size p
+unfolding macro_command
+macro-size style p = at (is_some style.before_read) where
+  at : (t : Bool) → size (cond t (outcome (Some AfterRead) style p) (macro_name style p)).place ≤ size p
+  at true = omega arith
+  at false =
+      after_read-size style (opening p) _ (size p) (opening-size p) (λ x q k.
+      after_read-size style (name_at q) _ (size p) (weaker (size q) (size p) (name_at q) (omega arith) (name_at-size q)) (λ name r l.
+      macro_of-size style name r (macro_lower style.macros (folded name)) (size p) (omega arith)))
+
+command_at-size : (c : Command) (style : Style) (p : Place) → size (command_at c style p).place ≤ size p
+command_at-size command.Entry style p = entry-size style p
+command_at-size command.Function style p = function-size style p
+command_at-size command.Read style p = read-size style p
+command_at-size command.Execute style p = run-size _ _ style p
+command_at-size command.Iterate style p = run-size _ _ style p
+command_at-size command.Reverse style p = run-size _ _ style p
+command_at-size command.Sort style p = sort-size style p
+command_at-size command.Integers style p = declare-size _ _ style p
+command_at-size command.Strings style p = declare-size _ _ style p
+command_at-size command.Macro style p = macro-size style p
+
+word_outcome-size : (style : Style) (p : Place) (word : List ℕ) (o : Option Command) → size (word_outcome style p word o).place ≤ size p
+word_outcome-size style p word None = omega arith
+word_outcome-size style p word (Some c) = command_at-size c style p
+
+resumed-size : (c : Option Complaint) (style : Style) (p : Place) → size (resumed c style p).place ≤ size p
+resumed-size None style p = omega arith
+resumed-size (Some c) style p = omega (arith, skipped-size p)
+
+front_of-less : (style : Style) (p : Place) (n k : ℕ) (go : List ℕ → Place → Outcome) → size p ≤ n → 0 < length p.line → ((word : List ℕ) (q : Place) → size (go word q).place ≤ size q) → size (resumed_after (after_read style (front_of NoCommand p p.line k) go)).place < n
+unfolding size
+front_of-less style p n zero go h some each = omega (arith, skipped-size p)
+front_of-less style p n (suc k) go h some each =
+    let q = further p (drop (suc k) p.line) in
+    let o = go (take (suc k) p.line) q in
+    omega (arith, length-drop (suc k) p.line, each (take (suc k) p.line) q, resumed-size o.complaint o.style o.place)
+
+item_in-size : (style : Style) (p : Place) (line : List ℕ) (n : ℕ) → p.line ≡ line → size p ≤ n → OnTurn (λ t. size t.place < n) (λ (r : Style). Unit {0}) (item_in style p line)
+item_in-size style p [] n e h = tt
+item_in-size style p (b ∷ bs) n e h =
+    let some : 0 < length p.line = rw e (omega arith) in
+    front_of-less style p n (letters_len p.line) _ h some (λ word q. word_outcome-size style q word (command_named (folded word)))
+
+abbrev left_in : State → ℕ
+left_in s = size s.place
+
+item_turn-size : (s : State) → OnTurn (λ t. left_in t < left_in s) (λ (r : Style). Unit {0}) (item_turn s)
+unfolding item_turn
+item_turn-size s = item_in-size s.style (ink s.place) (ink s.place).line (size s.place) refl (ink-size s.place)
+
+pub style_from-next : (s : State) → style_from s ≡ follow style_from (item_turn s)
+unfolding style_from
+style_from-next s = turns-next item_turn style_in left_in item_turn-size s
+
+pub style_from-again : (s t : State) → item_turn s ≡ Again t → style_from s ≡ style_from t
+style_from-again s t e = rw (style_from-next s, e) refl
+
+pub style_from-ends : (s : State) (r : Style) → item_turn s ≡ Ends r → style_from s ≡ r
+style_from-ends s r e = rw (style_from-next s, e) refl
+
+pub item_turn-less : (s t : State) → item_turn s ≡ Again t → size t.place < size s.place
+item_turn-less s t e = let h : OnTurn (λ t. left_in t < left_in s) (λ (r : Style). Unit {0}) (Again t) = rw e at (item_turn-size s) in h
+
+-- a style keeps its room, item by item
+pub item_turn-room : (s t : State) → item_turn s ≡ Again t → HasRoom s.style s.place → HasRoom t.style t.place
+unfolding item_turn
+item_turn-room s t e h =
+    let p = ink s.place in
+    let i = ink-size s.place in
+    let k : OnTurn (λ u. (size u.place < size s.place) × StateWithin (size s.place) (weight s.style p) u) (λ (r : Style). Unit {0}) (Again t) =
+    rw e at (item_in-within s.style p p.line (size s.place) refl i h.1) in
+    (omega (arith, h.0, k.1.1), k.1.2)
+
+pub ruleset style_steps = (style_from-again, style_from-ends, item_turn-less)

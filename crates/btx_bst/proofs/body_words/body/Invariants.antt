@@ -1,0 +1,18 @@
+use Rattle.std.proofs.Common.{◌≡◌, ◌<◌, ◌^◌}
+use Rattle.btx_bst.specs.Places.{size}
+use Rattle.btx_bst.specs.BodyText.{body_end}
+use Rattle.btx_bst.specs.Views.{inside_view, texts_view}
+use Rattle.btx_bst.specs.Weights.{body_weight}
+use Rattle.btx_bst.proofs.body_words.body.Given as goal
+
+-- what is left of the body does the rest
+abbrev pub invariant-loop-complaint : goal.invariant-loop-complaint
+invariant-loop-complaint l = record {
+  goes :
+      body_end l.names (inside_view l.cursor l.current l.bodies l.texts.items l.items.items)
+      ≡ body_end l.names (inside_view l.fn.cursor l.fn.current l.fn.bodies l.fn.texts.items l.fn.items.items);
+  room : body_weight l.cursor l.bodies (texts_view l.texts.items) < 2 ^ 32;
+}
+
+abbrev pub decreases-loop-complaint : goal.decreases-loop-complaint
+decreases-loop-complaint l = size l.cursor

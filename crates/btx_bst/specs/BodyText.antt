@@ -1,0 +1,77 @@
+-- How bodies are read (btxhak, section 4). A function's tokens stand up to its `}`; a `{` begins a nameless function, which is defined at
+-- its own `}`, before the function round it, and stands there as a literal. Functions are numbered in the order in which they are defined.
+use Rattle.std.specs.Prelude.{ℕ, suc, List, [], ◌∷◌, ◌++◌, length, Option, None, Some}
+use Rattle.btx_bst.specs.declared.callee.Callee.TheVariants.{User}
+use Rattle.btx_bst.specs.declared.callee.Callee.{Callee}
+use Rattle.btx_bst.specs.declared.token.Token.{Token}
+use Rattle.btx_bst.specs.declared.token.Token.TheVariants.{Text, Quote, Run}
+use Rattle.btx_bst.specs.declared.token.Token.TheVariants as token
+use Rattle.btx_bst.specs.Places.{Place, size}
+use Rattle.btx_bst.specs.Complaints.{Complaint, Unknown, NoQuoteEnd, EndOfFile}
+use Rattle.btx_bst.specs.Bodies.{Body}
+use Rattle.btx_bst.specs.Items.{Item, Message}
+use Rattle.btx_bst.specs.Words.{Word, Open, Close, String, Integer, Quoted, Name, Faulty, Unended, Ended, met_at}
+use Rattle.btx_bst.specs.Names.{Names, named}
+use Rattle.btx_bst.specs.Turns.{Turn, Again, Ends, turns_within}
+
+-- what is known inside a body: the place, the tokens of the innermost function so far, those of the functions round it, and, of the whole
+-- style so far, the bodies of the functions that are defined, the strings and the items
+pub record Inside : Type 0 where
+  pub place : Place
+  pub tokens : Body
+  pub around : List Body
+  pub bodies : List Body
+  pub texts : List (List ℕ)
+  pub items : List Item
+
+-- how a body ends: whole, with its tokens, or broken off by a complaint
+pub data End : Type 0 where
+  Whole : (inside : Inside) → End
+  Broken : (complaint : Complaint) (inside : Inside) → End
+
+-- one more token
+abbrev pub with_token : Token → Inside → Inside
+with_token token inside = record inside { tokens = inside.tokens ++ token ∷ [] }
+
+-- one more string, as a token with its number
+abbrev pub with_text : List ℕ → Inside → Inside
+with_text text inside = record inside { tokens = inside.tokens ++ Text (length inside.texts) ∷ []; texts = inside.texts ++ text ∷ [] }
+
+-- one more message, at the line of the place
+abbrev pub with_message : Complaint → Inside → Inside
+with_message complaint inside = record inside { items = inside.items ++ Message complaint inside.place.number ∷ [] }
+
+-- a `{`
+abbrev pub opened_inside : Inside → Inside
+opened_inside inside = record inside { tokens = []; around = inside.tokens ∷ inside.around }
+
+-- a `}`, with the functions round the innermost one
+abbrev pub closed_inside : Inside → List Body → Turn Inside End
+closed_inside inside [] = Ends (Whole inside)
+closed_inside inside (outer ∷ around) =
+    Again (record inside { tokens = outer ++ Quote (User (length inside.bodies)) ∷ []; around = around; bodies = inside.bodies ++ inside.tokens ∷ [] })
+
+-- a name that names something, or nothing
+abbrev pub with_named : (Callee → Token) → List ℕ → Inside → Option Callee → Inside
+with_named token name inside None = with_message (Unknown name) inside
+with_named token name inside (Some callee) = with_token (token callee) inside
+
+-- what a word comes to
+abbrev pub word_turn : Names → Inside → Word → Turn Inside End
+word_turn names inside Open = Again (opened_inside inside)
+word_turn names inside Close = closed_inside inside inside.around
+word_turn names inside (String text) = Again (with_text text inside)
+word_turn names inside (Integer value) = Again (with_token (token.Integer value) inside)
+word_turn names inside (Quoted name) = Again (with_named Quote name inside (named names name))
+word_turn names inside (Name name) = Again (with_named Run name inside (named names name))
+word_turn names inside (Faulty complaint) = Again (with_message complaint inside)
+word_turn names inside Unended = Ends (Broken NoQuoteEnd inside)
+word_turn names inside Ended = Ends (Broken EndOfFile inside)
+
+-- the next word
+unfoldable pub body_turn : Names → Inside → Turn Inside End
+body_turn names inside = word_turn names (record inside { place = (met_at inside.place).place }) (met_at inside.place).word
+
+-- the words up to the end of the body
+unfoldable pub body_end : Names → Inside → End
+body_end names inside = turns_within (body_turn names) (Broken EndOfFile) (suc (size inside.place)) inside

@@ -1,0 +1,168 @@
+-- The commands of a style.
+use Rattle.std.specs.Prelude.{ℕ, Bool, true, is_some, List, [], ◌∷◌, ◌++◌, length, Option, None, Some, codes, if◌then◌else◌}
+use Rattle.std.specs.Str.{bytes_eq}
+use Rattle.btx_text.specs.Keys.{folded}
+use Rattle.btx_bst.specs.declared.callee.Callee.{Callee}
+use Rattle.btx_bst.specs.declared.callee.Callee.TheVariants.{User, BuiltIn}
+use Rattle.btx_bst.specs.declared.callee.Kind.{Kind}
+use Rattle.btx_bst.specs.declared.callee.Kind.TheVariants as kind
+use Rattle.btx_bst.specs.declared.command.Command.{Command}
+use Rattle.btx_bst.specs.declared.command.Command.TheVariants as command
+use Rattle.btx_bst.specs.Places.{Place}
+use Rattle.btx_bst.specs.Complaints.{Complaint, Defined, Unknown, Another, BeforeRead, BeforeEntry, AfterRead}
+use Rattle.btx_bst.specs.Items.{Item, Entry, Function, Read, Execute, Iterate, Reverse, Sort, Integers, Strings, Macro}
+use Rattle.btx_bst.specs.Names.{named, macro_lower, with_function}
+use Rattle.btx_bst.specs.Style.{Style}
+use Rattle.btx_bst.specs.BodyText.{Inside, End, Whole, Broken, body_end}
+use Rattle.btx_bst.specs.Outcomes.{Outcome, outcome, after_read, with_item}
+use Rattle.btx_bst.specs.Lists.{Listed, opening, closing, name_at, quoted_at, list_at}
+
+-- the command of a name in lower case
+unfoldable pub command_named : List ℕ → Option Command
+command_named name =
+    if bytes_eq name (codes "entry") then Some command.Entry
+    else if bytes_eq name (codes "function") then Some command.Function
+    else if bytes_eq name (codes "read") then Some command.Read
+    else if bytes_eq name (codes "execute") then Some command.Execute
+    else if bytes_eq name (codes "iterate") then Some command.Iterate
+    else if bytes_eq name (codes "reverse") then Some command.Reverse
+    else if bytes_eq name (codes "sort") then Some command.Sort
+    else if bytes_eq name (codes "integers") then Some command.Integers
+    else if bytes_eq name (codes "strings") then Some command.Strings
+    else if bytes_eq name (codes "macro") then Some command.Macro
+    else None
+
+-- ---- ENTRY
+
+-- what follows what may have a complaint
+abbrev pub after_listed : Option Complaint → Style → Place → (Style → Place → Outcome) → Outcome
+after_listed None style place go = go style place
+after_listed (Some complaint) style place go = outcome (Some complaint) style place
+
+-- what follows a list of names, which is declared in any case
+abbrev pub after_list : Style → Listed → (Style → Place → Outcome) → Outcome
+after_list style list go = after_listed list.complaint (record style { names = list.listing.names }) list.listing.place go
+
+-- the three lists of an ENTRY
+abbrev pub entry_lists : Style → Place → Outcome
+entry_lists style place =
+    after_list style (list_at kind.Field style.names place) (λ style place.
+    after_list style (list_at kind.EntryInteger style.names place) (λ style place.
+    after_list style (list_at kind.EntryString style.names place) (λ style place.
+    outcome None (with_item Entry (record style { has_entry = true })) place)))
+
+unfoldable pub entry : Style → Place → Outcome
+entry style place = if style.has_entry then outcome (Some (Another command.Entry)) style place else entry_lists style place
+
+-- ---- FUNCTION
+
+-- a function, of a name in lower case, whose body ended: it gets its number; after a complaint nothing stays but the messages of the body
+abbrev pub function_ended : Style → List ℕ → End → Outcome
+function_ended style lowered (Broken complaint inside) = outcome (Some complaint) (record style { items = inside.items }) inside.place
+function_ended style lowered (Whole inside) =
+    outcome None (record style {
+      names = with_function (length inside.bodies) lowered style.names;
+      bodies = inside.bodies ++ inside.tokens ∷ [];
+      texts = inside.texts;
+      items = inside.items ++ Function (length inside.bodies) ∷ [];
+    }) inside.place
+
+-- the inside of a body, where nothing has been read
+abbrev pub inside_at : Style → Place → Inside
+inside_at style place = record { place = place; tokens = []; around = []; bodies = style.bodies; texts = style.texts; items = style.items }
+
+-- the body of a function of this name
+abbrev pub function_body : Style → List ℕ → Place → Outcome
+function_body style name place =
+    after_read style (closing place) (λ _ place.
+    after_read style (opening place) (λ _ place.
+    function_ended style (folded name) (body_end style.names (inside_at style place))))
+
+-- a name that names something already, or doesn't
+abbrev pub function_of : Style → List ℕ → Place → Option Callee → Outcome
+function_of style name place (Some other) = outcome (Some (Defined name)) style place
+function_of style name place None = function_body style name place
+
+unfoldable pub function : Style → Place → Outcome
+function style place =
+    after_read style (opening place) (λ _ place.
+    after_read style (name_at place) (λ name place.
+    function_of style name place (named style.names name)))
+
+-- ---- READ, EXECUTE, ITERATE, REVERSE and SORT
+
+-- a READ took effect
+abbrev pub has_read : Style → Bool
+has_read style = is_some style.before_read
+
+unfoldable pub read : Style → Place → Outcome
+read style place =
+    if has_read style then outcome (Some (Another command.Read)) style place
+    else if style.has_entry then outcome None (with_item Read (record style { before_read = Some (length style.bodies) })) place
+    else outcome (Some BeforeEntry) style place
+
+-- what is a function: a built-in one or a user's
+abbrev pub function_in : Option Callee → Option Callee
+function_in None = None
+function_in (Some (User number)) = Some (User number)
+function_in (Some (BuiltIn built_in)) = Some (BuiltIn built_in)
+function_in (Some _) = None
+
+-- a name that names a function, or doesn't; the item is made of the function
+abbrev pub run_of : (Callee → Item) → Style → List ℕ → Place → Option Callee → Outcome
+run_of item style name place None = outcome (Some (Unknown name)) style place
+run_of item style name place (Some callee) = after_read style (closing place) (λ _ place. outcome None (with_item (item callee) style) place)
+
+abbrev pub run_name : (Callee → Item) → Style → Place → Outcome
+run_name item style place =
+    after_read style (opening place) (λ _ place.
+    after_read style (name_at place) (λ name place.
+    run_of item style name place (function_in (named style.names name))))
+
+-- EXECUTE, ITERATE and REVERSE stand after READ
+unfoldable pub run : Command → (Callee → Item) → Style → Place → Outcome
+run command item style place = if has_read style then run_name item style place else outcome (Some (BeforeRead command)) style place
+
+unfoldable pub sort : Style → Place → Outcome
+sort style place = if has_read style then outcome None (with_item Sort style) place else outcome (Some (BeforeRead command.Sort)) style place
+
+-- ---- INTEGERS, STRINGS and MACRO
+
+unfoldable pub declare : Kind → Item → Style → Place → Outcome
+declare kind item style place = after_list style (list_at kind style.names place) (λ style place. outcome None (with_item item style) place)
+
+-- the text of a macro of this name
+abbrev pub macro_text : Style → List ℕ → Place → Outcome
+macro_text style name place =
+    after_read style (closing place) (λ _ place.
+    after_read style (opening place) (λ _ place.
+    after_read style (quoted_at place) (λ text place.
+    after_read style (closing place) (λ _ place.
+    outcome None (with_item Macro (record style { macros = style.macros ++ (folded name, text) ∷ [] })) place))))
+
+-- a macro's name, which is new or isn't
+abbrev pub macro_of : Style → List ℕ → Place → Option (List ℕ) → Outcome
+macro_of style name place (Some other) = outcome (Some (Defined name)) style place
+macro_of style name place None = macro_text style name place
+
+abbrev pub macro_name : Style → Place → Outcome
+macro_name style place =
+    after_read style (opening place) (λ _ place.
+    after_read style (name_at place) (λ name place.
+    macro_of style name place (macro_lower style.macros (folded name))))
+
+unfoldable pub macro_command : Style → Place → Outcome
+macro_command style place = if has_read style then outcome (Some AfterRead) style place else macro_name style place
+
+-- a command
+abbrev pub command_at : Command → Style → Place → Outcome
+command_at command.Entry style place = entry style place
+command_at command.Function style place = function style place
+command_at command.Read style place = read style place
+command_at command.Execute style place = run command.Execute Execute style place
+command_at command.Iterate style place = run command.Iterate Iterate style place
+command_at command.Reverse style place = run command.Reverse Reverse style place
+command_at command.Sort style place = sort style place
+command_at command.Integers style place = declare kind.GlobalInteger Integers style place
+command_at command.Strings style place = declare kind.GlobalString Strings style place
+command_at command.Macro style place = macro_command style place

@@ -1,0 +1,107 @@
+-- Arguments of commands: braces, names and lists of names.
+use Rattle.std.specs.Prelude.{ℕ, zero, suc, ◌==◌, List, [], ◌∷◌, take, drop, Option, None, Some, if◌then◌else◌}
+use Rattle.btx_text.specs.Keys.{folded}
+use Rattle.btx_bst.specs.declared.callee.Callee.{Callee}
+use Rattle.btx_bst.specs.declared.callee.Kind.{Kind}
+use Rattle.btx_bst.specs.Places.{Place, ink, further, size}
+use Rattle.btx_bst.specs.Complaints.{Complaint, NoOpen, NoClose, NoName, NoCommand, NoQuote, Defined, EndOfFile}
+use Rattle.btx_bst.specs.Reads.{Read, Took, Slip}
+use Rattle.btx_bst.specs.Fronts.{name_len, letters_len, quote_len}
+use Rattle.btx_bst.specs.Names.{Names, named, with_name}
+use Rattle.btx_bst.specs.Turns.{Turn, Again, Ends, turns_within}
+
+-- a brace at a place without white, or what is wrong if it isn't there
+abbrev pub brace_in : ℕ → Complaint → Place → List ℕ → Read (Unit {0})
+brace_in brace complaint place [] = Slip EndOfFile place
+brace_in brace complaint place (b ∷ bs) = if b == brace then Took tt (further place bs) else Slip complaint place
+
+-- a `{`
+abbrev pub opening : Place → Read (Unit {0})
+opening place = brace_in 123 NoOpen (ink place) (ink place).line
+
+-- a `}`
+abbrev pub closing : Place → Read (Unit {0})
+closing place = brace_in 125 NoClose (ink place) (ink place).line
+
+-- the first bytes of a line, so many, or what is wrong if there are none
+abbrev pub front_of : Complaint → Place → List ℕ → ℕ → Read (List ℕ)
+front_of complaint place line zero = Slip complaint place
+front_of complaint place line (suc n) = Took (take (suc n) line) (further place (drop (suc n) line))
+
+-- a name at a place without white
+abbrev pub name_in : Place → List ℕ → Read (List ℕ)
+name_in place [] = Slip EndOfFile place
+name_in place (b ∷ bs) = front_of NoName place (b ∷ bs) (name_len (b ∷ bs))
+
+-- a name
+abbrev pub name_at : Place → Read (List ℕ)
+name_at place = name_in (ink place) (ink place).line
+
+-- the letters at a place without white
+abbrev pub letters_at : Place → Read (List ℕ)
+letters_at place = front_of NoCommand place place.line (letters_len place.line)
+
+-- the text up to the next quote of the line
+abbrev pub text_of : Place → List ℕ → List ℕ → Read (List ℕ)
+text_of place text [] = Slip NoQuote place
+text_of place text (quote ∷ rest) = Took text (further place rest)
+
+-- a text in quotes at a place without white
+abbrev pub quoted_in : Place → List ℕ → Read (List ℕ)
+quoted_in place [] = Slip EndOfFile place
+quoted_in place (b ∷ bs) = if b == 34 then text_of place (take (quote_len bs) bs) (drop (quote_len bs) bs) else Slip NoQuote place
+
+-- a text in quotes
+abbrev pub quoted_at : Place → Read (List ℕ)
+quoted_at place = quoted_in (ink place) (ink place).line
+
+-- the names so far, and the place
+pub record Listing : Type 0 where
+  pub names : Names
+  pub place : Place
+
+abbrev pub listing : Names → Place → Listing
+listing names place = record { names = names; place = place }
+
+-- how a list ends: with its `}`, or with a complaint; the names so far stay
+pub record Listed : Type 0 where
+  pub complaint : Option Complaint
+  pub listing : Listing
+
+abbrev pub listed : Option Complaint → Names → Place → Listed
+listed complaint names place = record { complaint = complaint; listing = listing names place }
+
+-- a name of a list, which is of this kind, if it names nokind yet
+abbrev pub with_new : Kind → Names → List ℕ → Place → Option Callee → Turn Listing Listed
+with_new kind names name place None = Again (listing (with_name kind (folded name) names) place)
+with_new kind names name place (Some other) = Ends (listed (Some (Defined name)) names place)
+
+-- a name of a list, or what is wrong
+abbrev pub name_turn : Kind → Names → Read (List ℕ) → Turn Listing Listed
+name_turn kind names (Slip complaint place) = Ends (listed (Some complaint) names place)
+name_turn kind names (Took name place) = with_new kind names name place (named names name)
+
+-- the `}` of a list, or a name of it
+abbrev pub list_turn_in : Kind → Names → Read (Unit {0}) → Turn Listing Listed
+list_turn_in kind names (Took _ behind) = Ends (listed None names behind)
+list_turn_in kind names (Slip complaint before) = name_turn kind names (name_at before)
+
+-- what stands next in a list
+unfoldable pub list_turn : Kind → Listing → Turn Listing Listed
+list_turn kind listing = list_turn_in kind listing.names (closing listing.place)
+
+-- a list whose reading goes on without end
+abbrev pub unlisted : Listing → Listed
+unlisted listing = listed (Some EndOfFile) listing.names listing.place
+
+-- the names up to the `}` of a list
+unfoldable pub list_end : Kind → Listing → Listed
+list_end kind listing = turns_within (list_turn kind) unlisted (suc (size listing.place)) listing
+
+-- a list of names in braces
+abbrev pub list_read : Kind → Names → Read (Unit {0}) → Listed
+list_read kind names (Slip complaint place) = listed (Some complaint) names place
+list_read kind names (Took _ place) = list_end kind (listing names place)
+
+abbrev pub list_at : Kind → Names → Place → Listed
+list_at kind names place = list_read kind names (opening place)

@@ -1,0 +1,25 @@
+-- What a command comes to.
+use Rattle.std.specs.Prelude.{[], ◌∷◌, ◌++◌, Option, Some}
+use Rattle.btx_bst.specs.Places.{Place}
+use Rattle.btx_bst.specs.Complaints.{Complaint}
+use Rattle.btx_bst.specs.Reads.{Read, Took, Slip}
+use Rattle.btx_bst.specs.Items.{Item}
+use Rattle.btx_bst.specs.Style.{Style}
+
+-- a complaint, if something is wrong, the style after the command, and the place where it ends or the fault is met
+pub record Outcome : Type 0 where
+  pub complaint : Option Complaint
+  pub style : Style
+  pub place : Place
+
+abbrev pub outcome : Option Complaint → Style → Place → Outcome
+outcome complaint style place = record { complaint = complaint; style = style; place = place }
+
+-- what follows the reading of something; a complaint ends the command
+abbrev pub after_read : {A : Type 0} → Style → Read A → (A → Place → Outcome) → Outcome
+after_read style (Took x place) go = go x place
+after_read style (Slip complaint place) go = outcome (Some complaint) style place
+
+-- a style with a further item
+abbrev pub with_item : Item → Style → Style
+with_item item style = record style { items = style.items ++ item ∷ [] }

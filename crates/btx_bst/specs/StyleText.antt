@@ -1,0 +1,64 @@
+-- The style of a text: its items, one after another.
+use Rattle.std.specs.Prelude.{ℕ, suc, false, List, [], ◌∷◌, Option, None, Some}
+use Rattle.btx_text.specs.Keys.{folded}
+use Rattle.btx_bst.specs.declared.command.Command.{Command}
+use Rattle.btx_bst.specs.Places.{Place, ink, size, skipped, beginning}
+use Rattle.btx_bst.specs.Complaints.{Complaint, NotCommand}
+use Rattle.btx_bst.specs.Lists.{letters_at}
+use Rattle.btx_bst.specs.Items.{Message}
+use Rattle.btx_bst.specs.Style.{Style}
+use Rattle.btx_bst.specs.Names.{Names}
+use Rattle.btx_bst.specs.Predefined.{predefined}
+use Rattle.btx_bst.specs.Outcomes.{Outcome, outcome, after_read, with_item}
+use Rattle.btx_bst.specs.Commands.{command_at, command_named}
+use Rattle.btx_bst.specs.Turns.{Turn, Again, Ends, turns_within}
+
+-- what is known so far, and the place
+pub record State : Type 0 where
+  pub style : Style
+  pub place : Place
+
+abbrev pub state : Style → Place → State
+state style place = record { style = style; place = place }
+
+-- after a complaint the text up to the next empty line is skipped
+abbrev pub resumed : Option Complaint → Style → Place → State
+resumed None style place = state style place
+resumed (Some complaint) style place = state (with_item (Message complaint place.number) style) (skipped place)
+
+-- what follows a command
+abbrev pub resumed_after : Outcome → State
+resumed_after outcome = resumed outcome.complaint outcome.style outcome.place
+
+-- the command of a word
+abbrev pub word_outcome : Style → Place → List ℕ → Option Command → Outcome
+word_outcome style place word None = outcome (Some (NotCommand word)) style place
+word_outcome style place word (Some command) = command_at command style place
+
+-- a command, which begins with letters
+abbrev pub command_outcome : Style → Place → Outcome
+command_outcome style place = after_read style (letters_at place) (λ word behind. word_outcome style behind word (command_named (folded word)))
+
+-- what stands at a place without white: a command, or the end
+abbrev pub item_in : Style → Place → List ℕ → Turn State Style
+item_in style place [] = Ends style
+item_in style place (b ∷ bs) = Again (resumed_after (command_outcome style place))
+
+-- the next command
+unfoldable pub item_turn : State → Turn State Style
+item_turn state = item_in state.style (ink state.place) (ink state.place).line
+
+abbrev pub style_in : State → Style
+style_in state = state.style
+
+-- all commands that are left
+unfoldable pub style_from : State → Style
+style_from state = turns_within item_turn style_in (suc (size state.place)) state
+
+-- nothing has been read: these names are known
+abbrev pub start : List ℕ → Names → Style
+start file names = record { file = file; items = []; names = names; macros = []; bodies = []; texts = []; has_entry = false; before_read = None }
+
+-- the style of a file of this name and this text
+unfoldable pub style_of : List ℕ → List ℕ → Style
+style_of file text = style_from (state (start file predefined) (beginning text))

@@ -1,0 +1,94 @@
+-- The words of a body.
+use Rattle.std.specs.Prelude.{ℕ, zero, suc, ◌+◌, ◌-◌, ◌*◌, ◌==◌, ℤ, pos, negsuc, nat_lt, fold, Option, None, Some, Bool, true, false, List, [], ◌∷◌, take, drop, if◌then◌else◌}
+use Rattle.btx_bst.specs.Places.{Place, ink, further}
+use Rattle.btx_bst.specs.Fronts.{word_len, quote_len, digits_len, is_word_end}
+use Rattle.btx_bst.specs.Complaints.{Complaint, BadInteger, TextAfter}
+
+-- a word: a brace, a string, an integer, a name behind a `'`, a name, a literal that is left out with what is wrong with it, a `"` whose string
+-- doesn't end, or the end of the file
+pub data Word : Type 0 where
+  Open : Word
+  Close : Word
+  String : (text : List ℕ) → Word
+  Integer : (value : ℤ) → Word
+  Quoted : (name : List ℕ) → Word
+  Name : (name : List ℕ) → Word
+  Faulty : (complaint : Complaint) → Word
+  Unended : Word
+  Ended : Word
+
+-- a word, and what is left of the line behind it
+pub record Front : Type 0 where
+  pub word : Word
+  pub rest : List ℕ
+
+abbrev pub front : Word → List ℕ → Front
+front word rest = record { word = word; rest = rest }
+
+-- a string and what stands behind its quote: white, `}`, `%` or the end of the line must come, else all up to there is left out
+abbrev pub string_before : List ℕ → List ℕ → Front
+string_before text rest = if is_word_end rest then front (String text) rest else front (Faulty TextAfter) (drop (word_len rest) rest)
+
+-- what begins at the next quote of the line, if there is one, behind this text
+abbrev pub string_ended : List ℕ → List ℕ → List ℕ → Front
+string_ended line text [] = front Unended line
+string_ended line text (quote ∷ rest) = string_before text rest
+
+-- the string that begins behind a quote
+abbrev pub string_at : List ℕ → Front
+string_at line = string_ended line (take (quote_len line) line) (drop (quote_len line) line)
+
+-- what digits come to
+abbrev pub with_digit : ℕ → ℕ → ℕ
+with_digit n d = n * 10 + (d - 48)
+
+unfoldable pub value_of : List ℕ → ℕ
+value_of digits = fold with_digit 0 digits
+
+-- a number with or without a minus, if it is one of 32 bits
+unfoldable pub signed : Bool → ℕ → Option ℤ
+signed false n = if nat_lt n 2147483648 then Some (pos n) else None
+signed true zero = Some (pos 0)
+signed true (suc n) = if nat_lt n 2147483648 then Some (negsuc n) else None
+
+-- an integer, and what stands behind its digits
+abbrev pub integer_before : List ℕ → List ℕ → Option ℤ → Front
+integer_before line rest None = front (Faulty BadInteger) (drop (word_len line) line)
+integer_before line rest (Some value) = if is_word_end rest then front (Integer value) rest else front (Faulty TextAfter) (drop (word_len rest) rest)
+
+-- an integer of so many digits, of which there must be some
+abbrev pub integer_of : List ℕ → Bool → List ℕ → ℕ → Front
+integer_of line minus rest zero = front (Faulty BadInteger) (drop (word_len line) line)
+integer_of line minus rest (suc n) = integer_before line (drop (suc n) rest) (signed minus (value_of (take (suc n) rest)))
+
+-- the integer that begins behind a `#`: a minus may stand before its digits
+unfoldable pub integer_at : List ℕ → Front
+integer_at [] = front (Faulty BadInteger) []
+integer_at (b ∷ bs) = if b == 45 then integer_of (b ∷ bs) true bs (digits_len bs) else integer_of (b ∷ bs) false (b ∷ bs) (digits_len (b ∷ bs))
+
+-- the word that a line begins with, where its first byte is no white and no `%`
+unfoldable pub word_front : ℕ → List ℕ → Front
+word_front b bs =
+    if b == 123 then front Open bs
+    else if b == 125 then front Close bs
+    else if b == 34 then string_at bs
+    else if b == 35 then integer_at bs
+    else if b == 39 then front (Quoted (take (word_len bs) bs)) (drop (word_len bs) bs)
+    else front (Name (b ∷ take (word_len bs) bs)) (drop (word_len bs) bs)
+
+-- a word and the place behind it
+pub record Met : Type 0 where
+  pub word : Word
+  pub place : Place
+
+abbrev pub met : Word → Place → Met
+met word place = record { word = word; place = place }
+
+-- the word that stands at a place without white
+abbrev pub met_in : Place → List ℕ → Met
+met_in place [] = met Ended place
+met_in place (b ∷ bs) = met (word_front b bs).word (further place (word_front b bs).rest)
+
+-- the next word
+abbrev pub met_at : Place → Met
+met_at place = met_in (ink place) (ink place).line

@@ -1,0 +1,335 @@
+//! A style as far as it has been read, command by command.
+ghost use Rattle.std.specs.Prelude.{◌≡◌, IfOk, OnOk, None};
+ghost use Rattle.btx_bst.specs.Commands.{command_at, entry, run, sort, declare, macro_command, function, function_ended, function_in, inside_at, read};
+ghost use Rattle.btx_bst.specs.BodyText.{body_end};
+ghost use Rattle.btx_bst.specs.declared.callee.Kind.TheVariants as kind;
+ghost use Rattle.btx_bst.specs.Items as item;
+ghost use Rattle.btx_bst.specs.Views.{item_view, run_item};
+ghost use Rattle.btx_bst.specs.Places.{Place};
+ghost use Rattle.btx_bst.specs.StyleText.{start};
+ghost use Rattle.btx_bst.specs.Names.{named_lower};
+ghost use Rattle.btx_bst.specs.DraftViews.{draft_view, outcome_view};
+ghost use Rattle.btx_bst.specs.Weights.{HasRoom};
+
+use crate::bodies::Bodies;
+use crate::body_words::{body, find};
+use crate::callee::{Callee, Kind};
+use crate::command::Command;
+use crate::complaint::Complaint;
+use crate::cursor::Cursor;
+use crate::item::Item;
+use crate::lists::list;
+use crate::macros::Macros;
+use crate::name::Name;
+use crate::names::Names;
+use crate::open::Open;
+use std::alloc::{AllocError, Global};
+
+/// A style as far as it has been read.
+#[derive(Drop)]
+pub struct Draft<'a> {
+    /// The name of the file.
+    pub file_name: &'a [u8],
+    /// The names, with what they name.
+    pub names: Names<'a>,
+    /// The macros.
+    pub macros: Macros<'a>,
+    /// The bodies of the functions.
+    pub bodies: Bodies,
+    /// The strings that stand in bodies.
+    pub texts: Vec<&'a [u8]>,
+    /// The items.
+    pub items: Vec<Item<'a>>,
+    /// Whether an ENTRY took effect.
+    pub has_entry: bool,
+    /// If a READ took effect, how many functions stood before it.
+    pub before_read: Option<usize>,
+}
+
+impl<'a> Draft<'a> {
+    /// Nothing has been read of the file of this name, and these names are known.
+    pub fn new(alloc: Global, file_name: &'a [u8], names: Names<'a>) -> Self
+        ensures { draft_view result ≡ start file_name.now names.entry }
+    {
+        Draft {
+            file_name,
+            names,
+            macros: Macros::new(alloc),
+            bodies: Bodies::new(alloc),
+            texts: Vec::new(alloc),
+            items: Vec::new(alloc),
+            has_entry: false,
+            before_read: None,
+        }
+    }
+
+    /// Takes the rest of a command.
+    pub fn command(
+        &mut self,
+        alloc: Global,
+        cursor: &mut Cursor<'a>,
+        command: Command,
+    ) -> Result<Option<Complaint<'a>>, AllocError>
+        requires { HasRoom (draft_view self.old) cursor.old }
+        ensures { IfOk result (λ complaint. outcome_view complaint (draft_view self.new) cursor.new ≡ command_at command (draft_view self.old) cursor.old) }
+    {
+        match command {
+            Command::Entry => self.entry(alloc, cursor),
+            Command::Function => self.function(alloc, cursor),
+            Command::Read => self.read(),
+            Command::Execute => self.run(alloc, cursor, command),
+            Command::Iterate => self.run(alloc, cursor, command),
+            Command::Reverse => self.run(alloc, cursor, command),
+            Command::Sort => self.sort(),
+            Command::Integers => self.integers(alloc, cursor),
+            Command::Strings => self.strings(alloc, cursor),
+            Command::Macro => self.take_macro(alloc, cursor),
+        }
+    }
+
+    /// Takes the rest of an ENTRY.
+    #[tactic(auto, unfolding(crate::specs::Commands::entry))]
+    fn entry(
+        &mut self,
+        alloc: Global,
+        cursor: &mut Cursor<'a>,
+    ) -> Result<Option<Complaint<'a>>, AllocError>
+        requires { HasRoom (draft_view self.old) cursor.old }
+        ensures { IfOk result (λ complaint. outcome_view complaint (draft_view self.new) cursor.new ≡ entry (draft_view self.old) cursor.old) }
+    {
+        if self.has_entry {
+            return Ok(Some(Complaint::Another(Command::Entry)));
+        }
+        if let Some(complaint) = list(alloc, cursor, &mut self.names, Kind::Field)? {
+            return Ok(Some(complaint));
+        }
+        if let Some(complaint) = list(alloc, cursor, &mut self.names, Kind::EntryInteger)? {
+            return Ok(Some(complaint));
+        }
+        if let Some(complaint) = list(alloc, cursor, &mut self.names, Kind::EntryString)? {
+            return Ok(Some(complaint));
+        }
+        self.items.push(Item::Entry)?;
+        self.has_entry = true;
+        Ok(None)
+    }
+
+    /// Takes a READ.
+    #[tactic(auto, unfolding(crate::specs::Commands::read))]
+    fn read(&mut self) -> Result<Option<Complaint<'a>>, AllocError>
+        ensures { IfOk result (λ complaint. (place : Place) → outcome_view complaint (draft_view self.new) place ≡ read (draft_view self.old) place) }
+    {
+        if self.before_read.is_some() {
+            return Ok(Some(Complaint::Another(Command::Read)));
+        }
+        if !self.has_entry {
+            return Ok(Some(Complaint::BeforeEntry));
+        }
+        self.items.push(Item::Read)?;
+        self.before_read = Some(self.bodies.len());
+        Ok(None)
+    }
+
+    /// Takes the rest of an EXECUTE, ITERATE or REVERSE.
+    #[tactic(auto, unfolding(crate::specs::Commands::run))]
+    fn run(
+        &mut self,
+        alloc: Global,
+        cursor: &mut Cursor<'a>,
+        command: Command,
+    ) -> Result<Option<Complaint<'a>>, AllocError>
+        ensures { IfOk result (λ complaint. outcome_view complaint (draft_view self.new) cursor.new ≡ run command (run_item command) (draft_view self.old) cursor.old) }
+    {
+        if self.before_read.is_none() {
+            return Ok(Some(Complaint::BeforeRead(command)));
+        }
+        if let Err(complaint) = cursor.opening() {
+            return Ok(Some(complaint));
+        }
+        let name = match cursor.name() {
+            Ok(name) => name,
+            Err(complaint) => return Ok(Some(complaint)),
+        };
+        let Some(callee) = function_in(find(alloc, &self.names, name)?) else {
+            return Ok(Some(Complaint::Unknown(name)));
+        };
+        if let Err(complaint) = cursor.closing() {
+            return Ok(Some(complaint));
+        }
+        self.items.push(run_item(command, callee))?;
+        Ok(None)
+    }
+
+    /// Takes a SORT.
+    #[tactic(auto, unfolding(crate::specs::Commands::sort))]
+    fn sort(&mut self) -> Result<Option<Complaint<'a>>, AllocError>
+        ensures { IfOk result (λ complaint. (place : Place) → outcome_view complaint (draft_view self.new) place ≡ sort (draft_view self.old) place) }
+    {
+        if self.before_read.is_none() {
+            return Ok(Some(Complaint::BeforeRead(Command::Sort)));
+        }
+        self.items.push(Item::Sort)?;
+        Ok(None)
+    }
+
+    /// Takes the rest of an INTEGERS.
+    #[tactic(auto, unfolding(crate::specs::Commands::declare))]
+    fn integers(
+        &mut self,
+        alloc: Global,
+        cursor: &mut Cursor<'a>,
+    ) -> Result<Option<Complaint<'a>>, AllocError>
+        requires { HasRoom (draft_view self.old) cursor.old }
+        ensures { IfOk result (λ complaint. outcome_view complaint (draft_view self.new) cursor.new ≡ declare kind.GlobalInteger item.Integers (draft_view self.old) cursor.old) }
+    {
+        if let Some(complaint) = list(alloc, cursor, &mut self.names, Kind::GlobalInteger)? {
+            return Ok(Some(complaint));
+        }
+        self.items.push(Item::Integers)?;
+        Ok(None)
+    }
+
+    /// Takes the rest of a STRINGS.
+    #[tactic(auto, unfolding(crate::specs::Commands::declare))]
+    fn strings(
+        &mut self,
+        alloc: Global,
+        cursor: &mut Cursor<'a>,
+    ) -> Result<Option<Complaint<'a>>, AllocError>
+        requires { HasRoom (draft_view self.old) cursor.old }
+        ensures { IfOk result (λ complaint. outcome_view complaint (draft_view self.new) cursor.new ≡ declare kind.GlobalString item.Strings (draft_view self.old) cursor.old) }
+    {
+        if let Some(complaint) = list(alloc, cursor, &mut self.names, Kind::GlobalString)? {
+            return Ok(Some(complaint));
+        }
+        self.items.push(Item::Strings)?;
+        Ok(None)
+    }
+
+    /// Takes the rest of a MACRO.
+    #[tactic(auto, unfolding(crate::specs::Commands::macro_command))]
+    fn take_macro(
+        &mut self,
+        alloc: Global,
+        cursor: &mut Cursor<'a>,
+    ) -> Result<Option<Complaint<'a>>, AllocError>
+        ensures { IfOk result (λ complaint. outcome_view complaint (draft_view self.new) cursor.new ≡ macro_command (draft_view self.old) cursor.old) }
+    {
+        if self.before_read.is_some() {
+            return Ok(Some(Complaint::AfterRead));
+        }
+        if let Err(complaint) = cursor.opening() {
+            return Ok(Some(complaint));
+        }
+        let name = match cursor.name() {
+            Ok(name) => name,
+            Err(complaint) => return Ok(Some(complaint)),
+        };
+        let lowered = Name::of(alloc, name)?;
+        if self.macros.text(lowered.as_bytes()).is_some() {
+            return Ok(Some(Complaint::Defined(name)));
+        }
+        if let Err(complaint) = cursor.closing() {
+            return Ok(Some(complaint));
+        }
+        if let Err(complaint) = cursor.opening() {
+            return Ok(Some(complaint));
+        }
+        let text = match cursor.quoted() {
+            Ok(text) => text,
+            Err(complaint) => return Ok(Some(complaint)),
+        };
+        if let Err(complaint) = cursor.closing() {
+            return Ok(Some(complaint));
+        }
+        self.macros.add(alloc, &lowered, text)?;
+        self.items.push(Item::Macro)?;
+        Ok(None)
+    }
+
+    /// Takes the rest of a FUNCTION.
+    #[tactic(auto, unfolding(crate::specs::Commands::function))]
+    fn function(
+        &mut self,
+        alloc: Global,
+        cursor: &mut Cursor<'a>,
+    ) -> Result<Option<Complaint<'a>>, AllocError>
+        requires { HasRoom (draft_view self.old) cursor.old }
+        ensures { IfOk result (λ complaint. outcome_view complaint (draft_view self.new) cursor.new ≡ function (draft_view self.old) cursor.old) }
+    {
+        if let Err(complaint) = cursor.opening() {
+            return Ok(Some(complaint));
+        }
+        let name = match cursor.name() {
+            Ok(name) => name,
+            Err(complaint) => return Ok(Some(complaint)),
+        };
+        let lowered = Name::of(alloc, name)?;
+        if self.names.find(lowered.as_bytes()).is_some() {
+            return Ok(Some(Complaint::Defined(name)));
+        }
+        if let Err(complaint) = cursor.closing() {
+            return Ok(Some(complaint));
+        }
+        if let Err(complaint) = cursor.opening() {
+            return Ok(Some(complaint));
+        }
+        self.define(alloc, cursor, lowered)
+    }
+
+    /// Takes a body, and defines its function.
+    fn define(
+        &mut self,
+        alloc: Global,
+        cursor: &mut Cursor<'a>,
+        lowered: Name<'a>,
+    ) -> Result<Option<Complaint<'a>>, AllocError>
+        requires new { named_lower (draft_view self.old).names lowered ≡ None }
+        requires room { HasRoom (draft_view self.old) cursor.old }
+        ensures { IfOk result (λ complaint. outcome_view complaint (draft_view self.new) cursor.new ≡ function_ended (draft_view self.old) lowered.entry (body_end (draft_view self.old).names (inside_at (draft_view self.old) cursor.old))) }
+    {
+        let count = self.bodies.len();
+        let texts = self.texts.len();
+        let mut current = Open::new(alloc);
+        if let Some(complaint) = body(
+            alloc,
+            cursor,
+            &self.names,
+            &mut current,
+            &mut self.bodies,
+            &mut self.texts,
+            &mut self.items,
+        )? {
+            self.bodies.cut(count);
+            self.texts.truncate(texts);
+            return Ok(Some(complaint));
+        }
+        let number = self.bodies.len();
+        self.bodies.add(current.tokens())?;
+        self.items.push(Item::Function(number as u32))?;
+        self.names.add_function(alloc, number as u32, lowered)?;
+        Ok(None)
+    }
+}
+
+/// The item of a command that executes a function.
+fn run_item<'a>(command: Command, callee: Callee) -> Item<'a>
+    ensures { item_view result ≡ run_item command callee }
+{
+    match command {
+        Command::Iterate => Item::Iterate(callee),
+        Command::Reverse => Item::Reverse(callee),
+        _ => Item::Execute(callee),
+    }
+}
+
+/// What is a function.
+fn function_in(callee: Option<Callee>) -> Option<Callee>
+    ensures { result ≡ function_in callee }
+{
+    match callee {
+        Some(Callee::User(number)) => Some(Callee::User(number)),
+        Some(Callee::BuiltIn(built_in)) => Some(Callee::BuiltIn(built_in)),
+        _ => None,
+    }
+}

@@ -1,0 +1,170 @@
+//! Fronts of a line.
+ghost use Rattle.std.specs.Prelude.{◌≡◌, ◌≤◌, ◌∷◌, length};
+ghost use Rattle.btx_bst.specs.Places as places;
+ghost use Rattle.btx_bst.specs.Fronts as spec;
+ghost use Rattle.btx_bst.specs.Words as words;
+ghost use Rattle.btx_bst.specs.Views.{word_view};
+
+use crate::complaint::Complaint;
+use crate::integers::integer_at;
+use crate::word::Word;
+use btx_text::classify::is_white;
+
+/// A line without the white and the comment that it begins with.
+#[tactic(auto, using(crate::proofs::FrontLemmas::white_steps))]
+pub fn behind_white(line: &[u8]) -> &[u8]
+    ensures { result.now ≡ places.behind_white line.now }
+{
+    for (i, &byte) in line.iter().enumerate() {
+        if is_white(byte) {
+            continue;
+        }
+        if byte == b'%' {
+            return &[];
+        }
+        return &line[i..];
+    }
+    &[]
+}
+
+/// How many letters a line begins with.
+#[tactic(auto, using(crate::proofs::FrontLemmas::len_steps))]
+pub fn letters_len(line: &[u8]) -> usize
+    ensures value { result ≡ spec.letters_len line.now }
+    ensures bound { result ≤ length line.now }
+{
+    for (i, &byte) in line.iter().enumerate() {
+        if !byte.is_ascii_alphabetic() {
+            return i;
+        }
+    }
+    line.len()
+}
+
+/// Whether a name ends before this byte.
+fn ends_name(byte: u8) -> bool
+    ensures { result ≡ spec.ends_name byte }
+{
+    byte < 33
+        || matches!(
+            byte,
+            b'"' | b'#' | b'%' | b'\'' | b'(' | b')' | b',' | b'=' | b'{' | b'}'
+        )
+}
+
+/// Whether a word of a body ends before this byte.
+fn ends_word(byte: u8) -> bool
+    ensures { result ≡ spec.ends_word byte }
+{
+    is_white(byte) || matches!(byte, b'}' | b'%')
+}
+
+/// How many bytes stand before the end of a name.
+#[tactic(auto, using(crate::proofs::FrontLemmas::len_steps))]
+fn run_len(line: &[u8]) -> usize
+    ensures value { result ≡ spec.len_till spec.ends_name line.now }
+    ensures bound { result ≤ length line.now }
+{
+    for (i, &byte) in line.iter().enumerate() {
+        if ends_name(byte) {
+            return i;
+        }
+    }
+    line.len()
+}
+
+/// How many bytes the name has that a line begins with.
+pub fn name_len(line: &[u8]) -> usize
+    ensures value { result ≡ spec.name_len line.now }
+    ensures bound { result ≤ length line.now }
+{
+    match line {
+        [] => 0,
+        [first, ..] => {
+            if first.is_ascii_digit() {
+                0
+            } else {
+                run_len(line)
+            }
+        }
+    }
+}
+
+/// How many bytes stand before the end of a word of a body.
+#[tactic(auto, using(crate::proofs::FrontLemmas::len_steps))]
+pub fn word_len(line: &[u8]) -> usize
+    ensures value { result ≡ spec.word_len line.now }
+    ensures bound { result ≤ length line.now }
+{
+    for (i, &byte) in line.iter().enumerate() {
+        if ends_word(byte) {
+            return i;
+        }
+    }
+    line.len()
+}
+
+/// How many bytes stand before the next quote of a line.
+#[tactic(auto, using(crate::proofs::FrontLemmas::len_steps))]
+pub fn quote_len(line: &[u8]) -> usize
+    ensures value { result ≡ spec.quote_len line.now }
+    ensures bound { result ≤ length line.now }
+{
+    for (i, &byte) in line.iter().enumerate() {
+        if byte == b'"' {
+            return i;
+        }
+    }
+    line.len()
+}
+
+/// Whether a word of a body may end before this text.
+pub fn is_word_end(line: &[u8]) -> bool
+    ensures { result ≡ spec.is_word_end line.now }
+{
+    match line {
+        [] => true,
+        [byte, ..] => ends_word(*byte),
+    }
+}
+
+/// The string that begins behind a quote, and what is left behind it.
+fn string_at(line: &[u8]) -> (Word<'_>, &[u8])
+    ensures word { word_view result.0 ≡ (words.string_at line.now).word }
+    ensures rest { result.1.now ≡ (words.string_at line.now).rest }
+{
+    let (text, after) = line.split_at(quote_len(line));
+    match after {
+        [] => (Word::Unended, line),
+        [_, rest @ ..] => {
+            if is_word_end(rest) {
+                (Word::String(text), rest)
+            } else {
+                (Word::Faulty(Complaint::TextAfter), &rest[word_len(rest)..])
+            }
+        }
+    }
+}
+
+/// The word that a line begins with, and what is left behind it.
+#[tactic(auto, unfolding(crate::specs::Words::word_front))]
+pub fn word_front<'a>(first: u8, after: &'a [u8], line: &'a [u8]) -> (Word<'a>, &'a [u8])
+    requires line { line.now ≡ first ∷ after.now }
+    ensures word { word_view result.0 ≡ (words.word_front first after.now).word }
+    ensures rest { result.1.now ≡ (words.word_front first after.now).rest }
+{
+    match first {
+        b'{' => (Word::Open, after),
+        b'}' => (Word::Close, after),
+        b'"' => string_at(after),
+        b'#' => integer_at(after),
+        b'\'' => {
+            let (name, rest) = after.split_at(word_len(after));
+            (Word::Quoted(name), rest)
+        }
+        _ => {
+            let len = word_len(after);
+            (Word::Name(&line[..1 + len]), &after[len..])
+        }
+    }
+}

@@ -1,0 +1,38 @@
+//! Styles: what a `.bst` file says.
+#![tactic(auto)]
+
+mod bodies;
+mod body_words;
+pub mod built_in;
+pub mod callee;
+pub mod command;
+pub mod complaint;
+mod cursor;
+mod draft;
+mod fronts;
+mod integers;
+pub mod item;
+mod lists;
+pub mod macros;
+pub mod message;
+mod name;
+mod name_table;
+mod names;
+mod open;
+mod reader;
+#[cfg(test)]
+mod rows;
+pub mod style;
+pub mod token;
+mod turn;
+mod word;
+
+pub use built_in::BuiltIn;
+pub use callee::Callee;
+pub use command::Command;
+pub use complaint::Complaint;
+pub use item::Item;
+pub use macros::Macros;
+pub use message::Message;
+pub use style::{Style, read_style};
+pub use token::Token;

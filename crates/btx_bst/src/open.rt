@@ -1,0 +1,84 @@
+//! The functions whose bodies are being read.
+ghost use Rattle.std.specs.Prelude.{◌≡◌, [], ◌∷◌, ◌++◌, OnOk};
+ghost use Rattle.btx_bst.specs.Pending.{is_nested};
+ghost use Rattle.btx_bst.specs.Views.{opened, left_alone};
+
+use crate::token::Token;
+use std::alloc::{AllocError, Global};
+use std::marker::Model;
+
+/// The tokens so far of the innermost function, and those of the functions round it: one list, in which each function but the outermost
+/// has a start.
+#[derive(Drop)]
+pub struct Open {
+    tokens: Vec<Token>,
+    starts: Vec<usize>,
+}
+
+impl Model for Open {
+    ghost use Rattle.std.specs.Prelude.{reverse};
+    ghost use Rattle.btx_bst.specs.Views.{Opened};
+
+    ghost Value = { Opened };
+
+    ghost use Rattle.btx_bst.specs.Pending.{opened_in, IsCut};
+
+    ghost view = { λ o. opened_in o.tokens.items (reverse o.starts.items) };
+
+    ghost invariant = { λ o. IsCut o.tokens.items (reverse o.starts.items) };
+}
+
+impl Open {
+    /// One function, without tokens.
+    pub fn new(alloc: Global) -> Self
+        ensures { result ≡ opened [] [] }
+    {
+        Open {
+            tokens: Vec::new(alloc),
+            starts: Vec::new(alloc),
+        }
+    }
+
+    /// Whether the innermost function stands inside another.
+    pub fn is_nested(&self) -> bool
+        ensures { result ≡ is_nested self.now.around }
+    {
+        !self.starts.is_empty()
+    }
+
+    /// One more token.
+    pub fn push(&mut self, token: Token) -> Result<(), AllocError>
+        ensures { OnOk result (self.new ≡ opened (self.old.tokens ++ token ∷ []) self.old.around) }
+    {
+        self.tokens.push(token)?;
+        Ok(())
+    }
+
+    /// A function inside the innermost one.
+    pub fn open(&mut self) -> Result<(), AllocError>
+        ensures { OnOk result (self.new ≡ opened [] (self.old.tokens ∷ self.old.around)) }
+    {
+        self.starts.push(self.tokens.len())?;
+        Ok(())
+    }
+
+    /// Leaves the innermost function.
+    pub fn leave(&mut self)
+        ensures { self.new ≡ left_alone self.old.around }
+    {
+        match self.starts.pop() {
+            Some(start) => self.tokens.truncate(start),
+            None => self.tokens.clear(),
+        }
+    }
+
+    /// The tokens of the innermost function.
+    pub fn tokens(&self) -> &[Token]
+        ensures { result.now ≡ self.now.tokens }
+    {
+        match self.starts.last() {
+            Some(start) => &self.tokens[*start..],
+            None => self.tokens.as_slice(),
+        }
+    }
+}

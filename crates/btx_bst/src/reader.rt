@@ -1,0 +1,110 @@
+//! The reader of a style's items.
+ghost use Rattle.std.specs.Prelude.{◌≡◌, IfOk, OnOk};
+ghost use Rattle.btx_text.specs.Keys.{folded};
+ghost use Rattle.btx_bst.specs.Commands.{command_named};
+ghost use Rattle.btx_bst.specs.Outcomes.{after_read};
+ghost use Rattle.btx_bst.specs.Lists.{letters_at};
+ghost use Rattle.btx_bst.specs.StyleText.{item_turn, state, style_from, word_outcome, resumed_after, command_outcome};
+ghost use Rattle.btx_bst.specs.Weights.{HasRoom};
+ghost use Rattle.btx_bst.specs.DraftViews.{draft_view, item_turn_view, outcome_view};
+
+use crate::command::Command;
+use crate::complaint::Complaint;
+use crate::cursor::Cursor;
+use crate::draft::Draft;
+use crate::message::told;
+use crate::name::Name;
+use std::alloc::{AllocError, Global};
+
+/// Takes all items that are left.
+#[tactic(auto, using(crate::proofs::StyleLemmas::style_steps))]
+pub fn items<'a>(
+    alloc: Global,
+    cursor: &mut Cursor<'a>,
+    draft: &mut Draft<'a>,
+) -> Result<(), AllocError>
+    requires { HasRoom (draft_view draft.old) cursor.old }
+    ensures { OnOk result (draft_view draft.new ≡ style_from (state (draft_view draft.old) cursor.old)) }
+{
+    while item(alloc, cursor, draft)? {}
+    Ok(())
+}
+
+/// Takes an item, if there is one.
+#[tactic(auto, unfolding(crate::specs::StyleText::item_turn))]
+fn item<'a>(
+    alloc: Global,
+    cursor: &mut Cursor<'a>,
+    draft: &mut Draft<'a>,
+) -> Result<bool, AllocError>
+    requires { HasRoom (draft_view draft.old) cursor.old }
+    ensures { IfOk result (λ more. item_turn_view more (draft_view draft.new) cursor.new ≡ item_turn (state (draft_view draft.old) cursor.old)) }
+{
+    cursor.go_to_ink();
+    if cursor.line().is_empty() {
+        return Ok(false);
+    }
+    if let Some(complaint) = command(alloc, cursor, draft)? {
+        draft.items.push(told(complaint, cursor.number()))?;
+        cursor.skip();
+    }
+    Ok(true)
+}
+
+/// Takes a command.
+fn command<'a>(
+    alloc: Global,
+    cursor: &mut Cursor<'a>,
+    draft: &mut Draft<'a>,
+) -> Result<Option<Complaint<'a>>, AllocError>
+    requires { HasRoom (draft_view draft.old) cursor.old }
+    ensures { IfOk result (λ complaint. outcome_view complaint (draft_view draft.new) cursor.new ≡ command_outcome (draft_view draft.old) cursor.old) }
+{
+    let word = match cursor.letters() {
+        Ok(word) => word,
+        Err(complaint) => return Ok(Some(complaint)),
+    };
+    let lowered = Name::of(alloc, word)?;
+    match command_named(lowered.as_bytes()) {
+        None => Ok(Some(Complaint::NotCommand(word))),
+        Some(command) => draft.command(alloc, cursor, command),
+    }
+}
+
+/// The command of a name in lower case.
+#[tactic(auto, unfolding(crate::specs::Commands::command_named))]
+fn command_named(name: &[u8]) -> Option<Command>
+    ensures { result ≡ command_named name.now }
+{
+    if name == b"entry".as_slice() {
+        return Some(Command::Entry);
+    }
+    if name == b"function".as_slice() {
+        return Some(Command::Function);
+    }
+    if name == b"read".as_slice() {
+        return Some(Command::Read);
+    }
+    if name == b"execute".as_slice() {
+        return Some(Command::Execute);
+    }
+    if name == b"iterate".as_slice() {
+        return Some(Command::Iterate);
+    }
+    if name == b"reverse".as_slice() {
+        return Some(Command::Reverse);
+    }
+    if name == b"sort".as_slice() {
+        return Some(Command::Sort);
+    }
+    if name == b"integers".as_slice() {
+        return Some(Command::Integers);
+    }
+    if name == b"strings".as_slice() {
+        return Some(Command::Strings);
+    }
+    if name == b"macro".as_slice() {
+        return Some(Command::Macro);
+    }
+    None
+}

@@ -1,0 +1,67 @@
+//! A style read and shown by each call.
+use crate::built_in::BuiltIn;
+use crate::callee::Callee;
+use crate::item::Item;
+use crate::style::{Style, read_style};
+use crate::token::Token;
+use btx_text::Fault;
+use std::process::Abort;
+
+const TEXT: &[u8] =
+    b"ENTRY {Title}{n}{label} integers {i} STRINGS {s}\nmacro {jan} {\"January\"} function {misc} {} read\n\
+function {f} {\"a\" write$ {'f title} % none }\n #1 'skip$ if$} EXECUTE {F}\n\nSORT x";
+
+/// The calls that take a name.
+fn names(rt: &impl Abort, style: &Style<'_>) {
+    assert_eq!(rt; style.field(b"title"), Some(1));
+    assert_eq!(rt; style.named(b"crossref"), Some(Callee::Field(0)));
+    assert_eq!(rt;
+        style.named(b"while$"),
+        Some(Callee::BuiltIn(BuiltIn::While))
+    );
+    assert_eq!(rt; style.type_function(b"misc"), Some(0));
+    assert_eq!(rt; style.type_function(b"f"), None);
+    assert_eq!(rt; style.macro_text(b"jan").is_some(), true);
+    assert_eq!(rt; style.name(Callee::User(2)), b"f".as_slice());
+    assert_eq!(rt; style.name(Callee::User(1)), b"{}".as_slice());
+    assert_eq!(rt; style.name(Callee::Field(1)), b"title".as_slice());
+}
+
+/// The calls that count.
+fn counts(rt: &impl Abort, style: &Style<'_>) {
+    assert_eq!(rt; style.functions(), 3);
+    assert_eq!(rt; style.items().len(), 11);
+    assert_eq!(rt; style.fields(), 2);
+    assert_eq!(rt; style.entry_integers(), 1);
+    assert_eq!(rt; style.entry_strings(), 2);
+    assert_eq!(rt; style.global_integers(), 3);
+    assert_eq!(rt; style.global_strings(), 1);
+    assert_eq!(rt; style.macros().len(), 1);
+    assert_eq!(rt; style.text(0), b"a".as_slice());
+    assert_eq!(rt; style.text(1), b"".as_slice());
+}
+
+#[test]
+fn a_style(rt: HostRuntime) -> Result<(), Fault> {
+    let style = read_style(rt.alloc(), b"s.bst", TEXT)?;
+    names(&rt, &style);
+    counts(&rt, &style);
+    assert_eq!(rt; style.file_name(), b"s.bst".as_slice());
+    assert!(rt; 2 < style.functions());
+    assert_eq!(rt; style.body(2).first().copied(), Some(Token::Text(0)));
+    Ok(())
+}
+
+#[test]
+fn a_message(rt: HostRuntime) -> Result<(), Fault> {
+    let style = read_style(rt.alloc(), b"s.bst", b"\nFUNCTION {f} {nosuch}")?;
+    if let Some(Item::Message(message)) = style.items().first() {
+        let line = message.log_line(rt.alloc(), style.file_name())?;
+        assert_eq!(rt;
+            line.text(),
+            b"Error--nosuch is an unknown function--line 2 of file s.bst".as_slice()
+        );
+    }
+    assert_eq!(rt; style.items().len(), 2);
+    Ok(())
+}
