@@ -1,3 +1,13 @@
 pub mod Spellings
 pub mod Values
 pub mod Library
+pub mod Wanted
+pub mod Finding
+pub mod Filling
+pub mod Entries
+pub mod Stored
+pub mod Listing
+pub mod Passes
+pub mod Drafts
+pub mod Requests
+pub mod Steps

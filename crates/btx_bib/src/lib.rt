@@ -1,10 +1,16 @@
 //! What databases give to a job: its entries with their values and cross-references, the preamble, and what is told.
 #![tactic(auto)]
 
+mod draft;
 pub mod end;
 pub mod entry;
 pub mod library;
+mod lowering;
 pub mod message;
+mod names;
+mod passes;
+mod request;
+mod slots;
 pub mod spelling;
 pub mod values;
 

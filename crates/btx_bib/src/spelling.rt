@@ -1,5 +1,6 @@
 //! Keys and names, as files and values spell them.
-ghost use Rattle.std.specs.Prelude.{◌≡◌, IfOk};
+ghost use Rattle.std.specs.Prelude.{◌≡◌, ◌≤◌, IfOk, length};
+ghost use Rattle.btx_text.specs.Limits.{greatest_string};
 
 use btx_text::Text;
 use std::alloc::{AllocError, Global};
@@ -105,5 +106,16 @@ impl<'a> Spelling<'a> {
             Source::Value(text) => Source::Value(text.copy(alloc)?),
         };
         Ok(Spelling { source })
+    }
+
+    /// The spelling as a string, which it is short enough for.
+    pub fn to_text(&self, alloc: Global) -> Result<Text<'a>, AllocError>
+        requires { length self.now ≤ greatest_string }
+        ensures { IfOk result (λ text. text ≡ self.now) }
+    {
+        match &self.source {
+            Source::File(bytes) => Ok(Text::borrowed(bytes)),
+            Source::Value(text) => text.copy(alloc),
+        }
     }
 }
