@@ -8,3 +8,4 @@ pub mod ReadingLemmas
 pub mod PlaceLemmas
 pub mod Rows
 pub mod WholeItemLemmas
+pub mod ItemEventLemmas

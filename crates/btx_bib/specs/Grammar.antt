@@ -13,3 +13,4 @@ pub mod Reading
 pub mod Reads
 pub mod PlaceLines
 pub mod WholeItems
+pub mod ItemEvents

@@ -21,7 +21,7 @@ use Rattle.btx_bib.proofs.GrammarLemmas.ReadingLemmas.{spaced-open, spaced-key, 
 
 -- ---- the fields, one at a time
 
-more-shrinks : (d : Delimiter) (s : List ℕ) → Shrinks (length s) (more_at d s)
+pub more-shrinks : (d : Delimiter) (s : List ℕ) → Shrinks (length s) (more_at d s)
 more-shrinks d s = shrinks-more (more_at d s) (length (past Gap s)) (length s) (past-le Gap s) (more_in-shrinks d (past Gap s))
 
 fields-enough-by : (f g : List ℕ → Read (List Field)) (n : ℕ) (r : Read (Option Field)) → Shrinks n r → ((t : List ℕ) → length t < n → f t ≡ g t) → followed_by r (other_fields f) ≡ followed_by r (other_fields g)

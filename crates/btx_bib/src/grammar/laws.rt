@@ -1,9 +1,10 @@
 //! Laws over the definitions, each the contract of a function that does nothing.
-ghost use Rattle.std.specs.Prelude.{◌≡◌, ◌++◌, ℕ, [], Bool, List, Result};
+ghost use Rattle.std.specs.Prelude.{◌≡◌, ◌++◌, ℕ, [], Bool, false, List, Result};
 ghost use Rattle.btx_bib.specs.declared.grammar.slip.Slip.{Slip};
 ghost use Rattle.btx_bib.specs.Grammar.Fields.{Field, field_at};
 ghost use Rattle.btx_bib.specs.Grammar.Spelling.{FieldSpelling, Splits, Value, read_as};
-ghost use Rattle.btx_bib.specs.Grammar.Items.{Event, Placed, by_history, events_from};
+ghost use Rattle.btx_bib.specs.Grammar.ItemEvents.{Tells, read_events};
+ghost use Rattle.btx_bib.specs.Grammar.Items.{Event, Placed, behind_at, by_history, events_from};
 ghost use Rattle.btx_bib.specs.Grammar.Reading.{IsReading};
 ghost use Rattle.btx_bib.specs.declared.grammar.commands.Wanted.TheVariants as wanted;
 ghost use Rattle.btx_bib.specs.Grammar.Values.{Part, value_at};
@@ -37,4 +38,12 @@ pub fn one_reading()
         IsReading (by_history is_stored) [] wanted.Item text (events_from (by_history is_stored) [] wanted.Item text) }
     ensures only { (is_stored : List Event → List ℕ → Bool) (text : List ℕ) (events : List Placed) →
         IsReading (by_history is_stored) [] wanted.Item text events → events ≡ events_from (by_history is_stored) [] wanted.Item text }
+{}
+
+/// The events of a text are those of the item behind its first `@` and of the rest after it, or those before the fault that is met in
+/// that item, the fault, and those from its place on. (An entry whose key is stored is a fault by itself.)
+pub fn items_are_told()
+    ensures { (is_stored : List Event → List ℕ → Bool) (before : List Event) (text behind : List ℕ) →
+        behind_at text ≡ Some behind → ((key : List ℕ) → is_stored before key ≡ false) →
+        Tells (by_history is_stored) before wanted.Item text (read_events (item_at behind)) }
 {}

@@ -137,6 +137,7 @@ fn push_squeezed(text: &mut Vec<u8>, was_white: bool, bytes: &[u8]) -> Result<bo
     ensures text { OnOk result (text.new.items ≡ text.old.items ++ squeezing.squeezed_after was_white bytes.now) }
     ensures white { IfOk result (λ white. white ≡ squeezing.white_after was_white bytes.now) }
 {
+    text.reserve(bytes.len().min(GREATEST_STRING))?;
     let mut white = was_white;
     for &byte in bytes {
         if !is_gap(byte) {
