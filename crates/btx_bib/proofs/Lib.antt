@@ -1,3 +1,4 @@
+pub mod GrammarLemmas
 pub mod ValueLemmas
 pub mod LoweringLemmas
 pub mod TableNameLemmas

@@ -1,3 +1,4 @@
+pub mod Grammar
 pub mod Spellings
 pub mod Values
 pub mod Library

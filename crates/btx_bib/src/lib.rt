@@ -4,6 +4,7 @@
 mod draft;
 pub mod end;
 pub mod entry;
+pub mod grammar;
 pub mod library;
 mod lowering;
 pub mod message;
