@@ -1,15 +1,13 @@
 -- The values of the declared fields, one field after the other.
-use Rattle.std.proofs.Common.{append_assoc, add-one, get_or, ◌≡◌, ℕ, zero, suc, arith, ◌+◌, ◌<◌, ◌≤◌, ◌&&◌, Bool, true, false, cond, if◌then◌else◌, List, [], ◌∷◌, ◌++◌, map, length, Option, None, Some, is_some, refl, sym, ap, ◌∙◌}
-use Rattle.std.specs.Prelude.{slice_get, slice_set}
-use Rattle.std.specs.Str.{bytes_eq}
+use Rattle.std.proofs.Common.{add-one, ◌≡◌, ℕ, zero, suc, arith, ◌+◌, ◌<◌, ◌≤◌, Bool, true, false, cond, if◌then◌else◌, nat_eq, List, [], ◌∷◌, ◌++◌, length, Option, None, Some, is_some, refl, sym, ap, ◌∙◌}
+use Rattle.std.specs.Prelude.{slice_set}
 use Rattle.std.specs.Option.{option_or, option_map}
-use Rattle.std.specs.List.{find, AllByRecursion, IsDistinct}
-use Rattle.std.proofs.lemmas.Slice.Eq.{bytes_eq-Decides}
-use Rattle.std.proofs.lemmas.Map.Keys.{IsDistinct-head, IsDistinct-tail}
-use Rattle.btx_text.specs.Keys.{folded}
-use Rattle.btx_bib.specs.Finding.{place_of, changed_at}
-use Rattle.btx_bib.specs.Entries.{Field, is_named, value_in, values_of}
-use Rattle.btx_bib.specs.Filling.{blanks, value_by, with_value}
+use Rattle.std.specs.List.{find}
+use Rattle.std.proofs.lemmas.Bool.Decides.{nat_tests}
+use Rattle.btx_bib.specs.Finding.{changed_at}
+use Rattle.btx_bib.specs.Wanted.{Wanted}
+use Rattle.btx_bib.specs.Entries.{Field, is_number, number_of, value_in, values_from, values_of}
+use Rattle.btx_bib.specs.Filling.{blanks, with_value}
 use Rattle.btx_bib.specs.Values.{value_at}
 
 -- ---- by place
@@ -44,9 +42,9 @@ with_value-new (v ∷ values) (suc i) new h = ap (λ (rest : List (Option (List 
 
 -- ---- one more field
 
-pub values_of-none : (declared : List (List ℕ)) → blanks (length declared) ≡ values_of declared []
-values_of-none [] = refl
-values_of-none (name ∷ declared) = ap (λ (rest : List (Option (List ℕ))). None ∷ rest) (values_of-none declared)
+pub values_from-none : (wanted : Wanted) (first count : ℕ) → blanks count ≡ values_from wanted [] first count
+values_from-none wanted first zero = refl
+values_from-none wanted first (suc count) = ap (λ (rest : List (Option (List ℕ))). None ∷ rest) (values_from-none wanted (suc first) count)
 
 -- a value, if something is so
 abbrev value_if : Bool → List ℕ → Option (List ℕ)
@@ -64,73 +62,55 @@ last_value : (b : Bool) (x : Field) → option_map (λ (field : Field). field.va
 last_value true x = refl
 last_value false x = refl
 
-pub value_in-push : (fields : List Field) (field : Field) (name : List ℕ) → value_in (fields ++ field ∷ []) name ≡ option_or (value_in fields name) (value_if (is_named name field) field.value)
-value_in-push [] field name = last_value (is_named name field) field
-value_in-push (first ∷ fields) field name =
-    chosen (is_named name first) first _ _ (value_in-push fields field name)
-    ∙ or_chosen (is_named name first) first.value (value_in fields name) (value_if (is_named name field) field.value)
-    ∙ ap (λ (o : Option (List ℕ)). option_or o (value_if (is_named name field) field.value)) (sym (chosen (is_named name first) first _ _ refl))
-
 or_none : (o : Option (List ℕ)) → option_or o None ≡ o
 or_none None = refl
 or_none (Some x) = refl
 
--- the value stays where the field has another name
-value_in-other : (fields : List Field) (field : Field) (name : List ℕ) → is_named name field ≡ false → value_in (fields ++ field ∷ []) name ≡ value_in fields name
-value_in-other fields field name other = value_in-push fields field name ∙ ap (λ (b : Bool). option_or (value_in fields name) (value_if b field.value)) other ∙ or_none (value_in fields name)
+same_number : (n : ℕ) → nat_eq n n ≡ true
+same_number n = grind (arith, nat_tests)
 
-values_of-others : (declared : List (List ℕ)) (fields : List Field) (field : Field) (name : List ℕ) → bytes_eq (folded field.name) name ≡ true → AllByRecursion (λ (other : List ℕ). bytes_eq name other ≡ false) declared
-    → values_of declared (fields ++ field ∷ []) ≡ values_of declared fields
-values_of-others [] fields field name same others = refl
-values_of-others (other ∷ declared) fields field name same others =
-    let is : folded field.name ≡ name = (bytes_eq-Decides (folded field.name) name).0 same in
-    let differs : is_named other field ≡ false = rw is others.0 in
-    ap (λ (first : Option (List ℕ)). first ∷ values_of declared (fields ++ field ∷ [])) (value_in-other fields field other differs)
-    ∙ ap (λ (rest : List (Option (List ℕ))). value_in fields other ∷ rest) (values_of-others declared fields field name same others.1)
+other_number : (m n : ℕ) → m < n → nat_eq m n ≡ false
+other_number m n h = grind (arith, nat_tests)
 
--- the place of a name past a first one
-with_value-later : (place : Option ℕ) (new : List ℕ) (first : Option (List ℕ)) (values : List (Option (List ℕ))) → with_value (option_map suc place) new (first ∷ values) ≡ first ∷ with_value place new values
-with_value-later None new first values = refl
-with_value-later (Some place) new first values = refl
+later_number : (m n : ℕ) → n < m → nat_eq m n ≡ false
+later_number m n h = grind (arith, nat_tests)
 
-pub values_of-push : (declared : List (List ℕ)) (fields : List Field) (field : Field) → IsDistinct bytes_eq declared
-    → with_value (place_of (bytes_eq (folded field.name)) declared) field.value (values_of declared fields) ≡ values_of declared (fields ++ field ∷ [])
-values_of-push [] fields field distinct = refl
-values_of-push (name ∷ declared) fields field distinct = by_test (is_named name field) refl (values_of-push declared fields field (IsDistinct-tail bytes_eq name declared distinct)) where
-  by_test : (b : Bool) → is_named name field ≡ b
-      → with_value (place_of (bytes_eq (folded field.name)) declared) field.value (values_of declared fields) ≡ values_of declared (fields ++ field ∷ [])
-      → with_value (if b then Some 0 else option_map suc (place_of (bytes_eq (folded field.name)) declared)) field.value (values_of (name ∷ declared) fields) ≡ values_of (name ∷ declared) (fields ++ field ∷ [])
-  by_test true same before =
-      let first : value_in (fields ++ field ∷ []) name ≡ option_or (value_in fields name) (Some field.value) = value_in-push fields field name ∙ ap (λ (b : Bool). option_or (value_in fields name) (value_if b field.value)) same in
-      let rest = values_of-others declared fields field name same (IsDistinct-head bytes_eq name declared distinct) in
-      cc
-  by_test false other before =
-      with_value-later (place_of (bytes_eq (folded field.name)) declared) field.value (value_in fields name) (values_of declared fields)
-      ∙ ap (λ (rest : List (Option (List ℕ))). value_in fields name ∷ rest) before
-      ∙ ap (λ (first : Option (List ℕ)). first ∷ values_of declared (fields ++ field ∷ [])) (sym (value_in-other fields field name other))
+module _ (wanted : Wanted) where
+  value_in-push : (fields : List Field) (field : Field) (n : ℕ) → value_in wanted (fields ++ field ∷ []) n ≡ option_or (value_in wanted fields n) (value_if (is_number n (number_of wanted field)) field.value)
+  value_in-push [] field n = last_value (is_number n (number_of wanted field)) field
+  value_in-push (first ∷ fields) field n =
+      chosen (is_number n (number_of wanted first)) first _ _ (value_in-push fields field n)
+      ∙ or_chosen (is_number n (number_of wanted first)) first.value (value_in wanted fields n) (value_if (is_number n (number_of wanted field)) field.value)
+      ∙ ap (λ (o : Option (List ℕ)). option_or o (value_if (is_number n (number_of wanted field)) field.value)) (sym (chosen (is_number n (number_of wanted first)) first _ _ refl))
 
-value_by-later : (place : Option ℕ) (first : Option (List ℕ)) (values : List (Option (List ℕ))) → (is_some (option_map suc place) && is_some (value_by (option_map suc place) (first ∷ values))) ≡ (is_some place && is_some (value_by place values))
-value_by-later None first values = refl
-value_by-later (Some place) first values = refl
+  -- the value stays where the field has another number
+  value_in-other : (fields : List Field) (field : Field) (n : ℕ) → is_number n (number_of wanted field) ≡ false → value_in wanted (fields ++ field ∷ []) n ≡ value_in wanted fields n
+  value_in-other fields field n other =
+      value_in-push fields field n ∙ ap (λ (b : Bool). option_or (value_in wanted fields n) (value_if b field.value)) other ∙ or_none (value_in wanted fields n)
 
-some_suc : (place : Option ℕ) → is_some (option_map suc place) ≡ is_some place
-some_suc None = refl
-some_suc (Some place) = refl
+  value_in-same : (fields : List Field) (field : Field) (n : ℕ) → is_number n (number_of wanted field) ≡ true → value_in wanted (fields ++ field ∷ []) n ≡ option_or (value_in wanted fields n) (Some field.value)
+  value_in-same fields field n same = value_in-push fields field n ∙ ap (λ (b : Bool). option_or (value_in wanted fields n) (value_if b field.value)) same
 
--- the value that stands at the place of a name is the first of that name
-pub value_by-place : (declared : List (List ℕ)) (fields : List Field) (name : List ℕ)
-    → (is_some (place_of (bytes_eq name) declared) && is_some (value_by (place_of (bytes_eq name) declared) (values_of declared fields))) ≡ (is_some (place_of (bytes_eq name) declared) && is_some (value_in fields name))
-value_by-place [] fields name = refl
-value_by-place (first ∷ declared) fields name = by_test (bytes_eq name first) refl (value_by-place declared fields name) where
-  by_test : (b : Bool) → bytes_eq name first ≡ b
-      → (is_some (place_of (bytes_eq name) declared) && is_some (value_by (place_of (bytes_eq name) declared) (values_of declared fields))) ≡ (is_some (place_of (bytes_eq name) declared) && is_some (value_in fields name))
-      → (is_some (if b then Some 0 else option_map suc (place_of (bytes_eq name) declared)) && is_some (value_by (if b then Some 0 else option_map suc (place_of (bytes_eq name) declared)) (values_of (first ∷ declared) fields)))
-      ≡ (is_some (if b then Some 0 else option_map suc (place_of (bytes_eq name) declared)) && is_some (value_in fields name))
-  by_test true same before = ap (λ (n : List ℕ). is_some (value_in fields n)) (sym ((bytes_eq-Decides name first).0 same))
-  by_test false other before =
-      value_by-later (place_of (bytes_eq name) declared) (value_in fields first) (values_of declared fields)
-      ∙ before
-      ∙ ap (λ (b : Bool). b && is_some (value_in fields name)) (sym (some_suc (place_of (bytes_eq name) declared)))
+  values_from-others : (fields : List Field) (field : Field) (m first count : ℕ) → number_of wanted field ≡ Some m → m < first → values_from wanted (fields ++ field ∷ []) first count ≡ values_from wanted fields first count
+  values_from-others fields field m first zero is before = refl
+  values_from-others fields field m first (suc count) is before =
+      let other : is_number first (number_of wanted field) ≡ false = ap (is_number first) is ∙ other_number m first before in
+      ap (λ (value : Option (List ℕ)). value ∷ values_from wanted (fields ++ field ∷ []) (suc first) count) (value_in-other fields field first other)
+      ∙ ap (λ (rest : List (Option (List ℕ))). value_in wanted fields first ∷ rest) (values_from-others fields field m (suc first) count is (omega arith))
+
+  -- one more field changes the value of its number alone, if there was none
+  pub values_from-push : (fields : List Field) (field : Field) (place first count m : ℕ) → number_of wanted field ≡ Some m → m ≡ first + place
+      → with_value (Some place) field.value (values_from wanted fields first count) ≡ values_from wanted (fields ++ field ∷ []) first count
+  values_from-push fields field place first zero m is at = refl
+  values_from-push fields field zero first (suc count) m is at =
+      let same : is_number first (number_of wanted field) ≡ true =
+      ap (is_number first) is ∙ ap (λ (k : ℕ). nat_eq k first) (let e : m ≡ first = omega arith in e) ∙ same_number first in
+      ap (λ (value : Option (List ℕ)). value ∷ values_from wanted fields (suc first) count) (sym (value_in-same fields field first same))
+      ∙ ap (λ (rest : List (Option (List ℕ))). value_in wanted (fields ++ field ∷ []) first ∷ rest) (sym (values_from-others fields field m (suc first) count is (omega arith)))
+  values_from-push fields field (suc place) first (suc count) m is at =
+      let other : is_number first (number_of wanted field) ≡ false = ap (is_number first) is ∙ later_number m first (omega arith) in
+      ap (λ (value : Option (List ℕ)). value ∷ with_value (Some place) field.value (values_from wanted fields (suc first) count)) (sym (value_in-other fields field first other))
+      ∙ ap (λ (rest : List (Option (List ℕ))). value_in wanted (fields ++ field ∷ []) first ∷ rest) (values_from-push fields field place (suc first) count m is (omega arith))
 
 blanks-suc : (count : ℕ) → blanks count ++ None ∷ [] ≡ None ∷ blanks count
 blanks-suc zero = refl

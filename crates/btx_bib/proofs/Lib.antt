@@ -10,3 +10,6 @@ pub mod PassLemmas
 pub mod DraftLemmas
 pub mod CitedLemmas
 pub mod StoringLemmas
+pub mod StringLemmas
+pub mod ListLemmas
+pub mod LibraryRows

@@ -3,8 +3,7 @@ use Rattle.std.proofs.Common.{◌≡◌, ℕ, zero, suc, arith, ◌+◌, ◌<◌
 use Rattle.std.specs.Prelude.{position}
 use Rattle.std.specs.Str.{bytes_eq}
 use Rattle.std.specs.Option.{option_map}
-use Rattle.std.specs.List.{list_any, position_or_len, AllByRecursion, IsDistinct}
-use Rattle.std.proofs.lemmas.Map.Keys.{IsDistinct-head, IsDistinct-tail, IsDistinct-cons}
+use Rattle.std.specs.List.{list_any, position_or_len}
 use Rattle.std.proofs.lemmas.Bool.Decides.{nat_tests}
 use Rattle.indexmap.specs.IndexSet.{insert_key}
 use Rattle.btx_aux.specs.Entries.{Bytes, texts_of}
@@ -53,12 +52,3 @@ any-texts (first ∷ names) name = ap (λ (b : Bool). bytes_eq name first.items 
 pub texts_of-push : (names : List Bytes) (name : Bytes) → texts_of (names ++ name ∷ []) ≡ texts_of names ++ name.items ∷ []
 texts_of-push [] name = refl
 texts_of-push (first ∷ names) name = ap (λ (rest : List (List ℕ)). first.items ∷ rest) (texts_of-push names name)
-
-all-texts : (names : List Bytes) (name : List ℕ) → AllByRecursion (λ (other : Bytes). bytes_eq name other.items ≡ false) names → AllByRecursion (λ (other : List ℕ). bytes_eq name other ≡ false) (texts_of names)
-all-texts [] name h = tt
-all-texts (first ∷ names) name h = (h.0, all-texts names name h.1)
-
-pub distinct-texts : (names : List Bytes) → IsDistinct (λ (a b : Bytes). bytes_eq a.items b.items) names → IsDistinct bytes_eq (texts_of names)
-unfolding IsDistinct
-distinct-texts [] h = tt
-distinct-texts (first ∷ names) h = (all-texts names first.items h.0, distinct-texts names h.1)

@@ -11,4 +11,9 @@ pub mod Listing
 pub mod Passes
 pub mod Drafts
 pub mod Requests
+pub mod Strings
+pub mod Known
+pub mod Told
+pub mod Databases
+pub mod Laws
 pub mod Steps

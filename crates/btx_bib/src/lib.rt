@@ -5,6 +5,7 @@ mod draft;
 pub mod end;
 pub mod entry;
 pub mod grammar;
+pub mod laws;
 pub mod library;
 mod lowering;
 pub mod message;
@@ -13,6 +14,7 @@ mod passes;
 mod request;
 mod slots;
 pub mod spelling;
+mod strings;
 pub mod values;
 
 pub use end::End;

@@ -1,4 +1,5 @@
 //! What is told of databases.
+use crate::grammar::slip::Slip;
 use crate::spelling::{Spelling, Word};
 use std::alloc::{AllocError, Global};
 use std::marker::Model;
@@ -15,8 +16,8 @@ pub struct Spot<'a> {
 /// What is told.
 #[derive(Drop)]
 pub enum Message<'a> {
-    /// The key is one that an earlier entry has.
-    Repeated(Spot<'a>),
+    /// What is wrong in a database.
+    Wrong(Slip, Spot<'a>),
     /// The type of the entry with this key isn't one of the style.
     UnknownKind(Word<'a>, Spot<'a>),
     /// An entry's key, and a field of it that it had already.

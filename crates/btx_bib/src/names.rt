@@ -1,7 +1,7 @@
 //! Names in lower case, each once, found by a table.
-ghost use Rattle.std.specs.Prelude.{◌≡◌, [], OnOk, length, ◌++◌, ◌∷◌, false};
+ghost use Rattle.std.specs.Prelude.{◌≡◌, [], OnOk, ◌++◌, ◌∷◌, false};
 ghost use Rattle.std.specs.Str.{bytes_eq};
-ghost use Rattle.std.specs.List.{IsDistinct, list_any};
+ghost use Rattle.std.specs.List.{list_any};
 ghost use Rattle.btx_bib.specs.Finding.{place_of};
 
 use crate::lowering::Lowered;
@@ -32,14 +32,6 @@ impl Names {
         Names {
             set: IndexSet::new(alloc),
         }
-    }
-
-    /// How many names there are.
-    pub fn len(&self) -> usize
-        ensures count { result ≡ length self.now }
-        ensures distinct { IsDistinct bytes_eq self.now }
-    {
-        self.set.len()
     }
 
     /// The place of a name.
