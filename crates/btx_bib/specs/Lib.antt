@@ -14,6 +14,8 @@ pub mod Requests
 pub mod Strings
 pub mod Known
 pub mod Told
+pub mod Sites
+pub mod Gatherings
 pub mod Databases
 pub mod Laws
 pub mod Steps

@@ -4,6 +4,7 @@
 mod draft;
 pub mod end;
 pub mod entry;
+mod gathering;
 pub mod grammar;
 pub mod laws;
 pub mod library;
@@ -12,6 +13,7 @@ pub mod message;
 mod names;
 mod passes;
 mod request;
+mod site;
 mod slots;
 pub mod spelling;
 mod strings;
