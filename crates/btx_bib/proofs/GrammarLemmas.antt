@@ -1,0 +1,11 @@
+pub mod RunLemmas
+pub mod ValueLemmas
+pub mod ItemLemmas
+pub mod LengthLemmas
+pub mod SpellingLemmas
+pub mod SqueezeLemmas
+pub mod ReadingLemmas
+pub mod PlaceLemmas
+pub mod Rows
+pub mod WholeItemLemmas
+pub mod ItemEventLemmas

@@ -1,0 +1,45 @@
+-- Worked rows of the reading.
+use Rattle.std.proofs.Common.{◌≡◌, ℕ, List, [], ◌∷◌, map, false, refl, None, Some, Option}
+use Rattle.std.specs.Prelude.{codes}
+use Rattle.btx_bib.specs.declared.grammar.byte_sets.Delimiter.TheVariants.{Braces, Parens}
+use Rattle.btx_bib.specs.declared.grammar.commands.Wanted.TheVariants.{Item}
+use Rattle.btx_bib.specs.declared.grammar.slip.Slip.TheVariants.{NoComma, NoEquals, NoClosing, NoValue, NoName, NoDelimiter, Unbalanced, EndOfFile}
+use Rattle.btx_bib.specs.declared.grammar.value_ends.Ends.TheVariants.{Kept}
+use Rattle.btx_bib.specs.Grammar.ByteSets.{run_len, enclosed_len}
+use Rattle.btx_bib.specs.Grammar.Tokens.{name_in, open_in, sign_in, key_in}
+use Rattle.btx_bib.specs.Grammar.Values.{Braced, Quoted, Digits, Named, part_in, value_within, value_at}
+use Rattle.btx_bib.specs.Grammar.Fields.{field_at, after_comma, more_in}
+use Rattle.btx_bib.specs.Grammar.Items.{Event, Comment, Preamble, Definition, Entry, FieldOf, End, Wrong, command_of, head_of, head_at, behind_at, step_of, Keeping, by_history, events_within, events_from}
+use Rattle.btx_bib.specs.Grammar.ValueTexts.{squeezed, value_text}
+
+-- no entry is stored
+abbrev nothing_stored : Keeping (List Event)
+nothing_stored = by_history (λ before key. false)
+
+-- the events of a text, without their places
+events_in : List ℕ → List Event
+unfolding events_from events_within step_of behind_at head_at head_of command_of more_in after_comma field_at value_at value_within part_in name_in open_in sign_in key_in run_len enclosed_len
+events_in text = map (λ placed. placed.event) (events_from nothing_stored [] Item text)
+
+unbalanced_quotes : events_in (codes "@misc(k, title = \"a}b\")") ≡ Entry (codes "misc") (codes "k") ∷ Wrong Unbalanced ∷ []
+unfolding events_in events_from events_within step_of behind_at head_at head_of command_of more_in after_comma field_at value_at value_within part_in name_in open_in sign_in key_in run_len enclosed_len
+unbalanced_quotes = refl
+
+two_fields : events_in (codes "@misc{k, title={A{b}},\n TITLE = 1 # b,}") ≡
+    Entry (codes "misc") (codes "k") ∷ FieldOf (record { name = codes "title"; value = Braced (codes "A{b}") ∷ [] }) ∷ FieldOf (record { name = codes "TITLE"; value = Digits (codes "1") ∷ Named (record { name = codes "b"; rest = codes ",}" }) ∷ [] }) ∷ End ∷ []
+unfolding events_in events_from events_within step_of behind_at head_at head_of command_of more_in after_comma field_at value_at value_within part_in name_in open_in sign_in key_in run_len enclosed_len
+two_fields = refl
+
+string_and_end_of_file : events_in (codes "@String{s = \"x\" # s}\n@misc{k") ≡
+    Definition (codes "s") (Quoted (codes "x") ∷ Named (record { name = codes "s"; rest = codes "}\n@misc{k" }) ∷ []) ∷ End ∷ Entry (codes "misc") (codes "k") ∷ Wrong EndOfFile ∷ []
+unfolding events_in events_from events_within step_of behind_at head_at head_of command_of more_in after_comma field_at value_at value_within part_in name_in open_in sign_in key_in run_len enclosed_len
+string_and_end_of_file = refl
+
+no_comma : events_in (codes "@misc{k f} x @comment@ @a(b) 12 {c}") ≡ Entry (codes "misc") (codes "k") ∷ Wrong (NoComma Braces) ∷ Wrong NoDelimiter ∷ Entry (codes "a") (codes "b)") ∷ Wrong (NoComma Parens) ∷ []
+unfolding events_in events_from events_within step_of behind_at head_at head_of command_of more_in after_comma field_at value_at value_within part_in name_in open_in sign_in key_in run_len enclosed_len
+no_comma = refl
+
+-- white over parts is one space
+white_over_parts : value_text Kept (λ name. Some (codes "x\t")) (Named (record { name = codes "s"; rest = [] }) ∷ Quoted (codes " y ") ∷ Braced (codes "  z") ∷ []) ≡ codes "x y z"
+unfolding squeezed
+white_over_parts = refl

@@ -1,0 +1,223 @@
+-- Lemmas on the text of a value: white is made one space while the bytes are read.
+use Rattle.std.proofs.Common.{◌≡◌, ℕ, zero, suc, ◌+◌, ◌<◌, ◌≤◌, Bool, true, false, cond, List, [], ◌∷◌, ◌++◌, length, take, drop, get_or, ◌-◌, ◌&&◌, not, eqb, refl, sym, ◌∙◌, ap, arith, append_assoc, Ok, Err}
+use Rattle.std.proofs.lemmas.List.{append-nil, drop_all, drop_more, length-append, length-take, take_all, take_at, take_more}
+use Rattle.std.proofs.lemmas.Bool.{and_parts, eqb-true, true≢false}
+use Rattle.std.specs.List.{flat_map}
+use Rattle.btx_text.specs.declared.fault.Fault.{Fault}
+use Rattle.btx_text.specs.declared.fault.Fault.TheVariants.{Memory, Device, FileLimit, StringLimit}
+use Rattle.btx_text.specs.Limits.{greatest_string}
+use Rattle.btx_bib.specs.declared.grammar.byte_sets.ByteSet.TheVariants.{Gap}
+use Rattle.btx_bib.specs.declared.grammar.value_ends.Ends.{Ends}
+use Rattle.btx_bib.specs.declared.grammar.value_ends.Ends.TheVariants.{Kept, Trimmed}
+use Rattle.btx_bib.specs.Grammar.ByteSets.{is_gap, begins, past, run_len}
+use Rattle.btx_bib.specs.Grammar.Values.{Part}
+use Rattle.btx_bib.specs.Grammar.ValueTexts.{Strings, text_of_part, joined_text, squeezed, shaped, value_text, without_first_space, without_last_space, GathersWithin, Makes}
+use Rattle.btx_bib.specs.Grammar.Squeezing.{squeezed_after, white_after, is_squeezed, ends_in_gap, stands, without_last_gap, without_gaps}
+
+both : (s : List ℕ) → (squeezed_after false s ≡ squeezed s) × (squeezed s ≡ cond (begins is_gap s) (32 ∷ squeezed_after true s) (squeezed_after true s))
+unfolding squeezed
+both [] = (refl, refl)
+both (b ∷ bs) = at (is_gap b) (begins is_gap bs) (both bs) where
+  at : (t u : Bool) → (squeezed_after false bs ≡ squeezed bs) × (squeezed bs ≡ cond u (32 ∷ squeezed_after true bs) (squeezed_after true bs)) →
+      (cond t (32 ∷ squeezed_after true bs) (b ∷ squeezed_after false bs) ≡ cond t (cond u (squeezed bs) (32 ∷ squeezed bs)) (b ∷ squeezed bs)) ×
+      (cond t (cond u (squeezed bs) (32 ∷ squeezed bs)) (b ∷ squeezed bs) ≡ cond t (32 ∷ cond t (squeezed_after true bs) (b ∷ squeezed_after false bs)) (cond t (squeezed_after true bs) (b ∷ squeezed_after false bs)))
+  at true true h = (sym h.1, h.1)
+  at true false h = (ap (λ x. 32 ∷ x) (sym h.1), ap (λ x. 32 ∷ x) h.1)
+  at false u h = (ap (λ x. b ∷ x) h.0, ap (λ x. b ∷ x) (sym h.0))
+
+pub squeezed-from : (s : List ℕ) → squeezed s ≡ squeezed_after false s
+squeezed-from s = sym (both s).0
+
+pub squeezed_after-append : (white : Bool) (s t : List ℕ) → squeezed_after white (s ++ t) ≡ squeezed_after white s ++ squeezed_after (white_after white s) t
+squeezed_after-append white [] t = refl
+squeezed_after-append white (b ∷ bs) t = at (is_gap b) white (squeezed_after-append true bs t) (squeezed_after-append false bs t) where
+  at : (g w : Bool) → squeezed_after true (bs ++ t) ≡ squeezed_after true bs ++ squeezed_after (white_after true bs) t → squeezed_after false (bs ++ t) ≡ squeezed_after false bs ++ squeezed_after (white_after false bs) t →
+      cond g (cond w (squeezed_after true (bs ++ t)) (32 ∷ squeezed_after true (bs ++ t))) (b ∷ squeezed_after false (bs ++ t)) ≡
+      cond g (cond w (squeezed_after true bs) (32 ∷ squeezed_after true bs)) (b ∷ squeezed_after false bs) ++ squeezed_after (white_after g bs) t
+  at true true h k = h
+  at true false h k = ap (λ x. 32 ∷ x) h
+  at false w h k = ap (λ x. b ∷ x) k
+
+-- ---- byte by byte
+
+pub squeezed_after-next : (white : Bool) (s : List ℕ) (i : ℕ) → i < length s →
+    squeezed_after white (drop i s) ≡ cond (is_gap (get_or s i 0)) (cond white (squeezed_after true (drop (i + 1) s)) (32 ∷ squeezed_after true (drop (i + 1) s))) (get_or s i 0 ∷ squeezed_after false (drop (i + 1) s))
+squeezed_after-next white s i h = rw (drop_more s i 0 h) refl
+
+pub white_after-next : (white : Bool) (s : List ℕ) (i : ℕ) → i < length s → white_after white (drop i s) ≡ white_after (is_gap (get_or s i 0)) (drop (i + 1) s)
+white_after-next white s i h = rw (drop_more s i 0 h) refl
+
+pub squeezed_after-all : (white : Bool) (s : List ℕ) (i : ℕ) → length s ≤ i → squeezed_after white (drop i s) ≡ []
+squeezed_after-all white s i h = rw (drop_all i s h) refl
+
+pub white_after-all : (white : Bool) (s : List ℕ) (i : ℕ) → length s ≤ i → white_after white (drop i s) ≡ white
+white_after-all white s i h = rw (drop_all i s h) refl
+
+pub ruleset squeeze_steps = (squeezed_after-next, white_after-next, squeezed_after-all, white_after-all)
+
+-- ---- part by part
+
+-- after a part the text and what is still to come are what they were
+pub part-goes : (strings : Strings) (text new bytes total : List ℕ) (was white : Bool) (part : Part) (left parts : List Part) → left ≡ part ∷ parts → bytes ≡ text_of_part strings part →
+    new ≡ text ++ squeezed_after was bytes → white ≡ white_after was bytes → text ++ squeezed_after was (joined_text strings left) ≡ total → new ++ squeezed_after white (joined_text strings parts) ≡ total
+part-goes strings text new bytes total was white part left parts l b n w e =
+    let others = joined_text strings parts in
+    let before : text ++ squeezed_after was (bytes ++ others) ≡ total = ap (λ t. text ++ squeezed_after was (t ++ others)) b ∙ ap (λ ps. text ++ squeezed_after was (joined_text strings ps)) (sym l) ∙ e in
+    rw (n, w) (append_assoc text (squeezed_after was bytes) (squeezed_after (white_after was bytes) others) ∙ ap (λ t. text ++ t) (sym (squeezed_after-append was bytes others)) ∙ before)
+
+-- a text that is too long before its end is too long at it
+pub part-long : (most : ℕ) (strings : Strings) (new total : List ℕ) (white : Bool) (parts : List Part) → new ++ squeezed_after white (joined_text strings parts) ≡ total → most < length new → most < length total
+part-long most strings new total white parts e lt =
+    let len = ap length e in
+    let sum = length-append new (squeezed_after white (joined_text strings parts)) in
+    omega arith
+
+-- ---- a field's value
+
+gap-space : (b : ℕ) → is_gap b ≡ false → eqb b 32 ≡ false
+gap-space b h = at (eqb b 32) refl where
+  at : (t : Bool) → eqb b 32 ≡ t → t ≡ false
+  at true is = absurd (true≢false (sym (ap is_gap (eqb-true b 32 is)) ∙ h))
+  at false is = refl
+
+first-space : (s : List ℕ) → squeezed_after true s ≡ without_first_space (squeezed s)
+unfolding squeezed
+first-space [] = refl
+first-space (b ∷ bs) = at (is_gap b) refl (both (b ∷ bs)).1 where
+  at : (t : Bool) → is_gap b ≡ t → squeezed (b ∷ bs) ≡ cond t (32 ∷ squeezed_after true (b ∷ bs)) (squeezed_after true (b ∷ bs)) → squeezed_after true (b ∷ bs) ≡ without_first_space (squeezed (b ∷ bs))
+  at true is e = rw e refl
+  at false is e = rw (is, gap-space b is) (ap (λ x. b ∷ x) (both bs).0)
+
+-- a field's text is what is squeezed after white, without a last space
+pub shaped-trimmed : (s : List ℕ) → shaped Trimmed s ≡ without_last_space (squeezed_after true s)
+shaped-trimmed s = ap without_last_space (sym (first-space s))
+
+-- at most one byte goes
+pub last-length : (s : List ℕ) → length s ≤ suc (length (without_last_space s))
+last-length s = at (eqb (get_or s (length s - 1) 0) 32) where
+  at : (t : Bool) → length s ≤ suc (length (cond t (take (length s - 1) s) s))
+  at true = omega (arith, length-take (length s - 1) s)
+  at false = omega arith
+
+-- ---- values that stand in the file
+
+pub is_squeezed-next : (white : Bool) (s : List ℕ) (i : ℕ) → i < length s →
+    is_squeezed white (drop i s) ≡ cond (is_gap (get_or s i 0)) ((eqb (get_or s i 0) 32 && not white) && is_squeezed true (drop (i + 1) s)) (is_squeezed false (drop (i + 1) s))
+unfolding is_squeezed
+is_squeezed-next white s i h = rw (drop_more s i 0 h) refl
+
+pub is_squeezed-all : (white : Bool) (s : List ℕ) (i : ℕ) → length s ≤ i → is_squeezed white (drop i s) ≡ true
+unfolding is_squeezed
+is_squeezed-all white s i h = rw (drop_all i s h) refl
+
+pub ruleset plain_steps = (is_squeezed-next, is_squeezed-all)
+
+-- what is squeezed is its own value
+pub squeezed_after-plain : (white : Bool) (s : List ℕ) → is_squeezed white s ≡ true → squeezed_after white s ≡ s
+unfolding is_squeezed
+squeezed_after-plain white [] h = refl
+squeezed_after-plain white (b ∷ bs) h = at (is_gap b) (eqb b 32) white refl h (squeezed_after-plain true bs) (squeezed_after-plain false bs) where
+  at : (g t w : Bool) → eqb b 32 ≡ t → cond g ((t && not w) && is_squeezed true bs) (is_squeezed false bs) ≡ true →
+      (is_squeezed true bs ≡ true → squeezed_after true bs ≡ bs) → (is_squeezed false bs ≡ true → squeezed_after false bs ≡ bs) →
+      cond g (cond w (squeezed_after true bs) (32 ∷ squeezed_after true bs)) (b ∷ squeezed_after false bs) ≡ b ∷ bs
+  at true true false e h here later = let is = eqb-true b 32 e in rw (is, here h) refl
+  at true true true e h here later = absurd (true≢false (sym h))
+  at true false w e h here later = absurd (true≢false (sym h))
+  at false t w e h here later = rw (later h) refl
+
+not-true : (t : Bool) → not t ≡ true → t ≡ false
+not-true true h = sym h
+not-true false h = refl
+
+last-no-gap : (s : List ℕ) → ends_in_gap s ≡ false → without_last_space s ≡ s
+last-no-gap s h = rw (gap-space (get_or s (length s - 1) 0) h) refl
+
+-- the white at the beginning goes
+squeezed_after-past : (s : List ℕ) → squeezed_after true s ≡ squeezed_after true (past Gap s)
+unfolding run_len
+squeezed_after-past [] = refl
+squeezed_after-past (b ∷ bs) = at (is_gap b) refl (squeezed_after-past bs) where
+  at : (g : Bool) → is_gap b ≡ g → squeezed_after true bs ≡ squeezed_after true (past Gap bs) →
+      squeezed_after true (b ∷ bs) ≡ squeezed_after true (drop (cond g (suc (run_len Gap bs)) 0) (b ∷ bs))
+  at true is h = rw is h
+  at false is h = refl
+
+snoc-last : (s : List ℕ) (b : ℕ) → get_or (s ++ b ∷ []) (length (s ++ b ∷ []) - 1) 0 ≡ b
+snoc-last [] b = refl
+snoc-last (c ∷ cs) b =
+    let len = length-append cs (b ∷ []) in
+    let e : length (c ∷ (cs ++ b ∷ [])) - 1 ≡ suc (length (cs ++ b ∷ []) - 1) = omega arith in
+    rw e (snoc-last cs b)
+
+snoc-take : (s : List ℕ) (b : ℕ) → take (length (s ++ b ∷ []) - 1) (s ++ b ∷ []) ≡ s
+snoc-take s b = take_at s (b ∷ []) (length (s ++ b ∷ []) - 1) (omega (arith, length-append s (b ∷ [])))
+
+space-snoc : (s : List ℕ) → without_last_space (s ++ 32 ∷ []) ≡ s
+space-snoc s = rw (snoc-last s 32) (snoc-take s 32)
+
+-- one byte of white at the end goes
+last-gap : (u : List ℕ) (g : ℕ) → is_gap g ≡ true → squeezed_after true u ≡ u → ends_in_gap u ≡ false → without_last_space (squeezed_after true (u ++ g ∷ [])) ≡ u
+last-gap u g is plain ends = rw (squeezed_after-append true u (g ∷ []), plain, is) (at (white_after true u)) where
+  at : (w : Bool) → without_last_space (u ++ cond w [] (32 ∷ [])) ≡ u
+  at true = rw (append-nil u) (last-no-gap u ends)
+  at false = space-snoc u
+
+split-last : (s : List ℕ) → 0 < length s → s ≡ take (length s - 1) s ++ get_or s (length s - 1) 0 ∷ []
+split-last s some =
+    let e : length s ≡ (length s - 1) + 1 = omega arith in
+    sym (take_all (length s) s (omega arith)) ∙ ap (λ n. take n s) e ∙ take_more s (length s - 1) 0 (omega arith)
+
+some-last : (t : List ℕ) → ends_in_gap t ≡ true → 0 < length t
+some-last [] e = cc
+some-last (b ∷ bs) e = omega arith
+
+trimmed-inner : (s : List ℕ) → is_squeezed true (without_last_gap s) ≡ true → ends_in_gap (without_last_gap s) ≡ false → without_last_space (squeezed_after true s) ≡ without_last_gap s
+trimmed-inner s = at (ends_in_gap s) refl where
+  at : (t : Bool) → ends_in_gap s ≡ t → is_squeezed true (cond t (take (length s - 1) s) s) ≡ true → ends_in_gap (cond t (take (length s - 1) s) s) ≡ false →
+      without_last_space (squeezed_after true s) ≡ cond t (take (length s - 1) s) s
+  at false is plain ends = rw (squeezed_after-plain true s plain) (last-no-gap s ends)
+  at true is plain ends =
+      let u = take (length s - 1) s in
+      ap (λ t. without_last_space (squeezed_after true t)) (split-last s (some-last s is)) ∙ last-gap u (get_or s (length s - 1) 0) is (squeezed_after-plain true u plain) ends
+
+-- a text that stands as a value gives itself
+pub shaped-stands : (ends : Ends) (s : List ℕ) → stands ends s ≡ true → shaped ends s ≡ s
+shaped-stands Kept s h = squeezed-from s ∙ squeezed_after-plain false s h
+shaped-stands Trimmed s h =
+    let parts = and_parts (is_squeezed true s) _ h in
+    shaped-trimmed s ∙ ap without_last_space (squeezed_after-plain true s parts.0) ∙ last-no-gap s (not-true _ parts.1)
+
+pub shaped-nothing : (ends : Ends) → shaped ends [] ≡ []
+unfolding squeezed
+shaped-nothing Kept = refl
+shaped-nothing Trimmed = refl
+
+-- so does a field's text with white round it
+pub shaped-inner : (s : List ℕ) → stands Trimmed (without_gaps s) ≡ true → shaped Trimmed s ≡ without_gaps s
+shaped-inner s h =
+    let parts = and_parts (is_squeezed true (without_gaps s)) _ h in
+    shaped-trimmed s ∙ ap without_last_space (squeezed_after-past s) ∙ trimmed-inner (past Gap s) parts.0 (not-true _ parts.1)
+
+pub ruleset standing = (shaped-stands, shaped-inner)
+
+-- a value of one part
+pub joined-one : (strings : Strings) (part : Part) → joined_text strings (part ∷ []) ≡ text_of_part strings part
+joined-one strings part = append-nil (text_of_part strings part)
+
+pub ruleset lone = (joined-one)
+
+-- ---- what the code makes
+
+-- a fault of the text with its last space is one of the text without it
+pub fault-fits : (fault : Fault) (s t : List ℕ) → t ≡ without_last_space s → GathersWithin (suc greatest_string) (Err fault) s → Makes (Err fault) t
+fault-fits Memory s t e h = tt
+fault-fits StringLimit s t e h = omega (arith, last-length s, ap length e)
+fault-fits Device s t e h = absurd h
+fault-fits FileLimit s t e h = absurd h
+
+-- so is one of a text that keeps its ends
+pub fault-same : (fault : Fault) (s t : List ℕ) → t ≡ s → GathersWithin greatest_string (Err fault) s → Makes (Err fault) t
+fault-same Memory s t e h = tt
+fault-same StringLimit s t e h = omega (arith, ap length e)
+fault-same Device s t e h = absurd h
+fault-same FileLimit s t e h = absurd h

@@ -1,0 +1,15 @@
+pub mod GrammarLemmas
+pub mod ValueLemmas
+pub mod LoweringLemmas
+pub mod TableNameLemmas
+pub mod FillingLemmas
+pub mod PlaceLemmas
+pub mod ListedKeyLemmas
+pub mod SlotLemmas
+pub mod PassLemmas
+pub mod DraftLemmas
+pub mod CitedLemmas
+pub mod StoringLemmas
+pub mod StringLemmas
+pub mod ListLemmas
+pub mod LibraryRows

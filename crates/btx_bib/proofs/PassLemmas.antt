@@ -1,0 +1,172 @@
+-- The passes, place by place.
+use Rattle.std.proofs.Common.{◌≡◌, ℕ, zero, suc, arith, ◌+◌, ◌<◌, ◌≤◌, Bool, true, false, cond, if◌then◌else◌, List, [], ◌∷◌, ◌++◌, map, take, drop, length, Option, None, Some, refl, sym, ap, subst, ◌∙◌, add-one, append_assoc}
+use Rattle.std.specs.Prelude.{slice_get}
+use Rattle.std.specs.Str.{bytes_eq}
+use Rattle.std.specs.Option.{option_map}
+use Rattle.btx_text.specs.Keys.{folded}
+use Rattle.btx_aux.specs.Names.{is_same_key}
+use Rattle.btx_bib.specs.declared.message.Message.{Message}
+use Rattle.btx_bib.specs.declared.slots.Slot.{Slot}
+use Rattle.btx_bib.specs.Finding.{place_of, changed_at}
+use Rattle.btx_bib.specs.Passes.{passed, told_in, parent_at, parent_slot, slot_at, with_body, with_values, values_in, inherited_values, inherited, inherited_from, checked, checked_by, is_parent, cut, check_told, check_told_by, parent_told}
+use Rattle.btx_bib.specs.Steps.{names_of, slot_by, told_by}
+use Rattle.btx_bib.proofs.ListedKeyLemmas.{folded-same}
+
+pub changed_at-agree : (xs : List Slot) (p : ℕ) (x : Slot) (f g : Slot → Slot) → slice_get xs p ≡ Some x → f x ≡ g x → changed_at p f xs ≡ changed_at p g xs
+changed_at-agree [] p x f g at same = refl
+changed_at-agree (y ∷ xs) zero x f g at same = let is : y ≡ x = cc in rw is (ap (λ (first : Slot). first ∷ xs) same)
+changed_at-agree (y ∷ xs) (suc p) x f g at same = ap (λ (rest : List Slot). y ∷ rest) (changed_at-agree xs p x f g at same)
+
+pub changed_at-keep : (xs : List Slot) (p : ℕ) (x : Slot) (f : Slot → Slot) → slice_get xs p ≡ Some x → f x ≡ x → xs ≡ changed_at p f xs
+changed_at-keep [] p x f at same = refl
+changed_at-keep (y ∷ xs) zero x f at same = let is : y ≡ x = cc in rw is (ap (λ (first : Slot). first ∷ xs) (sym same))
+changed_at-keep (y ∷ xs) (suc p) x f at same = ap (λ (rest : List Slot). y ∷ rest) (changed_at-keep xs p x f at same)
+
+pub changed_at-none : (xs : List Slot) (p : ℕ) (f : Slot → Slot) → slice_get xs p ≡ None → xs ≡ changed_at p f xs
+changed_at-none [] p f at = refl
+changed_at-none (y ∷ xs) zero f at = cc
+changed_at-none (y ∷ xs) (suc p) f at = ap (λ (rest : List Slot). y ∷ rest) (changed_at-none xs p f at)
+
+pub names_of-changed : (xs : List Slot) (p : ℕ) (f : Slot → Slot) → ((x : Slot) → (f x).key ≡ x.key) → names_of (changed_at p f xs) ≡ names_of xs
+names_of-changed [] p f keeps = refl
+names_of-changed (x ∷ xs) zero f keeps = ap (λ (key : List ℕ). folded key ∷ names_of xs) (keeps x)
+names_of-changed (x ∷ xs) (suc p) f keeps = ap (λ (rest : List (List ℕ)). folded x.key ∷ rest) (names_of-changed xs p f keeps)
+
+-- ---- the place of a key
+
+later : (slot : Slot) (slots : List Slot) (o : Option ℕ) → slot_by (slot ∷ slots) (option_map suc o) ≡ slot_by slots o
+later slot slots None = refl
+later slot slots (Some place) = refl
+
+pub slot_at-place : (slots : List Slot) (key : List ℕ) → slot_at slots key ≡ slot_by slots (place_of (bytes_eq (folded key)) (names_of slots))
+slot_at-place [] key = refl
+slot_at-place (slot ∷ slots) key = by_test (is_same_key key slot.key) (slot_at-place slots key) where
+  by_test : (b : Bool) → slot_at slots key ≡ slot_by slots (place_of (bytes_eq (folded key)) (names_of slots))
+      → cond b (Some slot) (slot_at slots key) ≡ slot_by (slot ∷ slots) (if b then Some 0 else option_map suc (place_of (bytes_eq (folded key)) (names_of slots)))
+  by_test true rest = refl
+  by_test false rest = rest ∙ sym (later slot slots (place_of (bytes_eq (folded key)) (names_of slots)))
+
+pub slot_at-by : (slots : List Slot) (names : List (List ℕ)) (key : List ℕ) (o : Option Slot) → names ≡ names_of slots → o ≡ slot_by slots (place_of (bytes_eq (folded key)) names) → slot_at slots key ≡ o
+slot_at-by slots names key o are is = slot_at-place slots key ∙ ap (λ (ns : List (List ℕ)). slot_by slots (place_of (bytes_eq (folded key)) ns)) (sym are) ∙ sym is
+
+-- ---- what a pass makes of a place
+
+pub inherited-alone : (slots : List Slot) (slot : Slot) → parent_at slot ≡ None → inherited slots slot ≡ slot
+unfolding inherited
+inherited-alone slots slot none = ap (λ (o : Option (List ℕ)). inherited_from (parent_slot slots o) slot) none
+
+pub inherited-by : (slots : List Slot) (slot : Slot) (key : List ℕ) (o : Option Slot) → parent_at slot ≡ Some key → slot_at slots key ≡ o → inherited slots slot ≡ inherited_from o slot
+unfolding inherited
+inherited-by slots slot key o some is = ap (λ (o : Option (List ℕ)). inherited_from (parent_slot slots o) slot) some ∙ ap (λ (o : Option Slot). inherited_from o slot) is
+
+key-from : (o : Option Slot) (slot : Slot) → (inherited_from o slot).key ≡ slot.key
+key-from None slot = refl
+key-from (Some parent) slot = refl
+
+pub key-inherited : (slots : List Slot) (slot : Slot) → (inherited slots slot).key ≡ slot.key
+unfolding inherited
+key-inherited slots slot = key-from (parent_slot slots (parent_at slot)) slot
+
+pub checked-alone : (slots : List Slot) (slot : Slot) → parent_at slot ≡ None → checked slots slot ≡ slot
+unfolding checked
+checked-alone slots slot none = ap (λ (o : Option (List ℕ)). checked_by o slots slot) none
+
+pub told-alone : (slots : List Slot) (slot : Slot) → parent_at slot ≡ None → check_told slots slot ≡ []
+unfolding check_told
+told-alone slots slot none = ap (λ (o : Option (List ℕ)). check_told_by o slots slot) none
+
+pub checked-is : (slots : List Slot) (slot : Slot) (key : List ℕ) (o : Option Slot) → parent_at slot ≡ Some key → slot_at slots key ≡ o → checked slots slot ≡ (if is_parent o then slot else cut slot)
+unfolding checked
+checked-is slots slot key o some is = ap (λ (o : Option (List ℕ)). checked_by o slots slot) some ∙ ap (λ (o : Option Slot). if is_parent o then slot else cut slot) is
+
+pub told-is : (slots : List Slot) (slot : Slot) (key : List ℕ) (o : Option Slot) → parent_at slot ≡ Some key → slot_at slots key ≡ o → check_told slots slot ≡ parent_told slot.key key o
+unfolding check_told
+told-is slots slot key o some is = ap (λ (o : Option (List ℕ)). check_told_by o slots slot) some ∙ ap (λ (o : Option Slot). parent_told slot.key key o) is
+
+key-checked_by : (o : Option (List ℕ)) (slots : List Slot) (slot : Slot) → (checked_by o slots slot).key ≡ slot.key
+key-checked_by None slots slot = refl
+key-checked_by (Some key) slots slot = by_test (is_parent (slot_at slots key)) where
+  by_test : (b : Bool) → (if b then slot else cut slot).key ≡ slot.key
+  by_test true = refl
+  by_test false = refl
+
+pub key-checked : (slots : List Slot) (slot : Slot) → (checked slots slot).key ≡ slot.key
+unfolding checked
+key-checked slots slot = key-checked_by (parent_at slot) slots slot
+
+-- ---- a whole pass
+
+split : (xs : List Slot) (p : ℕ) → p < length xs → (x : Slot) × ((slice_get xs p ≡ Some x) × ((drop p xs ≡ x ∷ drop (suc p) xs) × (take p xs ++ x ∷ drop (suc p) xs ≡ xs)))
+split [] p h = absurd (omega arith)
+split (x ∷ xs) zero h = (x, (refl, (refl, refl)))
+split (x ∷ xs) (suc p) h =
+    let rest = split xs p (omega arith) in
+    (rest.0, (rest.1.0, (rest.1.1.0, ap (λ (ys : List Slot). x ∷ ys) rest.1.1.1)))
+
+take-changed : (xs : List Slot) (p : ℕ) (x : Slot) (f : Slot → Slot) → slice_get xs p ≡ Some x → take (suc p) (changed_at p f xs) ≡ take p xs ++ f x ∷ []
+take-changed [] p x f at = cc
+take-changed (y ∷ xs) zero x f at = let is : y ≡ x = cc in ap (λ (first : Slot). f first ∷ []) is
+take-changed (y ∷ xs) (suc p) x f at = ap (λ (ys : List Slot). y ∷ ys) (take-changed xs p x f at)
+
+drop-changed : (xs : List Slot) (p : ℕ) (f : Slot → Slot) → drop (suc p) (changed_at p f xs) ≡ drop (suc p) xs
+drop-changed [] p f = refl
+drop-changed (y ∷ xs) zero f = refl
+drop-changed (y ∷ xs) (suc p) f = drop-changed xs p f
+
+pub length-changed : (xs : List Slot) (p : ℕ) (f : Slot → Slot) → length (changed_at p f xs) ≡ length xs
+length-changed [] p f = refl
+length-changed (x ∷ xs) zero f = refl
+length-changed (x ∷ xs) (suc p) f = ap suc (length-changed xs p f)
+
+module _ (judge : List Slot → Slot → Slot) where
+  pub passed-next : (slots after : List Slot) (p : ℕ) → p < length slots → after ≡ changed_at p (judge slots) slots → passed judge (take (p + 1) after) (drop (p + 1) after) ≡ passed judge (take p slots) (drop p slots)
+  passed-next slots after p within is =
+      let s = split slots p within in
+      ap (λ (n : ℕ). passed judge (take n after) (drop n after)) (add-one p)
+      ∙ ap (λ (xs : List Slot). passed judge (take (suc p) xs) (drop (suc p) xs)) is
+      ∙ ap (λ (xs : List Slot). passed judge xs (drop (suc p) (changed_at p (judge slots) slots))) (take-changed slots p s.0 (judge slots) s.1.0)
+      ∙ ap (λ (xs : List Slot). passed judge (take p slots ++ judge slots s.0 ∷ []) xs) (drop-changed slots p (judge slots))
+      ∙ ap (λ (xs : List Slot). passed judge (take p slots ++ judge xs s.0 ∷ []) (drop (suc p) slots)) (sym s.1.1.1)
+      ∙ ap (λ (xs : List Slot). passed judge (take p slots) xs) (sym s.1.1.0)
+
+  -- what is told at a place
+  abbrev pub told_here : (List Slot → Slot → List Message) → List Slot → Option Slot → List Message
+  told_here tell slots None = []
+  told_here tell slots (Some slot) = tell slots slot
+
+  pub told-next : (tell : List Slot → Slot → List Message) (slots after : List Slot) (p : ℕ) (told told' whole : List Message) → p < length slots → after ≡ changed_at p (judge slots) slots
+      → told' ≡ told ++ told_here tell slots (slice_get slots p) → told ++ told_in judge tell (take p slots) (drop p slots) ≡ whole → told' ++ told_in judge tell (take (p + 1) after) (drop (p + 1) after) ≡ whole
+  told-next tell slots after p told told' whole within is tells total =
+      let s = split slots p within in
+      let rest = told_in judge tell (take p slots ++ judge slots s.0 ∷ []) (drop (suc p) slots) in
+      ap (λ (n : ℕ). told' ++ told_in judge tell (take n after) (drop n after)) (add-one p)
+      ∙ ap (λ (xs : List Slot). told' ++ told_in judge tell (take (suc p) xs) (drop (suc p) xs)) is
+      ∙ ap (λ (xs : List Slot). told' ++ told_in judge tell xs (drop (suc p) (changed_at p (judge slots) slots))) (take-changed slots p s.0 (judge slots) s.1.0)
+      ∙ ap (λ (xs : List Slot). told' ++ told_in judge tell (take p slots ++ judge slots s.0 ∷ []) xs) (drop-changed slots p (judge slots))
+      ∙ ap (λ (ms : List Message). ms ++ rest) tells
+      ∙ ap (λ (o : Option Slot). (told ++ told_here tell slots o) ++ rest) s.1.0
+      ∙ append_assoc told (tell slots s.0) rest
+      ∙ ap (λ (xs : List Slot). told ++ (tell xs s.0 ++ told_in judge tell (take p slots ++ judge xs s.0 ∷ []) (drop (suc p) slots))) (sym s.1.1.1)
+      ∙ ap (λ (xs : List Slot). told ++ told_in judge tell (take p slots) xs) (sym s.1.1.0)
+      ∙ total
+
+pub told_by-here : (slots : List Slot) (o : Option Slot) → told_by slots o ≡ told_here checked check_told slots o
+told_by-here slots None = refl
+told_by-here slots (Some slot) = refl
+
+-- ---- the length of a parent's key
+
+slot_at-same : (slots : List Slot) (key : List ℕ) (slot : Slot) → slot_at slots key ≡ Some slot → is_same_key key slot.key ≡ true
+slot_at-same [] key slot h = cc
+slot_at-same (s ∷ slots) key slot h = by_test (is_same_key key s.key) refl h (slot_at-same slots key slot) where
+  by_test : (b : Bool) → is_same_key key s.key ≡ b → cond b (Some s) (slot_at slots key) ≡ Some slot → (slot_at slots key ≡ Some slot → is_same_key key slot.key ≡ true) → is_same_key key slot.key ≡ true
+  by_test true same h rest = let is : s ≡ slot = cc in subst (λ (x : Slot). is_same_key key x.key ≡ true) is same
+  by_test false differs h rest = rest h
+
+length-folded : (key : List ℕ) → length (folded key) ≡ length key
+length-folded [] = refl
+length-folded (b ∷ key) = ap suc (length-folded key)
+
+pub parent-length : (slots : List Slot) (key : List ℕ) (parent : Slot) → slot_at slots key ≡ Some parent → length parent.key ≡ length key
+parent-length slots key parent at =
+    sym (length-folded parent.key) ∙ ap (λ (name : List ℕ). length name) (sym (folded-same key parent.key (slot_at-same slots key parent at))) ∙ length-folded key

@@ -1,0 +1,34 @@
+use Rattle.std.proofs.Common.{◌≡◌, ◌∙◌, ◌++◌, ◌≤◌, ◌<◌, List, [], sym, ap, length, arith, refl}
+use Rattle.std.proofs.lemmas.List.{append-nil}
+use Rattle.btx_bib.specs.Grammar.PartViews.{part_view}
+use Rattle.btx_bib.specs.Grammar.Squeezing.{squeezed_after}
+use Rattle.btx_bib.specs.Grammar.ValueTexts.{joined_text, text_of_part}
+use Rattle.btx_bib.proofs.GrammarLemmas.SqueezeLemmas.{part-goes, part-long}
+use Rattle.btx_bib.proofs.grammar.value_texts.gathered.Goals as goal
+
+pub returns-then-len-most : goal.returns-then-len-most
+returns-then-len-most g c =
+    let strings = g.S.Strings.values c.args.strings.now in
+    let part = part_view c.in-Some.part in
+    let total = squeezed_after c.args.was_white (joined_text strings c.args.value.now) in
+    let goes = part-goes strings c.loop-part.text.items c.push_part.new.text.items (text_of_part strings part) total c.loop-part.white c.in_ok-white.white part
+    c.loop-part.part-iterator c.next.new.self c.in-Some.ensures.steps refl c.in_ok-white.ensures.text c.in_ok-white.ensures.white c.loop-part.invariant.0 in
+    part-long c.args.most strings c.push_part.new.text.items total c.in_ok-white.white c.next.new.self goes (omega arith)
+
+pub loop-part-preserved : goal.loop-part-preserved
+loop-part-preserved g c =
+    let strings = g.S.Strings.values c.args.strings.now in
+    let part = part_view c.in-Some.part in
+    let total = squeezed_after c.args.was_white (joined_text strings c.args.value.now) in (
+      part-goes strings c.loop-part.text.items c.push_part.new.text.items (text_of_part strings part) total c.loop-part.white c.in_ok-white.white part
+          c.loop-part.part-iterator c.next.new.self c.in-Some.ensures.steps refl c.in_ok-white.ensures.text c.in_ok-white.ensures.white c.loop-part.invariant.0,
+      omega arith,
+    )
+
+pub returns : goal.returns
+returns g c =
+    let strings = g.S.Strings.values c.args.strings.now in
+    let none : c.loop-part.part-iterator ≡ [] = c.in-None.ensures.steps.0 in
+    let whole : c.loop-part.text.items ≡ squeezed_after c.args.was_white (joined_text strings c.args.value.now) =
+    sym (append-nil c.loop-part.text.items) ∙ ap (λ ps. c.loop-part.text.items ++ squeezed_after c.loop-part.white (joined_text strings ps)) (sym none) ∙ c.loop-part.invariant.0 in
+    (whole, (let len = ap length whole in omega (arith, c.loop-part.invariant.1)))

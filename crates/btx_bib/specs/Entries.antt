@@ -1,0 +1,58 @@
+-- What an entry of a database gives: its values for the declared fields, the number of its type, and its parent.
+use Rattle.std.specs.Prelude.{ℕ, zero, suc, nat_eq, Bool, false, List, [], ◌∷◌, Option, None, Some}
+use Rattle.std.specs.List.{find}
+use Rattle.std.specs.Option.{option_map}
+use Rattle.btx_text.specs.Keys.{folded}
+use Rattle.btx_bib.specs.declared.slots.Body.{Body}
+use Rattle.btx_bib.specs.Wanted.{Wanted}
+
+-- a field: its name, and its value's text
+pub record Field : Type 0 where
+  pub name : List ℕ
+  pub value : List ℕ
+
+-- an entry as a database gives it: its type, its key, and those of its fields that are kept
+pub record Given : Type 0 where
+  pub kind : List ℕ
+  pub key : List ℕ
+  pub fields : List Field
+
+-- the number of the declared field that a field is, if it is one
+abbrev pub number_of : Wanted → Field → Option ℕ
+number_of wanted field = wanted.field (folded field.name)
+
+-- this is the number
+abbrev pub is_number : ℕ → Option ℕ → Bool
+is_number number None = false
+is_number number (Some other) = nat_eq other number
+
+-- the value of the first field of this number
+abbrev pub value_in : Wanted → List Field → ℕ → Option (List ℕ)
+value_in wanted fields number = option_map (λ (field : Field). field.value) (find (λ (field : Field). is_number number (number_of wanted field)) fields)
+
+-- the values from a number on, for so many fields
+abbrev pub values_from : Wanted → List Field → ℕ → ℕ → List (Option (List ℕ))
+values_from wanted fields first zero = []
+values_from wanted fields first (suc count) = value_in wanted fields first ∷ values_from wanted fields (suc first) count
+
+-- for each declared field its value, or that it is missing
+abbrev pub values_of : Wanted → List Field → List (Option (List ℕ))
+values_of wanted fields = values_from wanted fields 0 wanted.count
+
+-- the value of the first declared field, which is `crossref`: the key of the parent
+abbrev pub parent_in : List (Option (List ℕ)) → Option (List ℕ)
+parent_in [] = None
+parent_in (value ∷ values) = value
+
+-- the key of the parent of an entry, if it has one
+abbrev pub parent_of : Wanted → Given → Option (List ℕ)
+parent_of wanted given = parent_in (values_of wanted given.fields)
+
+-- what the list has of an entry: the number of the style's function for its type, and its values
+unfoldable pub body_of : Wanted → Given → Body
+body_of wanted given = record { kind = wanted.kind (folded given.kind); values = values_of wanted given.fields }
+
+-- a list of one, or of none
+abbrev pub listed : {T : Type 0} → Option T → List T
+listed None = []
+listed (Some x) = x ∷ []

@@ -1,0 +1,16 @@
+pub mod ByteSets
+pub mod Tokens
+pub mod Values
+pub mod PartViews
+pub mod Fields
+pub mod FieldViews
+pub mod Items
+pub mod EventViews
+pub mod Spelling
+pub mod ValueTexts
+pub mod Squeezing
+pub mod Reading
+pub mod Reads
+pub mod PlaceLines
+pub mod WholeItems
+pub mod ItemEvents

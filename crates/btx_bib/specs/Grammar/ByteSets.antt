@@ -1,0 +1,67 @@
+-- The bytes that the words of a database are made of, and the runs of them.
+use Rattle.std.specs.Prelude.{ℕ, suc, ◌==◌, ◌||◌, ◌&&◌, not, nat_le, Bool, false, List, [], ◌∷◌, take, drop, if◌then◌else◌}
+use Rattle.btx_text.specs.Class.{is_white, is_digit}
+use Rattle.btx_text.specs.Elements.{depth_after}
+use Rattle.btx_bib.specs.declared.grammar.byte_sets.Delimiter.{Delimiter}
+use Rattle.btx_bib.specs.declared.grammar.byte_sets.Delimiter.TheVariants.{Braces, Parens}
+use Rattle.btx_bib.specs.declared.grammar.byte_sets.ByteSet.{ByteSet}
+use Rattle.btx_bib.specs.declared.grammar.byte_sets.ByteSet.TheVariants.{Gap, NameByte, Digit, KeyByte}
+use Rattle.btx_bib.specs.declared.grammar.byte_sets.Enclosure.{Enclosure}
+use Rattle.btx_bib.specs.declared.grammar.byte_sets.Enclosure.TheVariants.{Group, Quotes}
+
+-- white, or the end of a line
+abbrev pub is_gap : ℕ → Bool
+is_gap b = is_white b || b == 10
+
+-- the bytes from 33 up that no name has: `" # % ' ( ) , = { }`
+abbrev pub is_sign : ℕ → Bool
+is_sign b = b == 34 || b == 35 || b == 37 || b == 39 || b == 40 || b == 41 || b == 44 || b == 61 || b == 123 || b == 125
+
+-- a byte that names are made of
+abbrev pub is_name_byte : ℕ → Bool
+is_name_byte b = nat_le 33 b && not (is_sign b)
+
+-- a byte that a name begins with: no digit
+abbrev pub begins_name : ℕ → Bool
+begins_name b = is_name_byte b && not (is_digit b)
+
+-- a byte that a key in these delimiters is made of
+abbrev pub is_key_byte : Delimiter → ℕ → Bool
+is_key_byte Braces b = not (is_gap b || b == 44 || b == 125)
+is_key_byte Parens b = not (is_gap b || b == 44)
+
+-- a byte of a set
+abbrev pub is_in : ByteSet → ℕ → Bool
+is_in Gap b = is_gap b
+is_in NameByte b = is_name_byte b
+is_in Digit b = is_digit b
+is_in (KeyByte delimiter) b = is_key_byte delimiter b
+
+-- how many bytes of a set a text begins with
+unfoldable pub run_len : ByteSet → List ℕ → ℕ
+run_len set [] = 0
+run_len set (b ∷ bs) = if is_in set b then suc (run_len set bs) else 0
+
+-- the longest run of a set that a text begins with
+abbrev pub run : ByteSet → List ℕ → List ℕ
+run set text = take (run_len set text) text
+
+-- what follows it
+abbrev pub past : ByteSet → List ℕ → List ℕ
+past set text = drop (run_len set text) text
+
+-- a text begins with a byte that passes
+abbrev pub begins : (ℕ → Bool) → List ℕ → Bool
+begins test [] = false
+begins test (b ∷ bs) = test b
+
+-- the bytes at which, at depth 0, what is enclosed ends: in quotes a `}` ends it too, and is a fault
+abbrev pub ends_enclosed : Enclosure → ℕ → Bool
+ends_enclosed Group b = b == 125
+ends_enclosed Quotes b = b == 34 || b == 125
+
+-- how many bytes stand before the first that ends it, in a text whose brace depth is given; all, where there is none
+unfoldable pub enclosed_len : Enclosure → ℕ → List ℕ → ℕ
+enclosed_len enclosure depth [] = 0
+enclosed_len enclosure depth (b ∷ bs) =
+    if depth == 0 && ends_enclosed enclosure b then 0 else suc (enclosed_len enclosure (depth_after depth b) bs)

@@ -1,0 +1,39 @@
+-- The fields of an entry.
+use Rattle.std.specs.Prelude.{ℕ, ◌==◌, List, drop, Option, None, Some, Ok, Err, if◌then◌else◌}
+use Rattle.btx_bib.specs.declared.grammar.byte_sets.Delimiter.{Delimiter}
+use Rattle.btx_bib.specs.declared.grammar.byte_sets.ByteSet.TheVariants.{Gap}
+use Rattle.btx_bib.specs.declared.grammar.slip.Slip.TheVariants.{NoComma, NoEquals}
+use Rattle.btx_bib.specs.Grammar.ByteSets.{begins, past}
+use Rattle.btx_bib.specs.Grammar.Tokens.{Read, followed_by, wrong_at, name_at, sign_at, closing}
+use Rattle.btx_bib.specs.Grammar.Values.{Part, value_at}
+
+-- a field: its name and its value
+pub record Field : Type 0 where
+  pub name : List ℕ
+  pub value : List Part
+
+-- a field: a name, `=` and a value
+unfoldable pub field_at : List ℕ → Read Field
+field_at text =
+    followed_by (name_at text) (λ name behind_name.
+    followed_by (sign_at 61 NoEquals behind_name) (λ sign behind_sign.
+    followed_by (value_at behind_sign) (λ value rest. Ok (record { name = name; value = value }, rest))))
+
+-- a field, where one more may stand
+abbrev pub one_more : Read Field → Read (Option Field)
+one_more (Ok got) = Ok (Some got.0, got.1)
+one_more (Err wrong) = Err wrong
+
+-- after a comma: the closing delimiter ends the entry, else a field follows
+unfoldable pub after_comma : Delimiter → List ℕ → Read (Option Field)
+after_comma delimiter rest =
+    if begins (λ b. b == closing delimiter) rest then Ok (None, drop 1 rest) else one_more (field_at rest)
+
+-- after the key or a field: the closing delimiter ends the entry, or a comma stands
+unfoldable pub more_in : Delimiter → List ℕ → Read (Option Field)
+more_in delimiter rest =
+    if begins (λ b. b == closing delimiter) rest then Ok (None, drop 1 rest)
+    else if begins (λ b. b == 44) rest then after_comma delimiter (past Gap (drop 1 rest)) else wrong_at (NoComma delimiter) rest
+
+abbrev pub more_at : Delimiter → List ℕ → Read (Option Field)
+more_at delimiter text = more_in delimiter (past Gap text)

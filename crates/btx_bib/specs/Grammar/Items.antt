@@ -1,0 +1,128 @@
+-- Items as they are read: what follows an `@`, then the fields of an entry one by one, and the end.
+use Rattle.std.specs.Prelude.{ℕ, Bool, false, zero, suc, ◌+◌, ◌*◌, ◌==◌, List, [], ◌∷◌, ◌++◌, length, Option, None, Some, Ok, Err, if◌then◌else◌, codes}
+use Rattle.std.specs.Str.{bytes_eq}
+use Rattle.std.specs.Option.{option_map}
+use Rattle.btx_text.specs.Keys.{folded}
+use Rattle.btx_bib.specs.declared.grammar.byte_sets.Delimiter.{Delimiter}
+use Rattle.btx_bib.specs.declared.grammar.commands.Command.{Command}
+use Rattle.btx_bib.specs.declared.grammar.commands.Command.TheVariants as command
+use Rattle.btx_bib.specs.declared.grammar.commands.Wanted.{Wanted}
+use Rattle.btx_bib.specs.declared.grammar.commands.Wanted.TheVariants.{Item, Closing, Fields}
+use Rattle.btx_bib.specs.declared.grammar.slip.Slip.{Slip}
+use Rattle.btx_bib.specs.declared.grammar.slip.Slip.TheVariants.{NoEquals, NoClosing, Repeated}
+use Rattle.btx_bib.specs.Grammar.Tokens.{Read, followed_by, name_at, open_at, sign_at, key_at, closing}
+use Rattle.btx_bib.specs.Grammar.Values.{Part, value_at}
+use Rattle.btx_bib.specs.Grammar.Fields.{Field, more_at}
+
+-- what is read: an `@comment`, a `@preamble`'s value, a `@string`'s name and value, an entry's type and key, a field, the end of
+-- the item, or what is wrong
+pub data Event : Type 0 where
+  Comment : Event
+  Preamble : (value : List Part) → Event
+  Definition : (name : List ℕ) (value : List Part) → Event
+  Entry : (kind key : List ℕ) → Event
+  FieldOf : (field : Field) → Event
+  End : Event
+  Wrong : (slip : Slip) → Event
+
+-- the command of a name, whose case is ignored: any other name is an entry's type
+unfoldable pub command_of : List ℕ → Command
+command_of name =
+    if bytes_eq (folded name) (codes "comment") then command.Comment
+    else if bytes_eq (folded name) (codes "preamble") then command.Preamble
+    else if bytes_eq (folded name) (codes "string") then command.Definition else command.Entry
+
+-- what a command begins, and what is wanted after it
+unfoldable pub head_of : Command → List ℕ → List ℕ → Read (Event × Wanted)
+head_of command.Comment name text = Ok ((Comment, Item), text)
+head_of command.Preamble name text =
+    followed_by (open_at text) (λ delimiter behind_open.
+    followed_by (value_at behind_open) (λ value rest. Ok ((Preamble value, Closing delimiter), rest)))
+head_of command.Definition name text =
+    followed_by (open_at text) (λ delimiter behind_open.
+    followed_by (name_at behind_open) (λ string behind_name.
+    followed_by (sign_at 61 NoEquals behind_name) (λ sign behind_sign.
+    followed_by (value_at behind_sign) (λ value rest. Ok ((Definition string value, Closing delimiter), rest)))))
+head_of command.Entry name text =
+    followed_by (open_at text) (λ delimiter behind_open.
+    followed_by (key_at delimiter behind_open) (λ key rest. Ok ((Entry name key, Fields delimiter), rest)))
+
+-- what follows an `@`
+unfoldable pub head_at : List ℕ → Read (Event × Wanted)
+head_at text = followed_by (name_at text) (λ name rest. head_of (command_of name) name rest)
+
+-- the end of an item
+abbrev pub ended : Read (Unit {0}) → Read (Event × Wanted)
+ended (Ok got) = Ok ((End, Item), got.1)
+ended (Err wrong) = Err wrong
+
+-- a field, or the end of an entry
+abbrev pub field_event : Delimiter → Read (Option Field) → Read (Event × Wanted)
+field_event delimiter (Ok (None, rest)) = Ok ((End, Item), rest)
+field_event delimiter (Ok (Some field, rest)) = Ok ((FieldOf field, Fields delimiter), rest)
+field_event delimiter (Err wrong) = Err wrong
+
+-- what is read at a place, what is wanted next, and the text from there on
+pub record Step : Type 0 where
+  pub event : Event
+  pub wanted : Wanted
+  pub rest : List ℕ
+
+-- after what is wrong an item is wanted
+abbrev pub step_by : Read (Event × Wanted) → Step
+step_by (Ok got) = record { event = got.0.0; wanted = got.0.1; rest = got.1 }
+step_by (Err wrong) = record { event = Wrong wrong.0; wanted = Item; rest = wrong.1 }
+
+-- the text behind the first `@`
+unfoldable pub behind_at : List ℕ → Option (List ℕ)
+behind_at [] = None
+behind_at (b ∷ bs) = if b == 64 then Some bs else behind_at bs
+
+-- what is read where this is wanted
+unfoldable pub step_of : Wanted → List ℕ → Option Step
+step_of Item text = option_map (λ rest. step_by (head_at rest)) (behind_at text)
+step_of (Closing delimiter) text = Some (step_by (ended (sign_at (closing delimiter) (NoClosing delimiter) text)))
+step_of (Fields delimiter) text = Some (step_by (field_event delimiter (more_at delimiter text)))
+
+-- an event, and the text from its end on, which is its place
+pub record Placed : Type 0 where
+  pub event : Event
+  pub rest : List ℕ
+
+-- ---- what is known of the items before
+
+-- what is known: which keys are stored, and what there is to know after a further event
+pub record Keeping (S : Type 0) : Type 0 where
+  pub is_stored : S → List ℕ → Bool
+  pub after : S → Event → S
+
+-- the events so far are known, and they say which keys are stored
+abbrev pub by_history : (List Event → List ℕ → Bool) → Keeping (List Event)
+by_history is_stored = record { is_stored = is_stored; after = λ before event. before ++ event ∷ [] }
+
+-- an entry whose key is stored already
+abbrev pub is_repeated : {S : Type 0} → Keeping S → S → Event → Bool
+is_repeated keeping state (Entry kind key) = keeping.is_stored state key
+is_repeated keeping state _ = false
+
+-- what is read and what is wanted next, by what is known: a repeated entry is wrong, and an item is wanted behind its key
+abbrev pub as_known : {S : Type 0} → Keeping S → S → Event × Wanted → Event × Wanted
+as_known keeping state got = if is_repeated keeping state got.0 then (Wrong Repeated, Item) else got
+
+-- ---- the events of a text
+
+-- what is read, and the others
+abbrev pub events_by : {S : Type 0} → Keeping S → (S → Wanted → List ℕ → List Placed) → S → Option Step → List Placed
+events_by keeping others state None = []
+events_by keeping others state (Some step) =
+    let got = as_known keeping state (step.event, step.wanted) in
+    record { event = got.0; rest = step.rest } ∷ others (keeping.after state got.0) got.1 step.rest
+
+-- the events of a text, at most so many
+unfoldable pub events_within : {S : Type 0} → Keeping S → ℕ → S → Wanted → List ℕ → List Placed
+events_within keeping zero state wanted text = []
+events_within keeping (suc turns) state wanted text = events_by keeping (events_within keeping turns) state (step_of wanted text)
+
+-- the events of a text where this is known and this is wanted first
+unfoldable pub events_from : {S : Type 0} → Keeping S → S → Wanted → List ℕ → List Placed
+events_from keeping state wanted text = events_within keeping (suc (2 * length text + 1)) state wanted text

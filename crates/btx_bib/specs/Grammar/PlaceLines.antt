@@ -1,0 +1,21 @@
+-- The line of a place: the number of the lines that have begun when the byte there has been read. At the end of a text that is the
+-- number of its lines.
+use Rattle.std.specs.Prelude.{ℕ, suc, ◌-◌, ◌==◌, List, [], ◌∷◌, length, take, if◌then◌else◌}
+use Rattle.btx_text.specs.Lines.{pieces_of}
+
+-- how many lines have begun when so many bytes of a text have been read
+unfoldable pub lines_begun : ℕ → List ℕ → ℕ
+lines_begun count text = length (pieces_of (take count text))
+
+-- the line of the byte with which this rest of a text begins
+abbrev pub line_at : List ℕ → List ℕ → ℕ
+line_at text rest = lines_begun (suc (length text - length rest)) text
+
+-- the line of the last byte before this rest of a text
+abbrev pub line_before : List ℕ → List ℕ → ℕ
+line_before text rest = lines_begun (length text - length rest) text
+
+-- how many line feeds a text has
+abbrev pub feeds_in : List ℕ → ℕ
+feeds_in [] = 0
+feeds_in (b ∷ bs) = if b == 10 then suc (feeds_in bs) else feeds_in bs

@@ -1,0 +1,152 @@
+-- The grammar of a database, as relations between a front of a text and the rest: the front spells something, or something is wrong
+-- at its end.
+use Rattle.std.specs.Prelude.{◌≡◌, ℕ, zero, suc, ◌==◌, ◌||◌, Bool, true, false, List, [], ◌∷◌, ◌++◌, fold, ◌⊎◌, Result, Ok, Err}
+use Rattle.btx_text.specs.Class.{is_digit}
+use Rattle.btx_text.specs.Elements.{depth_after, depth_of}
+use Rattle.btx_bib.specs.declared.grammar.byte_sets.ByteSet.{ByteSet}
+use Rattle.btx_bib.specs.declared.grammar.byte_sets.ByteSet.TheVariants.{Gap, NameByte, Digit}
+use Rattle.btx_bib.specs.declared.grammar.byte_sets.Enclosure.{Enclosure}
+use Rattle.btx_bib.specs.declared.grammar.byte_sets.Enclosure.TheVariants.{Group, Quotes}
+use Rattle.btx_bib.specs.declared.grammar.slip.Slip.{Slip}
+use Rattle.btx_bib.specs.declared.grammar.slip.Slip.TheVariants.{NoName, NoDelimiter, NoComma, NoEquals, NoClosing, NoValue, Unbalanced, EndOfFile}
+use Rattle.btx_bib.specs.Grammar.ByteSets.{is_in, begins, begins_name, ends_enclosed}
+use Rattle.btx_bib.specs.Grammar.Tokens.{Read, slip_at}
+use Rattle.btx_bib.specs.Grammar.Values.{Part, Braced, Quoted, Digits, Named}
+use Rattle.btx_bib.specs.Grammar.Fields.{Field}
+
+-- what a front spells where a rest follows, or what is wrong where the rest begins
+abbrev pub Grammar : Type 0 → Type 1
+Grammar A = Result A Slip → List ℕ → List ℕ → Type 0
+
+-- ---- how grammars are made
+
+-- nothing is spelled, and this is meant
+abbrev pub Gives : {A : Type 0} → A → Grammar A
+Gives a (Ok b) front rest = (front ≡ []) × (b ≡ a)
+Gives a (Err slip) front rest = ⊥
+
+-- the first of two is wrong
+abbrev pub FirstFails : {A B : Type 0} → Grammar A → Grammar B
+FirstFails R (Ok b) front rest = ⊥
+FirstFails R (Err slip) front rest = R (Err slip) front rest
+
+-- the first of two is spelled, and then the second or what is wrong in it
+abbrev pub Both : {A B : Type 0} → Grammar A → (A → Grammar B) → Grammar B
+Both {A} R next o front rest = (a : A) × (first : List ℕ) × (second : List ℕ) × (front ≡ first ++ second) × R (Ok a) first (second ++ rest) × next a o second rest
+
+-- one after the other
+abbrev pub Then : {A B : Type 0} → Grammar A → (A → Grammar B) → Grammar B
+Then R next o front rest = FirstFails R o front rest ⊎ Both R next o front rest
+
+-- ---- words and signs
+
+-- all bytes are of a set
+abbrev pub AllIn : ByteSet → List ℕ → Type 0
+AllIn set [] = Unit {0}
+AllIn set (b ∷ bs) = (is_in set b ≡ true) × AllIn set bs
+
+-- a longest run of a set
+pub record IsRun (set : ByteSet) (text rest : List ℕ) : Type 0 where
+  pub all : AllIn set text
+  pub longest : begins (is_in set) rest ≡ false
+
+-- all the white that stands here
+abbrev pub White : Grammar (Unit {0})
+White (Ok none) front rest = IsRun Gap front rest
+White (Err slip) front rest = ⊥
+
+-- a thing with white before it
+abbrev pub Spaced : {A : Type 0} → Grammar A → Grammar A
+Spaced R = Then White (λ none. R)
+
+-- a word: a longest run of a set, with a first byte that passes
+pub record IsWord (set : ByteSet) (first : ℕ → Bool) (word front rest : List ℕ) : Type 0 where
+  pub spelled : front ≡ word
+  pub begins_well : begins first word ≡ true
+  pub run : IsRun set word rest
+
+-- something is wrong where nothing has been read
+pub record IsWrongHere (slip met : Slip) (front rest : List ℕ) : Type 0 where
+  pub nothing : front ≡ []
+  pub slip_is : met ≡ slip_at slip rest
+
+-- a name
+abbrev pub NameHere : Grammar (List ℕ)
+NameHere (Ok name) front rest = IsWord NameByte begins_name name front rest
+NameHere (Err slip) front rest = (begins begins_name rest ≡ false) × IsWrongHere NoName slip front rest
+
+-- a sign
+abbrev pub SignHere : ℕ → Slip → Grammar (Unit {0})
+SignHere sign wrong (Ok none) front rest = front ≡ sign ∷ []
+SignHere sign wrong (Err slip) front rest = (begins (λ b. b == sign) rest ≡ false) × IsWrongHere wrong slip front rest
+
+-- ---- values
+
+-- a text in which no byte at depth 0 ends what is enclosed
+abbrev pub Inside : Enclosure → ℕ → List ℕ → Type 0
+Inside enclosure depth [] = Unit {0}
+Inside enclosure depth (b ∷ bs) = (depth ≡ 0 → ends_enclosed enclosure b ≡ false) × Inside enclosure (depth_after depth b) bs
+
+-- braces are balanced in it, too
+abbrev pub IsEnclosed : Enclosure → List ℕ → Type 0
+IsEnclosed enclosure text = Inside enclosure 0 text × (depth_of text ≡ 0)
+
+-- a byte with which no part begins
+abbrev pub begins_part : ℕ → Bool
+begins_part b = b == 123 || b == 34 || is_digit b || begins_name b
+
+-- what is wrong in a part
+abbrev pub IsWrongPart : Slip → List ℕ → List ℕ → Type 0
+IsWrongPart NoValue front rest = (front ≡ []) × (b : ℕ) × (bs : List ℕ) × (rest ≡ b ∷ bs) × (begins_part b ≡ false)
+IsWrongPart Unbalanced front rest = (text : List ℕ) × (bs : List ℕ) × (front ≡ 34 ∷ text) × (rest ≡ 125 ∷ bs) × IsEnclosed Quotes text
+IsWrongPart EndOfFile front rest = (rest ≡ []) ×
+    ((front ≡ []) ⊎ (((text : List ℕ) × (front ≡ 123 ∷ text) × Inside Group 0 text) ⊎ ((text : List ℕ) × (front ≡ 34 ∷ text) × Inside Quotes 0 text)))
+IsWrongPart _ front rest = ⊥
+
+-- a part of a value
+abbrev pub PartHere : Grammar Part
+PartHere (Ok (Braced text)) front rest = (front ≡ 123 ∷ (text ++ 125 ∷ [])) × IsEnclosed Group text
+PartHere (Ok (Quoted text)) front rest = (front ≡ 34 ∷ (text ++ 34 ∷ [])) × IsEnclosed Quotes text
+PartHere (Ok (Digits text)) front rest = IsWord Digit is_digit text front rest
+PartHere (Ok (Named string)) front rest = IsWord NameByte begins_name string.name front rest × (string.rest ≡ rest)
+PartHere (Err slip) front rest = IsWrongPart slip front rest
+
+-- after a part: no `#` stands behind the white that follows
+abbrev pub EndsThere : Part → Grammar (List Part)
+EndsThere part (Ok parts) front rest = (front ≡ []) × (parts ≡ part ∷ []) ×
+    (gap : List ℕ) × (behind : List ℕ) × (rest ≡ gap ++ behind) × IsRun Gap gap behind × (begins (λ b. b == 35) behind ≡ false)
+EndsThere part (Err slip) front rest = ⊥
+
+-- or one does, and the other parts follow
+abbrev pub GoesOn : Grammar (List Part) → Part → Grammar (List Part)
+GoesOn others part = Both (Spaced (SignHere 35 NoValue)) (λ none. Then others (λ parts. Gives (part ∷ parts)))
+
+-- a value of so many parts, or what is wrong in the last of them
+abbrev pub ValueOf : ℕ → Grammar (List Part)
+ValueOf zero o front rest = ⊥
+ValueOf (suc n) o front rest = Then (Spaced PartHere) (λ part o front rest. EndsThere part o front rest ⊎ GoesOn (ValueOf n) part o front rest) o front rest
+
+-- a value
+abbrev pub Value : Grammar (List Part)
+Value o front rest = (n : ℕ) × ValueOf n o front rest
+
+-- ---- fields
+
+-- a field
+abbrev pub FieldSpelling : Grammar Field
+FieldSpelling =
+    Then (Spaced NameHere) (λ name.
+    Then (Spaced (SignHere 61 NoEquals)) (λ sign.
+    Then Value (λ value. Gives (record { name = name; value = value }))))
+
+-- ---- the function that reads as a grammar says
+
+-- the text is a front that spells what was read, or at whose end the same is wrong, and the rest
+abbrev pub Splits : {A : Type 0} → Grammar A → List ℕ → Read A → Type 0
+Splits R text (Ok got) = (front : List ℕ) × (front ++ got.1 ≡ text) × R (Ok got.0) front got.1
+Splits R text (Err wrong) = (front : List ℕ) × (front ++ wrong.1 ≡ text) × R (Err wrong.0) front wrong.1
+
+-- what was read, as a reading
+abbrev pub read_as : {A : Type 0} → Result A Slip → List ℕ → Read A
+read_as (Ok a) rest = Ok (a, rest)
+read_as (Err slip) rest = Err (slip, rest)

@@ -1,0 +1,71 @@
+-- The text that a value stands for: the texts of its parts joined, and then every run of white made one space.
+use Rattle.std.specs.Prelude.{◌≡◌, ◌<◌, ◌≤◌, ◌==◌, ◌-◌, ℕ, slice_index, take, Bool, true, false, List, [], ◌∷◌, ◌++◌, length, Option, None, Some, Result, Ok, Err, if◌then◌else◌}
+use Rattle.std.specs.List.{flat_map}
+use Rattle.std.specs.declared.alloc.Global.{Global}
+use Rattle.std.specs.declared.vec.Vec.{Vec}
+use Rattle.btx_text.specs.Limits.{greatest_string}
+use Rattle.btx_text.specs.declared.fault.Fault.{Fault}
+use Rattle.btx_text.specs.declared.fault.Fault.TheVariants.{Memory, StringLimit}
+use Rattle.btx_bib.specs.declared.grammar.value_ends.Ends.{Ends}
+use Rattle.btx_bib.specs.declared.grammar.value_ends.Ends.TheVariants.{Kept, Trimmed}
+use Rattle.btx_bib.specs.Grammar.ByteSets.{is_gap, begins}
+use Rattle.btx_bib.specs.Grammar.Values.{Part, Braced, Quoted, Digits, Named}
+
+-- the values of strings by their names, where they have one
+abbrev pub Strings : Type 0
+Strings = List ℕ → Option (List ℕ)
+
+-- a value, or nothing where there is none
+abbrev pub or_nothing : Option (List ℕ) → List ℕ
+or_nothing None = []
+or_nothing (Some text) = text
+
+-- the text of a part: a name stands for its value, and for nothing where it has none
+abbrev pub text_of_part : Strings → Part → List ℕ
+text_of_part strings (Braced text) = text
+text_of_part strings (Quoted text) = text
+text_of_part strings (Digits text) = text
+text_of_part strings (Named string) = or_nothing (strings string.name)
+
+-- the texts of the parts, joined
+abbrev pub joined_text : Strings → List Part → List ℕ
+joined_text strings parts = flat_map (text_of_part strings) parts
+
+-- every run of white becomes one space: of each run the last byte stays, as a space
+unfoldable pub squeezed : List ℕ → List ℕ
+squeezed [] = []
+squeezed (b ∷ bs) = if is_gap b then (if begins is_gap bs then squeezed bs else 32 ∷ squeezed bs) else b ∷ squeezed bs
+
+-- a first space goes
+abbrev pub without_first_space : List ℕ → List ℕ
+without_first_space [] = []
+without_first_space (b ∷ bs) = if b == 32 then bs else b ∷ bs
+
+-- a last space goes
+abbrev pub without_last_space : List ℕ → List ℕ
+without_last_space text = if slice_index text (length text - 1) == 32 then take (length text - 1) text else text
+
+-- white is squeezed in the whole, and a field's value loses its first and its last space
+abbrev pub shaped : Ends → List ℕ → List ℕ
+shaped Kept text = squeezed text
+shaped Trimmed text = without_last_space (without_first_space (squeezed text))
+
+-- the text of a value
+abbrev pub value_text : Ends → Strings → List Part → List ℕ
+value_text ends strings parts = shaped ends (joined_text strings parts)
+
+-- ---- the answers of the code
+
+-- this text, where it is within the limit of strings; the fault of the limit exactly where it is longer; want of memory says nothing
+abbrev pub Makes : Result (List ℕ) Fault → List ℕ → Type 0
+Makes (Ok made) text = (made ≡ text) × (length text ≤ greatest_string)
+Makes (Err Memory) text = Unit {0}
+Makes (Err StringLimit) text = greatest_string < length text
+Makes (Err _) text = ⊥
+
+-- the same within this limit, while it is gathered
+abbrev pub GathersWithin : ℕ → Result (Vec ℕ Global) Fault → List ℕ → Type 0
+GathersWithin most (Ok made) text = (made.items ≡ text) × (length text ≤ most)
+GathersWithin most (Err Memory) text = Unit {0}
+GathersWithin most (Err StringLimit) text = most < length text
+GathersWithin most (Err _) text = ⊥

@@ -1,0 +1,92 @@
+-- What is known of the databases while they are read, item by item: the strings, the entries that are stored, the preamble, and whether
+-- the reading has ended at a limit, after which nothing more is known. What an item is, is the grammar's.
+use Rattle.std.specs.Prelude.{ℕ, nat_lt, not, ◌&&◌, Bool, true, false, List, [], ◌∷◌, ◌++◌, length, fold, Option, None, Some, is_some, if◌then◌else◌}
+use Rattle.btx_text.specs.Keys.{folded}
+use Rattle.btx_text.specs.Limits.{greatest_string}
+use Rattle.btx_bib.specs.declared.end.End.{End}
+use Rattle.btx_bib.specs.declared.end.End.TheVariants as end
+use Rattle.btx_bib.specs.declared.grammar.value_ends.Ends.TheVariants.{Kept, Trimmed}
+use Rattle.btx_bib.specs.Grammar.Fields.{Field as Read}
+use Rattle.btx_bib.specs.Grammar.Items.{Event, Comment, Preamble, Definition, Entry, FieldOf, End as Close, Wrong, Keeping, Placed}
+use Rattle.btx_bib.specs.Grammar.ValueTexts.{value_text}
+use Rattle.btx_bib.specs.Wanted.{Wanted}
+use Rattle.btx_bib.specs.Strings.{Strings, string_value, other_value, defined}
+use Rattle.btx_bib.specs.Filling.{value_by}
+use Rattle.btx_bib.specs.Entries.{Given, listed, values_of}
+use Rattle.btx_bib.specs.Stored.{entry_of, is_wanted}
+
+-- the strings, the entries that are stored, the one of these that is being read, the values of all `@preamble`s joined, and how the
+-- reading has ended so far
+pub record Known : Type 0 where
+  pub strings : Strings
+  pub stored : List Given
+  pub current : Option Given
+  pub preamble : List ℕ
+  pub ending : End
+
+-- the reading goes on
+abbrev pub goes_on : End → Bool
+goes_on end.Whole = true
+goes_on end.FileLimit = false
+goes_on end.StringLimit = false
+
+-- the stored entries, with the one that is being read
+abbrev pub stored_in : Known → List Given
+stored_in known = known.stored ++ listed known.current
+
+-- the entry that was being read is at its end
+abbrev pub closed : Known → Known
+closed known = record known { stored = stored_in known; current = None }
+
+-- a string that is too long ends the reading
+abbrev pub if_fits : List ℕ → Known → Known → Known
+if_fits text known next = if nat_lt greatest_string (length text) then record known { ending = end.StringLimit } else next
+
+-- an entry has a value for the field of this name already
+abbrev pub has_value : Wanted → Given → List ℕ → Bool
+has_value wanted given name = is_some (value_by (wanted.field (folded name)) (values_of wanted given.fields))
+
+-- an entry takes a field that is declared and for which it has no value yet
+abbrev pub takes : Wanted → Given → List ℕ → Bool
+takes wanted given name = is_some (wanted.field (folded name)) && not (has_value wanted given name)
+
+-- an entry with one more field
+abbrev pub with_field : Given → List ℕ → List ℕ → Given
+with_field given name text = record given { fields = given.fields ++ record { name = name; value = text } ∷ [] }
+
+-- after a field, of the stored entry that is being read or of none
+abbrev pub after_field : Wanted → Known → Option Given → Read → Known
+after_field wanted known None field = known
+after_field wanted known (Some given) field =
+    if takes wanted given field.name then
+    (let text = value_text Trimmed (string_value known.strings) field.value in if_fits text known (record known { current = Some (with_field given field.name text) }))
+    else known
+
+-- after an entry's type and key: it is stored if it is wanted
+abbrev pub after_key : Wanted → Known → List ℕ → List ℕ → Known
+after_key wanted known kind key =
+    if is_wanted wanted known.stored key then record known { current = Some (record { kind = kind; key = key; fields = [] }) } else known
+
+-- after something that was read
+abbrev pub after_event : Wanted → Known → Event → Known
+after_event wanted known Comment = known
+after_event wanted known (Preamble value) =
+    let whole = known.preamble ++ value_text Kept (string_value known.strings) value in if_fits whole known (record known { preamble = whole })
+after_event wanted known (Definition name value) =
+    let text = value_text Kept (other_value known.strings name) value in if_fits text known (record known { strings = defined known.strings name text })
+after_event wanted known (Entry kind key) = after_key wanted (closed known) kind key
+after_event wanted known (FieldOf field) = after_field wanted known known.current field
+after_event wanted known Close = known
+after_event wanted known (Wrong slip) = known
+
+-- the same, while the reading goes on
+abbrev pub after : Wanted → Known → Event → Known
+after wanted known event = if goes_on known.ending then after_event wanted known event else known
+
+-- after some events of a database
+abbrev pub after_all : Wanted → Known → List Placed → Known
+after_all wanted known events = fold (λ (known : Known) (placed : Placed). after wanted known placed.event) known events
+
+-- which keys are stored, for the grammar: an entry with such a key is a repeated one
+abbrev pub keeping : Wanted → Keeping Known
+keeping wanted = record { is_stored = λ known key. is_some (entry_of (stored_in known) key); after = after wanted }

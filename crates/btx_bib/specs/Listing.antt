@@ -1,0 +1,49 @@
+-- The list: the cited keys in order, and after them the parents that their entries name, each once. With `*` the keys cited before
+-- it, then all entries in the order of the databases, then the other cited keys (btxdoc, section 2, and its rules for `crossref`).
+use Rattle.std.specs.Prelude.{ℕ, ◌-◌, List, [], ◌++◌, map, fold, take, drop, count_by, Option, None, Some, is_some}
+use Rattle.std.specs.Option.{option_or, option_map, unwrap_or}
+use Rattle.btx_aux.specs.Names.{is_same_key, listed_as, with_key}
+use Rattle.btx_bib.specs.declared.slots.Slot.{Slot}
+use Rattle.btx_bib.specs.Wanted.{Wanted}
+use Rattle.btx_bib.specs.Entries.{Given, body_of}
+use Rattle.btx_bib.specs.Stored.{keys_in, entry_of, parents_in, references}
+
+-- the cited keys with which the list begins, and those that were cited after `*`
+abbrev pub first_cited : Option ℕ → List (List ℕ) → List (List ℕ)
+first_cited None cited = cited
+first_cited (Some place) cited = take place cited
+
+abbrev pub last_cited : Option ℕ → List (List ℕ) → List (List ℕ)
+last_cited None cited = []
+last_cited (Some place) cited = drop place cited
+
+-- the keys that stored entries add: with `*` their own, else those of their parents
+abbrev pub added : Option ℕ → Wanted → List Given → List (List ℕ)
+added None wanted stored = parents_in wanted stored
+added (Some place) wanted stored = keys_in stored
+
+-- the keys of the list, without the last ones
+abbrev pub first_keys : Wanted → List Given → List (List ℕ)
+first_keys wanted stored = fold with_key [] (first_cited wanted.all wanted.cited ++ added wanted.all wanted stored)
+
+-- the keys of the list
+abbrev pub keys_of : Wanted → List Given → List (List ℕ)
+keys_of wanted stored = fold with_key (first_keys wanted stored) (last_cited wanted.all wanted.cited)
+
+-- how the list spells a key: as it was cited, or as its entry has it, or as it is
+abbrev pub spelled : Wanted → List Given → List ℕ → List ℕ
+spelled wanted stored key = unwrap_or (option_or (listed_as wanted.cited key) (option_map (λ (given : Given). given.key) (entry_of stored key))) key
+
+-- the place of the list for a key: how it is spelled, whether it was cited, how many references it lacks to stay without having
+-- been cited, and its entry if one is stored
+unfoldable pub slot_of : Wanted → List Given → List ℕ → Slot
+slot_of wanted stored key = record {
+  key = spelled wanted stored key;
+  is_cited = is_some (listed_as wanted.cited key);
+  wanting = wanted.fewest - count_by (is_same_key key) (references wanted stored);
+  body = option_map (body_of wanted) (entry_of stored key);
+}
+
+-- the list
+abbrev pub slots_of : Wanted → List Given → List Slot
+slots_of wanted stored = map (slot_of wanted stored) (keys_of wanted stored)

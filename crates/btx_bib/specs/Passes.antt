@@ -1,0 +1,141 @@
+-- Cross-references (btxdoc, section 2.2's `crossref`; the two passes are those of the original). Each pass goes along the list, and
+-- each place is judged by the list as it is then.
+use Rattle.std.specs.Prelude.{ℕ, ◌||◌, ◌&&◌, Bool, true, false, nat_eq, List, [], ◌∷◌, ◌++◌, Option, None, Some, is_some, if◌then◌else◌}
+use Rattle.std.specs.List.{find, flat_map}
+use Rattle.std.specs.Option.{option_or}
+use Rattle.btx_aux.specs.Names.{is_same_key}
+use Rattle.btx_bib.specs.declared.entry.Entry.{Entry}
+use Rattle.btx_bib.specs.declared.message.Message.{Message}
+use Rattle.btx_bib.specs.declared.message.Message.TheVariants.{BadReference, NestedReference, NoEntry}
+use Rattle.btx_bib.specs.declared.slots.Body.{Body}
+use Rattle.btx_bib.specs.declared.slots.Slot.{Slot}
+use Rattle.btx_bib.specs.Entries.{parent_in}
+
+-- what a pass makes of the places of the list, where these are done
+abbrev pub passed : (List Slot → Slot → Slot) → List Slot → List Slot → List Slot
+passed judge done [] = done
+passed judge done (slot ∷ slots) = passed judge (done ++ judge (done ++ slot ∷ slots) slot ∷ []) slots
+
+-- what a pass tells
+abbrev pub told_in : (List Slot → Slot → Slot) → (List Slot → Slot → List Message) → List Slot → List Slot → List Message
+told_in judge tell done [] = []
+told_in judge tell done (slot ∷ slots) = tell (done ++ slot ∷ slots) slot ++ told_in judge tell (done ++ judge (done ++ slot ∷ slots) slot ∷ []) slots
+
+-- the values of an entry, if there is one
+abbrev pub values_in : Option Body → List (Option (List ℕ))
+values_in None = []
+values_in (Some body) = body.values
+
+-- the key of the parent of the entry at a place
+abbrev pub parent_at : Slot → Option (List ℕ)
+parent_at slot = parent_in (values_in slot.body)
+
+-- the place of a key
+abbrev pub slot_at : List Slot → List ℕ → Option Slot
+slot_at slots key = find (λ (slot : Slot). is_same_key key slot.key) slots
+
+-- the place of the parent
+abbrev pub parent_slot : List Slot → Option (List ℕ) → Option Slot
+parent_slot slots None = None
+parent_slot slots (Some key) = slot_at slots key
+
+-- a place with other values
+abbrev pub with_body : Slot → Option Body → Slot
+with_body slot body = record slot { body = body }
+
+abbrev pub with_values : Option Body → List (Option (List ℕ)) → Option Body
+with_values None values = None
+with_values (Some body) values = Some (record body { values = values })
+
+-- values, where those that are missing are the parent's
+abbrev pub or_values : List (Option (List ℕ)) → List (Option (List ℕ)) → List (Option (List ℕ))
+or_values [] parents = []
+or_values (value ∷ values) [] = value ∷ values
+or_values (value ∷ values) (parent ∷ parents) = option_or value parent ∷ or_values values parents
+
+-- the same, with the parent's key for `crossref`
+abbrev pub inherited_values : List ℕ → List (Option (List ℕ)) → List (Option (List ℕ)) → List (Option (List ℕ))
+inherited_values key [] parents = []
+inherited_values key (value ∷ values) [] = Some key ∷ values
+inherited_values key (value ∷ values) (parent ∷ parents) = Some key ∷ or_values values parents
+
+-- the first pass: an entry with a parent in the list takes its key as the list spells it, and its value for each field that it lacks
+abbrev pub inherited_from : Option Slot → Slot → Slot
+inherited_from None slot = slot
+inherited_from (Some parent) slot = with_body slot (with_values slot.body (inherited_values parent.key (values_in slot.body) (values_in parent.body)))
+
+unfoldable pub inherited : List Slot → Slot → Slot
+inherited slots slot = inherited_from (parent_slot slots (parent_at slot)) slot
+
+-- values without the parent's key
+abbrev pub without_parent : List (Option (List ℕ)) → List (Option (List ℕ))
+without_parent [] = []
+without_parent (value ∷ values) = None ∷ values
+
+-- a place keeps its entry: it was cited, or is referred to often enough
+abbrev pub has_enough : Slot → Bool
+has_enough slot = slot.is_cited || nat_eq slot.wanting 0
+
+-- an entry without its parent
+abbrev pub cut : Slot → Slot
+cut slot = with_body slot (with_values slot.body (without_parent (values_in slot.body)))
+
+-- the parent has an entry that stays
+abbrev pub is_parent : Option Slot → Bool
+is_parent None = false
+is_parent (Some parent) = is_some parent.body && has_enough parent
+
+-- the second pass: an entry loses its parent if that has no entry or doesn't stay
+abbrev pub checked_by : Option (List ℕ) → List Slot → Slot → Slot
+checked_by None slots slot = slot
+checked_by (Some key) slots slot = if is_parent (slot_at slots key) then slot else cut slot
+
+unfoldable pub checked : List Slot → Slot → Slot
+checked slots slot = checked_by (parent_at slot) slots slot
+
+-- something that is told if something is so
+abbrev pub told_if : Bool → Message → List Message
+told_if b message = if b then message ∷ [] else []
+
+-- what is told of a parent: that it has no entry, or that it has a parent
+abbrev pub parent_told : List ℕ → List ℕ → Option Slot → List Message
+parent_told child key None = BadReference child key ∷ []
+parent_told child key (Some parent) = if is_some parent.body then told_if (is_some (parent_at parent)) (NestedReference child key) else BadReference child key ∷ []
+
+abbrev pub check_told_by : Option (List ℕ) → List Slot → Slot → List Message
+check_told_by None slots slot = []
+check_told_by (Some key) slots slot = parent_told slot.key key (slot_at slots key)
+
+unfoldable pub check_told : List Slot → Slot → List Message
+check_told slots slot = check_told_by (parent_at slot) slots slot
+
+-- the entry at a place, if there is one that stays
+abbrev pub entry_by : List ℕ → Bool → Option Body → List Entry
+entry_by key enough None = []
+entry_by key enough (Some body) = if enough then record { key = key; kind = body.kind; values = body.values } ∷ [] else []
+
+abbrev pub entry_at : Slot → List Entry
+entry_at slot = entry_by slot.key (has_enough slot) slot.body
+
+-- a key without an entry is told of
+abbrev pub absence_by : List ℕ → Option Body → List Message
+absence_by key None = NoEntry key ∷ []
+absence_by key (Some body) = []
+
+abbrev pub absence_told : Slot → List Message
+absence_told slot = absence_by slot.key slot.body
+
+-- the list after the first pass, and after the second
+abbrev pub after_first : List Slot → List Slot
+after_first slots = passed inherited [] slots
+
+abbrev pub after_second : List Slot → List Slot
+after_second slots = passed checked [] slots
+
+-- the entries that stay, in order
+unfoldable pub entries_of : List Slot → List Entry
+entries_of slots = flat_map entry_at (after_second (after_first slots))
+
+-- what the passes tell: of parents, and then of keys that have no entry
+unfoldable pub references_told : List Slot → List Message
+references_told slots = told_in checked check_told [] (after_first slots) ++ flat_map absence_told (after_second (after_first slots))

@@ -1,0 +1,35 @@
+-- Which entries of the databases are stored. An entry is stored if `*` or its key is cited, or if it is the parent of an entry stored
+-- before it, and no entry stored before it has its key. Keys are compared without case (btxdoc, section 3).
+use Rattle.std.specs.Prelude.{ℕ, ◌||◌, Bool, List, [], ◌∷◌, ◌++◌, map, Option, None, Some, is_some}
+use Rattle.std.specs.List.{find, list_any, flat_map}
+use Rattle.btx_aux.specs.Names.{is_same_key}
+use Rattle.btx_bib.specs.Wanted.{Wanted}
+use Rattle.btx_bib.specs.Entries.{Given, parent_of, listed}
+
+-- one of some keys is this
+abbrev pub is_any_key : List (List ℕ) → List ℕ → Bool
+is_any_key keys key = list_any (is_same_key key) keys
+
+-- the keys of some entries
+abbrev pub keys_in : List Given → List (List ℕ)
+keys_in entries = map (λ (given : Given). given.key) entries
+
+-- the first of some entries that has this key
+abbrev pub entry_of : List Given → List ℕ → Option Given
+entry_of entries key = find (λ (given : Given). is_same_key key given.key) entries
+
+-- the parents of some entries, one for each reference
+abbrev pub parents_in : Wanted → List Given → List (List ℕ)
+parents_in wanted entries = flat_map (λ (given : Given). listed (parent_of wanted given)) entries
+
+-- the references that count: with `*` none does
+abbrev pub references_by : Option ℕ → Wanted → List Given → List (List ℕ)
+references_by None wanted entries = parents_in wanted entries
+references_by (Some place) wanted entries = []
+
+abbrev pub references : Wanted → List Given → List (List ℕ)
+references wanted entries = references_by wanted.all wanted entries
+
+-- an entry of this key is wanted, after these stored ones
+abbrev pub is_wanted : Wanted → List Given → List ℕ → Bool
+is_wanted wanted stored key = is_some wanted.all || is_any_key (wanted.cited ++ references wanted stored) key

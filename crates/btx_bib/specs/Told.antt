@@ -1,0 +1,81 @@
+-- What is told while a database is read, each message with its line: faults, names that stand for no string, types that the style
+-- doesn't have, and fields that an entry has already. Names and keys are told as they are spelled there. What isn't stored is told
+-- nothing of but its faults.
+use Rattle.std.specs.Prelude.{ℕ, Bool, false, List, [], ◌∷◌, ◌++◌, Option, None, Some, is_some, is_none, if◌then◌else◌}
+use Rattle.std.specs.List.{flat_map}
+use Rattle.btx_text.specs.Keys.{folded}
+use Rattle.btx_aux.specs.Names.{is_same_key}
+use Rattle.btx_bib.specs.declared.message.Message.{Message}
+use Rattle.btx_bib.specs.declared.message.Message.TheVariants as message
+use Rattle.btx_bib.specs.declared.message.Spot.{Spot}
+use Rattle.btx_bib.specs.Grammar.Fields.{Field as Read}
+use Rattle.btx_bib.specs.Grammar.Items.{Event, Comment, Preamble, Definition, Entry, FieldOf, End, Wrong, Placed}
+use Rattle.btx_bib.specs.Grammar.PlaceLines.{line_at, line_before}
+use Rattle.btx_bib.specs.Grammar.Values.{Part, Braced, Quoted, Digits, Named}
+use Rattle.btx_bib.specs.Wanted.{Wanted}
+use Rattle.btx_bib.specs.Strings.{Strings, string_value}
+use Rattle.btx_bib.specs.Entries.{Given}
+use Rattle.btx_bib.specs.Stored.{is_wanted}
+use Rattle.btx_bib.specs.Known.{Known, goes_on, stored_in, has_value, after}
+
+-- a database: the name of its file, and its text
+pub record Database : Type 0 where
+  pub file : List ℕ
+  pub text : List ℕ
+
+-- the line of the byte with which this rest of a database begins, and the line of the last byte before it
+abbrev pub spot_at : Database → List ℕ → Spot
+spot_at database rest = record { file = database.file; line = line_at database.text rest }
+
+abbrev pub spot_before : Database → List ℕ → Spot
+spot_before database rest = record { file = database.file; line = line_before database.text rest }
+
+-- the name is that of the string that is being defined
+abbrev pub is_own : Option (List ℕ) → List ℕ → Bool
+is_own None name = false
+is_own (Some own) name = is_same_key own name
+
+-- a name that stands for no string is told of, where this string is being defined or none
+abbrev pub name_told : Database → Strings → Option (List ℕ) → Part → List Message
+name_told database strings own (Braced text) = []
+name_told database strings own (Quoted text) = []
+name_told database strings own (Digits text) = []
+name_told database strings own (Named string) =
+    if is_own own string.name then message.OwnString string.name (spot_at database string.rest) ∷ []
+    else if is_none (string_value strings string.name) then message.UndefinedString string.name (spot_at database string.rest) ∷ [] else []
+
+-- the names of a value that stand for no string
+abbrev pub names_told : Database → Strings → Option (List ℕ) → List Part → List Message
+names_told database strings own value = flat_map (name_told database strings own) value
+
+-- a type that is none of the style is told of
+abbrev pub kind_told : List ℕ → Option ℕ → Spot → List Message
+kind_told key None spot = message.UnknownKind key spot ∷ []
+kind_told key (Some kind) spot = []
+
+-- what is told of a field of the stored entry that is being read, or of none
+abbrev pub field_told : Wanted → Database → Strings → Option Given → Read → List ℕ → List Message
+field_told wanted database strings None field rest = []
+field_told wanted database strings (Some given) field rest =
+    if has_value wanted given field.name then message.ExtraField given.key field.name (spot_before database rest) ∷ []
+    else if is_some (wanted.field (folded field.name)) then names_told database strings None field.value else []
+
+-- what is told of something that was read
+abbrev pub event_told : Wanted → Database → Known → Event → List ℕ → List Message
+event_told wanted database known Comment rest = []
+event_told wanted database known (Preamble value) rest = names_told database known.strings None value
+event_told wanted database known (Definition name value) rest = names_told database known.strings (Some name) value
+event_told wanted database known (Entry kind key) rest =
+    if is_wanted wanted (stored_in known) key then kind_told key (wanted.kind (folded kind)) (spot_at database rest) else []
+event_told wanted database known (FieldOf field) rest = field_told wanted database known.strings known.current field rest
+event_told wanted database known End rest = []
+event_told wanted database known (Wrong slip) rest = message.Wrong slip (spot_at database rest) ∷ []
+
+-- the same, while the reading goes on
+abbrev pub told_at : Wanted → Database → Known → Placed → List Message
+told_at wanted database known placed = if goes_on known.ending then event_told wanted database known placed.event placed.rest else []
+
+-- what is told along some events of a database
+abbrev pub told_along : Wanted → Database → Known → List Placed → List Message
+told_along wanted database known [] = []
+told_along wanted database known (placed ∷ events) = told_at wanted database known placed ++ told_along wanted database (after wanted known placed.event) events

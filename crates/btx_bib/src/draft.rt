@@ -1,0 +1,225 @@
+//! The list of keys, while databases are read.
+use crate::lowering::in_lower_case;
+use crate::names::Names;
+use crate::request::Request;
+use crate::slots::{Body, Slot, Slots};
+use crate::spelling::{Spelling, Word};
+use btx_text::Text;
+use std::alloc::{AllocError, Global};
+
+/// The keys of the list in lower case, and its places.
+#[derive(Drop)]
+pub struct Draft<'a> {
+    pub names: Names,
+    pub slots: Slots<'a>,
+}
+
+/// How an entry stands when its key was read.
+#[derive(Clone, Copy)]
+pub enum Standing {
+    /// It isn't stored.
+    Unwanted,
+    /// An entry with its key is stored.
+    Repeated,
+    /// It is stored.
+    Wanted,
+}
+
+impl<'a> Draft<'a> {
+    ghost use Rattle.std.specs.Prelude.{◌≡◌, OnOk, IfOk};
+    ghost use Rattle.btx_aux.specs.Entries.{texts_of};
+    ghost use Rattle.btx_bib.specs.Drafts.{cited_all, cited_at, empty, place_in, put_at, referred, referred_at, standing_at, stored_at};
+    ghost use Rattle.btx_bib.specs.Requests.{wanted};
+
+    /// No key is known.
+    pub fn new(alloc: Global) -> Draft<'a>
+        ensures { result ≡ empty }
+    {
+        Draft {
+            names: Names::new(alloc),
+            slots: Slots::new(alloc),
+        }
+    }
+
+    /// Lists some cited keys.
+    pub fn cite_all(
+        &mut self,
+        alloc: Global,
+        request: &Request<'_>,
+        keys: &'a [Vec<u8>],
+    ) -> Result<(), AllocError>
+        ensures { OnOk result (self.new ≡ cited_all (wanted request.now) self.old (texts_of keys.entry.now)) }
+    {
+        for key in keys {
+            self.cite(alloc, request, key.as_slice())?;
+        }
+        Ok(())
+    }
+
+    // Lists a cited key.
+    fn cite(
+        &mut self,
+        alloc: Global,
+        request: &Request<'_>,
+        key: &'a [u8],
+    ) -> Result<(), AllocError>
+        ensures { OnOk result (self.new ≡ cited_at (wanted request.now) key.entry.now self.old (place_in self.old key.entry.now)) }
+    {
+        let lowered = in_lower_case(alloc, key)?;
+        if let Some(_) = self.names.position(lowered.as_bytes()) {
+            return Ok(());
+        }
+        self.names.add(alloc, lowered)?;
+        let slot = Slot {
+            key: Spelling::of_file(key),
+            is_cited: true,
+            wanting: request.fewest,
+            body: None,
+        };
+        self.slots.push(slot)
+    }
+
+    /// How an entry with this key stands.
+    pub fn standing(
+        &self,
+        alloc: Global,
+        request: &Request<'_>,
+        key: &[u8],
+    ) -> Result<Standing, AllocError>
+        ensures { IfOk result (λ standing. standing ≡ standing_at (wanted request.now) self.now (place_in self.now key.now)) }
+    {
+        let lowered = in_lower_case(alloc, key)?;
+        let Some(place) = self.names.position(lowered.as_bytes()) else {
+            return Ok(request.standing_of_new());
+        };
+        if self.slots.has_body(place) {
+            return Ok(Standing::Repeated);
+        }
+        Ok(Standing::Wanted)
+    }
+
+    /// Stores an entry.
+    #[tactic(auto, unfolding(crate::specs::Drafts::stored_at))]
+    pub fn store(
+        &mut self,
+        alloc: Global,
+        request: &Request<'a>,
+        key: &Word<'a>,
+        body: Body<'a>,
+    ) -> Result<(), AllocError>
+        ensures { OnOk result (self.new ≡ stored_at (wanted request.now) key.now body.entry self.old (place_in self.old key.now)) }
+    {
+        let parent = parent_of(alloc, &body)?;
+        self.put(alloc, request, key, body)?;
+        self.refer(alloc, request, parent)
+    }
+
+    // Puts an entry at the place of its key, or at a new one.
+    fn put(
+        &mut self,
+        alloc: Global,
+        request: &Request<'a>,
+        key: &Word<'a>,
+        body: Body<'a>,
+    ) -> Result<(), AllocError>
+        ensures { OnOk result (self.new ≡ put_at (wanted request.now) key.now body.entry self.old (place_in self.old key.now)) }
+    {
+        let lowered = in_lower_case(alloc, key.as_bytes())?;
+        if let Some(place) = self.names.position(lowered.as_bytes()) {
+            let key = Spelling::of_file(key.as_bytes());
+            self.slots.fill(place, key, body);
+            return Ok(());
+        }
+        let slot = request.late_slot(key, body);
+        self.names.add(alloc, lowered)?;
+        self.slots.push(slot)
+    }
+
+    // Counts the reference of an entry, if it has one. With `*` it doesn't count.
+    fn refer(
+        &mut self,
+        alloc: Global,
+        request: &Request<'_>,
+        parent: Option<Text<'a>>,
+    ) -> Result<(), AllocError>
+        ensures { OnOk result (self.new ≡ referred (wanted request.now) self.old parent.entry) }
+    {
+        let None = request.all else {
+            return Ok(());
+        };
+        match parent {
+            Some(parent) => self.refer_to(alloc, request, parent),
+            None => Ok(()),
+        }
+    }
+
+    // Counts a reference to a key, which is listed if it wasn't.
+    fn refer_to(
+        &mut self,
+        alloc: Global,
+        request: &Request<'_>,
+        key: Text<'a>,
+    ) -> Result<(), AllocError>
+        ensures { OnOk result (self.new ≡ referred_at (wanted request.now) key.entry self.old (place_in self.old key.entry)) }
+    {
+        let lowered = in_lower_case(alloc, key.as_bytes())?;
+        if let Some(place) = self.names.position(lowered.as_bytes()) {
+            self.slots.refer(place);
+            return Ok(());
+        }
+        self.names.add(alloc, lowered)?;
+        let slot = Slot {
+            key: Spelling::of_value(key),
+            is_cited: false,
+            wanting: request.fewest.saturating_sub(1),
+            body: None,
+        };
+        self.slots.push(slot)
+    }
+}
+
+impl<'a> Request<'a> {
+    ghost use Rattle.std.specs.Prelude.{◌≡◌, option_copied};
+    ghost use Rattle.std.specs.Option.{unwrap_or};
+    ghost use Rattle.btx_aux.specs.Names.{listed_as};
+    ghost use Rattle.btx_bib.specs.Drafts.{late_slot, new_standing, with_entry};
+    ghost use Rattle.btx_bib.specs.Requests.{wanted};
+
+    // How an entry stands whose key isn't in the list.
+    fn standing_of_new(&self) -> Standing
+        ensures { result ≡ new_standing self.now.all }
+    {
+        match self.all {
+            Some(_) => Standing::Wanted,
+            None => Standing::Unwanted,
+        }
+    }
+
+    // The place of an entry whose key isn't in the list. It is spelled as it was cited, if it was.
+    fn late_slot(&self, key: &Word<'a>, body: Body<'a>) -> Slot<'a>
+        ensures { result ≡ with_entry body.entry key.now (late_slot (wanted self.now) key.now (listed_as (wanted self.now).cited key.now)) }
+    {
+        let cited = self.cited_as(key.as_bytes());
+        let is_cited = cited.is_some();
+        let key = Spelling::of_file(cited.unwrap_or(key.as_bytes()));
+        Slot {
+            key,
+            is_cited,
+            wanting: self.fewest,
+            body: Some(body),
+        }
+    }
+}
+
+ghost use Rattle.std.specs.Prelude.{◌≡◌, IfOk};
+ghost use Rattle.btx_bib.specs.Entries.{parent_in};
+
+// The key of the parent of an entry, if it has one.
+fn parent_of<'a>(alloc: Global, body: &Body<'a>) -> Result<Option<Text<'a>>, AllocError>
+    ensures { IfOk result (λ parent. parent ≡ parent_in body.now.values) }
+{
+    match body.values.parent() {
+        Some(parent) => Ok(Some(parent.copy(alloc)?)),
+        None => Ok(None),
+    }
+}

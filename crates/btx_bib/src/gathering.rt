@@ -1,0 +1,221 @@
+//! What is known of databases while they are read.
+use crate::draft::Draft;
+use crate::end::End;
+use crate::grammar::fields::Field;
+use crate::grammar::value_ends::Ends;
+use crate::grammar::value_texts::value_text;
+use crate::grammar::values::Value;
+use crate::message::{Message, Messages};
+use crate::request::Request;
+use crate::site::{Site, tell_names};
+use crate::slots::Body;
+use crate::spelling::Word;
+use crate::strings::{Others, StringTable};
+use crate::values::Values;
+use btx_text::{Fault, GREATEST_STRING, Text};
+use std::alloc::{AllocError, Global};
+
+/// An entry that is being read: its key, and what the list has of it.
+#[derive(Drop)]
+pub struct Pending<'a> {
+    /// The key.
+    pub key: Word<'a>,
+    /// What the list has of it.
+    pub body: Body<'a>,
+}
+
+/// What is known so far.
+#[derive(Drop)]
+pub struct Gathering<'a> {
+    /// The list of keys.
+    pub draft: Draft<'a>,
+    /// The strings.
+    pub strings: StringTable<'a>,
+    /// The stored entry that is being read.
+    pub current: Option<Pending<'a>>,
+    /// The values of all `@preamble`s, joined.
+    pub preamble: Text<'a>,
+    /// How the reading has ended so far.
+    pub ending: End,
+}
+
+impl<'a> Pending<'a> {
+    ghost use Rattle.std.specs.Prelude.{◌≡◌, ◌++◌, IfOk, OnOk};
+    ghost use Rattle.btx_bib.specs.Grammar.FieldViews.{field_view};
+    ghost use Rattle.btx_bib.specs.Gatherings.{field_told_of, taken_by, with_text};
+    ghost use Rattle.btx_bib.specs.Requests.{wanted};
+    ghost use Rattle.btx_bib.specs.Sites.{database};
+
+    // The entry with the value of a field.
+    fn with_text(mut self, field: usize, text: Text<'a>) -> Pending<'a>
+        ensures { result ≡ with_text self.entry field text.entry }
+    {
+        self.body.values.put(field, text);
+        self
+    }
+
+    /// Takes a field, if it is declared and the entry has no value for it yet. Answers also whether its value is short enough.
+    fn taken(
+        self,
+        alloc: Global,
+        request: &Request<'a>,
+        strings: &StringTable<'a>,
+        field: &Field<'a>,
+        rest: &[u8],
+        site: &mut Site<'a>,
+        messages: &mut Messages<'a>,
+    ) -> Result<(Pending<'a>, bool), Fault>
+        ensures entry { IfOk result (λ taken. taken ≡ taken_by (wanted request.now) strings.now self.entry (field_view field.now)) }
+        ensures told { OnOk result (messages.new ≡ messages.old ++ field_told_of (wanted request.now) (database site.old) strings.now self.entry (field_view field.now) rest.now) }
+        ensures same { OnOk result (site.new ≡ site.old) }
+    {
+        let Some(number) = request.field(alloc, field.name)? else {
+            return Ok((self, true));
+        };
+        if self.body.values.has(number) {
+            let spot = site.spot_before(rest);
+            let message = Message::ExtraField(self.key.copy(), Word::new(field.name), spot);
+            messages.push(message)?;
+            return Ok((self, true));
+        }
+        tell_names(alloc, &field.value, strings, None, site, messages)?;
+        match value_text(alloc, &field.value, strings, Ends::Trimmed) {
+            Ok(text) => Ok((self.with_text(number, text.share()?), true)),
+            Err(Fault::StringLimit) => Ok((self, false)),
+            Err(fault) => Err(fault),
+        }
+    }
+}
+
+impl<'a> Gathering<'a> {
+    ghost use Rattle.std.specs.Prelude.{◌≡◌, ◌++◌, None, Some, OnOk};
+    ghost use Rattle.btx_bib.specs.declared.draft.Standing.TheVariants as standing;
+    ghost use Rattle.btx_bib.specs.Gatherings.{closed, begun_by, fielded_by, told_of_current, with_preamble, with_string};
+    ghost use Rattle.btx_bib.specs.Sites.{database};
+    ghost use Rattle.btx_bib.specs.Told.{names_told};
+    ghost use Rattle.btx_bib.specs.Grammar.FieldViews.{field_view};
+    ghost use Rattle.btx_bib.specs.Requests.{wanted};
+
+    /// The entry that was being read is at its end.
+    pub fn close(&mut self, alloc: Global, request: &Request<'a>) -> Result<(), AllocError>
+        ensures { OnOk result (self.new ≡ closed (wanted request.now) self.old) }
+    {
+        let Some(pending) = self.current.take() else {
+            return Ok(());
+        };
+        let Pending { key, body } = pending;
+        self.draft.store(alloc, request, &key, body)
+    }
+
+    /// An entry begins that is stored.
+    pub fn begin(
+        &mut self,
+        alloc: Global,
+        request: &Request<'a>,
+        kind: &[u8],
+        key: &'a [u8],
+    ) -> Result<(), AllocError>
+        ensures { OnOk result (self.new ≡ begun_by (wanted request.now) self.old kind.now key.entry.now standing.Wanted) }
+    {
+        let kind = request.kind(alloc, kind)?;
+        let values = Values::missing(alloc, request.style.fields())?;
+        self.current = Some(Pending {
+            key: Word::new(key),
+            body: Body { kind, values },
+        });
+        Ok(())
+    }
+
+    /// A field of the entry that is being read, or of none.
+    pub fn field(
+        &mut self,
+        alloc: Global,
+        request: &Request<'a>,
+        field: &Field<'a>,
+        rest: &[u8],
+        site: &mut Site<'a>,
+        messages: &mut Messages<'a>,
+    ) -> Result<(), Fault>
+        ensures state { OnOk result (self.new ≡ fielded_by (wanted request.now) self.old (field_view field.now) self.old.current) }
+        ensures told { OnOk result (messages.new ≡ messages.old ++ told_of_current (wanted request.now) (database site.old) self.old.strings (field_view field.now) rest.now self.old.current) }
+        ensures same { OnOk result (site.new ≡ site.old) }
+    {
+        let Some(pending) = self.current.take() else {
+            return Ok(());
+        };
+        let (pending, fits) = pending.taken(
+            alloc,
+            request,
+            &self.strings,
+            field,
+            rest,
+            site,
+            messages,
+        )?;
+        self.current = Some(pending);
+        if fits {
+            return Ok(());
+        }
+        self.ending = End::StringLimit;
+        Ok(())
+    }
+
+    /// A `@string`.
+    pub fn define(
+        &mut self,
+        alloc: Global,
+        name: &'a [u8],
+        value: &Value<'a>,
+        site: &mut Site<'a>,
+        messages: &mut Messages<'a>,
+    ) -> Result<(), Fault>
+        ensures state { OnOk result (self.new ≡ with_string self.old name.entry.now value.now) }
+        ensures told { OnOk result (messages.new ≡ messages.old ++ names_told (database site.old) self.old.strings (Some name.entry.now) value.now) }
+        ensures same { OnOk result (site.new ≡ site.old) }
+    {
+        tell_names(alloc, value, &self.strings, Some(name), site, messages)?;
+        let others = Others {
+            strings: &self.strings,
+            own: name,
+        };
+        match value_text(alloc, value, &others, Ends::Kept) {
+            Ok(text) => {
+                let text = text.share()?;
+                self.strings.define(alloc, name, text)?;
+                Ok(())
+            }
+            Err(Fault::StringLimit) => {
+                self.ending = End::StringLimit;
+                Ok(())
+            }
+            Err(fault) => Err(fault),
+        }
+    }
+
+    /// A `@preamble`.
+    pub fn preamble(
+        &mut self,
+        alloc: Global,
+        value: &Value<'a>,
+        site: &mut Site<'a>,
+        messages: &mut Messages<'a>,
+    ) -> Result<(), Fault>
+        ensures state { OnOk result (self.new ≡ with_preamble self.old value.now) }
+        ensures told { OnOk result (messages.new ≡ messages.old ++ names_told (database site.old) self.old.strings None value.now) }
+        ensures same { OnOk result (site.new ≡ site.old) }
+    {
+        tell_names(alloc, value, &self.strings, None, site, messages)?;
+        match value_text(alloc, value, &self.strings, Ends::Kept) {
+            Ok(text) if text.len() <= GREATEST_STRING - self.preamble.len() => {
+                let before = std::mem::replace(&mut self.preamble, Text::empty());
+                self.preamble = before.followed_by(alloc, text.as_bytes())?;
+                Ok(())
+            }
+            Ok(_) | Err(Fault::StringLimit) => {
+                self.ending = End::StringLimit;
+                Ok(())
+            }
+            Err(fault) => Err(fault),
+        }
+    }
+}

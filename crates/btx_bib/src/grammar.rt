@@ -1,0 +1,19 @@
+//! The grammar of databases: what stands in a text, and what is wrong in it.
+
+pub mod byte_sets;
+pub mod commands;
+pub mod events;
+mod field_readers;
+pub mod fields;
+mod item_readers;
+pub mod laws;
+pub mod line_counter;
+pub mod parts;
+pub mod reader;
+pub mod slip;
+#[cfg(test)]
+mod tests;
+mod tokens;
+pub mod value_ends;
+pub mod value_texts;
+pub mod values;

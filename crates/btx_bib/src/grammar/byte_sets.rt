@@ -1,0 +1,122 @@
+//! The bytes that the words of a database are made of, and the runs of them.
+ghost use Rattle.std.specs.Prelude.{◌≡◌, ◌≤◌, ◌==◌, ◌&&◌, length};
+ghost use Rattle.btx_bib.specs.Grammar.ByteSets as spec;
+
+use btx_text::classify::is_white;
+use btx_text::depths::depth_after;
+
+/// What stands round an item.
+#[derive(Clone, Copy, Debug, PartialEq, Eq)]
+pub enum Delimiter {
+    /// `{` and `}`.
+    Braces,
+    /// `(` and `)`.
+    Parens,
+}
+
+/// The bytes that runs are made of.
+#[derive(Clone, Copy, Debug, PartialEq, Eq)]
+pub enum ByteSet {
+    /// White and the ends of lines.
+    Gap,
+    /// The bytes of names.
+    NameByte,
+    /// The digits.
+    Digit,
+    /// The bytes of a key in these delimiters.
+    KeyByte(Delimiter),
+}
+
+/// What encloses a part of a value.
+#[derive(Clone, Copy, Debug, PartialEq, Eq)]
+pub enum Enclosure {
+    /// `{` and `}`.
+    Group,
+    /// `"` and `"`.
+    Quotes,
+}
+
+// White, or the end of a line.
+#[inline(always)]
+pub fn is_gap(byte: u8) -> bool
+    ensures { result ≡ spec.is_gap byte }
+{
+    is_white(byte) || byte == b'\n'
+}
+
+// A byte of a name.
+#[inline(always)]
+fn is_name_byte(byte: u8) -> bool
+    ensures { result ≡ spec.is_name_byte byte }
+{
+    !matches!(
+        byte,
+        0..=32 | b'"' | b'#' | b'%' | b'\'' | b'(' | b')' | b',' | b'=' | b'{' | b'}'
+    )
+}
+
+/// Whether a name can begin with a byte.
+#[inline(always)]
+pub fn begins_name(byte: u8) -> bool
+    ensures { result ≡ spec.begins_name byte }
+{
+    is_name_byte(byte) && !byte.is_ascii_digit()
+}
+
+// Whether a byte is in a set.
+#[inline(always)]
+fn is_in(set: ByteSet, byte: u8) -> bool
+    ensures { result ≡ spec.is_in set byte }
+{
+    match set {
+        ByteSet::Gap => is_gap(byte),
+        ByteSet::NameByte => is_name_byte(byte),
+        ByteSet::Digit => byte.is_ascii_digit(),
+        ByteSet::KeyByte(Delimiter::Braces) => !(is_gap(byte) || byte == b',' || byte == b'}'),
+        ByteSet::KeyByte(Delimiter::Parens) => !(is_gap(byte) || byte == b','),
+    }
+}
+
+/// How many bytes of a set a text begins with.
+#[inline(always)]
+#[tactic(auto, using(crate::proofs::GrammarLemmas::RunLemmas::run_steps))]
+pub fn run_len(set: ByteSet, text: &[u8]) -> usize
+    ensures value { result ≡ spec.run_len set text.now }
+    ensures bound { result ≤ length text.now }
+{
+    for (place, &byte) in text.iter().enumerate() {
+        if !is_in(set, byte) {
+            return place;
+        }
+    }
+    text.len()
+}
+
+// Whether what is enclosed ends at a byte at a depth.
+#[inline(always)]
+fn ends_enclosed(enclosure: Enclosure, depth: usize, byte: u8) -> bool
+    ensures { result ≡ (depth == 0 && spec.ends_enclosed enclosure byte) }
+{
+    depth == 0
+        && match enclosure {
+            Enclosure::Group => byte == b'}',
+            Enclosure::Quotes => byte == b'"' || byte == b'}',
+        }
+}
+
+/// How many bytes stand before the first that ends what is enclosed; all, where there is none.
+#[inline(always)]
+#[tactic(auto, using(crate::proofs::GrammarLemmas::RunLemmas::run_steps))]
+pub fn enclosed_len(enclosure: Enclosure, text: &[u8]) -> usize
+    ensures value { result ≡ spec.enclosed_len enclosure 0 text.now }
+    ensures bound { result ≤ length text.now }
+{
+    let mut depth = 0;
+    for (place, &byte) in text.iter().enumerate() {
+        if ends_enclosed(enclosure, depth, byte) {
+            return place;
+        }
+        depth = depth_after(depth, byte);
+    }
+    text.len()
+}

@@ -1,0 +1,120 @@
+//! The items of a database, read.
+ghost use Rattle.std.specs.Prelude.{◌≡◌};
+ghost use Rattle.std.specs.Str.{bytes_eq};
+ghost use Rattle.std.specs.Option.{option_map};
+ghost use Rattle.btx_text.specs.Keys.{folded};
+ghost use Rattle.btx_bib.specs.Grammar.EventViews.{event_view, head_view};
+ghost use Rattle.btx_bib.specs.Grammar.Items as spec;
+ghost use Rattle.btx_bib.specs.Grammar.Tokens.{closing, seen, sign_at};
+ghost use Rattle.btx_bib.specs.Grammar.Fields.{more_at};
+
+use crate::grammar::byte_sets::Delimiter;
+use crate::grammar::commands::{Command, Wanted};
+use crate::grammar::events::Event;
+use crate::grammar::field_readers::read_more;
+use crate::grammar::slip::Slip;
+use crate::grammar::tokens::{Read, closing, key, name, open, sign};
+use crate::grammar::values::read_value;
+use btx_text::same_key;
+use memchr::memchr;
+
+// Whether a name is that of a command.
+fn is_named(name: &[u8], command: &[u8]) -> bool
+    ensures { result ≡ bytes_eq (folded name.now) (folded command.now) }
+{
+    same_key(name, command)
+}
+
+// The command of a name.
+#[tactic(auto, unfolding(crate::specs::Grammar::Items::command_of))]
+fn command(name: &[u8]) -> Command
+    ensures { result ≡ spec.command_of name.now }
+{
+    if is_named(name, b"comment") {
+        return Command::Comment;
+    }
+    if is_named(name, b"preamble") {
+        return Command::Preamble;
+    }
+    if is_named(name, b"string") {
+        return Command::Definition;
+    }
+    Command::Entry
+}
+
+// The value of a preamble.
+#[tactic(auto, unfolding(crate::specs::Grammar::Items::head_of))]
+fn preamble<'a>(name: &'a [u8], text: &'a [u8]) -> Read<'a, (Event<'a>, Wanted)>
+    ensures { seen head_view result ≡ spec.head_of Command.Preamble name.now text.now }
+{
+    let (delimiter, rest) = open(text)?;
+    let (value, rest) = read_value(rest)?;
+    Ok(((Event::Preamble(value), Wanted::Closing(delimiter)), rest))
+}
+
+// The name and the value of a string.
+#[tactic(auto, unfolding(crate::specs::Grammar::Items::head_of))]
+fn definition<'a>(name: &'a [u8], text: &'a [u8]) -> Read<'a, (Event<'a>, Wanted)>
+    ensures { seen head_view result ≡ spec.head_of Command.Definition name.now text.now }
+{
+    let (delimiter, rest) = open(text)?;
+    let (string, rest) = crate::grammar::tokens::name(rest)?;
+    let (_, rest) = sign(b'=', Slip::NoEquals, rest)?;
+    let (value, rest) = read_value(rest)?;
+    Ok((
+        (Event::Definition(string, value), Wanted::Closing(delimiter)),
+        rest,
+    ))
+}
+
+// The type and the key of an entry.
+#[tactic(auto, unfolding(crate::specs::Grammar::Items::head_of))]
+fn entry<'a>(name: &'a [u8], text: &'a [u8]) -> Read<'a, (Event<'a>, Wanted)>
+    ensures { seen head_view result ≡ spec.head_of Command.Entry name.now text.now }
+{
+    let (delimiter, rest) = open(text)?;
+    let (key, rest) = key(delimiter, rest)?;
+    Ok(((Event::Entry(name, key), Wanted::Fields(delimiter)), rest))
+}
+
+/// What follows an `@`.
+#[tactic(auto, unfolding(crate::specs::Grammar::Items::head_at, crate::specs::Grammar::Items::head_of))]
+pub fn read_head(text: &[u8]) -> Read<'_, (Event<'_>, Wanted)>
+    ensures { seen head_view result ≡ spec.head_at text.now }
+{
+    let (name, rest) = name(text)?;
+    match command(name) {
+        Command::Comment => Ok(((Event::Comment, Wanted::Item), rest)),
+        Command::Preamble => preamble(name, rest),
+        Command::Definition => definition(name, rest),
+        Command::Entry => entry(name, rest),
+    }
+}
+
+/// The end of an item.
+pub fn read_end(delimiter: Delimiter, text: &[u8]) -> Read<'_, (Event<'_>, Wanted)>
+    ensures { seen head_view result ≡ spec.ended (sign_at (closing delimiter) (Slip.NoClosing delimiter) text.now) }
+{
+    let (_, rest) = sign(closing(delimiter), Slip::NoClosing(delimiter), text)?;
+    Ok(((Event::End, Wanted::Item), rest))
+}
+
+/// One more field of an entry, or its end.
+pub fn read_field_or_end(delimiter: Delimiter, text: &[u8]) -> Read<'_, (Event<'_>, Wanted)>
+    ensures { seen head_view result ≡ spec.field_event delimiter (more_at delimiter text.now) }
+{
+    let (more, rest) = read_more(delimiter, text)?;
+    match more {
+        Some(field) => Ok(((Event::Field(field), Wanted::Fields(delimiter)), rest)),
+        None => Ok(((Event::End, Wanted::Item), rest)),
+    }
+}
+
+/// The text behind the first `@`.
+#[tactic(auto, using(crate::proofs::GrammarLemmas::ItemLemmas::at_steps))]
+pub fn behind_at(text: &[u8]) -> Option<&[u8]>
+    ensures { option_map (λ rest. rest.now) result ≡ spec.behind_at text.now }
+{
+    let place = memchr(b'@', text)?;
+    Some(&text[place + 1..])
+}

@@ -1,0 +1,90 @@
+//! The lines of places.
+ghost use Rattle.std.specs.Prelude.{◌≡◌, ◌≤◌, length, take};
+ghost use Rattle.btx_bib.specs.Grammar.PlaceLines as spec;
+
+use std::marker::Model;
+
+/// A text and how far its lines have been counted: each byte is passed once where the places that are asked for ascend.
+#[derive(Drop)]
+pub struct LineCounter<'a> {
+    text: &'a [u8],
+    counted: usize,
+    feeds: usize,
+}
+
+impl<'a> Model for LineCounter<'a> {
+    ghost use Rattle.std.specs.Prelude.{◌≡◌, ◌≤◌, List, ℕ, length, take};
+    ghost use Rattle.btx_bib.specs.Grammar.PlaceLines.{feeds_in};
+
+    ghost Value = { List ℕ };
+
+    ghost view = { λ counter. counter.text.now };
+
+    ghost invariant = { λ counter. (counter.counted ≤ length counter.text.now) × (counter.feeds ≡ feeds_in (take counter.counted counter.text.now)) };
+}
+
+// How many line feeds a text has.
+#[tactic(auto, using(crate::proofs::GrammarLemmas::PlaceLemmas::feed_counts))]
+fn feeds_in(text: &[u8]) -> usize
+    ensures value { result ≡ spec.feeds_in text.now }
+    ensures bound { result ≤ length text.now }
+{
+    text.iter().filter(|byte| **byte == b'\n').count()
+}
+
+// How many line feeds a text has before a place, where so many stand before another one.
+#[tactic(auto, using(crate::proofs::GrammarLemmas::PlaceLemmas::feed_sums))]
+fn feeds_before(text: &[u8], counted: usize, counted_feeds: usize, place: usize) -> usize
+    requires within { place ≤ length text.now }
+    requires feeds { counted_feeds ≡ spec.feeds_in (take counted text.now) }
+    ensures value { result ≡ spec.feeds_in (take place text.now) }
+    ensures bound { result ≤ place }
+{
+    if place < counted {
+        return feeds_in(&text[..place]);
+    }
+    counted_feeds + feeds_in(&text[counted..place])
+}
+
+impl<'a> LineCounter<'a> {
+    /// The counter of a text.
+    pub fn of(text: &'a [u8]) -> Self
+        ensures { result ≡ text.now }
+    {
+        LineCounter {
+            text,
+            counted: 0,
+            feeds: 0,
+        }
+    }
+
+    // How many lines have begun when so many bytes have been read.
+    #[tactic(auto, using(crate::proofs::GrammarLemmas::PlaceLemmas::line_steps))]
+    fn lines_begun(&mut self, count: usize) -> usize
+        ensures line { result ≡ spec.lines_begun count self.old }
+        ensures same { self.new ≡ self.old }
+    {
+        let Some(place) = count.min(self.text.len()).checked_sub(1) else {
+            return 0;
+        };
+        self.feeds = feeds_before(self.text, self.counted, self.feeds, place);
+        self.counted = place;
+        self.feeds + 1
+    }
+
+    /// The line of the byte with which this rest of the text begins.
+    pub fn line_at(&mut self, rest: &[u8]) -> usize
+        ensures line { result ≡ spec.line_at self.old rest.now }
+        ensures same { self.new ≡ self.old }
+    {
+        self.lines_begun(self.text.len().saturating_sub(rest.len()) + 1)
+    }
+
+    /// The line of the last byte before this rest of the text.
+    pub fn line_before(&mut self, rest: &[u8]) -> usize
+        ensures line { result ≡ spec.line_before self.old rest.now }
+        ensures same { self.new ≡ self.old }
+    {
+        self.lines_begun(self.text.len().saturating_sub(rest.len()))
+    }
+}

@@ -1,0 +1,91 @@
+//! The words and signs of an item.
+ghost use Rattle.std.specs.Prelude.{◌≡◌};
+ghost use Rattle.btx_bib.specs.Grammar.ByteSets as bytes;
+ghost use Rattle.btx_bib.specs.Grammar.Tokens as spec;
+
+use crate::grammar::byte_sets::{ByteSet, Delimiter, begins_name, run_len};
+use crate::grammar::slip::Slip;
+
+/// What was read and the text after it, or what is wrong and the text from its place on.
+pub type Read<'a, T> = Result<(T, &'a [u8]), (Slip, &'a [u8])>;
+
+/// What follows the longest run of a set.
+#[inline(always)]
+pub fn past(set: ByteSet, text: &[u8]) -> &[u8]
+    ensures { result.now ≡ bytes.past set text.now }
+{
+    &text[run_len(set, text)..]
+}
+
+/// What is wrong where something is wanted that doesn't stand here.
+pub fn slip_at(slip: Slip, rest: &[u8]) -> Slip
+    ensures { result ≡ spec.slip_at slip rest.now }
+{
+    if rest.is_empty() {
+        Slip::EndOfFile
+    } else {
+        slip
+    }
+}
+
+/// A name.
+#[tactic(auto, unfolding(crate::specs::Grammar::Tokens::name_in))]
+pub fn name(text: &[u8]) -> Read<'_, &[u8]>
+    ensures { spec.seen (λ name. name.now) result ≡ spec.name_at text.now }
+{
+    let rest = past(ByteSet::Gap, text);
+    match rest.split_first() {
+        Some((&byte, _)) if begins_name(byte) => Ok(rest.split_at(run_len(
+            ByteSet::NameByte,
+            rest,
+        ))),
+        _ => Err((slip_at(Slip::NoName, rest), rest)),
+    }
+}
+
+/// The opening delimiter.
+#[tactic(auto, unfolding(crate::specs::Grammar::Tokens::open_in))]
+pub fn open(text: &[u8]) -> Read<'_, Delimiter>
+    ensures { spec.seen (λ delimiter. delimiter) result ≡ spec.open_at text.now }
+{
+    let rest = past(ByteSet::Gap, text);
+    match rest.split_first() {
+        Some((&b'{', after)) => Ok((Delimiter::Braces, after)),
+        Some((&b'(', after)) => Ok((Delimiter::Parens, after)),
+        _ => Err((slip_at(Slip::NoDelimiter, rest), rest)),
+    }
+}
+
+/// The closing delimiter.
+pub fn closing(delimiter: Delimiter) -> u8
+    ensures { result ≡ spec.closing delimiter }
+{
+    match delimiter {
+        Delimiter::Braces => b'}',
+        Delimiter::Parens => b')',
+    }
+}
+
+/// A sign.
+#[tactic(auto, unfolding(crate::specs::Grammar::Tokens::sign_in))]
+pub fn sign(sign: u8, slip: Slip, text: &[u8]) -> Read<'_, ()>
+    ensures { spec.seen (λ none. none) result ≡ spec.sign_at sign slip text.now }
+{
+    let rest = past(ByteSet::Gap, text);
+    match rest.split_first() {
+        Some((&byte, after)) if byte == sign => Ok(((), after)),
+        _ => Err((slip_at(slip, rest), rest)),
+    }
+}
+
+/// A key.
+#[tactic(auto, unfolding(crate::specs::Grammar::Tokens::key_in))]
+pub fn key(delimiter: Delimiter, text: &[u8]) -> Read<'_, &[u8]>
+    ensures { spec.seen (λ key. key.now) result ≡ spec.key_at delimiter text.now }
+{
+    let rest = past(ByteSet::Gap, text);
+    if rest.is_empty() {
+        return Err((Slip::EndOfFile, rest));
+    }
+    Ok(rest.split_at(run_len(ByteSet::KeyByte(delimiter), rest)))
+}

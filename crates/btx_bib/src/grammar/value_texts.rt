@@ -1,0 +1,257 @@
+//! The text that a value stands for.
+ghost use Rattle.std.specs.Prelude.{◌≡◌, ◌<◌, ◌≤◌, ◌∷◌, ◌++◌, [], length, IfOk, IfSome, OnOk};
+ghost use Rattle.std.specs.Option.{option_map};
+ghost use Rattle.btx_text.specs.Limits.{greatest_string};
+ghost use Rattle.btx_bib.specs.Grammar.ByteSets.{is_gap};
+ghost use Rattle.btx_bib.specs.Grammar.PartViews.{part_view};
+ghost use Rattle.btx_bib.specs.Grammar.Squeezing as squeezing;
+ghost use Rattle.btx_bib.specs.Grammar.ValueTexts as spec;
+
+use crate::grammar::byte_sets::{ByteSet, is_gap};
+use crate::grammar::parts::Part;
+use crate::grammar::tokens::past;
+use crate::grammar::value_ends::Ends;
+use crate::grammar::values::Value;
+use btx_text::{Fault, GREATEST_STRING, Text};
+use std::alloc::{AllocError, Global};
+
+/// The strings of a database, by their names.
+pub trait Strings<'a> {
+    ghost use Rattle.std.specs.Prelude.{List, ℕ, Option};
+
+    ghost values: { Self → List ℕ → Option (List ℕ) };
+
+    /// The value of a name, if it has one.
+    fn value_of(&self, alloc: Global, name: &[u8]) -> Result<Option<&Text<'a>>, AllocError>
+        ensures { IfOk result (λ found. option_map (λ text. text.now) found ≡ values self.now name.now) };
+}
+
+// Whether a text has no white but single spaces, none of them behind white.
+#[tactic(auto, using(crate::proofs::GrammarLemmas::SqueezeLemmas::plain_steps))]
+fn is_squeezed(was_white: bool, text: &[u8]) -> bool
+    ensures { result ≡ squeezing.is_squeezed was_white text.now }
+{
+    let mut white = was_white;
+    for &byte in text {
+        if !is_gap(byte) {
+            white = false;
+        } else if byte != b' ' || white {
+            return false;
+        } else {
+            white = true;
+        }
+    }
+    true
+}
+
+// Whether a text ends in white.
+fn ends_in_gap(text: &[u8]) -> bool
+    ensures { result ≡ squeezing.ends_in_gap text.now }
+{
+    match text.split_last() {
+        Some((&last, _)) => is_gap(last),
+        None => false,
+    }
+}
+
+// Whether a text is the value that it gives.
+fn stands(ends: Ends, text: &[u8]) -> bool
+    ensures { result ≡ squeezing.stands ends text.now }
+{
+    match ends {
+        Ends::Kept => is_squeezed(false, text),
+        Ends::Trimmed => is_squeezed(true, text) && !ends_in_gap(text),
+    }
+}
+
+// A text without the white that it begins with, and without one byte of white at its end.
+fn without_gaps(text: &[u8]) -> &[u8]
+    ensures { result.now ≡ squeezing.without_gaps text.now }
+{
+    let rest = past(ByteSet::Gap, text);
+    match rest.split_last() {
+        Some((&last, others)) if is_gap(last) => others,
+        _ => rest,
+    }
+}
+
+// The value that a text gives, where it stands in the text.
+#[tactic(auto, using(crate::proofs::GrammarLemmas::SqueezeLemmas::standing))]
+fn lent(ends: Ends, text: &[u8]) -> Option<&[u8]>
+    ensures value { IfSome result (λ lent. lent.now ≡ spec.shaped ends text.now) }
+    ensures within { IfSome result (λ lent. length lent.now ≤ greatest_string) }
+{
+    let inner = match ends {
+        Ends::Kept => text,
+        Ends::Trimmed => without_gaps(text),
+    };
+    if inner.len() <= GREATEST_STRING && stands(ends, inner) {
+        Some(inner)
+    } else {
+        None
+    }
+}
+
+// The value of a name where a value is this name alone, if it needn't be made.
+#[tactic(auto, using(crate::proofs::GrammarLemmas::SqueezeLemmas::standing))]
+fn lone_string<'a, S: Strings<'a>>(
+    alloc: Global,
+    name: &[u8],
+    strings: &S,
+    ends: Ends,
+) -> Result<Option<Text<'a>>, AllocError>
+    ensures { IfOk result (λ found. IfSome found (λ text. text ≡ spec.shaped ends (spec.or_nothing (S.values strings.now name.now)))) }
+{
+    match strings.value_of(alloc, name)? {
+        None => Ok(Some(Text::empty())),
+        Some(text) if stands(ends, text.as_bytes()) => Ok(Some(text.copy(alloc)?)),
+        Some(_) => Ok(None),
+    }
+}
+
+// The text of a value of one part, if it needn't be made.
+#[tactic(auto, using(crate::proofs::GrammarLemmas::SqueezeLemmas::lone))]
+fn lone_text<'a, S: Strings<'a>>(
+    alloc: Global,
+    value: &Value<'a>,
+    strings: &S,
+    ends: Ends,
+) -> Result<Option<Text<'a>>, AllocError>
+    ensures { IfOk result (λ found. IfSome found (λ text. text ≡ spec.value_text ends (S.values strings.now) value.now)) }
+{
+    let Some(part) = value.lone_part() else {
+        return Ok(None);
+    };
+    match part {
+        Part::Named(string) => lone_string(alloc, string.name, strings, ends),
+        Part::Braced(text) | Part::Quoted(text) | Part::Digits(text) => match lent(ends, text) {
+            Some(bytes) => Ok(Some(Text::borrowed(bytes))),
+            None => Ok(None),
+        },
+    }
+}
+
+// Pushes bytes, each run of white as one space; the last byte before them was white or not, and so the last of them is.
+#[tactic(auto, using(crate::proofs::GrammarLemmas::SqueezeLemmas::squeeze_steps))]
+fn push_squeezed(text: &mut Vec<u8>, was_white: bool, bytes: &[u8]) -> Result<bool, AllocError>
+    ensures text { OnOk result (text.new.items ≡ text.old.items ++ squeezing.squeezed_after was_white bytes.now) }
+    ensures white { IfOk result (λ white. white ≡ squeezing.white_after was_white bytes.now) }
+{
+    text.reserve(bytes.len().min(GREATEST_STRING))?;
+    let mut white = was_white;
+    for &byte in bytes {
+        if !is_gap(byte) {
+            text.push(byte)?;
+            white = false;
+        } else if !white {
+            text.push(b' ')?;
+            white = true;
+        }
+    }
+    Ok(white)
+}
+
+// Pushes a part, as above.
+fn push_part<'a, S: Strings<'a>>(
+    alloc: Global,
+    text: &mut Vec<u8>,
+    was_white: bool,
+    part: Part<'a>,
+    strings: &S,
+) -> Result<bool, AllocError>
+    ensures text { OnOk result (text.new.items ≡ text.old.items ++ squeezing.squeezed_after was_white (spec.text_of_part (S.values strings.now) (part_view part.entry))) }
+    ensures white { IfOk result (λ white. white ≡ squeezing.white_after was_white (spec.text_of_part (S.values strings.now) (part_view part.entry))) }
+{
+    match part {
+        Part::Braced(bytes) | Part::Quoted(bytes) | Part::Digits(bytes) => {
+            push_squeezed(text, was_white, bytes)
+        }
+        Part::Named(string) => match strings.value_of(alloc, string.name)? {
+            Some(value) => push_squeezed(text, was_white, value.as_bytes()),
+            None => push_squeezed(text, was_white, &[]),
+        },
+    }
+}
+
+// The text of a value whose white stands after white or not, within a limit, which is asked after each part.
+fn gathered<'a, S: Strings<'a>>(
+    alloc: Global,
+    value: &Value<'a>,
+    strings: &S,
+    was_white: bool,
+    most: usize,
+) -> Result<Vec<u8>, Fault>
+    ensures { spec.GathersWithin most result (squeezing.squeezed_after was_white (spec.joined_text (S.values strings.now) value.now)) }
+{
+    let mut text = Vec::new(alloc);
+    let mut white = was_white;
+    for part in value.parts() {
+        white = push_part(alloc, &mut text, white, part, strings)?;
+        if text.len() > most {
+            return Err(Fault::StringLimit);
+        }
+    }
+    Ok(text)
+}
+
+// A last space goes.
+fn drop_last_space(text: &mut Vec<u8>)
+    ensures { text.new.items ≡ spec.without_last_space text.old.items }
+{
+    let len = text.len();
+    if len == 0 || text[len - 1] != b' ' {
+        return;
+    }
+    text.truncate(len - 1);
+}
+
+// The text of a value that keeps its ends, made in one pass.
+fn made_whole<'a, S: Strings<'a>>(
+    alloc: Global,
+    value: &Value<'a>,
+    strings: &S,
+) -> Result<Text<'a>, Fault>
+    ensures { spec.Makes result (spec.value_text Ends.Kept (S.values strings.now) value.now) }
+{
+    match gathered(alloc, value, strings, false, GREATEST_STRING) {
+        Ok(text) => Ok(Text::owned(text)),
+        Err(fault) => Err(fault),
+    }
+}
+
+// The text of a value that is trimmed, made in one pass.
+fn made_trimmed<'a, S: Strings<'a>>(
+    alloc: Global,
+    value: &Value<'a>,
+    strings: &S,
+) -> Result<Text<'a>, Fault>
+    ensures { spec.Makes result (spec.value_text Ends.Trimmed (S.values strings.now) value.now) }
+{
+    let mut text = match gathered(alloc, value, strings, true, GREATEST_STRING + 1) {
+        Ok(text) => text,
+        Err(fault) => return Err(fault),
+    };
+    drop_last_space(&mut text);
+    if text.len() > GREATEST_STRING {
+        return Err(Fault::StringLimit);
+    }
+    Ok(Text::owned(text))
+}
+
+/// The text of a value. Where it stands in the file or is that of one string, it isn't copied; else it is made in one pass.
+pub fn value_text<'a, S: Strings<'a>>(
+    alloc: Global,
+    value: &Value<'a>,
+    strings: &S,
+    ends: Ends,
+) -> Result<Text<'a>, Fault>
+    ensures { spec.Makes result (spec.value_text ends (S.values strings.now) value.now) }
+{
+    if let Some(text) = lone_text(alloc, value, strings, ends)? {
+        return Ok(text);
+    }
+    match ends {
+        Ends::Kept => made_whole(alloc, value, strings),
+        Ends::Trimmed => made_trimmed(alloc, value, strings),
+    }
+}

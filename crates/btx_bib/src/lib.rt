@@ -1,0 +1,27 @@
+//! What databases give to a job: its entries with their values and cross-references, the preamble, and what is told.
+#![tactic(auto)]
+
+mod draft;
+pub mod end;
+pub mod entry;
+mod gathering;
+pub mod grammar;
+pub mod laws;
+pub mod library;
+mod lowering;
+pub mod message;
+mod names;
+mod passes;
+mod request;
+mod site;
+mod slots;
+pub mod spelling;
+mod strings;
+pub mod values;
+
+pub use end::End;
+pub use entry::Entry;
+pub use library::Library;
+pub use message::{Message, Messages, Spot};
+pub use spelling::{Spelling, Word};
+pub use values::Values;

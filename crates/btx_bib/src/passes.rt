@@ -1,0 +1,193 @@
+//! The passes over the list, once all databases are read: inherited values, parents, and what stays.
+ghost use Rattle.std.specs.Prelude.{◌≡◌, ◌++◌, [], OnOk, IfOk, option_copied, slice_get};
+ghost use Rattle.std.specs.List.{flat_map};
+ghost use Rattle.btx_bib.specs.Finding.{changed_at};
+ghost use Rattle.btx_bib.specs.Passes.{absence_told, after_first, after_second, check_told, checked, entries_of, entry_at, inherited, is_parent, parent_told, references_told, told_in};
+ghost use Rattle.btx_bib.specs.Steps.{names_of, told_by};
+
+use crate::entry::Entry;
+use crate::message::{Message, Messages};
+use crate::names::Names;
+use crate::slots::{Body, Slot, Slots};
+use crate::spelling::Spelling;
+use btx_text::Text;
+use std::alloc::{AllocError, Global};
+
+// The first pass, at one place.
+fn inherit_at(
+    slots: &mut Slots<'_>,
+    alloc: Global,
+    names: &Names,
+    place: usize,
+) -> Result<(), AllocError>
+    requires { names.now ≡ names_of slots.old }
+    ensures { OnOk result (slots.new ≡ changed_at place (inherited slots.old) slots.old) }
+{
+    let Some(slot) = slots.at(place) else {
+        return Ok(());
+    };
+    let Some(key) = slot.parent() else {
+        return Ok(());
+    };
+    let Some(parent) = slots.find(alloc, names, key.as_bytes())? else {
+        return Ok(());
+    };
+    let values = slot.values_from(alloc, parent)?;
+    slots.set_values(place, values);
+    Ok(())
+}
+
+// The first pass: each entry takes what it lacks from its parent.
+fn inherit(slots: &mut Slots<'_>, alloc: Global, names: &Names) -> Result<(), AllocError>
+    requires { names.now ≡ names_of slots.old }
+    ensures pass { OnOk result (slots.new ≡ after_first slots.old) }
+    ensures names { OnOk result (names.now ≡ names_of slots.new) }
+{
+    for place in 0..slots.len() {
+        inherit_at(slots, alloc, names, place)?;
+    }
+    Ok(())
+}
+
+// Whether a parent has an entry that stays.
+fn is_parent(parent: Option<&Slot<'_>>) -> bool
+    ensures { result ≡ is_parent (option_copied parent.entry) }
+{
+    match parent {
+        Some(slot) => slot.body.is_some() && slot.has_enough(),
+        None => false,
+    }
+}
+
+// Tells of a parent that has no entry, or has a parent.
+fn tell_parent<'a>(
+    alloc: Global,
+    child: &Spelling<'a>,
+    key: &Text<'a>,
+    parent: Option<&Slot<'a>>,
+    messages: &mut Messages<'a>,
+) -> Result<(), AllocError>
+    ensures { OnOk result (messages.new ≡ messages.old ++ parent_told child.now key.now (option_copied parent.entry)) }
+{
+    let Some(slot) = parent else {
+        let key = Spelling::of_value(key.copy(alloc)?);
+        return messages.push(Message::BadReference(child.copy(alloc)?, key));
+    };
+    if slot.body.is_none() {
+        let key = Spelling::of_value(key.copy(alloc)?);
+        return messages.push(Message::BadReference(child.copy(alloc)?, key));
+    }
+    let above = slot.parent();
+    if above.is_some() {
+        let key = Spelling::of_value(key.copy(alloc)?);
+        return messages.push(Message::NestedReference(child.copy(alloc)?, key));
+    }
+    Ok(())
+}
+
+// The second pass, at one place.
+fn check_at<'a>(
+    slots: &mut Slots<'a>,
+    alloc: Global,
+    names: &Names,
+    place: usize,
+    messages: &mut Messages<'a>,
+) -> Result<(), AllocError>
+    requires { names.now ≡ names_of slots.old }
+    ensures slots { OnOk result (slots.new ≡ changed_at place (checked slots.old) slots.old) }
+    ensures messages { OnOk result (messages.new ≡ messages.old ++ told_by slots.old (slice_get slots.old place)) }
+{
+    let Some(slot) = slots.at(place) else {
+        return Ok(());
+    };
+    let Some(key) = slot.parent() else {
+        return Ok(());
+    };
+    let parent = slots.find(alloc, names, key.as_bytes())?;
+    let stays = is_parent(parent);
+    tell_parent(alloc, &slot.key, key, parent, messages)?;
+    if stays {
+        return Ok(());
+    }
+    slots.cut(place);
+    Ok(())
+}
+
+// The second pass: parents that don't stay are told of and taken away.
+fn check<'a>(
+    slots: &mut Slots<'a>,
+    alloc: Global,
+    names: &Names,
+    messages: &mut Messages<'a>,
+) -> Result<(), AllocError>
+    requires { names.now ≡ names_of slots.old }
+    ensures slots { OnOk result (slots.new ≡ after_second slots.old) }
+    ensures messages { OnOk result (messages.new ≡ messages.old ++ told_in checked check_told [] slots.old) }
+{
+    for place in 0..slots.len() {
+        check_at(slots, alloc, names, place, messages)?;
+    }
+    Ok(())
+}
+
+// Adds the entry of a place, if it has one that stays. A key without an entry is told of.
+fn close<'a>(
+    slot: Slot<'a>,
+    entries: &mut Vec<Entry<'a>>,
+    messages: &mut Messages<'a>,
+) -> Result<(), AllocError>
+    ensures entries { OnOk result (entries.new.items ≡ entries.old.items ++ entry_at slot.entry) }
+    ensures messages { OnOk result (messages.new ≡ messages.old ++ absence_told slot.entry) }
+{
+    let enough = slot.has_enough();
+    let Slot {
+        key,
+        is_cited: _,
+        wanting: _,
+        body,
+    } = slot;
+    let Some(body) = body else {
+        messages.push(Message::NoEntry(key))?;
+        return Ok(());
+    };
+    if !enough {
+        return Ok(());
+    }
+    let Body { kind, values } = body;
+    entries.push(Entry { key, kind, values })?;
+    Ok(())
+}
+
+// The entries that stay. Keys without an entry are told of.
+fn staying<'a>(
+    slots: Slots<'a>,
+    alloc: Global,
+    messages: &mut Messages<'a>,
+) -> Result<Vec<Entry<'a>>, AllocError>
+    ensures entries { IfOk result (λ entries. entries.items ≡ flat_map entry_at slots.entry) }
+    ensures messages { OnOk result (messages.new ≡ messages.old ++ flat_map absence_told slots.entry) }
+{
+    let mut entries = Vec::new(alloc);
+    let Slots { list } = slots;
+    for slot in list {
+        close(slot, &mut entries, messages)?;
+    }
+    Ok(entries)
+}
+
+/// The entries of a list that stay, with what they inherit; what the passes tell is added to the messages.
+#[tactic(auto, unfolding(crate::specs::Passes::entries_of, crate::specs::Passes::references_told))]
+pub fn entries_of<'a>(
+    mut slots: Slots<'a>,
+    alloc: Global,
+    names: &Names,
+    messages: &mut Messages<'a>,
+) -> Result<Vec<Entry<'a>>, AllocError>
+    requires { names.now ≡ names_of slots }
+    ensures entries { IfOk result (λ entries. entries.items ≡ entries_of slots.entry) }
+    ensures messages { OnOk result (messages.new ≡ messages.old ++ references_told slots.entry) }
+{
+    inherit(&mut slots, alloc, names)?;
+    check(&mut slots, alloc, names, messages)?;
+    staying(slots, alloc, messages)
+}

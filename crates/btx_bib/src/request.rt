@@ -1,0 +1,57 @@
+//! What is asked of the databases.
+use crate::lowering::in_lower_case;
+use btx_bst::Style;
+use btx_text::same_key;
+use std::alloc::{AllocError, Global};
+
+/// What a job and its style ask of the databases.
+#[derive(Drop)]
+pub struct Request<'a> {
+    /// The cited keys.
+    pub cited: &'a [Vec<u8>],
+    /// The number of keys that were cited before `*`, if it was cited.
+    pub all: Option<usize>,
+    /// The style, which declares the fields and the types.
+    pub style: &'a Style<'a>,
+    /// How many references keep an entry that wasn't cited.
+    pub fewest: usize,
+}
+
+impl<'a> Request<'a> {
+    ghost use Rattle.std.specs.Prelude.{◌≡◌, IfOk, option_copied};
+    ghost use Rattle.btx_text.specs.Keys.{folded};
+    ghost use Rattle.btx_bib.specs.Requests.{wanted};
+    ghost use Rattle.btx_aux.specs.Entries.{texts_of};
+    ghost use Rattle.btx_aux.specs.Names.{listed_as};
+
+    /// The number of a declared field by its name.
+    pub fn field(&self, alloc: Global, name: &[u8]) -> Result<Option<usize>, AllocError>
+        ensures { IfOk result (λ number. number ≡ (wanted self.now).field (folded name.now)) }
+    {
+        let lowered = in_lower_case(alloc, name)?;
+        match self.style.field(lowered.as_bytes()) {
+            Some(number) => Ok(Some(number as usize)),
+            None => Ok(None),
+        }
+    }
+
+    /// The number of the style's function for a type.
+    pub fn kind(&self, alloc: Global, name: &[u8]) -> Result<Option<u32>, AllocError>
+        ensures { IfOk result (λ number. number ≡ (wanted self.now).kind (folded name.now)) }
+    {
+        let lowered = in_lower_case(alloc, name)?;
+        Ok(self.style.type_function(lowered.as_bytes()))
+    }
+
+    /// How a key was cited.
+    pub fn cited_as(&self, key: &[u8]) -> Option<&'a [u8]>
+        ensures { option_copied result ≡ listed_as (texts_of self.now.cited.now) key.now }
+    {
+        for other in self.cited {
+            if same_key(key, other.as_slice()) {
+                return Some(other.as_slice());
+            }
+        }
+        None
+    }
+}
