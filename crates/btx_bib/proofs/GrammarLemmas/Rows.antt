@@ -1,15 +1,15 @@
 -- Worked rows of the reading.
-use Rattle.std.proofs.Common.{◌≡◌, ℕ, List, [], ◌∷◌, map, false, refl, None, Some, Option}
+use Rattle.std.proofs.Common.{◌≡◌, ℕ, List, [], ◌∷◌, map, false, refl, Some}
 use Rattle.std.specs.Prelude.{codes}
 use Rattle.btx_bib.specs.declared.grammar.byte_sets.Delimiter.TheVariants.{Braces, Parens}
 use Rattle.btx_bib.specs.declared.grammar.commands.Wanted.TheVariants.{Item}
-use Rattle.btx_bib.specs.declared.grammar.slip.Slip.TheVariants.{NoComma, NoEquals, NoClosing, NoValue, NoName, NoDelimiter, Unbalanced, EndOfFile}
+use Rattle.btx_bib.specs.declared.grammar.slip.Slip.TheVariants.{NoComma, NoDelimiter, Unbalanced, EndOfFile}
 use Rattle.btx_bib.specs.declared.grammar.value_ends.Ends.TheVariants.{Kept}
 use Rattle.btx_bib.specs.Grammar.ByteSets.{run_len, enclosed_len}
 use Rattle.btx_bib.specs.Grammar.Tokens.{name_in, open_in, sign_in, key_in}
 use Rattle.btx_bib.specs.Grammar.Values.{Braced, Quoted, Digits, Named, part_in, value_within, value_at}
 use Rattle.btx_bib.specs.Grammar.Fields.{field_at, after_comma, more_in}
-use Rattle.btx_bib.specs.Grammar.Items.{Event, Comment, Preamble, Definition, Entry, FieldOf, End, Wrong, command_of, head_of, head_at, behind_at, step_of, Keeping, by_history, events_within, events_from}
+use Rattle.btx_bib.specs.Grammar.Items.{Event, Definition, Entry, FieldOf, End, Wrong, command_of, head_of, head_at, behind_at, step_of, Keeping, by_history, events_within, events_from}
 use Rattle.btx_bib.specs.Grammar.ValueTexts.{squeezed, value_text}
 
 -- no entry is stored
