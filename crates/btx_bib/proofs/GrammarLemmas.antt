@@ -1,4 +1,5 @@
 pub mod RunLemmas
+pub mod MarkLemmas
 pub mod ValueLemmas
 pub mod ItemLemmas
 pub mod LengthLemmas

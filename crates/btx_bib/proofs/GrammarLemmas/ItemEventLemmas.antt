@@ -1,5 +1,5 @@
 -- The events of a reading are those of its items.
-use Rattle.std.proofs.Common.{◌≡◌, ℕ, zero, suc, ◌+◌, ◌<◌, ◌≤◌, Bool, false, List, [], ◌∷◌, ◌++◌, map, fold, length, refl, sym, ◌∙◌, ap, subst, arith, Result, Ok, Err, Some, None, Option}
+use Rattle.std.proofs.Common.{◌≡◌, ℕ, zero, suc, ◌<◌, false, List, [], ◌∷◌, ◌++◌, map, length, refl, sym, ◌∙◌, ap, subst, arith, Ok, Err, Some, None, Option}
 use Rattle.btx_bib.specs.declared.grammar.byte_sets.Delimiter.{Delimiter}
 use Rattle.btx_bib.specs.declared.grammar.commands.Command.{Command}
 use Rattle.btx_bib.specs.declared.grammar.commands.Command.TheVariants as command
@@ -10,9 +10,9 @@ use Rattle.btx_bib.specs.declared.grammar.slip.Slip.TheVariants.{NoEquals, NoClo
 use Rattle.btx_bib.specs.Grammar.Tokens.{Read, followed_by, name_at, open_at, sign_at, key_at, closing}
 use Rattle.btx_bib.specs.Grammar.Values.{Part, value_at}
 use Rattle.btx_bib.specs.Grammar.Fields.{Field, more_at}
-use Rattle.btx_bib.specs.Grammar.Items.{Event, Comment, Preamble, Definition, Entry, FieldOf, End, Wrong, Placed, Keeping, is_repeated, Step, step_by, ended, field_event, step_of, behind_at, command_of, head_of, head_at, events_by, events_from}
-use Rattle.btx_bib.specs.Grammar.WholeItems.{Item, CommentItem, PreambleItem, StringItem, EntryItem, other_fields, fields_at, item_of, item_at}
-use Rattle.btx_bib.specs.Grammar.ItemEvents.{events_of, read_events, told, Tells}
+use Rattle.btx_bib.specs.Grammar.Items.{Event, Comment, Preamble, Definition, Entry, FieldOf, End, Wrong, Keeping, is_repeated, Step, step_by, ended, field_event, step_of, known_step, next_step, behind_at, command_of, head_of, head_at, events_from}
+use Rattle.btx_bib.specs.Grammar.WholeItems.{PreambleItem, StringItem, EntryItem, other_fields, fields_at, item_of, item_at}
+use Rattle.btx_bib.specs.Grammar.ItemEvents.{read_events, told, Tells}
 use Rattle.btx_bib.proofs.GrammarLemmas.LengthLemmas.{Shrinks, events-some}
 use Rattle.btx_bib.proofs.GrammarLemmas.WholeItemLemmas.{more-shrinks, fields_at-step}
 
@@ -21,21 +21,23 @@ use Rattle.btx_bib.proofs.GrammarLemmas.WholeItemLemmas.{more-shrinks, fields_at
 abbrev step_to : Event → Wanted → List ℕ → Step
 step_to event next rest = record { event = event; wanted = next; rest = rest }
 
-told-step : {S : Type 0} (keeping : Keeping S) (state : S) (w : Wanted) (s : List ℕ) (event : Event) (next : Wanted) (rest : List ℕ) → step_of w s ≡ Some (step_to event next rest) → is_repeated keeping state event ≡ false →
+told-step : {S : Type 0} (keeping : Keeping S) (state : S) (w : Wanted) (s : List ℕ) (event : Event) (next : Wanted) (rest : List ℕ) → step_of w s ≡ Some (step_to event next rest) → is_repeated (keeping.is_stored state) event ≡ false →
     told (events_from keeping state w s) ≡ event ∷ told (events_from keeping (keeping.after state event) next rest)
-told-step keeping state w s event next rest e new = ap told (events-some keeping state w s (step_to event next rest) e) ∙ rw new refl
+told-step keeping state w s event next rest e new =
+    let known : next_step (keeping.is_stored state) w s ≡ Some (step_to event next rest) = ap (known_step (keeping.is_stored state)) e ∙ rw new refl in
+    ap told (events-some keeping state w s (step_to event next rest) known)
 
 -- an event before those that are read
 abbrev with_event : Event → Read (List Event) → Read (List Event)
 with_event event (Ok got) = Ok (event ∷ got.0, got.1)
 with_event event (Err wrong) = Err wrong
 
-tells-more : {S : Type 0} (keeping : Keeping S) (state : S) (w : Wanted) (s : List ℕ) (event : Event) (next : Wanted) (rest : List ℕ) (r : Read (List Event)) → step_of w s ≡ Some (step_to event next rest) → is_repeated keeping state event ≡ false →
+tells-more : {S : Type 0} (keeping : Keeping S) (state : S) (w : Wanted) (s : List ℕ) (event : Event) (next : Wanted) (rest : List ℕ) (r : Read (List Event)) → step_of w s ≡ Some (step_to event next rest) → is_repeated (keeping.is_stored state) event ≡ false →
     Tells keeping (keeping.after state event) next rest r → Tells keeping state w s (with_event event r)
 tells-more keeping state w s event next rest (Ok got) e new h = told-step keeping state w s event next rest e new ∙ ap (λ xs. event ∷ xs) h
 tells-more keeping state w s event next rest (Err wrong) e new h = (event ∷ h.0, told-step keeping state w s event next rest e new ∙ ap (λ xs. event ∷ xs) h.1)
 
-tells-one : {S : Type 0} (keeping : Keeping S) (state : S) (w : Wanted) (s : List ℕ) (event : Event) (rest : List ℕ) → step_of w s ≡ Some (step_to event wanted.Item rest) → is_repeated keeping state event ≡ false →
+tells-one : {S : Type 0} (keeping : Keeping S) (state : S) (w : Wanted) (s : List ℕ) (event : Event) (rest : List ℕ) → step_of w s ≡ Some (step_to event wanted.Item rest) → is_repeated (keeping.is_stored state) event ≡ false →
     Tells keeping state w s (Ok (event ∷ [], rest))
 tells-one keeping state w s event rest e new = told-step keeping state w s event wanted.Item rest e new
 

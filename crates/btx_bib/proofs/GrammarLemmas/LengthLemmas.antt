@@ -1,10 +1,8 @@
 -- What is read leaves a text that isn't longer.
-use Rattle.std.proofs.Common.{◌≡◌, ℕ, zero, suc, ◌+◌, ◌-◌, ◌*◌, ◌<◌, ◌≤◌, Bool, true, false, cond, eqb, List, [], ◌∷◌, length, take, drop, refl, sym, ◌∙◌, ap, arith, length-drop, Ok, Err, Some, None, Option}
+use Rattle.std.proofs.Common.{◌≡◌, ℕ, zero, suc, ◌+◌, ◌*◌, ◌<◌, ◌≤◌, Bool, true, false, cond, eqb, List, [], ◌∷◌, length, drop, refl, ◌∙◌, ap, arith, length-drop, Ok, Err, Some, None, Option}
 use Rattle.std.specs.Option.{option_map}
 use Rattle.btx_text.specs.Class.{is_digit}
 use Rattle.btx_bib.specs.declared.grammar.byte_sets.Delimiter.{Delimiter}
-use Rattle.btx_bib.specs.declared.grammar.byte_sets.Delimiter.TheVariants.{Braces, Parens}
-use Rattle.btx_bib.specs.declared.grammar.byte_sets.ByteSet.{ByteSet}
 use Rattle.btx_bib.specs.declared.grammar.byte_sets.ByteSet.TheVariants.{Gap, NameByte, Digit, KeyByte}
 use Rattle.btx_bib.specs.declared.grammar.byte_sets.Enclosure.{Enclosure}
 use Rattle.btx_bib.specs.declared.grammar.byte_sets.Enclosure.TheVariants.{Group, Quotes}
@@ -13,12 +11,12 @@ use Rattle.btx_bib.specs.declared.grammar.commands.Command.TheVariants as comman
 use Rattle.btx_bib.specs.declared.grammar.commands.Wanted.{Wanted}
 use Rattle.btx_bib.specs.declared.grammar.commands.Wanted.TheVariants.{Item, Closing, Fields}
 use Rattle.btx_bib.specs.declared.grammar.slip.Slip.{Slip}
-use Rattle.btx_bib.specs.declared.grammar.slip.Slip.TheVariants.{NoName, NoDelimiter, NoComma, NoEquals, NoClosing, NoValue, Unbalanced, EndOfFile, Repeated}
-use Rattle.btx_bib.specs.Grammar.ByteSets.{begins, begins_name, run_len, run, past, enclosed_len}
-use Rattle.btx_bib.specs.Grammar.Tokens.{Read, followed_by, wrong_at, name_in, name_at, open_in, open_at, sign_in, sign_at, key_in, key_at, closing}
-use Rattle.btx_bib.specs.Grammar.Values.{Part, Braced, Quoted, Digits, Named, closed, enclosed_in, part_in, part_at, next_part, joined, value_within, value_at}
+use Rattle.btx_bib.specs.declared.grammar.slip.Slip.TheVariants.{NoEquals, NoClosing, Repeated}
+use Rattle.btx_bib.specs.Grammar.ByteSets.{begins, begins_name, past, enclosed_len}
+use Rattle.btx_bib.specs.Grammar.Tokens.{Read, followed_by, name_in, name_at, open_in, open_at, sign_in, sign_at, key_in, key_at, closing}
+use Rattle.btx_bib.specs.Grammar.Values.{Part, closed, enclosed_in, part_in, part_at, next_part, joined, value_within, value_at}
 use Rattle.btx_bib.specs.Grammar.Fields.{Field, field_at, one_more, after_comma, more_in, more_at}
-use Rattle.btx_bib.specs.Grammar.Items.{Event, Comment, Preamble, Definition, Entry, FieldOf, End, Wrong, Keeping, is_repeated, as_known, command_of, head_of, head_at, ended, field_event, Step, step_by, behind_at, step_of, Placed, events_by, events_within, events_from}
+use Rattle.btx_bib.specs.Grammar.Items.{Event, Wrong, Keeping, is_repeated, as_known, known_step, next_step, command_of, head_of, head_at, ended, field_event, Step, step_by, behind_at, step_of, Placed, events_by, events_within, events_from}
 use Rattle.btx_bib.proofs.GrammarLemmas.ValueLemmas.{Within, behind_hash-within, past-le}
 
 -- the text that follows isn't longer than so many bytes
@@ -238,21 +236,25 @@ step-leaves (Fields delimiter) s =
 -- ---- the events, one at a time
 
 -- where an entry is repeated, no more is left to read
-known-left : {S : Type 0} (keeping : Keeping S) (state : S) (event : Event) (wanted : Wanted) (n : ℕ) → left (as_known keeping state (event, wanted)).1 n ≤ left wanted n
-known-left keeping state event wanted n = at (is_repeated keeping state event) wanted where
+known-left : (is_stored : List ℕ → Bool) (event : Event) (wanted : Wanted) (n : ℕ) → left (as_known is_stored (event, wanted)).1 n ≤ left wanted n
+known-left is_stored event wanted n = at (is_repeated is_stored event) wanted where
   at : (t : Bool) (w : Wanted) → let got : Event × Wanted = cond t (Wrong Repeated, Item) (event, w) in left got.1 n ≤ left w n
   at true Item = omega arith
   at true (Closing delimiter) = omega arith
   at true (Fields delimiter) = omega arith
   at false w = omega arith
 
+known-steps : (is_stored : List ℕ → Bool) (n : ℕ) (o : Option Step) → StepsTo n o → StepsTo n (known_step is_stored o)
+known-steps is_stored n None h = tt
+known-steps is_stored n (Some step) h = let le = known-left is_stored step.event step.wanted (length step.rest) in omega arith
+
+pub next-leaves : (is_stored : List ℕ → Bool) (wanted : Wanted) (s : List ℕ) → StepsTo (left wanted (length s)) (next_step is_stored wanted s)
+next-leaves is_stored wanted s = known-steps is_stored (left wanted (length s)) (step_of wanted s) (step-leaves wanted s)
+
 by-enough : {S : Type 0} (keeping : Keeping S) (f g : S → Wanted → List ℕ → List Placed) (n : ℕ) (state : S) (o : Option Step) → StepsTo n o →
     ((q : S) (w : Wanted) (s : List ℕ) → left w (length s) < n → f q w s ≡ g q w s) → events_by keeping f state o ≡ events_by keeping g state o
 by-enough keeping f g n state None h same = refl
-by-enough keeping f g n state (Some step) h same =
-    let got = as_known keeping state (step.event, step.wanted) in
-    let le = known-left keeping state step.event step.wanted (length step.rest) in
-    ap (λ (xs : List Placed). record { event = got.0; rest = step.rest } ∷ xs) (same (keeping.after state got.0) got.1 step.rest (omega arith))
+by-enough keeping f g n state (Some step) h same = rw (same (keeping.after state step.event) step.wanted step.rest h) refl
 
 within-enough : {S : Type 0} (keeping : Keeping S) (n m : ℕ) (state : S) (w : Wanted) (s : List ℕ) → left w (length s) < n → left w (length s) < m →
     events_within keeping n state w s ≡ events_within keeping m state w s
@@ -260,28 +262,25 @@ unfolding events_within
 within-enough keeping zero m state w s h k = absurd (omega arith)
 within-enough keeping (suc n) zero state w s h k = absurd (omega arith)
 within-enough keeping (suc n) (suc m) state w s h k =
-    by-enough keeping (events_within keeping n) (events_within keeping m) (left w (length s)) state (step_of w s) (step-leaves w s)
+    by-enough keeping (events_within keeping n) (events_within keeping m) (left w (length s)) state (next_step (keeping.is_stored state) w s) (next-leaves (keeping.is_stored state) w s)
     (λ q v t lt. within-enough keeping n m q v t (omega arith) (omega arith))
 
 pub events_from-step : {S : Type 0} (keeping : Keeping S) (state : S) (w : Wanted) (s : List ℕ) →
-    events_from keeping state w s ≡ events_by keeping (events_from keeping) state (step_of w s)
+    events_from keeping state w s ≡ events_by keeping (events_from keeping) state (next_step (keeping.is_stored state) w s)
 unfolding events_from events_within
 events_from-step keeping state w s =
-    by-enough keeping (events_within keeping (2 * length s + 1)) (events_from keeping) (left w (length s)) state (step_of w s) (step-leaves w s)
+    by-enough keeping (events_within keeping (2 * length s + 1)) (events_from keeping) (left w (length s)) state (next_step (keeping.is_stored state) w s) (next-leaves (keeping.is_stored state) w s)
     (λ q v t lt. within-enough keeping (2 * length s + 1) (suc (2 * length t + 1)) q v t (let le = left-le w (length s) in omega arith) (let le = left-le v (length t) in omega arith))
 
-pub events-none : {S : Type 0} (keeping : Keeping S) (state : S) (w : Wanted) (s : List ℕ) → step_of w s ≡ None → events_from keeping state w s ≡ []
+-- at the end of the text
+pub events-none : {S : Type 0} (keeping : Keeping S) (state : S) (w : Wanted) (s : List ℕ) → next_step (keeping.is_stored state) w s ≡ None → events_from keeping state w s ≡ []
 events-none keeping state w s e = events_from-step keeping state w s ∙ ap (events_by keeping (events_from keeping) state) e
 
 -- the reader's next event, and the others
-pub events-some : {S : Type 0} (keeping : Keeping S) (state : S) (w : Wanted) (s : List ℕ) (step : Step) → step_of w s ≡ Some step →
-    events_from keeping state w s ≡ events_by keeping (events_from keeping) state (Some step)
+pub events-some : {S : Type 0} (keeping : Keeping S) (state : S) (w : Wanted) (s : List ℕ) (step : Step) → next_step (keeping.is_stored state) w s ≡ Some step →
+    events_from keeping state w s ≡ record { event = step.event; rest = step.rest } ∷ events_from keeping (keeping.after state step.event) step.wanted step.rest
 events-some keeping state w s step e = events_from-step keeping state w s ∙ ap (events_by keeping (events_from keeping) state) e
 
 -- each event leaves less to read: the measure of a loop that reads to the end
-pub events-less : {S : Type 0} (keeping : Keeping S) (state : S) (w : Wanted) (s : List ℕ) (step : Step) → step_of w s ≡ Some step →
-    left (as_known keeping state (step.event, step.wanted)).1 (length step.rest) < left w (length s)
-events-less keeping state w s step e =
-    let le = known-left keeping state step.event step.wanted (length step.rest) in
-    let lt : StepsTo (left w (length s)) (Some step) = rw e at (step-leaves w s) in
-    omega arith
+pub events-less : (is_stored : List ℕ → Bool) (w : Wanted) (s : List ℕ) (step : Step) → next_step is_stored w s ≡ Some step → left step.wanted (length step.rest) < left w (length s)
+events-less is_stored w s step e = let lt : StepsTo (left w (length s)) (Some step) = rw e at (next-leaves is_stored w s) in lt

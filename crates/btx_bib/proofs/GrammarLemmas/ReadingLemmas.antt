@@ -1,5 +1,5 @@
 -- The reading of a database is the list that is computed, and no other.
-use Rattle.std.proofs.Common.{not, ◌≡◌, ℕ, zero, suc, ◌+◌, ◌-◌, ◌*◌, ◌<◌, ◌≤◌, Bool, true, false, cond, eqb, List, [], ◌∷◌, ◌++◌, length, take, drop, ◌⊎◌, inl, inr, refl, sym, ◌∙◌, ap, subst, arith, append_assoc, Result, Ok, Err, Some, None, Option}
+use Rattle.std.proofs.Common.{◌≡◌, ℕ, zero, suc, ◌<◌, Bool, true, false, cond, eqb, List, [], ◌∷◌, ◌++◌, length, drop, inl, inr, refl, sym, ◌∙◌, ap, subst, arith, append_assoc, Result, Ok, Err, Some, None, Option}
 use Rattle.std.proofs.lemmas.Bool.{eqb-true, eq-eqb, true≢false}
 use Rattle.std.proofs.lemmas.List.{take-append-drop}
 use Rattle.std.specs.Option.{option_map}
@@ -11,15 +11,15 @@ use Rattle.btx_bib.specs.declared.grammar.commands.Command.TheVariants as comman
 use Rattle.btx_bib.specs.declared.grammar.commands.Wanted.{Wanted}
 use Rattle.btx_bib.specs.declared.grammar.commands.Wanted.TheVariants.{Item, Closing, Fields}
 use Rattle.btx_bib.specs.declared.grammar.slip.Slip.{Slip}
-use Rattle.btx_bib.specs.declared.grammar.slip.Slip.TheVariants.{NoDelimiter, NoComma, NoEquals, NoClosing, EndOfFile}
+use Rattle.btx_bib.specs.declared.grammar.slip.Slip.TheVariants.{NoDelimiter, NoComma, NoEquals, NoClosing}
 use Rattle.btx_bib.specs.Grammar.ByteSets.{begins, run_len, run, past}
-use Rattle.btx_bib.specs.Grammar.Tokens.{Read, followed_by, wrong_at, name_at, open_in, open_at, sign_in, sign_at, key_in, key_at, closing}
+use Rattle.btx_bib.specs.Grammar.Tokens.{Read, followed_by, wrong_at, name_at, open_in, open_at, sign_at, key_in, key_at, closing}
 use Rattle.btx_bib.specs.Grammar.Values.{value_at}
 use Rattle.btx_bib.specs.Grammar.Fields.{Field, field_at, one_more, after_comma, more_in, more_at}
-use Rattle.btx_bib.specs.Grammar.Items.{Event, Comment, Preamble, Definition, Entry, FieldOf, End, Wrong, command_of, head_of, head_at, ended, field_event, Step, step_by, behind_at, step_of, Placed, Keeping, as_known, events_by, events_from}
-use Rattle.btx_bib.specs.Grammar.Spelling.{Grammar, Gives, Then, Spaced, IsRun, IsWrongHere, NameHere, SignHere, Value, FieldSpelling, Splits, read_as}
+use Rattle.btx_bib.specs.Grammar.Items.{Event, Comment, Preamble, Definition, Entry, End, Wrong, command_of, head_of, head_at, ended, field_event, Step, step_by, behind_at, step_of, Placed, Keeping, as_known, known_step, events_by, events_from}
+use Rattle.btx_bib.specs.Grammar.Spelling.{Grammar, Gives, Then, Spaced, NameHere, SignHere, Value, FieldSpelling, Splits, read_as}
 use Rattle.btx_bib.specs.Grammar.Reading.{OnSign, WrongHere, OpenHere, KeyHere, AfterComma, MoreHere, HeadOf, Head, more_event, HasNoAt, Stands, IsOutcome, IsReading}
-use Rattle.btx_bib.proofs.GrammarLemmas.LengthLemmas.{left, events_from-step, events-none, events-some, events-less}
+use Rattle.btx_bib.proofs.GrammarLemmas.LengthLemmas.{left, StepsTo, next-leaves, events_from-step, events-none}
 use Rattle.btx_bib.proofs.GrammarLemmas.SpellingLemmas.{Decides, Only, then-decides, gives-decides, spaced-decides, name-decides, sign-decides, value-decides, field-decides, run-of, past-of, is_run}
 
 -- ---- signs
@@ -235,31 +235,30 @@ stands-step (Fields d) o front rest h = ap (λ r. Some (step_by r)) ((fields-dec
 
 -- what is known of a step is known of its outcome
 known-outcome : {S : Type 0} (keeping : Keeping S) (state : S) (event : Event) (next : Wanted) (o : Result (Event × Wanted) Slip) → IsStep event next o →
-    IsOutcome keeping state (as_known keeping state (event, next)).0 (as_known keeping state (event, next)).1 o
+    let got = as_known (keeping.is_stored state) (event, next) in IsOutcome keeping state got.0 got.1 o
 known-outcome keeping state event next (Ok got) h = rw (h.0, h.1) (refl, refl)
 known-outcome keeping state event next (Err slip) h = rw (h.0, h.1) (refl, refl)
 
 outcome-events : {S : Type 0} (keeping : Keeping S) (others : S → Wanted → List ℕ → List Placed) (state : S) (event : Event) (next : Wanted) (rest : List ℕ) (o : Result (Event × Wanted) Slip) →
-    IsOutcome keeping state event next o → events_by keeping others state (Some (step_by (read_as o rest))) ≡ record { event = event; rest = rest } ∷ others (keeping.after state event) next rest
+    IsOutcome keeping state event next o → events_by keeping others state (known_step (keeping.is_stored state) (Some (step_by (read_as o rest)))) ≡ record { event = event; rest = rest } ∷ others (keeping.after state event) next rest
 outcome-events keeping others state event next rest (Ok got) h = rw (h.0, h.1) refl
 outcome-events keeping others state event next rest (Err slip) h = rw (h.0, h.1) refl
 
 -- ---- the whole reading
 
-reading-by : {S : Type 0} (keeping : Keeping S) (state : S) (w : Wanted) (s : List ℕ) (o : Option Step) → OptionStands w s o →
-    ((step : Step) → o ≡ Some step → left (as_known keeping state (step.event, step.wanted)).1 (length step.rest) < left w (length s)) →
+reading-by : {S : Type 0} (keeping : Keeping S) (state : S) (w : Wanted) (s : List ℕ) (o : Option Step) → OptionStands w s o → StepsTo (left w (length s)) (known_step (keeping.is_stored state) o) →
     ((q : S) (v : Wanted) (t : List ℕ) → left v (length t) < left w (length s) → IsReading keeping q v t (events_from keeping q v t)) →
-    IsReading keeping state w s (events_by keeping (events_from keeping) state o)
+    IsReading keeping state w s (events_by keeping (events_from keeping) state (known_step (keeping.is_stored state) o))
 reading-by keeping state w s None h less others = h
 reading-by keeping state w s (Some step) h less others =
-    let got = as_known keeping state (step.event, step.wanted) in
-    (h.0, got.1, h.1, h.2, known-outcome keeping state step.event step.wanted h.0 h.3, h.4, others (keeping.after state got.0) got.1 step.rest (less step refl))
+    let got = as_known (keeping.is_stored state) (step.event, step.wanted) in
+    (h.0, got.1, h.1, h.2, known-outcome keeping state step.event step.wanted h.0 h.3, h.4, others (keeping.after state got.0) got.1 step.rest less)
 
 reading-total : {S : Type 0} (keeping : Keeping S) (m : ℕ) (state : S) (w : Wanted) (s : List ℕ) → left w (length s) < m → IsReading keeping state w s (events_from keeping state w s)
 reading-total keeping zero state w s lt = absurd (omega arith)
 reading-total keeping (suc m) state w s lt =
     subst (IsReading keeping state w s) (sym (events_from-step keeping state w s))
-    (reading-by keeping state w s (step_of w s) (step-stands w s) (λ step e. events-less keeping state w s step e) (λ q v t less. reading-total keeping m q v t (omega arith)))
+    (reading-by keeping state w s (step_of w s) (step-stands w s) (next-leaves (keeping.is_stored state) w s) (λ q v t less. reading-total keeping m q v t (omega arith)))
 
 pub is_reading : {S : Type 0} (keeping : Keeping S) (state : S) (w : Wanted) (s : List ℕ) → IsReading keeping state w s (events_from keeping state w s)
 is_reading keeping state w s = reading-total keeping (suc (left w (length s))) state w s (omega arith)
@@ -269,9 +268,9 @@ unfolding step_of
 nothing-step w s is h = rw (is, none-at s h) refl
 
 pub one_reading : {S : Type 0} (keeping : Keeping S) (events : List Placed) (state : S) (w : Wanted) (s : List ℕ) → IsReading keeping state w s events → events ≡ events_from keeping state w s
-one_reading keeping [] state w s h = sym (events-none keeping state w s (nothing-step w s h.0 h.1))
+one_reading keeping [] state w s h = sym (events-none keeping state w s (ap (known_step (keeping.is_stored state)) (nothing-step w s h.0 h.1)))
 one_reading keeping (p ∷ ps) state w s (o, next, front, text, outcome, stands, others) =
     let step : step_of w s ≡ Some (step_by (read_as o p.rest)) = ap (step_of w) (sym text) ∙ stands-step w o front p.rest stands in
     ap (λ xs. p ∷ xs) (one_reading keeping ps (keeping.after state p.event) next p.rest others)
     ∙ sym (outcome-events keeping (events_from keeping) state p.event next p.rest o outcome)
-    ∙ sym (events-some keeping state w s (step_by (read_as o p.rest)) step)
+    ∙ sym (events_from-step keeping state w s ∙ ap (λ t. events_by keeping (events_from keeping) state (known_step (keeping.is_stored state) t)) step)

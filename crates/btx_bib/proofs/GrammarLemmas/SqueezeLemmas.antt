@@ -1,8 +1,7 @@
 -- Lemmas on the text of a value: white is made one space while the bytes are read.
-use Rattle.std.proofs.Common.{◌≡◌, ℕ, zero, suc, ◌+◌, ◌<◌, ◌≤◌, Bool, true, false, cond, List, [], ◌∷◌, ◌++◌, length, take, drop, get_or, ◌-◌, ◌&&◌, not, eqb, refl, sym, ◌∙◌, ap, arith, append_assoc, Ok, Err}
+use Rattle.std.proofs.Common.{◌≡◌, ℕ, suc, ◌+◌, ◌<◌, ◌≤◌, Bool, true, false, cond, List, [], ◌∷◌, ◌++◌, length, take, drop, get_or, ◌-◌, ◌&&◌, not, eqb, refl, sym, ◌∙◌, ap, arith, append_assoc, Err}
 use Rattle.std.proofs.lemmas.List.{append-nil, drop_all, drop_more, length-append, length-take, take_all, take_at, take_more}
 use Rattle.std.proofs.lemmas.Bool.{and_parts, eqb-true, true≢false}
-use Rattle.std.specs.List.{flat_map}
 use Rattle.btx_text.specs.declared.fault.Fault.{Fault}
 use Rattle.btx_text.specs.declared.fault.Fault.TheVariants.{Memory, Device, FileLimit, StringLimit}
 use Rattle.btx_text.specs.Limits.{greatest_string}
@@ -11,7 +10,7 @@ use Rattle.btx_bib.specs.declared.grammar.value_ends.Ends.{Ends}
 use Rattle.btx_bib.specs.declared.grammar.value_ends.Ends.TheVariants.{Kept, Trimmed}
 use Rattle.btx_bib.specs.Grammar.ByteSets.{is_gap, begins, past, run_len}
 use Rattle.btx_bib.specs.Grammar.Values.{Part}
-use Rattle.btx_bib.specs.Grammar.ValueTexts.{Strings, text_of_part, joined_text, squeezed, shaped, value_text, without_first_space, without_last_space, GathersWithin, Makes}
+use Rattle.btx_bib.specs.Grammar.ValueTexts.{Strings, text_of_part, joined_text, squeezed, shaped, without_first_space, without_last_space, GathersWithin, Makes}
 use Rattle.btx_bib.specs.Grammar.Squeezing.{squeezed_after, white_after, is_squeezed, ends_in_gap, stands, without_last_gap, without_gaps}
 
 both : (s : List ℕ) → (squeezed_after false s ≡ squeezed s) × (squeezed s ≡ cond (begins is_gap s) (32 ∷ squeezed_after true s) (squeezed_after true s))

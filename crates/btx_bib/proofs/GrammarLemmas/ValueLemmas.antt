@@ -1,5 +1,5 @@
 -- Lemmas on values.
-use Rattle.std.proofs.Common.{◌≡◌, ℕ, zero, suc, ◌+◌, ◌-◌, ◌<◌, ◌≤◌, Bool, true, false, cond, eqb, List, [], ◌∷◌, length, take, drop, refl, sym, ◌∙◌, ap, arith, length-drop, Ok, Err, Some, None, IfOk, IfSome, Result, Option, subst}
+use Rattle.std.proofs.Common.{◌≡◌, ℕ, zero, suc, ◌<◌, ◌≤◌, Bool, true, false, cond, eqb, List, [], ◌∷◌, length, drop, refl, sym, ap, arith, length-drop, Ok, Err, Some, None, IfOk, IfSome, Result, Option, subst}
 use Rattle.std.specs.Option.{option_map}
 use Rattle.btx_bib.specs.declared.grammar.parts.Part.{Part as CodePart}
 use Rattle.btx_bib.specs.Grammar.PartViews.{part_view}
@@ -14,7 +14,7 @@ use Rattle.btx_bib.specs.Grammar.ByteSets.{is_in, is_name_byte, begins_name, run
 use Rattle.btx_bib.specs.declared.grammar.slip.Slip.{Slip}
 use Rattle.btx_bib.specs.declared.grammar.slip.Slip.TheVariants.{NoValue, Unbalanced}
 use Rattle.btx_bib.specs.Grammar.Tokens.{Read, seen, followed_by}
-use Rattle.btx_bib.specs.Grammar.Values.{Part, Braced, Quoted, Digits, Named, closed, enclosed_in, part_in, part_at, behind_hash, next_part, joined, value_within, value_at, parts_read, IsWhole, end_of}
+use Rattle.btx_bib.specs.Grammar.Values.{Part, Quoted, Digits, Named, closed, enclosed_in, part_in, part_at, behind_hash, next_part, joined, value_within, value_at, parts_read, end_of}
 
 -- what was read leaves less
 abbrev pub Leaves : {A : Type 0} → ℕ → Read A → Type 0

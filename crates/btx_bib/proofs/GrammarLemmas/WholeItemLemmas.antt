@@ -1,19 +1,18 @@
 -- Behind each `@` exactly one item is spelled, or one thing is wrong.
-use Rattle.std.proofs.Common.{◌≡◌, ℕ, zero, suc, ◌+◌, ◌<◌, ◌≤◌, List, [], ◌∷◌, ◌++◌, length, refl, sym, ◌∙◌, ap, subst, arith, inl, inr, Result, Ok, Err, Some, None, Option}
+use Rattle.std.proofs.Common.{◌≡◌, ℕ, zero, suc, ◌<◌, List, [], ◌∷◌, ◌++◌, length, refl, sym, ◌∙◌, subst, arith, inl, Ok, Err, Some, None, Option}
 use Rattle.btx_bib.specs.declared.grammar.byte_sets.Delimiter.{Delimiter}
 use Rattle.btx_bib.specs.declared.grammar.byte_sets.ByteSet.TheVariants.{Gap}
 use Rattle.btx_bib.specs.declared.grammar.commands.Command.{Command}
 use Rattle.btx_bib.specs.declared.grammar.commands.Command.TheVariants as command
-use Rattle.btx_bib.specs.declared.grammar.slip.Slip.{Slip}
-use Rattle.btx_bib.specs.declared.grammar.slip.Slip.TheVariants.{NoEquals, NoClosing, EndOfFile}
+use Rattle.btx_bib.specs.declared.grammar.slip.Slip.TheVariants.{NoEquals, NoClosing}
 use Rattle.btx_bib.specs.Grammar.ByteSets.{past}
 use Rattle.btx_bib.specs.Grammar.Tokens.{Read, followed_by, name_at, open_at, sign_at, key_at, closing}
 use Rattle.btx_bib.specs.Grammar.Values.{value_at}
 use Rattle.btx_bib.specs.Grammar.Fields.{Field, more_in, more_at}
 use Rattle.btx_bib.specs.Grammar.Items.{command_of}
-use Rattle.btx_bib.specs.Grammar.Spelling.{Grammar, Gives, Both, Then, Spaced, NameHere, SignHere, Value, Splits, read_as}
+use Rattle.btx_bib.specs.Grammar.Spelling.{Gives, Then, Spaced, NameHere, SignHere, Value, Splits}
 use Rattle.btx_bib.specs.Grammar.Reading.{OpenHere, KeyHere, MoreHere}
-use Rattle.btx_bib.specs.Grammar.WholeItems.{Item, CommentItem, PreambleItem, StringItem, EntryItem, ClosingHere, OtherFields, FieldsOf, FieldsHere, ItemOf, ItemHere, other_fields, fields_within, fields_at, item_of, item_at}
+use Rattle.btx_bib.specs.Grammar.WholeItems.{CommentItem, PreambleItem, StringItem, EntryItem, ClosingHere, OtherFields, FieldsOf, FieldsHere, ItemOf, ItemHere, other_fields, fields_within, fields_at, item_of, item_at}
 use Rattle.btx_bib.proofs.GrammarLemmas.ValueLemmas.{past-le}
 use Rattle.btx_bib.proofs.GrammarLemmas.LengthLemmas.{Shrinks, shrinks-more, more_in-shrinks}
 use Rattle.btx_bib.proofs.GrammarLemmas.SpellingLemmas.{Decides, Only, both-second, both-then, then-only, then-decides, gives-decides, spaced-decides, name-decides, sign-decides, value-decides}

@@ -65,3 +65,15 @@ unfoldable pub enclosed_len : Enclosure → ℕ → List ℕ → ℕ
 enclosed_len enclosure depth [] = 0
 enclosed_len enclosure depth (b ∷ bs) =
     if depth == 0 && ends_enclosed enclosure b then 0 else suc (enclosed_len enclosure (depth_after depth b) bs)
+
+-- ---- how the code finds that end
+
+-- a byte that changes the depth or can end what is enclosed: a brace, and in quotes a `"`
+abbrev pub is_mark : Enclosure → ℕ → Bool
+is_mark Group b = b == 123 || b == 125
+is_mark Quotes b = b == 123 || b == 125 || b == 34
+
+-- how many bytes stand before the first that passes a test; all, where there is none
+unfoldable pub unmarked_len : (ℕ → Bool) → List ℕ → ℕ
+unmarked_len test [] = 0
+unmarked_len test (b ∷ bs) = if test b then 0 else suc (unmarked_len test bs)

@@ -91,7 +91,25 @@ pub record Placed : Type 0 where
 
 -- ---- what is known of the items before
 
--- what is known: which keys are stored, and what there is to know after a further event
+-- an entry whose key is one of these
+abbrev pub is_repeated : (List ℕ → Bool) → Event → Bool
+is_repeated is_stored (Entry kind key) = is_stored key
+is_repeated is_stored _ = false
+
+-- what is read and what is wanted next, where these keys are stored: a repeated entry is wrong, and an item is wanted behind its key
+abbrev pub as_known : (List ℕ → Bool) → Event × Wanted → Event × Wanted
+as_known is_stored got = if is_repeated is_stored got.0 then (Wrong Repeated, Item) else got
+
+abbrev pub known_step : (List ℕ → Bool) → Option Step → Option Step
+known_step is_stored None = None
+known_step is_stored (Some step) =
+    let got = as_known is_stored (step.event, step.wanted) in Some (record { event = got.0; wanted = got.1; rest = step.rest })
+
+-- what is read where this is wanted and these keys are stored
+abbrev pub next_step : (List ℕ → Bool) → Wanted → List ℕ → Option Step
+next_step is_stored wanted text = known_step is_stored (step_of wanted text)
+
+-- what is known of the items before: which keys are stored, and what there is to know after a further event
 pub record Keeping (S : Type 0) : Type 0 where
   pub is_stored : S → List ℕ → Bool
   pub after : S → Event → S
@@ -100,28 +118,19 @@ pub record Keeping (S : Type 0) : Type 0 where
 abbrev pub by_history : (List Event → List ℕ → Bool) → Keeping (List Event)
 by_history is_stored = record { is_stored = is_stored; after = λ before event. before ++ event ∷ [] }
 
--- an entry whose key is stored already
-abbrev pub is_repeated : {S : Type 0} → Keeping S → S → Event → Bool
-is_repeated keeping state (Entry kind key) = keeping.is_stored state key
-is_repeated keeping state _ = false
-
--- what is read and what is wanted next, by what is known: a repeated entry is wrong, and an item is wanted behind its key
-abbrev pub as_known : {S : Type 0} → Keeping S → S → Event × Wanted → Event × Wanted
-as_known keeping state got = if is_repeated keeping state got.0 then (Wrong Repeated, Item) else got
-
 -- ---- the events of a text
 
 -- what is read, and the others
 abbrev pub events_by : {S : Type 0} → Keeping S → (S → Wanted → List ℕ → List Placed) → S → Option Step → List Placed
 events_by keeping others state None = []
 events_by keeping others state (Some step) =
-    let got = as_known keeping state (step.event, step.wanted) in
-    record { event = got.0; rest = step.rest } ∷ others (keeping.after state got.0) got.1 step.rest
+    record { event = step.event; rest = step.rest } ∷ others (keeping.after state step.event) step.wanted step.rest
 
 -- the events of a text, at most so many
 unfoldable pub events_within : {S : Type 0} → Keeping S → ℕ → S → Wanted → List ℕ → List Placed
 events_within keeping zero state wanted text = []
-events_within keeping (suc turns) state wanted text = events_by keeping (events_within keeping turns) state (step_of wanted text)
+events_within keeping (suc turns) state wanted text =
+    events_by keeping (events_within keeping turns) state (next_step (keeping.is_stored state) wanted text)
 
 -- the events of a text where this is known and this is wanted first
 unfoldable pub events_from : {S : Type 0} → Keeping S → S → Wanted → List ℕ → List Placed

@@ -1,5 +1,5 @@
 -- The reading of a database: the one list of what stands in it and of what is wrong.
-use Rattle.std.specs.Prelude.{◌≡◌, ℕ, ◌==◌, Bool, true, false, List, [], ◌∷◌, ◌++◌, ◌⊎◌, Option, Some, None, Result, Ok, Err}
+use Rattle.std.specs.Prelude.{◌≡◌, ℕ, ◌==◌, true, false, List, [], ◌∷◌, ◌++◌, ◌⊎◌, Option, Some, None, Result, Ok, Err}
 use Rattle.btx_bib.specs.declared.grammar.byte_sets.Delimiter.{Delimiter}
 use Rattle.btx_bib.specs.declared.grammar.byte_sets.Delimiter.TheVariants.{Braces, Parens}
 use Rattle.btx_bib.specs.declared.grammar.byte_sets.ByteSet.TheVariants.{KeyByte}
@@ -74,7 +74,7 @@ Stands (Fields delimiter) o front rest = Then (Spaced (MoreHere delimiter)) (λ 
 
 -- an event and what is wanted after it, as an outcome where this is known: after what is wrong an item is wanted
 abbrev pub IsOutcome : {S : Type 0} → Keeping S → S → Event → Wanted → Result (Event × Wanted) Slip → Type 0
-IsOutcome keeping state event next (Ok got) = (event ≡ (as_known keeping state got).0) × (next ≡ (as_known keeping state got).1)
+IsOutcome keeping state event next (Ok got) = (event ≡ (as_known (keeping.is_stored state) got).0) × (next ≡ (as_known (keeping.is_stored state) got).1)
 IsOutcome keeping state event next (Err slip) = (event ≡ Wrong slip) × (next ≡ Item)
 
 -- the events of a text where this is known and this is wanted first: each is what its front spells or what is wrong at its end, and

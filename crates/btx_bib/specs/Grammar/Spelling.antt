@@ -1,6 +1,6 @@
 -- The grammar of a database, as relations between a front of a text and the rest: the front spells something, or something is wrong
 -- at its end.
-use Rattle.std.specs.Prelude.{◌≡◌, ℕ, zero, suc, ◌==◌, ◌||◌, Bool, true, false, List, [], ◌∷◌, ◌++◌, fold, ◌⊎◌, Result, Ok, Err}
+use Rattle.std.specs.Prelude.{◌≡◌, ℕ, zero, suc, ◌==◌, ◌||◌, Bool, true, false, List, [], ◌∷◌, ◌++◌, ◌⊎◌, Result, Ok, Err}
 use Rattle.btx_text.specs.Class.{is_digit}
 use Rattle.btx_text.specs.Elements.{depth_after, depth_of}
 use Rattle.btx_bib.specs.declared.grammar.byte_sets.ByteSet.{ByteSet}
@@ -8,7 +8,7 @@ use Rattle.btx_bib.specs.declared.grammar.byte_sets.ByteSet.TheVariants.{Gap, Na
 use Rattle.btx_bib.specs.declared.grammar.byte_sets.Enclosure.{Enclosure}
 use Rattle.btx_bib.specs.declared.grammar.byte_sets.Enclosure.TheVariants.{Group, Quotes}
 use Rattle.btx_bib.specs.declared.grammar.slip.Slip.{Slip}
-use Rattle.btx_bib.specs.declared.grammar.slip.Slip.TheVariants.{NoName, NoDelimiter, NoComma, NoEquals, NoClosing, NoValue, Unbalanced, EndOfFile}
+use Rattle.btx_bib.specs.declared.grammar.slip.Slip.TheVariants.{NoName, NoEquals, NoValue, Unbalanced, EndOfFile}
 use Rattle.btx_bib.specs.Grammar.ByteSets.{is_in, begins, begins_name, ends_enclosed}
 use Rattle.btx_bib.specs.Grammar.Tokens.{Read, slip_at}
 use Rattle.btx_bib.specs.Grammar.Values.{Part, Braced, Quoted, Digits, Named}

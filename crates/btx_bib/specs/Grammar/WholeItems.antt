@@ -1,6 +1,6 @@
 -- Whole items. Behind each `@` one is spelled, or something is wrong there; which items there are, and how they are spelled, is the
 -- original's, and where a fault is met is this project's own.
-use Rattle.std.specs.Prelude.{◌≡◌, ℕ, zero, suc, List, [], ◌∷◌, length, Option, None, Some, Ok, Err}
+use Rattle.std.specs.Prelude.{ℕ, zero, suc, List, [], ◌∷◌, length, Option, None, Some, Ok, Err}
 use Rattle.btx_bib.specs.declared.grammar.byte_sets.Delimiter.{Delimiter}
 use Rattle.btx_bib.specs.declared.grammar.commands.Command.{Command}
 use Rattle.btx_bib.specs.declared.grammar.commands.Command.TheVariants as command

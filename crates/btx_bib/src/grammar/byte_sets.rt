@@ -4,6 +4,7 @@ ghost use Rattle.btx_bib.specs.Grammar.ByteSets as spec;
 
 use btx_text::classify::is_white;
 use btx_text::depths::depth_after;
+use memchr::{memchr2, memchr3};
 
 /// What stands round an item.
 #[derive(Clone, Copy, Debug, PartialEq, Eq)]
@@ -104,19 +105,34 @@ fn ends_enclosed(enclosure: Enclosure, depth: usize, byte: u8) -> bool
         }
 }
 
-/// How many bytes stand before the first that ends what is enclosed; all, where there is none.
+// How many bytes stand before the first brace, in quotes also before the first `"`; all, where there is none.
 #[inline(always)]
+#[tactic(auto, using(crate::proofs::GrammarLemmas::MarkLemmas::mark_steps))]
+fn unmarked_len(enclosure: Enclosure, text: &[u8]) -> usize
+    ensures value { result ≡ spec.unmarked_len (spec.is_mark enclosure) text.now }
+    ensures bound { result ≤ length text.now }
+{
+    match enclosure {
+        Enclosure::Group => memchr2(b'{', b'}', text).unwrap_or(text.len()),
+        Enclosure::Quotes => memchr3(b'{', b'}', b'"', text).unwrap_or(text.len()),
+    }
+}
+
+/// How many bytes stand before the first that ends what is enclosed; all, where there is none.
 #[tactic(auto, using(crate::proofs::GrammarLemmas::RunLemmas::run_steps))]
 pub fn enclosed_len(enclosure: Enclosure, text: &[u8]) -> usize
     ensures value { result ≡ spec.enclosed_len enclosure 0 text.now }
     ensures bound { result ≤ length text.now }
 {
     let mut depth = 0;
-    for (place, &byte) in text.iter().enumerate() {
+    let mut place = unmarked_len(enclosure, text);
+    while let Some(&byte) = text.get(place) {
         if ends_enclosed(enclosure, depth, byte) {
             return place;
         }
         depth = depth_after(depth, byte);
+        place += 1;
+        place += unmarked_len(enclosure, &text[place..]);
     }
     text.len()
 }

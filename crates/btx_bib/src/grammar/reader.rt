@@ -1,14 +1,27 @@
 //! A database, read event by event.
-ghost use Rattle.std.specs.Prelude.{◌≡◌};
+ghost use Rattle.std.specs.Prelude.{◌≡◌, IfOk, OnErr};
 ghost use Rattle.std.specs.Option.{option_map};
-ghost use Rattle.btx_bib.specs.Grammar.EventViews.{step_view};
+ghost use Rattle.btx_bib.specs.Grammar.EventViews.{event_view, head_view, step_view};
 ghost use Rattle.btx_bib.specs.Grammar.Items as spec;
 ghost use Rattle.btx_bib.specs.Grammar.Reads.{IsRead};
 
 use crate::grammar::commands::Wanted;
 use crate::grammar::events::{Event, Placed};
 use crate::grammar::item_readers::{behind_at, read_end, read_field_or_end, read_head};
+use crate::grammar::slip::Slip;
+use std::alloc::{AllocError, Global};
 use std::marker::Model;
+
+/// The keys of the entries that are stored so far.
+pub trait StoredKeys {
+    ghost use Rattle.std.specs.Prelude.{List, ℕ, Bool};
+
+    ghost is_stored: { Self → List ℕ → Bool };
+
+    /// Whether an entry with this key is stored.
+    fn is_stored(&self, alloc: Global, key: &[u8]) -> Result<bool, AllocError>
+        ensures { IfOk result (λ stored. stored ≡ is_stored self.now key.now) };
+}
 
 /// A database that is read event by event: what is wanted next, and the text that is left. It takes no memory.
 #[derive(Drop)]
@@ -37,22 +50,53 @@ impl<'a> Reader<'a> {
         }
     }
 
-    /// What stands at the next place, if anything does.
-    pub fn read(&mut self) -> Option<Placed<'a>>
-        ensures { IsRead self.old result self.new }
+    /// What stands at the next place, if anything does: an entry whose key is stored is told as a repeated one, and left. Where
+    /// memory is refused, the reader stays where it is.
+    pub fn read<K: StoredKeys>(
+        &mut self,
+        alloc: Global,
+        stored: &K,
+    ) -> Result<Option<Placed<'a>>, AllocError>
+        ensures ok { IfOk result (λ read. IsRead (K.is_stored stored.now) self.old read self.new) }
+        ensures err { OnErr result (self.new ≡ self.old) }
     {
-        let (event, wanted, rest) = step(self.wanted, self.rest)?;
+        let Some((event, wanted, rest)) = step(self.wanted, self.rest) else {
+            return Ok(None);
+        };
+        let (event, wanted) = known(alloc, stored, event, wanted)?;
         self.wanted = wanted;
         self.rest = rest;
-        Some(Placed { event, rest })
+        Ok(Some(Placed { event, rest }))
     }
+}
 
-    /// The rest of the item isn't read: the next `@` is looked for from here.
-    pub fn leave(&mut self)
-        ensures { self.new ≡ (Wanted.Item, self.old.1) }
-    {
-        self.wanted = Wanted::Item;
+// Whether an event is an entry whose key is stored.
+fn is_repeated<K: StoredKeys>(
+    alloc: Global,
+    stored: &K,
+    event: &Event<'_>,
+) -> Result<bool, AllocError>
+    ensures { IfOk result (λ repeated. repeated ≡ spec.is_repeated (K.is_stored stored.now) (event_view event.now)) }
+{
+    match event {
+        Event::Entry(_, key) => stored.is_stored(alloc, key),
+        _ => Ok(false),
     }
+}
+
+// An event and what is wanted after it, by what is known of the stored keys.
+fn known<'a, K: StoredKeys>(
+    alloc: Global,
+    stored: &K,
+    event: Event<'a>,
+    wanted: Wanted,
+) -> Result<(Event<'a>, Wanted), AllocError>
+    ensures { IfOk result (λ got. head_view got ≡ spec.as_known (K.is_stored stored.now) (event_view event.entry, wanted)) }
+{
+    if is_repeated(alloc, stored, &event)? {
+        return Ok((Event::Wrong(Slip::Repeated), Wanted::Item));
+    }
+    Ok((event, wanted))
 }
 
 // What is read at a place, what is wanted next, and the text from there on.

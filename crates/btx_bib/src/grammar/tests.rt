@@ -1,7 +1,7 @@
 //! Tests of what no contract says: that the calls succeed where memory suffices. They hold by the contracts as well.
 use crate::grammar::events::Event;
 use crate::grammar::line_counter::LineCounter;
-use crate::grammar::reader::Reader;
+use crate::grammar::reader::{Reader, StoredKeys};
 use crate::grammar::slip::Slip;
 use crate::grammar::value_ends::Ends;
 use crate::grammar::value_texts::{Strings, value_text};
@@ -23,6 +23,20 @@ impl<'a> Strings<'a> for OneValue<'a> {
 
     fn value_of(&self, _alloc: Global, _name: &[u8]) -> Result<Option<&Text<'a>>, AllocError> {
         Ok(Some(&self.value))
+    }
+}
+
+/// The key `k` is stored.
+struct KeyK;
+
+impl StoredKeys for KeyK {
+    ghost use Rattle.std.specs.Prelude.{codes};
+    ghost use Rattle.std.specs.Str.{bytes_eq};
+
+    ghost is_stored = { λ _ key. bytes_eq key (codes "k") };
+
+    fn is_stored(&self, _alloc: Global, key: &[u8]) -> Result<bool, AllocError> {
+        Ok(key == b"k".as_slice())
     }
 }
 
@@ -60,7 +74,7 @@ fn events_told(alloc: Global, text: &[u8]) -> Result<Vec<u8>, AllocError> {
     let mut reader = Reader::of(text);
     let mut lines = LineCounter::of(text);
     for _ in 0..100 {
-        let Some(placed) = reader.read() else {
+        let Some(placed) = reader.read(alloc, &KeyK)? else {
             break;
         };
         let (word, name) = event_words(&placed.event);
@@ -75,10 +89,10 @@ fn events_told(alloc: Global, text: &[u8]) -> Result<Vec<u8>, AllocError> {
 #[test]
 fn events_and_lines(rt: HostRuntime) -> Result<(), Fail> {
     let text =
-        b"@comment{@Preamble{\"a\"}\n@string(s = {b}) @misc{k,\n title = s # {\n}, year=1\n,} @misc{l m @@a{c, {}}\n@misc{";
+        b"@comment{@Preamble{\"a\"}\n@string(s = {b}) @misc{K,\n title = s # {\n}, year=1\n,} @misc{l m @@a{c, {}} @misc{k, f=1}\n@misc{";
     let told = events_told(rt.alloc(), text)?;
     let expected =
-        b"comment1\npreamble1\nend1\nstring s2\nend2\nentry k2\nfield title4\nfield year4\nend5\nentry l5\nno comma5\nentry c5\nno name5\nend6\n";
+        b"comment1\npreamble1\nend1\nstring s2\nend2\nentry K2\nfield title4\nfield year4\nend5\nentry l5\nno comma5\nentry c5\nno name5\nrepeated5\nend6\n";
     assert_eq!(rt; told.as_slice(), expected.as_slice());
     Ok(())
 }
@@ -92,7 +106,7 @@ fn first_text<'a>(
 ) -> Result<Text<'a>, Fault> {
     let mut reader = Reader::of(text);
     for _ in 0..100 {
-        match reader.read() {
+        match reader.read(alloc, &KeyK)? {
             Some(placed) => {
                 if let Some(value) = value_in(placed.event) {
                     return value_text(alloc, &value, strings, ends);
@@ -119,11 +133,11 @@ fn texts_of_values(rt: HostRuntime) -> Result<(), Fail> {
         value: Text::borrowed(b" v\t"),
     };
     let fields = [
-        (b"@a{k,f={Knuth}}".as_slice(), b"Knuth".as_slice()),
-        (b"@a{k,f={ Donald Knuth\r\n}}", b"Donald Knuth"),
-        (b"@a{k,f={ Donald\n  Knuth \t}}", b"Donald Knuth"),
-        (b"@a{k,f=\"x \" # s # {  z} # 12}", b"x v z12"),
-        (b"@a{k,f=s}", b"v"),
+        (b"@a{c,f={Knuth}}".as_slice(), b"Knuth".as_slice()),
+        (b"@a{c,f={ Donald Knuth\r\n}}", b"Donald Knuth"),
+        (b"@a{c,f={ Donald\n  Knuth \t}}", b"Donald Knuth"),
+        (b"@a{c,f=\"x \" # s # {  z} # 12}", b"x v z12"),
+        (b"@a{c,f=s}", b"v"),
     ];
     for (text, expected) in fields {
         let found = first_text(rt.alloc(), text, Ends::Trimmed, &strings)?;
@@ -136,7 +150,7 @@ fn texts_of_values(rt: HostRuntime) -> Result<(), Fail> {
 
 // A field of so many letters, with white at its ends.
 fn long_field(alloc: Global, len: usize) -> Result<Vec<u8>, AllocError> {
-    let mut text = Vec::from_slice(alloc, b"@a{k,f={\n ")?;
+    let mut text = Vec::from_slice(alloc, b"@a{c,f={\n ")?;
     for _ in 0..len {
         text.push(b'x')?;
     }

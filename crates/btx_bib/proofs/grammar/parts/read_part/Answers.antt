@@ -1,4 +1,4 @@
-use Rattle.std.proofs.Common.{◌≡◌, ◌∙◌, rules}
+use Rattle.std.proofs.Common.{rules}
 use Rattle.btx_bib.proofs.GrammarLemmas.ValueLemmas.{part-shorter}
 use Rattle.btx_bib.proofs.grammar.parts.read_part.Goals as goal
 

@@ -1,4 +1,4 @@
-use Rattle.std.proofs.Common.{◌≡◌, ◌∙◌, ◌++◌, ◌≤◌, ◌<◌, List, [], sym, ap, length, arith, refl}
+use Rattle.std.proofs.Common.{◌≡◌, ◌∙◌, ◌++◌, [], sym, ap, length, arith, refl}
 use Rattle.std.proofs.lemmas.List.{append-nil}
 use Rattle.btx_bib.specs.Grammar.PartViews.{part_view}
 use Rattle.btx_bib.specs.Grammar.Squeezing.{squeezed_after}
@@ -28,7 +28,10 @@ loop-part-preserved g c =
 pub returns : goal.returns
 returns g c =
     let strings = g.S.Strings.values c.args.strings.now in
+    let text = c.loop-part.text.items in
+    let total = squeezed_after c.args.was_white (joined_text strings c.args.value.now) in
     let none : c.loop-part.part-iterator ≡ [] = c.in-None.ensures.steps.0 in
-    let whole : c.loop-part.text.items ≡ squeezed_after c.args.was_white (joined_text strings c.args.value.now) =
-    sym (append-nil c.loop-part.text.items) ∙ ap (λ ps. c.loop-part.text.items ++ squeezed_after c.loop-part.white (joined_text strings ps)) (sym none) ∙ c.loop-part.invariant.0 in
-    (whole, (let len = ap length whole in omega (arith, c.loop-part.invariant.1)))
+    let nothing_more : text ++ squeezed_after c.loop-part.white (joined_text strings []) ≡ total = ap (λ ps. text ++ squeezed_after c.loop-part.white (joined_text strings ps)) (sym none) ∙ c.loop-part.invariant.0 in
+    let whole : text ≡ total = sym (append-nil text) ∙ nothing_more in
+    let len = ap length whole in
+    (whole, omega (arith, c.loop-part.invariant.1))

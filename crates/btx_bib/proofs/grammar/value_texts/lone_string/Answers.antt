@@ -1,4 +1,4 @@
-use Rattle.std.proofs.Common.{◌≡◌, ◌∙◌, sym, ap, ℕ, List, Option, None}
+use Rattle.std.proofs.Common.{◌≡◌, ◌∙◌, sym, ap, None}
 use Rattle.btx_bib.specs.Grammar.ValueTexts.{shaped, or_nothing}
 use Rattle.btx_bib.proofs.GrammarLemmas.SqueezeLemmas.{shaped-nothing}
 use Rattle.btx_bib.proofs.grammar.value_texts.lone_string.Goals as goal

@@ -1,4 +1,4 @@
-use Rattle.std.proofs.Common.{◌≡◌, ◌∙◌, ◌<◌, ◌≤◌, sym, ap, length, arith, true}
+use Rattle.std.proofs.Common.{◌∙◌, sym, ap, length, arith, true}
 use Rattle.btx_bib.specs.declared.grammar.value_ends.Ends.TheVariants.{Trimmed}
 use Rattle.btx_bib.specs.Grammar.Squeezing.{squeezed_after}
 use Rattle.btx_bib.specs.Grammar.ValueTexts.{joined_text, without_last_space, value_text}

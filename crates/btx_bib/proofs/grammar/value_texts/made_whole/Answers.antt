@@ -1,4 +1,4 @@
-use Rattle.std.proofs.Common.{◌≡◌, ◌∙◌, ◌≤◌, sym, ap, length, arith, false}
+use Rattle.std.proofs.Common.{◌∙◌, sym, ap, length, arith, false}
 use Rattle.btx_bib.specs.declared.grammar.value_ends.Ends.TheVariants.{Kept}
 use Rattle.btx_bib.specs.Grammar.Squeezing.{squeezed_after}
 use Rattle.btx_bib.specs.Grammar.ValueTexts.{joined_text, value_text}

@@ -1,4 +1,4 @@
-use Rattle.std.proofs.Common.{◌≡◌, ◌∙◌, sym, ℕ, List}
+use Rattle.std.proofs.Common.{◌∙◌, sym, ℕ, List}
 use Rattle.btx_bib.specs.declared.grammar.slip.Slip.{Slip}
 use Rattle.btx_bib.proofs.GrammarLemmas.ValueLemmas.{value-wrong}
 use Rattle.btx_bib.proofs.grammar.values.end_of_value.Goals as goal
