@@ -1,0 +1,13 @@
+pub mod BuiltIns
+pub mod CommandWords
+pub mod Spelled
+pub mod KeptNames
+pub mod Names
+pub mod NameTables
+pub mod Bodies
+pub mod Ranges
+pub mod Complaints
+pub mod Items
+pub mod Style
+pub mod Views
+pub mod DraftViews

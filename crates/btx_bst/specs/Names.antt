@@ -1,0 +1,105 @@
+-- The names that are known, each with what it names. Case is ignored (btxhak, section 4), so names are kept in lower case. Functions,
+-- fields and variables share one set of names; those of each kind are numbered from 0, in the order in which they are declared.
+use Rattle.std.specs.Prelude.{ℕ, ◌-◌, Bool, false, List, [], ◌∷◌, ◌++◌, length, Option, None, Some, option_map, slice_index_or, position, replicate, codes}
+use Rattle.std.specs.Option.{option_or}
+use Rattle.std.specs.Map.{lookup}
+use Rattle.std.specs.Str.{bytes_eq}
+use Rattle.btx_text.specs.Keys.{folded}
+use Rattle.btx_bst.specs.declared.callee.Callee.{Callee}
+use Rattle.btx_bst.specs.declared.callee.Callee.TheVariants as callee
+use Rattle.btx_bst.specs.declared.callee.Callee.TheVariants.{User, Field, EntryInteger, EntryString, GlobalInteger, GlobalString}
+use Rattle.btx_bst.specs.declared.callee.Kind.{Kind}
+use Rattle.btx_bst.specs.declared.callee.Kind.TheVariants as kind
+use Rattle.btx_bst.specs.BuiltIns.{built_in_of, word_of}
+
+-- the names of the style's functions, of which some are nameless, of its fields and of its variables, each by its number
+pub record Names : Type 0 where
+  pub functions : List (Option (List ℕ))
+  pub fields : List (List ℕ)
+  pub entry_integers : List (List ℕ)
+  pub entry_strings : List (List ℕ)
+  pub global_integers : List (List ℕ)
+  pub global_strings : List (List ℕ)
+
+-- the built-in functions alone
+abbrev pub no_names : Names
+no_names = record { functions = []; fields = []; entry_integers = []; entry_strings = []; global_integers = []; global_strings = [] }
+
+-- a function has this name
+abbrev pub has_name : List ℕ → Option (List ℕ) → Bool
+has_name name None = false
+has_name name (Some other) = bytes_eq name other
+
+-- the number of a name in a list of names
+abbrev pub number_in : List (List ℕ) → List ℕ → Option ℕ
+number_in names name = position (bytes_eq name) names
+
+-- what a name in lower case names
+unfoldable pub named_lower : Names → List ℕ → Option Callee
+named_lower names name =
+    option_or (option_map callee.BuiltIn (built_in_of name))
+    (option_or (option_map User (position (has_name name) names.functions))
+    (option_or (option_map Field (number_in names.fields name))
+    (option_or (option_map EntryInteger (number_in names.entry_integers name))
+    (option_or (option_map EntryString (number_in names.entry_strings name))
+    (option_or (option_map GlobalInteger (number_in names.global_integers name))
+    (option_map GlobalString (number_in names.global_strings name)))))))
+
+-- what a name names
+abbrev pub named : Names → List ℕ → Option Callee
+named names name = named_lower names (folded name)
+
+-- the name that is shown of a function
+abbrev pub shown_name : Option (List ℕ) → List ℕ
+shown_name None = codes "{}"
+shown_name (Some name) = name
+
+-- the name of a built-in function, a function, a field or a variable; a nameless function is shown as `{}`
+abbrev pub name_of : Names → Callee → List ℕ
+name_of names (callee.BuiltIn built_in) = word_of built_in
+name_of names (User number) = shown_name (slice_index_or names.functions number None)
+name_of names (Field number) = slice_index_or names.fields number []
+name_of names (EntryInteger number) = slice_index_or names.entry_integers number []
+name_of names (EntryString number) = slice_index_or names.entry_strings number []
+name_of names (GlobalInteger number) = slice_index_or names.global_integers number []
+name_of names (GlobalString number) = slice_index_or names.global_strings number []
+
+-- the names of a kind
+abbrev pub names_of : Kind → Names → List (List ℕ)
+names_of kind.Field names = names.fields
+names_of kind.EntryInteger names = names.entry_integers
+names_of kind.EntryString names = names.entry_strings
+names_of kind.GlobalInteger names = names.global_integers
+names_of kind.GlobalString names = names.global_strings
+
+-- the field or variable of a kind and a number
+abbrev pub callee_of : Kind → ℕ → Callee
+callee_of kind.Field number = Field number
+callee_of kind.EntryInteger number = EntryInteger number
+callee_of kind.EntryString number = EntryString number
+callee_of kind.GlobalInteger number = GlobalInteger number
+callee_of kind.GlobalString number = GlobalString number
+
+-- names with a further one, in lower case, of a kind
+abbrev pub with_name : Kind → List ℕ → Names → Names
+with_name kind.Field name names = record names { fields = names.fields ++ name ∷ [] }
+with_name kind.EntryInteger name names = record names { entry_integers = names.entry_integers ++ name ∷ [] }
+with_name kind.EntryString name names = record names { entry_strings = names.entry_strings ++ name ∷ [] }
+with_name kind.GlobalInteger name names = record names { global_integers = names.global_integers ++ name ∷ [] }
+with_name kind.GlobalString name names = record names { global_strings = names.global_strings ++ name ∷ [] }
+
+-- functions and then nameless ones, so many in all
+abbrev pub padded : ℕ → List (Option (List ℕ)) → List (Option (List ℕ))
+padded count functions = functions ++ replicate (count - length functions) None
+
+-- names where the function of this number has this name, in lower case, and those between the last one with a name and it are nameless
+abbrev pub with_function : ℕ → List ℕ → Names → Names
+with_function number name names = record names { functions = padded number names.functions ++ Some name ∷ [] }
+
+-- the macros: names in lower case, each with its text
+abbrev pub Macros : Type 0
+Macros = List (List ℕ × List ℕ)
+
+-- the text of the macro of a name in lower case
+abbrev pub macro_lower : Macros → List ℕ → Option (List ℕ)
+macro_lower macros name = lookup (bytes_eq name) macros

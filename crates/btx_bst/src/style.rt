@@ -1,0 +1,153 @@
+//! A style that has been read.
+ghost use Rattle.std.specs.Prelude.{◌≡◌, ◌<◌, length, slice_index_or, [], IfOk, option_copied};
+ghost use Rattle.btx_bst.specs.Names.{named_lower, name_of, macro_lower};
+ghost use Rattle.btx_bst.specs.Style.{field_of, type_of};
+ghost use Rattle.btx_bst.specs.Views.{items_view};
+
+use crate::callee::{Callee, Kind};
+use crate::draft::Draft;
+use crate::item::Item;
+use crate::macros::Macros;
+use crate::token::Token;
+use std::marker::Model;
+
+/// A style that has been read. What it shows is borrowed from the text of its file.
+#[derive(Drop)]
+pub struct Style<'a> {
+    draft: Draft<'a>,
+}
+
+impl<'a> Model for Style<'a> {
+    ghost use Rattle.btx_bst.specs.Style.{Style as Known};
+
+    ghost Value = { Known };
+
+    ghost use Rattle.btx_bst.specs.DraftViews.{draft_view};
+
+    ghost view = { λ style. draft_view style.draft };
+}
+
+impl<'a> Style<'a> {
+    /// The name of the file.
+    pub fn file_name(&self) -> &'a [u8]
+        ensures { result.now ≡ self.now.file }
+    {
+        self.draft.file_name
+    }
+
+    /// The commands and messages, in order.
+    pub fn items(&self) -> &[Item<'a>]
+        ensures { items_view result.now ≡ self.now.items }
+    {
+        self.draft.items.as_slice()
+    }
+
+    /// How many functions the style has, named and nameless.
+    pub fn functions(&self) -> usize
+        ensures { result ≡ length self.now.bodies }
+    {
+        self.draft.bodies.len()
+    }
+
+    /// The tokens of the function of a number.
+    pub fn body(&self, number: usize) -> &[Token]
+        requires { number < length self.now.bodies }
+        ensures { result.now ≡ slice_index_or self.now.bodies number [] }
+    {
+        self.draft.bodies.body(number)
+    }
+
+    /// The string of a number; past the last one there is none, and it is empty.
+    pub fn text(&self, number: u32) -> &'a [u8]
+        ensures { result.now ≡ slice_index_or self.now.texts number [] }
+    {
+        match self.draft.texts.get(number as usize) {
+            Some(text) => text,
+            None => &[],
+        }
+    }
+
+    /// What a name in lower case names.
+    pub fn named(&self, lowered: &[u8]) -> Option<Callee>
+        ensures { result ≡ named_lower self.now.names lowered.now }
+    {
+        self.draft.names.find(lowered)
+    }
+
+    /// The name of a built-in function, a function, a field or a variable, in lower case; `{}` for a nameless function.
+    pub fn name(&self, callee: Callee) -> &[u8]
+        ensures { result.now ≡ name_of self.now.names callee }
+    {
+        self.draft.names.name(callee)
+    }
+
+    /// The number of a field by its name in lower case.
+    pub fn field(&self, lowered: &[u8]) -> Option<u32>
+        ensures { result ≡ field_of self.now lowered.now }
+    {
+        match self.draft.names.find(lowered) {
+            Some(Callee::Field(number)) => Some(number),
+            _ => None,
+        }
+    }
+
+    /// The function of an entry's type, given in lower case: a function of the style that stands before READ.
+    pub fn type_function(&self, lowered: &[u8]) -> Option<u32>
+        ensures { result ≡ type_of self.now lowered.now }
+    {
+        let count = self.draft.before_read?;
+        match self.draft.names.find(lowered) {
+            Some(Callee::User(number)) if (number as usize) < count => Some(number),
+            _ => None,
+        }
+    }
+
+    /// How many fields there are.
+    pub fn fields(&self) -> usize
+        ensures { result ≡ length self.now.names.fields }
+    {
+        self.draft.names.count(Kind::Field)
+    }
+
+    /// How many integer variables each entry has.
+    pub fn entry_integers(&self) -> usize
+        ensures { result ≡ length self.now.names.entry_integers }
+    {
+        self.draft.names.count(Kind::EntryInteger)
+    }
+
+    /// How many string variables each entry has.
+    pub fn entry_strings(&self) -> usize
+        ensures { result ≡ length self.now.names.entry_strings }
+    {
+        self.draft.names.count(Kind::EntryString)
+    }
+
+    /// How many global integer variables there are.
+    pub fn global_integers(&self) -> usize
+        ensures { result ≡ length self.now.names.global_integers }
+    {
+        self.draft.names.count(Kind::GlobalInteger)
+    }
+
+    /// How many global string variables there are.
+    pub fn global_strings(&self) -> usize
+        ensures { result ≡ length self.now.names.global_strings }
+    {
+        self.draft.names.count(Kind::GlobalString)
+    }
+
+    /// The macros, in order.
+    pub fn macros(&self) -> &Macros<'a>
+        ensures { result.now ≡ self.now.macros }
+    {
+        &self.draft.macros
+    }
+
+    /// The text of the macro of a name in lower case.
+    pub fn macro_text(&self, lowered: &[u8]) -> Option<&'a [u8]>
+        ensures { option_copied result ≡ macro_lower self.now.macros lowered.now }
+    {
+        self.draft.macros.text(lowered)
+    }
+}
