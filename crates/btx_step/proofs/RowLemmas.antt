@@ -1,0 +1,112 @@
+-- Steps in a row.
+use Rattle.std.proofs.Common.{◌≡◌, ◌<◌, ◌≤◌, ℕ, ℤ, true, Bool, cond, nat_lt, List, [], ◌∷◌, length, take, Option, Some, None, slice_get, slice_set, refl, sym, ap, ◌∙◌, arith}
+use Rattle.std.proofs.lemmas.Bool.{lt-ltb}
+use Rattle.std.proofs.lemmas.List.{take_all}
+use Rattle.btx_bst.specs.declared.built_in.BuiltIn.TheVariants as built_in
+use Rattle.btx_bst.specs.declared.callee.Callee.{Callee}
+use Rattle.btx_bst.specs.declared.callee.Callee.TheVariants as callee
+use Rattle.btx_step.specs.declared.literal.Literal.{Literal}
+use Rattle.btx_step.specs.declared.literal.Literal.TheVariants.{Integer, Text, Function, Missing}
+use Rattle.btx_step.specs.declared.next.Limit.TheVariants as limit
+use Rattle.btx_step.specs.declared.next.Next.TheVariants as next
+use Rattle.btx_step.specs.declared.said.Said.TheVariants as said
+use Rattle.btx_step.specs.Jobs.{Job}
+use Rattle.btx_step.specs.Stores.{Store, Values}
+use Rattle.btx_step.specs.Answers.{Answer, answer, done, says, pushed, with_literals}
+use Rattle.btx_step.specs.Stacks.{swaps, duplicates, pops}
+use Rattle.btx_step.specs.Variables as variables
+use Rattle.btx_step.specs.Steps.{built_in_run, run_of}
+use Rattle.btx_step.specs.Laws.{SwapTwice, DuplicatePop, InEntry, Takes, ReadsBack}
+use Rattle.btx_step.proofs.ValueLemmas.{read_at}
+
+pub swap_twice : SwapTwice
+unfolding built_in_run
+swap_twice job x y xs s e =
+    let again : Answer → Answer = λ a. swaps a.store.literals a.store in
+    ap (λ l. again (swaps l s)) e ∙ ap (λ l. done (with_literals l s)) (sym e)
+
+-- a literal that has room is pushed
+pushed_done : (v : Literal) (s : Store) → length s.literals < 1000 → pushed v s ≡ done (with_literals (v ∷ s.literals) s)
+pushed_done v s room =
+    ap (λ b. cond b (says said.Nothing (with_literals (v ∷ s.literals) s)) (answer (next.End limit.Literals) said.Nothing s)) (lt-ltb (length s.literals) 1000 room)
+
+pub duplicate_pop : DuplicatePop
+unfolding built_in_run
+duplicate_pop job x xs s e room =
+    let after : Answer → Answer = λ a. pops a.store.literals a.store in
+    ap after (ap (λ l. duplicates l s) e ∙ pushed_done x s room)
+
+-- ---- variables
+
+-- what is pushed stands on top
+on_top : (v : Literal) (s : Store) → length s.literals < 1000 → (pushed v s).store.literals ≡ v ∷ s.literals
+on_top v s room = ap (λ (a : Answer). a.store.literals) (pushed_done v s room)
+
+all_kept : (most : ℕ) (text : List ℕ) → length text ≤ most → take most text ≡ text
+all_kept most text short = take_all most text short
+
+-- the values of an entry that was written
+written_values : (entries : List Values) (entry : ℕ) (values : Values) → entry < length entries → variables.values_of (slice_set entries entry values) entry ≡ values
+written_values entries entry values within = ap variables.values_in (read_at entries entry values within)
+
+entry_integer_back : (job : Job) (i : ℕ) (n : ℤ) (xs : List Literal) (s : Store) (entry : ℕ) → length xs < 1000
+    → entry < length s.entries → i < length (variables.values_of s.entries entry).integers
+    → (variables.entry_integer i (Some entry) (variables.with_entry_integer entry i n (with_literals xs s))).store.literals ≡ Integer n ∷ xs
+entry_integer_back job i n xs s entry room within inside =
+    on_top _ (variables.with_entry_integer entry i n (with_literals xs s)) room
+    ∙ ap (λ m. Integer m ∷ xs) (ap (λ (values : Values). variables.integer_in (slice_get values.integers i)) (written_values s.entries entry _ within)
+    ∙ ap variables.integer_in (read_at (variables.values_of s.entries entry).integers i n inside))
+
+entry_string_back : (job : Job) (i : ℕ) (text : List ℕ) (xs : List Literal) (s : Store) (entry : ℕ) → length xs < 1000
+    → entry < length s.entries → i < length (variables.values_of s.entries entry).strings
+    → (variables.entry_string i (Some entry) (variables.with_entry_string entry i text (with_literals xs s))).store.literals ≡ Text text ∷ xs
+entry_string_back job i text xs s entry room within inside =
+    on_top _ (variables.with_entry_string entry i text (with_literals xs s)) room
+    ∙ ap (λ t. Text t ∷ xs) (ap (λ (values : Values). variables.string_in (slice_get values.strings i)) (written_values s.entries entry _ within)
+    ∙ ap variables.string_in (read_at (variables.values_of s.entries entry).strings i text inside))
+
+-- what is stored in a variable of an entry, by the current entry
+integer_stored : ℕ → ℤ → List Literal → Store → Option ℕ → Store
+integer_stored i n xs s current = (variables.in_entry (λ entry. variables.stores_integer (variables.with_entry_integer entry i) (Integer n)) current (with_literals xs s)).store
+
+string_stored : ℕ → ℕ → List ℕ → List Literal → Store → Option ℕ → Store
+string_stored most i text xs s current = (variables.in_entry (λ entry. variables.stores_string most (variables.with_entry_string entry i) (Text text)) current (with_literals xs s)).store
+
+integer_back : (job : Job) (i : ℕ) (n : ℤ) (xs : List Literal) (s : Store) (entry : Option ℕ) → s.current ≡ entry → length xs < 1000
+    → InEntry entry (λ entry. (entry < length s.entries) × (i < length (variables.values_of s.entries entry).integers))
+    → (variables.entry_integer i (integer_stored i n xs s s.current).current (integer_stored i n xs s s.current)).store.literals ≡ Integer n ∷ xs
+unfolding integer_stored
+integer_back job i n xs s None e room takes = absurd takes
+integer_back job i n xs s (Some entry) e room takes =
+    ap (λ c. (variables.entry_integer i (integer_stored i n xs s c).current (integer_stored i n xs s c)).store.literals) e
+    ∙ ap (λ c. (variables.entry_integer i c (variables.with_entry_integer entry i n (with_literals xs s))).store.literals) e
+    ∙ entry_integer_back job i n xs s entry room takes.0 takes.1
+
+string_back : (job : Job) (i : ℕ) (text : List ℕ) (xs : List Literal) (s : Store) (entry : Option ℕ) → s.current ≡ entry → length xs < 1000
+    → InEntry entry (λ entry. (entry < length s.entries) × (i < length (variables.values_of s.entries entry).strings) × (length text ≤ job.entry_max))
+    → (variables.entry_string i (string_stored job.entry_max i text xs s s.current).current (string_stored job.entry_max i text xs s s.current)).store.literals ≡ Text text ∷ xs
+unfolding string_stored
+string_back job i text xs s None e room takes = absurd takes
+string_back job i text xs s (Some entry) e room takes =
+    ap (λ c. (variables.entry_string i (string_stored job.entry_max i text xs s c).current (string_stored job.entry_max i text xs s c)).store.literals) e
+    ∙ ap (λ c. (variables.entry_string i c (variables.with_entry_string entry i (take job.entry_max text) (with_literals xs s))).store.literals) e
+    ∙ ap (λ t. (variables.entry_string i (Some entry) (variables.with_entry_string entry i t (with_literals xs s))).store.literals) (all_kept job.entry_max text takes.2)
+    ∙ entry_string_back job i text xs s entry room takes.0 takes.1
+
+pub reads_back : ReadsBack
+unfolding built_in_run run_of integer_stored string_stored
+reads_back job (callee.GlobalInteger i) (Integer n) xs s e room takes =
+    ap (λ l. (variables.global_integer i (variables.assigns job l s).store).store.literals) e
+    ∙ on_top _ (variables.with_integer i n (with_literals xs s)) room
+    ∙ ap (λ m. Integer m ∷ xs) (ap variables.integer_in (read_at s.integers i n takes))
+reads_back job (callee.GlobalString i) (Text text) xs s e room takes =
+    ap (λ l. (variables.global_string i (variables.assigns job l s).store).store.literals) e
+    ∙ on_top _ (variables.with_string i (take job.global_max text) (with_literals xs s)) room
+    ∙ ap (λ t. Text t ∷ xs) (ap variables.string_in (read_at s.strings i (take job.global_max text) takes.0) ∙ all_kept job.global_max text takes.1)
+reads_back job (callee.EntryInteger i) (Integer n) xs s e room takes =
+    ap (λ l. (variables.entry_integer i (variables.assigns job l s).store.current (variables.assigns job l s).store).store.literals) e
+    ∙ integer_back job i n xs s s.current refl room takes
+reads_back job (callee.EntryString i) (Text text) xs s e room takes =
+    ap (λ l. (variables.entry_string i (variables.assigns job l s).store.current (variables.assigns job l s).store).store.literals) e
+    ∙ string_back job i text xs s s.current refl room takes
+reads_back job f v xs s e room takes = absurd takes

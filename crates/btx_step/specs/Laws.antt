@@ -1,0 +1,45 @@
+-- What holds of some steps in a row.
+use Rattle.std.specs.Prelude.{◌≡◌, ◌<◌, ◌≤◌, ℕ, List, ◌∷◌, length, Option, None, Some}
+use Rattle.btx_bst.specs.declared.built_in.BuiltIn.TheVariants as built_in
+use Rattle.btx_bst.specs.declared.callee.Callee.{Callee}
+use Rattle.btx_bst.specs.declared.callee.Callee.TheVariants as callee
+use Rattle.btx_step.specs.declared.literal.Literal.{Literal}
+use Rattle.btx_step.specs.declared.literal.Literal.TheVariants.{Integer, Text, Function, Missing}
+use Rattle.btx_step.specs.Jobs.{Job}
+use Rattle.btx_step.specs.Stores.{Store}
+use Rattle.btx_step.specs.Answers.{done}
+use Rattle.btx_step.specs.Variables.{values_of}
+use Rattle.btx_step.specs.Steps.{built_in_run, run_of}
+
+-- ---- steps in a row
+
+-- `swap$ swap$` is nothing, where two literals stand
+abbrev pub SwapTwice : Type 0
+SwapTwice = (job : Job) (x y : Literal) (xs : List Literal) (s : Store) → s.literals ≡ x ∷ y ∷ xs →
+    built_in_run job built_in.Swap (built_in_run job built_in.Swap s).store ≡ done s
+
+-- `duplicate$ pop$` is nothing, where a literal stands and one more has room
+abbrev pub DuplicatePop : Type 0
+DuplicatePop = (job : Job) (x : Literal) (xs : List Literal) (s : Store) → s.literals ≡ x ∷ xs → length s.literals < 1000 →
+    built_in_run job built_in.Pop (built_in_run job built_in.Duplicate s).store ≡ done s
+
+-- ---- variables
+
+-- a variable that is there takes this value uncut: one of an entry needs its entry to be the current one
+abbrev pub InEntry : Option ℕ → (ℕ → Type 0) → Type 0
+InEntry None P = ⊥
+InEntry (Some entry) P = P entry
+
+abbrev pub Takes : Job → Store → Callee → Literal → Type 0
+Takes job s (callee.GlobalInteger i) (Integer n) = i < length s.integers
+Takes job s (callee.GlobalString i) (Text text) = (i < length s.strings) × (length text ≤ job.global_max)
+Takes job s (callee.EntryInteger i) (Integer n) =
+    InEntry s.current (λ entry. (entry < length s.entries) × (i < length (values_of s.entries entry).integers))
+Takes job s (callee.EntryString i) (Text text) =
+    InEntry s.current (λ entry. (entry < length s.entries) × (i < length (values_of s.entries entry).strings) × (length text ≤ job.entry_max))
+Takes job s f v = ⊥
+
+-- a variable that is executed after it was assigned a value pushes that value
+abbrev pub ReadsBack : Type 0
+ReadsBack = (job : Job) (f : Callee) (v : Literal) (xs : List Literal) (s : Store) → s.literals ≡ Function f ∷ v ∷ xs → length xs < 1000
+    → Takes job s f v → (run_of job f (built_in_run job built_in.Assign s).store).store.literals ≡ v ∷ xs

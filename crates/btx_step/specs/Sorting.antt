@@ -1,0 +1,34 @@
+-- The order of a list of entries (btxhak, section 5.1, at SORT).
+use Rattle.std.specs.Prelude.{ℕ, Bool, List, [], ◌∷◌, if◌then◌else◌}
+use Rattle.std.specs.Ordering.{nat_cmp, is_lt}
+use Rattle.std.specs.Cmp.Lexicographic.{slice_cmp}
+use Rattle.btx_step.specs.Stores.{Store}
+use Rattle.btx_step.specs.Variables.{string_of}
+
+-- a key comes before another: by the first byte that differs, and a proper beginning comes first
+abbrev pub precedes : List ℕ → List ℕ → Bool
+precedes key other = is_lt (slice_cmp nat_cmp key other)
+
+module _ {X : Type 0} (lt : X → X → Bool) where
+  -- x goes before the first element that is not less than it
+  abbrev pub placed : X → List X → List X
+  placed x [] = x ∷ []
+  placed x (y ∷ ys) = if lt y x then y ∷ placed x ys else x ∷ y ∷ ys
+
+  -- elements ascend, and those that tie keep their order
+  unfoldable pub sorted_by : List X → List X
+  sorted_by [] = []
+  sorted_by (x ∷ xs) = placed x (sorted_by xs)
+
+module _ {X : Type 0} where
+  -- elements compare as their keys do
+  abbrev pub by_key : (X → List ℕ) → X → X → Bool
+  by_key key x y = precedes (key x) (key y)
+
+  -- the elements so that their keys ascend, and those of equal keys in the order in which they stood
+  abbrev pub sorted : (X → List ℕ) → List X → List X
+  sorted key = sorted_by (by_key key)
+
+-- the key of an entry: a string variable of it
+abbrev pub sort_key : Store → ℕ → ℕ → List ℕ
+sort_key store variable entry = string_of store.entries entry variable

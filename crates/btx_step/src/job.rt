@@ -1,0 +1,117 @@
+//! What a step reads and never changes.
+ghost use Rattle.std.specs.Prelude.{◌≡◌};
+ghost use Rattle.btx_bib.specs.Library.{key_of, kind_of};
+ghost use Rattle.btx_step.specs.Entries.{entry_of, runner_of, type_name};
+
+use crate::kept_bytes::KeptBytes;
+use btx_bib::Library;
+use btx_bst::{Callee, Style};
+use btx_text::TextMode;
+use std::marker::Model;
+
+/// The style, the entries, how text is read, and how many bytes of a string a variable of an entry keeps, and a global one.
+#[derive(Drop)]
+pub struct Job<'a> {
+    style: &'a Style<'a>,
+    library: &'a Library<'a>,
+    mode: TextMode,
+    entry_max: KeptBytes,
+    global_max: KeptBytes,
+}
+
+impl<'a> Model for Job<'a> {
+    ghost use Rattle.btx_step.specs.Jobs.{Job as Stored};
+
+    ghost Value = { Stored };
+
+    ghost view = { λ job. record {
+      style = job.style.now;
+      library = job.library.now;
+      mode = job.mode;
+      entry_max = job.entry_max;
+      global_max = job.global_max;
+    } };
+}
+
+impl<'a> Job<'a> {
+    /// A job of these.
+    pub fn new(
+        style: &'a Style<'a>,
+        library: &'a Library<'a>,
+        mode: TextMode,
+        entry_max: KeptBytes,
+        global_max: KeptBytes,
+    ) -> Self
+        ensures { result ≡ record { style = style.now; library = library.now; mode = mode; entry_max = entry_max; global_max = global_max } }
+    {
+        Job {
+            style,
+            library,
+            mode,
+            entry_max,
+            global_max,
+        }
+    }
+
+    /// The style.
+    pub fn style(&self) -> &'a Style<'a>
+        ensures { result.now ≡ self.now.style }
+    {
+        self.style
+    }
+
+    /// The entries.
+    pub fn library(&self) -> &'a Library<'a>
+        ensures { result.now ≡ self.now.library }
+    {
+        self.library
+    }
+
+    /// How text is read.
+    pub fn mode(&self) -> TextMode
+        ensures { result ≡ self.now.mode }
+    {
+        self.mode
+    }
+
+    /// How many bytes of a string a variable of an entry keeps.
+    pub fn entry_max(&self) -> KeptBytes
+        ensures { result ≡ self.now.entry_max }
+    {
+        self.entry_max
+    }
+
+    /// How many bytes of a string a global variable keeps.
+    pub fn global_max(&self) -> KeptBytes
+        ensures { result ≡ self.now.global_max }
+    {
+        self.global_max
+    }
+
+    /// The key of an entry, no bytes where there is no such entry.
+    pub fn key(&self, entry: usize) -> &'a [u8]
+        ensures { result.now ≡ key_of (entry_of self.now entry) }
+    {
+        self.library.key(entry)
+    }
+
+    /// The name of an entry's type, the empty one for a type that the style doesn't know.
+    pub fn type_name(&self, entry: usize) -> &'a [u8]
+        ensures { result.now ≡ type_name self.now (kind_of (entry_of self.now entry)) }
+    {
+        match self.library.kind(entry) {
+            Some(function) => self.style.name(Callee::User(function)),
+            None => &[],
+        }
+    }
+
+    /// The function of an entry's type; that of the type `default.type` for a type that the style doesn't know.
+    pub fn runner(&self, entry: usize) -> Option<u32>
+        ensures { result ≡ runner_of self.now (kind_of (entry_of self.now entry)) }
+    {
+        match self.library.kind(entry) {
+            Some(function) => Some(function),
+            None => self.style.type_function(b"default.type"),
+        }
+    }
+}

@@ -1,0 +1,60 @@
+//! How many bytes of a string a variable keeps.
+ghost use Rattle.std.specs.Prelude.{◌≡◌};
+ghost use Rattle.std.specs.Option.{SomeIff};
+ghost use Rattle.btx_step.specs.Limits.{IsKeptBytes};
+
+use std::marker::Model;
+
+/// The greatest number of bytes of a string that a variable keeps: a number from 1 to 1,000,000, and no other.
+#[derive(Clone, Copy, Debug, PartialEq, Eq)]
+pub struct KeptBytes {
+    bytes: u32,
+}
+
+impl Model for KeptBytes {
+    ghost use Rattle.std.specs.Prelude.{ℕ};
+    ghost use Rattle.btx_step.specs.Limits.{IsKeptBytes};
+
+    ghost Value = { ℕ };
+
+    ghost view = { λ kept. kept.bytes };
+
+    ghost invariant = { λ kept. IsKeptBytes kept.bytes };
+
+    ghost inverse = { λ n. record { bytes = n } };
+}
+
+impl KeptBytes {
+    /// So many bytes; None exactly where the number is 0 or above 1,000,000.
+    pub fn new(bytes: u32) -> Option<KeptBytes>
+        ensures { SomeIff result (IsKeptBytes bytes) bytes }
+    {
+        if (1..=1_000_000).contains(&bytes) {
+            Some(KeptBytes { bytes })
+        } else {
+            None
+        }
+    }
+
+    /// The number of bytes.
+    pub fn get(self) -> u32
+        ensures value { result ≡ self }
+        ensures range { IsKeptBytes result }
+    {
+        self.bytes
+    }
+
+    /// What a variable of an entry keeps where nothing else is said.
+    pub fn of_entries() -> KeptBytes
+        ensures { result ≡ 250 }
+    {
+        KeptBytes { bytes: 250 }
+    }
+
+    /// What a global variable keeps where nothing else is said.
+    pub fn of_globals() -> KeptBytes
+        ensures { result ≡ 20000 }
+    {
+        KeptBytes { bytes: 20_000 }
+    }
+}

@@ -1,0 +1,25 @@
+//! One step of a style: what a token does to the literals, the variables and the current entry, and what it says.
+#![tactic(auto)]
+
+pub mod calculation;
+pub mod job;
+pub mod kept_bytes;
+pub mod laws;
+pub mod lines;
+mod list;
+pub mod literal;
+pub mod next;
+pub mod reserved;
+pub mod said;
+pub mod sorting;
+pub mod stand_in;
+pub mod store;
+pub mod values;
+
+pub use job::Job;
+pub use kept_bytes::KeptBytes;
+pub use literal::{Literal, Wanted};
+pub use next::{Limit, Next};
+pub use said::{Note, Notes, Said};
+pub use store::Store;
+pub use values::Values;

@@ -1,0 +1,267 @@
+//! The lines of the log that a style's execution gives.
+ghost use Rattle.std.specs.Prelude.{◌≡◌, ◌++◌, IfOk, OnOk, codes, decimal};
+ghost use Rattle.std.specs.Option.{option_copied};
+ghost use Rattle.std.specs.Fmt.{signed_decimal};
+ghost use Rattle.btx_step.specs.Notes as spec;
+
+use crate::literal::{Literal, Wanted};
+use crate::said::Note;
+use btx_bst::{Callee, Style};
+use btx_text::log_texts::{push_four, push_mark, push_number, push_two};
+use btx_text::{LineKind, LogLine};
+use itoa::Buffer;
+use std::alloc::{AllocError, Global};
+
+/// A line of the log, met while a function of this name is executed, in an entry of this key if there is one.
+#[tactic(auto, using(btx_text::proofs::JoinLemmas::joins), unfolding(crate::specs::Notes::line_of))]
+pub fn line_of(
+    alloc: Global,
+    style: &Style<'_>,
+    executed: &[u8],
+    key: Option<&[u8]>,
+    note: &Note<'_>,
+) -> Result<LogLine, AllocError>
+    ensures { IfOk result (λ line. line ≡ spec.line_of style.now executed.now (option_copied key.entry) note.now) }
+{
+    let kind = kind_of(note);
+    let mut text = Vec::new(alloc);
+    push_mark(&mut text, kind)?;
+    push_note(&mut text, style, note)?;
+    push_place_if(&mut text, has_place(note), executed, key)?;
+    Ok(LogLine::new(text, kind))
+}
+
+// What a line is.
+#[tactic(auto, unfolding(crate::specs::Notes::kind_of))]
+fn kind_of(note: &Note<'_>) -> LineKind
+    ensures { result ≡ spec.kind_of note.now }
+{
+    match note {
+        Note::Cut(_, _) | Note::Warning(_) => LineKind::Warning,
+        Note::Shown(_) => LineKind::Plain,
+        _ => LineKind::Error,
+    }
+}
+
+// Whether a place follows.
+#[tactic(auto, unfolding(crate::specs::Notes::has_place))]
+fn has_place(note: &Note<'_>) -> bool
+    ensures { result ≡ spec.has_place note.now }
+{
+    !matches!(note, Note::Warning(_) | Note::Shown(_))
+}
+
+// Appends a place, if one follows.
+fn push_place_if(
+    text: &mut Vec<u8>,
+    follows: bool,
+    executed: &[u8],
+    key: Option<&[u8]>,
+) -> Result<(), AllocError>
+    ensures { OnOk result (text.new.items ≡ text.old.items ++ spec.place_if follows executed.now (option_copied key.entry)) }
+{
+    if follows {
+        push_place(text, executed, key)
+    } else {
+        text.extend_from_slice(b"")
+    }
+}
+
+// Appends a place.
+#[tactic(auto, unfolding(crate::specs::Notes::place_of))]
+fn push_place(text: &mut Vec<u8>, executed: &[u8], key: Option<&[u8]>) -> Result<(), AllocError>
+    ensures { OnOk result (text.new.items ≡ text.old.items ++ spec.place_of executed.now (option_copied key.entry)) }
+{
+    match key {
+        Some(key) => push_four(text, b" while executing ", executed, b" for entry ", key),
+        None => push_two(text, b" while executing ", executed),
+    }
+}
+
+// Appends an integer in decimal.
+fn push_integer(text: &mut Vec<u8>, number: i32) -> Result<(), AllocError>
+    ensures { OnOk result (text.new.items ≡ text.old.items ++ signed_decimal number) }
+{
+    let mut buffer = Buffer::new();
+    text.extend_from_slice(buffer.format(number).as_bytes())
+}
+
+// Appends three pieces.
+#[tactic(auto, using(btx_text::proofs::JoinLemmas::joins))]
+fn push_three(
+    text: &mut Vec<u8>,
+    first: &[u8],
+    second: &[u8],
+    third: &[u8],
+) -> Result<(), AllocError>
+    ensures { OnOk result (text.new.items ≡ text.old.items ++ (first.now ++ second.now ++ third.now)) }
+{
+    push_two(text, first, second)?;
+    text.extend_from_slice(third)
+}
+
+// Appends a piece, the number of a name, and three more pieces.
+#[tactic(auto, using(btx_text::proofs::JoinLemmas::joins))]
+fn push_name(
+    text: &mut Vec<u8>,
+    before: &[u8],
+    number: i32,
+    between: &[u8],
+    names: &[u8],
+    after: &[u8],
+) -> Result<(), AllocError>
+    ensures { OnOk result (text.new.items ≡ text.old.items ++ (before.now ++ signed_decimal number ++ between.now ++ names.now ++ after.now)) }
+{
+    text.extend_from_slice(before)?;
+    push_integer(text, number)?;
+    push_three(text, between, names, after)
+}
+
+// Appends an integer and a piece.
+#[tactic(auto, using(btx_text::proofs::JoinLemmas::joins))]
+fn push_integer_before(text: &mut Vec<u8>, number: i32, after: &[u8]) -> Result<(), AllocError>
+    ensures { OnOk result (text.new.items ≡ text.old.items ++ (signed_decimal number ++ after.now)) }
+{
+    push_integer(text, number)?;
+    text.extend_from_slice(after)
+}
+
+// Appends that an integer is no code.
+#[tactic(auto, unfolding(crate::specs::Notes::not_ascii_text))]
+fn push_not_ascii(text: &mut Vec<u8>, number: i32) -> Result<(), AllocError>
+    ensures { OnOk result (text.new.items ≡ text.old.items ++ spec.not_ascii_text number) }
+{
+    push_integer_before(text, number, b" isn't an ASCII code")
+}
+
+// Appends a piece, a number, another piece and another number.
+#[tactic(auto, using(btx_text::proofs::JoinLemmas::joins))]
+fn push_sizes(
+    text: &mut Vec<u8>,
+    before: &[u8],
+    size: usize,
+    between: &[u8],
+    most: usize,
+) -> Result<(), AllocError>
+    ensures { OnOk result (text.new.items ≡ text.old.items ++ (before.now ++ decimal size ++ between.now ++ decimal most)) }
+{
+    push_number(text, before, size as u64)?;
+    push_number(text, between, most as u64)
+}
+
+// Appends a literal and a piece.
+#[tactic(auto, using(btx_text::proofs::JoinLemmas::joins))]
+fn push_form_before(
+    text: &mut Vec<u8>,
+    style: &Style<'_>,
+    value: &Literal<'_>,
+    after: &[u8],
+) -> Result<(), AllocError>
+    ensures { OnOk result (text.new.items ≡ text.old.items ++ (spec.form_of style.now value.now ++ after.now)) }
+{
+    push_form(text, style, value)?;
+    text.extend_from_slice(after)
+}
+
+// Appends a literal as the log shows it.
+#[tactic(auto, unfolding(crate::specs::Notes::form_of))]
+fn push_form(text: &mut Vec<u8>, style: &Style<'_>, value: &Literal<'_>) -> Result<(), AllocError>
+    ensures { OnOk result (text.new.items ≡ text.old.items ++ spec.form_of style.now value.now) }
+{
+    match value {
+        Literal::Integer(n) => push_integer(text, *n),
+        Literal::Text(shown) => push_three(text, b"\"", shown.as_bytes(), b"\""),
+        Literal::Function(function) => push_two(text, b"'", style.name(*function)),
+        Literal::Missing => text.extend_from_slice(b"missing field"),
+    }
+}
+
+// The kind of literal that was wanted.
+fn kind_text(wanted: Wanted) -> &'static [u8]
+    ensures { result.now ≡ spec.kind_text wanted }
+{
+    match wanted {
+        Wanted::Integer => b" is not an integer",
+        Wanted::Text => b" is not a string",
+        Wanted::Function => b" is not a function",
+        Wanted::TextOrMissing => b" is not a string or missing field",
+    }
+}
+
+// Appends what is told, without its place.
+#[tactic(auto, unfolding(crate::specs::Notes::text_of))]
+fn push_note(text: &mut Vec<u8>, style: &Style<'_>, note: &Note<'_>) -> Result<(), AllocError>
+    ensures { OnOk result (text.new.items ≡ text.old.items ++ spec.text_of style.now note.now) }
+{
+    match note {
+        Note::EmptyStack => text.extend_from_slice(b"You can't pop an empty literal stack"),
+        Note::WrongKind(value, wanted) => push_form_before(text, style, value, kind_text(*wanted)),
+        Note::Incomparable => text.extend_from_slice(b"= needs two integers or two strings"),
+        Note::Overflow => text.extend_from_slice(b"Integer overflow"),
+        Note::NotAssignable(function) => push_two(
+            text,
+            b"You can't assign to ",
+            style.name(*function),
+        ),
+        Note::NoEntry => text.extend_from_slice(b"You can't mess with entries here"),
+        Note::NotAscii(n) => push_not_ascii(text, *n),
+        Note::NotOneCharacter(shown) => {
+            push_three(
+                text,
+                b"\"",
+                shown.as_bytes(),
+                b"\" isn't a single character",
+            )
+        }
+        Note::NoConversion(shown) => {
+            push_three(
+                text,
+                b"\"",
+                shown.as_bytes(),
+                b"\" is an illegal case-conversion string",
+            )
+        }
+        Note::NoSuchName(n, names) => {
+            push_name(
+                text,
+                b"There is no name number ",
+                *n,
+                b" in \"",
+                names.as_bytes(),
+                b"\"",
+            )
+        }
+        Note::FinalComma(n, names) => {
+            push_name(
+                text,
+                b"Name ",
+                *n,
+                b" in \"",
+                names.as_bytes(),
+                b"\" has a comma at the end",
+            )
+        }
+        Note::TooManyCommas(n, names) => {
+            push_name(
+                text,
+                b"Too many commas in name ",
+                *n,
+                b" of \"",
+                names.as_bytes(),
+                b"\"",
+            )
+        }
+        Note::IllegalFormat(format) => {
+            push_three(
+                text,
+                b"The format string \"",
+                format.as_bytes(),
+                b"\" is illegal",
+            )
+        }
+        Note::LeftOver => text.extend_from_slice(b"The literal stack isn't empty"),
+        Note::Cut(size, most) => push_sizes(text, b"string of ", *size, b" bytes cut to ", *most),
+        Note::Warning(warning) => text.extend_from_slice(warning.as_bytes()),
+        Note::Shown(value) => push_form(text, style, value),
+    }
+}

@@ -1,0 +1,18 @@
+//! The order of a list of entries.
+ghost use Rattle.std.specs.Prelude.{◌≡◌, OnOk, OnErr};
+ghost use Rattle.btx_step.specs.Sorting.{sorted, sort_key};
+
+use crate::store::Store;
+use std::alloc::AllocError;
+
+/// Puts entries, given by their places in the list, in the order of a string variable, by bytes; entries whose values are equal stay as
+/// they stood.
+pub fn sort(list: &mut Vec<usize>, store: &Store<'_>, variable: u32) -> Result<(), AllocError>
+    ensures ok { OnOk result (list.new.items ≡ sorted (sort_key store.now variable) list.old.items) }
+    ensures err { OnErr result (list.new.items ≡ list.old.items) }
+{
+    list.sort_by(|x, y| store
+        .entry_text(*x, variable)
+        .cmp(store.entry_text(*y, variable)))?;
+    Ok(())
+}

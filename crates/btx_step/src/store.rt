@@ -1,0 +1,310 @@
+//! The literals, the variables and the current entry, and what functions do to them.
+ghost use Rattle.std.specs.Prelude.{◌≡◌, ◌≤◌, ◌==◌, [], ◌∷◌, IfOk, IfSome, IfNone, length};
+ghost use Rattle.btx_step.specs.Answers.{answer, quiet, silence, pushes, pushed, pushed_text, complained, complains, lacks, refuses, outside, truth, with_literals};
+ghost use Rattle.btx_step.specs.Control.{tested, tested_as};
+ghost use Rattle.btx_step.specs.Steps.{built_in_run, run_of, step_of, with_current, with_depth};
+ghost use Rattle.btx_step.specs.declared.literal.Literal.TheVariants as literal;
+ghost use Rattle.btx_step.specs.declared.said.Said.{Said as Words};
+ghost use Rattle.btx_step.specs.declared.said.Said.TheVariants as words;
+ghost use Rattle.btx_step.specs.declared.next.Next.TheVariants as following;
+
+mod arithmetic;
+mod control;
+mod entries;
+mod names;
+mod stacks;
+mod starts;
+mod strings;
+mod variables;
+
+use crate::calculation::Calculation;
+use crate::job::Job;
+use crate::literal::{Literal, Wanted};
+use crate::next::{Limit, Next};
+use crate::reserved::Reserved;
+use crate::said::{Note, Notes, Said};
+use crate::stand_in::StandIn;
+use crate::values::Values;
+use btx_bst::{BuiltIn, Callee, Token};
+use btx_text::{GREATEST_STRING, Text};
+use std::alloc::{AllocError, Global};
+use std::marker::Model;
+
+/// The greatest number of literals.
+const GREATEST_STACK: usize = 1000;
+
+/// The literals, the variables, the current entry if there is one, and the greatest number of bodies that were open at once.
+#[derive(Drop)]
+pub struct Store<'a> {
+    alloc: Global,
+    literals: Reserved<Literal<'a>, 1000>,
+    integers: Vec<i32>,
+    strings: Vec<Text<'a>>,
+    entries: Vec<Values<'a>>,
+    current: Option<usize>,
+    deepest: usize,
+}
+
+impl<'a> Model for Store<'a> {
+    ghost use Rattle.btx_step.specs.Stores.{Store as Stored};
+
+    ghost Value = { Stored };
+
+    ghost view = { λ store. record {
+      literals = store.literals;
+      integers = store.integers.items;
+      strings = store.strings.items;
+      entries = store.entries.items;
+      current = store.current;
+      deepest = store.deepest;
+    } };
+}
+
+impl<'a> Store<'a> {
+    /// What a token does. What it says goes into `said`, which says nothing before.
+    #[tactic(auto, unfolding(crate::specs::Steps::step_of))]
+    pub fn step(
+        &mut self,
+        job: &Job<'a>,
+        token: Token,
+        said: &mut Said<'a>,
+    ) -> Result<Next, AllocError>
+        requires { said.old ≡ silence }
+        ensures { IfOk result (λ next. answer next said.new self.new ≡ step_of job.now token self.old) }
+    {
+        match token {
+            Token::Text(number) => Ok(self.push_text(job.style().text(number))),
+            Token::Integer(n) => Ok(self.push(Literal::Integer(n))),
+            Token::Quote(function) => Ok(self.push(Literal::Function(function))),
+            Token::Run(function) => self.run(job, function, said),
+        }
+    }
+
+    /// What a function does.
+    #[tactic(auto, unfolding(crate::specs::Steps::run_of))]
+    pub fn run(
+        &mut self,
+        job: &Job<'a>,
+        function: Callee,
+        said: &mut Said<'a>,
+    ) -> Result<Next, AllocError>
+        requires { said.old ≡ silence }
+        ensures { IfOk result (λ next. answer next said.new self.new ≡ run_of job.now function self.old) }
+    {
+        match function {
+            Callee::BuiltIn(function) => self.run_built_in(job, function, said),
+            Callee::User(number) => Ok(Next::Open(number)),
+            Callee::Field(number) => self.push_field(job, number, said),
+            Callee::EntryInteger(number) => self.push_entry_integer(number, said),
+            Callee::EntryString(number) => self.push_entry_string(number, said),
+            Callee::GlobalInteger(number) => Ok(self.push_integer(number)),
+            Callee::GlobalString(number) => self.push_string(number),
+        }
+    }
+
+    #[tactic(auto, unfolding(crate::specs::Steps::built_in_run))]
+    fn run_built_in(
+        &mut self,
+        job: &Job<'a>,
+        function: BuiltIn,
+        said: &mut Said<'a>,
+    ) -> Result<Next, AllocError>
+        requires { said.old ≡ silence }
+        ensures { IfOk result (λ next. answer next said.new self.new ≡ built_in_run job.now function self.old) }
+    {
+        match function {
+            BuiltIn::Equals => self.equal(said),
+            BuiltIn::Greater => self.calculate(Calculation::Greater, said),
+            BuiltIn::Less => self.calculate(Calculation::Less, said),
+            BuiltIn::Plus => self.calculate(Calculation::Plus, said),
+            BuiltIn::Minus => self.calculate(Calculation::Minus, said),
+            BuiltIn::Concatenate => self.join(said),
+            BuiltIn::Assign => self.assign(job, said),
+            BuiltIn::AddPeriod => self.end_sentence(said),
+            BuiltIn::CallType => self.call_type(job, said),
+            BuiltIn::ChangeCase => self.change_case(said),
+            BuiltIn::CharacterToInteger => self.push_code(said),
+            BuiltIn::Cite => self.cite(job, said),
+            BuiltIn::Duplicate => self.duplicate(said),
+            BuiltIn::Empty => self.find_empty(said),
+            BuiltIn::FormatName => self.format_name(job, said),
+            BuiltIn::If => self.choose(said),
+            BuiltIn::IntegerToCharacter => self.push_character(said),
+            BuiltIn::IntegerToString => self.push_decimal(said),
+            BuiltIn::Missing => self.find_missing(said),
+            BuiltIn::NewLine => Ok(end_line(said)),
+            BuiltIn::NumNames => self.count_names(said),
+            BuiltIn::Pop => self.drop_top(said),
+            BuiltIn::Preamble => Ok(self.push_preamble(job)),
+            BuiltIn::Purify => self.purify(said),
+            BuiltIn::Quote => Ok(self.push_quote()),
+            BuiltIn::Skip => Ok(Next::Nothing),
+            BuiltIn::Stack => self.show_stack(said),
+            BuiltIn::Substring => self.substring(said),
+            BuiltIn::Swap => self.swap(said),
+            BuiltIn::TextLength => self.measure_text(job, said),
+            BuiltIn::TextPrefix => self.prefix(job, said),
+            BuiltIn::Top => self.show_top(said),
+            BuiltIn::Type => self.push_type(job, said),
+            BuiltIn::Warning => self.warn(said),
+            BuiltIn::While => self.start_loop(said),
+            BuiltIn::Width => self.measure_width(said),
+            BuiltIn::Write => self.write(said),
+        }
+    }
+
+    /// The current entry, if there is one.
+    pub fn current(&self) -> Option<usize>
+        ensures { result ≡ self.now.current }
+    {
+        self.current
+    }
+
+    /// Makes an entry the current one, or none.
+    pub fn set_current(&mut self, entry: Option<usize>)
+        ensures { self.new ≡ with_current entry self.old }
+    {
+        self.current = entry;
+    }
+
+    /// The greatest number of bodies that were open at once.
+    pub fn deepest(&self) -> usize
+        ensures { result ≡ self.now.deepest }
+    {
+        self.deepest
+    }
+
+    /// Notes how many bodies are open.
+    pub fn open(&mut self, bodies: usize)
+        ensures { self.new ≡ with_depth bodies self.old }
+    {
+        self.deepest = self.deepest.max(bodies);
+    }
+
+    /// How many literals are on the stack.
+    pub fn depth(&self) -> usize
+        ensures length { result ≡ length self.now.literals }
+        ensures within { length self.now.literals ≤ 1000 }
+    {
+        self.literals.len()
+    }
+
+    /// Whether no literal is on the stack.
+    pub fn is_empty(&self) -> bool
+        ensures { result ≡ (length self.now.literals == 0) }
+    {
+        self.literals.len() == 0
+    }
+
+    /// Takes the top literal off.
+    pub fn pop(&mut self) -> Option<Literal<'a>>
+        ensures some { IfSome result (λ value. self.old.literals ≡ value ∷ self.new.literals) }
+        ensures none { IfNone result (self.old.literals ≡ []) }
+        ensures below { IfNone result (self.new.literals ≡ []) }
+        ensures rest { with_literals [] self.new ≡ with_literals [] self.old }
+    {
+        self.literals.pop()
+    }
+
+    // One more literal, if there is room.
+    fn push(&mut self, value: Literal<'a>) -> Next
+        ensures quiet { quiet result self.new ≡ pushed value.entry self.old }
+        ensures aloud { (saying : Words) → answer result saying self.new ≡ pushes saying value.entry self.old }
+    {
+        if self.literals.len() < GREATEST_STACK {
+            self.literals.push(value);
+            Next::Nothing
+        } else {
+            Next::End(Limit::Literals)
+        }
+    }
+
+    // One more string, if it isn't too long.
+    fn push_text(&mut self, text: &'a [u8]) -> Next
+        ensures { quiet result self.new ≡ pushed_text text.now self.old }
+    {
+        if text.len() > GREATEST_STRING {
+            return Next::End(Limit::String);
+        }
+        self.push(Literal::Text(Text::borrowed(text)))
+    }
+
+    // The truth as an integer.
+    fn push_truth(&mut self, is_true: bool) -> Next
+        ensures { quiet result self.new ≡ pushed (truth is_true) self.old }
+    {
+        self.push(Literal::Integer(if is_true { 1 } else { 0 }))
+    }
+
+    // Lines of the log, and what stands in for a result.
+    fn complain_all(&mut self, notes: Notes<'a>, instead: StandIn, said: &mut Said<'a>) -> Next
+        ensures { answer result said.new self.new ≡ complained notes.entry instead self.old }
+    {
+        *said = Said::Noted(notes);
+        match instead {
+            StandIn::Nothing => Next::Nothing,
+            StandIn::Zero => self.push(Literal::Integer(0)),
+            StandIn::Empty => self.push(Literal::Text(Text::empty())),
+        }
+    }
+
+    // A line of the log, and what stands in for a result.
+    #[cold]
+    fn complain(
+        &mut self,
+        note: Note<'a>,
+        instead: StandIn,
+        said: &mut Said<'a>,
+    ) -> Result<Next, AllocError>
+        ensures { IfOk result (λ next. answer next said.new self.new ≡ complains note.entry instead self.old) }
+    {
+        let notes = Notes::one(self.alloc, note)?;
+        Ok(self.complain_all(notes, instead, said))
+    }
+
+    // The stack was empty, so many times.
+    #[cold]
+    fn lack(
+        &mut self,
+        missing: usize,
+        instead: StandIn,
+        said: &mut Said<'a>,
+    ) -> Result<Next, AllocError>
+        requires { self.old.literals ≡ [] }
+        ensures { IfOk result (λ next. answer next said.new self.new ≡ lacks missing instead self.old) }
+    {
+        let notes = Notes::empty_stack(self.alloc, missing)?;
+        Ok(self.complain_all(notes, instead, said))
+    }
+
+    // A literal of another kind was wanted.
+    #[cold]
+    fn refuse(
+        &mut self,
+        value: Literal<'a>,
+        wanted: Wanted,
+        instead: StandIn,
+        said: &mut Said<'a>,
+    ) -> Result<Next, AllocError>
+        ensures { IfOk result (λ next. answer next said.new self.new ≡ refuses value.entry wanted instead self.old) }
+    {
+        self.complain(Note::WrongKind(value, wanted), instead, said)
+    }
+
+    // There is no current entry.
+    #[cold]
+    fn miss_entry(&mut self, said: &mut Said<'a>) -> Result<Next, AllocError>
+        ensures { IfOk result (λ next. answer next said.new self.new ≡ outside self.old) }
+    {
+        self.complain(Note::NoEntry, StandIn::Nothing, said)
+    }
+}
+
+// The pending line ends.
+fn end_line(said: &mut Said<'_>) -> Next
+    ensures next { result ≡ following.Nothing }
+    ensures said { said.new ≡ words.EndedLine }
+{
+    *said = Said::EndedLine;
+    Next::Nothing
+}

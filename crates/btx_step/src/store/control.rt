@@ -1,0 +1,82 @@
+//! Choices and loops.
+ghost use Rattle.std.specs.Prelude.{◌≡◌, IfOk};
+ghost use Rattle.btx_step.specs.Answers.{answer, silence};
+ghost use Rattle.btx_step.specs.Control as spec;
+
+use super::Store;
+use crate::literal::{Literal, Wanted};
+use crate::next::Next;
+use crate::said::{Note, Notes, Said};
+use crate::stand_in::StandIn;
+use std::alloc::AllocError;
+
+impl<'a> Store<'a> {
+    // `if$`
+    pub(super) fn choose(&mut self, said: &mut Said<'a>) -> Result<Next, AllocError>
+        requires { said.old ≡ silence }
+        ensures { IfOk result (λ next. answer next said.new self.new ≡ spec.chooses self.old.literals self.old) }
+    {
+        let otherwise = self.literals.pop();
+        let then = self.literals.pop();
+        let number = self.literals.pop();
+        match (otherwise, then, number) {
+            (Some(Literal::Function(f)), Some(Literal::Function(g)), Some(Literal::Integer(n))) => {
+                Ok(Next::Run(if n > 0 { g } else { f }))
+            }
+            (Some(Literal::Function(_)), Some(Literal::Function(_)), Some(other)) => {
+                self.refuse(other, Wanted::Integer, StandIn::Nothing, said)
+            }
+            (Some(Literal::Function(_)), Some(other), Some(_)) => {
+                self.refuse(other, Wanted::Function, StandIn::Nothing, said)
+            }
+            (Some(other), Some(_), Some(_)) => self.refuse(
+                other,
+                Wanted::Function,
+                StandIn::Nothing,
+                said,
+            ),
+            (Some(_), Some(_), None) => self.lack(1, StandIn::Nothing, said),
+            (Some(_), None, _) => self.lack(2, StandIn::Nothing, said),
+            (None, _, _) => self.lack(3, StandIn::Nothing, said),
+        }
+    }
+
+    // `while$`
+    pub(super) fn start_loop(&mut self, said: &mut Said<'a>) -> Result<Next, AllocError>
+        requires { said.old ≡ silence }
+        ensures { IfOk result (λ next. answer next said.new self.new ≡ spec.loops self.old.literals self.old) }
+    {
+        match (self.literals.pop(), self.literals.pop()) {
+            (Some(Literal::Function(body)), Some(Literal::Function(test))) => Ok(Next::Loop(
+                test, body,
+            )),
+            (Some(Literal::Function(_)), Some(other)) => {
+                self.refuse(other, Wanted::Function, StandIn::Nothing, said)
+            }
+            (Some(other), Some(_)) => self.refuse(other, Wanted::Function, StandIn::Nothing, said),
+            (Some(_), None) => self.lack(1, StandIn::Nothing, said),
+            (None, _) => self.lack(2, StandIn::Nothing, said),
+        }
+    }
+
+    /// Looks at what a loop's test left: whether the body runs.
+    pub fn test(&mut self, said: &mut Said<'a>) -> Result<bool, AllocError>
+        requires { said.old ≡ silence }
+        ensures { IfOk result (λ again. spec.tested_as again said.new self.new ≡ spec.tested self.old.literals self.old) }
+    {
+        match self.literals.pop() {
+            Some(Literal::Integer(n)) => Ok(n > 0),
+            Some(other) => {
+                *said = Said::Noted(Notes::one(
+                    self.alloc,
+                    Note::WrongKind(other, Wanted::Integer),
+                )?);
+                Ok(false)
+            }
+            None => {
+                *said = Said::Noted(Notes::one(self.alloc, Note::EmptyStack)?);
+                Ok(false)
+            }
+        }
+    }
+}

@@ -1,0 +1,123 @@
+//! The current entry.
+ghost use Rattle.std.specs.Prelude.{◌≡◌, IfOk};
+ghost use Rattle.btx_step.specs.Answers.{answer, quiet, silence};
+ghost use Rattle.btx_step.specs.Entries as spec;
+
+use super::Store;
+use crate::job::Job;
+use crate::literal::{Literal, Wanted};
+use crate::next::Next;
+use crate::said::{Note, Notes, Said};
+use crate::stand_in::StandIn;
+use btx_bst::Callee;
+use btx_text::Text;
+use std::alloc::AllocError;
+
+impl<'a> Store<'a> {
+    // A field.
+    pub(super) fn push_field(
+        &mut self,
+        job: &Job<'a>,
+        field: u32,
+        said: &mut Said<'a>,
+    ) -> Result<Next, AllocError>
+        requires { said.old ≡ silence }
+        ensures { IfOk result (λ next. answer next said.new self.new ≡ spec.field_pushed job.now field self.old.current self.old) }
+    {
+        match self.current {
+            Some(entry) => Ok(match job.library().value(entry, field) {
+                Some(text) => self.push(Literal::Text(Text::borrowed(text.as_bytes()))),
+                None => self.push(Literal::Missing),
+            }),
+            None => self.miss_entry(said),
+        }
+    }
+
+    // `cite$`
+    pub(super) fn cite(&mut self, job: &Job<'a>, said: &mut Said<'a>) -> Result<Next, AllocError>
+        requires { said.old ≡ silence }
+        ensures { IfOk result (λ next. answer next said.new self.new ≡ spec.cites job.now self.old.current self.old) }
+    {
+        match self.current {
+            Some(entry) => Ok(self.push_text(job.key(entry))),
+            None => self.miss_entry(said),
+        }
+    }
+
+    // `type$`
+    pub(super) fn push_type(
+        &mut self,
+        job: &Job<'a>,
+        said: &mut Said<'a>,
+    ) -> Result<Next, AllocError>
+        requires { said.old ≡ silence }
+        ensures { IfOk result (λ next. answer next said.new self.new ≡ spec.gives_type job.now self.old.current self.old) }
+    {
+        match self.current {
+            Some(entry) => Ok(self.push_text(job.type_name(entry))),
+            None => self.miss_entry(said),
+        }
+    }
+
+    // `call.type$`
+    pub(super) fn call_type(
+        &mut self,
+        job: &Job<'a>,
+        said: &mut Said<'a>,
+    ) -> Result<Next, AllocError>
+        requires { said.old ≡ silence }
+        ensures { IfOk result (λ next. answer next said.new self.new ≡ spec.calls_type job.now self.old.current self.old) }
+    {
+        match self.current {
+            Some(entry) => Ok(match job.runner(entry) {
+                Some(function) => Next::Run(Callee::User(function)),
+                None => Next::Nothing,
+            }),
+            None => self.miss_entry(said),
+        }
+    }
+
+    // `missing$`
+    pub(super) fn find_missing(&mut self, said: &mut Said<'a>) -> Result<Next, AllocError>
+        requires { said.old ≡ silence }
+        ensures { IfOk result (λ next. answer next said.new self.new ≡ spec.finds_missing self.old.current self.old.literals self.old) }
+    {
+        match self.current {
+            Some(_) => self.find_missing_inside(said),
+            None => self.find_missing_outside(said),
+        }
+    }
+
+    fn find_missing_inside(&mut self, said: &mut Said<'a>) -> Result<Next, AllocError>
+        requires { said.old ≡ silence }
+        ensures { IfOk result (λ next. answer next said.new self.new ≡ spec.finds_missing_inside self.old.literals self.old) }
+    {
+        match self.literals.pop() {
+            Some(Literal::Missing) => Ok(self.push_truth(true)),
+            Some(Literal::Text(_)) => Ok(self.push_truth(false)),
+            Some(other) => self.refuse(other, Wanted::TextOrMissing, StandIn::Zero, said),
+            None => self.lack(1, StandIn::Zero, said),
+        }
+    }
+
+    fn find_missing_outside(&mut self, said: &mut Said<'a>) -> Result<Next, AllocError>
+        requires { said.old ≡ silence }
+        ensures { IfOk result (λ next. answer next said.new self.new ≡ spec.finds_missing_outside self.old.literals self.old) }
+    {
+        match self.literals.pop() {
+            Some(_) => self.miss_entry(said),
+            None => {
+                let mut notes = Notes::one(self.alloc, Note::EmptyStack)?;
+                notes.push(Note::NoEntry)?;
+                Ok(self.complain_all(notes, StandIn::Nothing, said))
+            }
+        }
+    }
+
+    // `preamble$`
+    pub(super) fn push_preamble(&mut self, job: &Job<'a>) -> Next
+        ensures { quiet result self.new ≡ spec.gives_preamble job.now self.old }
+    {
+        self.push(Literal::Text(Text::borrowed(job.library().preamble().as_bytes())))
+    }
+}

@@ -1,0 +1,140 @@
+//! Names.
+ghost use Rattle.std.specs.Prelude.{◌≡◌, ◌++◌, IfOk, OnOk};
+ghost use Rattle.btx_step.specs.Answers.{answer, silence};
+ghost use Rattle.btx_step.specs.Names as spec;
+
+use super::Store;
+use crate::job::Job;
+use crate::literal::{Literal, Wanted};
+use crate::next::{Limit, Next};
+use crate::said::{Note, Notes, Said};
+use crate::stand_in::StandIn;
+use btx_strings::Complaints;
+use btx_text::{Fault, Text};
+use std::alloc::{AllocError, Global};
+
+impl<'a> Store<'a> {
+    // `num.names$`
+    pub(super) fn count_names(&mut self, said: &mut Said<'a>) -> Result<Next, AllocError>
+        requires { said.old ≡ silence }
+        ensures { IfOk result (λ next. answer next said.new self.new ≡ spec.counts_names self.old.literals self.old) }
+    {
+        match self.literals.pop() {
+            Some(Literal::Text(names)) => {
+                let count = btx_names::num_names(names.as_bytes());
+                Ok(self.push(Literal::Integer(count)))
+            }
+            Some(other) => self.refuse(other, Wanted::Text, StandIn::Zero, said),
+            None => self.lack(1, StandIn::Zero, said),
+        }
+    }
+
+    // `format.name$`
+    pub(super) fn format_name(
+        &mut self,
+        job: &Job<'a>,
+        said: &mut Said<'a>,
+    ) -> Result<Next, AllocError>
+        requires { said.old ≡ silence }
+        ensures { IfOk result (λ next. answer next said.new self.new ≡ spec.formats_name job.now self.old.literals self.old) }
+    {
+        let format = self.literals.pop();
+        let number = self.literals.pop();
+        let names = self.literals.pop();
+        match (format, number, names) {
+            (
+                Some(Literal::Text(format)),
+                Some(Literal::Integer(number)),
+                Some(Literal::Text(names)),
+            ) => { self.push_name(job, names, number, format, said) }
+            (Some(Literal::Text(_)), Some(Literal::Integer(_)), Some(other)) => {
+                self.refuse(other, Wanted::Text, StandIn::Empty, said)
+            }
+            (Some(Literal::Text(_)), Some(other), Some(_)) => {
+                self.refuse(other, Wanted::Integer, StandIn::Empty, said)
+            }
+            (Some(other), Some(_), Some(_)) => self.refuse(
+                other,
+                Wanted::Text,
+                StandIn::Empty,
+                said,
+            ),
+            (Some(_), Some(_), None) => self.lack(1, StandIn::Empty, said),
+            (Some(_), None, _) => self.lack(2, StandIn::Empty, said),
+            (None, _, _) => self.lack(3, StandIn::Empty, said),
+        }
+    }
+
+    // A name of this number in a format.
+    fn push_name(
+        &mut self,
+        job: &Job<'a>,
+        names: Text<'a>,
+        number: i32,
+        format: Text<'a>,
+        said: &mut Said<'a>,
+    ) -> Result<Next, AllocError>
+        requires { said.old ≡ silence }
+        ensures { IfOk result (λ next. answer next said.new self.new ≡ spec.name_formatted job.now names.entry number format.entry self.old) }
+    {
+        match btx_names::format_name(
+            self.alloc,
+            names.as_bytes(),
+            number,
+            format.as_bytes(),
+            job.mode(),
+        ) {
+            Ok(answer) => {
+                *said = name_said(self.alloc, answer.complaints, names, number, format)?;
+                Ok(self.push(Literal::Text(Text::owned(answer.text))))
+            }
+            Err(Fault::StringLimit) => Ok(Next::End(Limit::String)),
+            Err(Fault::Memory) => Err(AllocError),
+            Err(Fault::Device | Fault::FileLimit) => unreachable!(),
+        }
+    }
+}
+
+// What is told of a name.
+fn name_said<'a>(
+    alloc: Global,
+    complaints: Complaints,
+    names: Text<'a>,
+    number: i32,
+    format: Text<'a>,
+) -> Result<Said<'a>, AllocError>
+    ensures { IfOk result (λ said. said ≡ spec.name_said complaints names.entry number format.entry) }
+{
+    if !(complaints.x10 || complaints.x11 || complaints.x12 || complaints.x13) {
+        return Ok(Said::Nothing);
+    }
+    let names = names.share()?;
+    let mut notes = Notes::new(alloc);
+    push_if(
+        &mut notes,
+        complaints.x10,
+        Note::NoSuchName(number, names.copy(alloc)?),
+    )?;
+    push_if(
+        &mut notes,
+        complaints.x11,
+        Note::FinalComma(number, names.copy(alloc)?),
+    )?;
+    push_if(
+        &mut notes,
+        complaints.x12,
+        Note::TooManyCommas(number, names),
+    )?;
+    push_if(&mut notes, complaints.x13, Note::IllegalFormat(format))?;
+    Ok(Said::Noted(notes))
+}
+
+// A line where something was wrong.
+fn push_if<'a>(notes: &mut Notes<'a>, is_wrong: bool, note: Note<'a>) -> Result<(), AllocError>
+    ensures { OnOk result (notes.new ≡ notes.old ++ spec.note_if is_wrong note.entry) }
+{
+    if is_wrong {
+        notes.push(note)?;
+    }
+    Ok(())
+}

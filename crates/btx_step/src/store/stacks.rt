@@ -1,0 +1,124 @@
+//! The stack itself, and what is written and shown.
+ghost use Rattle.std.specs.Prelude.{◌≡◌, [], map, IfOk, OnOk};
+ghost use Rattle.btx_step.specs.declared.said.Note.TheVariants as note;
+ghost use Rattle.btx_step.specs.Answers.{answer, silence};
+ghost use Rattle.btx_step.specs.Stacks as spec;
+
+use super::Store;
+use crate::literal::{Literal, Wanted};
+use crate::next::Next;
+use crate::reserved::Reserved;
+use crate::said::{Note, Notes, Said};
+use crate::stand_in::StandIn;
+use std::alloc::{AllocError, Global};
+
+impl<'a> Store<'a> {
+    // `duplicate$`
+    pub(super) fn duplicate(&mut self, said: &mut Said<'a>) -> Result<Next, AllocError>
+        requires { said.old ≡ silence }
+        ensures { IfOk result (λ next. answer next said.new self.new ≡ spec.duplicates self.old.literals self.old) }
+    {
+        match self.literals.pop() {
+            Some(value) => {
+                let value = value.share()?;
+                let copy = value.copy(self.alloc)?;
+                self.literals.push(value);
+                Ok(self.push(copy))
+            }
+            None => self.lack(1, StandIn::Nothing, said),
+        }
+    }
+
+    // `swap$`
+    pub(super) fn swap(&mut self, said: &mut Said<'a>) -> Result<Next, AllocError>
+        requires { said.old ≡ silence }
+        ensures { IfOk result (λ next. answer next said.new self.new ≡ spec.swaps self.old.literals self.old) }
+    {
+        match (self.literals.pop(), self.literals.pop()) {
+            (Some(top), Some(below)) => {
+                self.literals.push(top);
+                self.literals.push(below);
+                Ok(Next::Nothing)
+            }
+            (Some(top), None) => {
+                self.literals.push(top);
+                self.complain(Note::EmptyStack, StandIn::Nothing, said)
+            }
+            (None, _) => self.lack(2, StandIn::Nothing, said),
+        }
+    }
+
+    // `pop$`
+    pub(super) fn drop_top(&mut self, said: &mut Said<'a>) -> Result<Next, AllocError>
+        requires { said.old ≡ silence }
+        ensures { IfOk result (λ next. answer next said.new self.new ≡ spec.pops self.old.literals self.old) }
+    {
+        match self.literals.pop() {
+            Some(_) => Ok(Next::Nothing),
+            None => self.lack(1, StandIn::Nothing, said),
+        }
+    }
+
+    // `top$`
+    pub(super) fn show_top(&mut self, said: &mut Said<'a>) -> Result<Next, AllocError>
+        requires { said.old ≡ silence }
+        ensures { IfOk result (λ next. answer next said.new self.new ≡ spec.shows_top self.old.literals self.old) }
+    {
+        match self.literals.pop() {
+            Some(value) => self.complain(Note::Shown(value), StandIn::Nothing, said),
+            None => self.lack(1, StandIn::Nothing, said),
+        }
+    }
+
+    // `stack$`
+    pub(super) fn show_stack(&mut self, said: &mut Said<'a>) -> Result<Next, AllocError>
+        requires { said.old ≡ silence }
+        ensures { IfOk result (λ next. answer next said.new self.new ≡ spec.shows_stack self.old.literals self.old) }
+    {
+        *said = Said::Noted(take_shown(self.alloc, &mut self.literals)?);
+        Ok(Next::Nothing)
+    }
+
+    // `warning$`
+    pub(super) fn warn(&mut self, said: &mut Said<'a>) -> Result<Next, AllocError>
+        requires { said.old ≡ silence }
+        ensures { IfOk result (λ next. answer next said.new self.new ≡ spec.warns self.old.literals self.old) }
+    {
+        match self.literals.pop() {
+            Some(Literal::Text(text)) => self.complain(Note::Warning(text), StandIn::Nothing, said),
+            Some(other) => self.refuse(other, Wanted::Text, StandIn::Nothing, said),
+            None => self.lack(1, StandIn::Nothing, said),
+        }
+    }
+
+    // `write$`
+    pub(super) fn write(&mut self, said: &mut Said<'a>) -> Result<Next, AllocError>
+        requires { said.old ≡ silence }
+        ensures { IfOk result (λ next. answer next said.new self.new ≡ spec.writes self.old.literals self.old) }
+    {
+        match self.literals.pop() {
+            Some(Literal::Text(text)) => {
+                *said = Said::Wrote(text);
+                Ok(Next::Nothing)
+            }
+            Some(unwritten) => self.refuse(unwritten, Wanted::Text, StandIn::Nothing, said),
+            None => self.lack(1, StandIn::Nothing, said),
+        }
+    }
+}
+
+// Takes all literals off the stack, as lines of the log.
+#[tactic(auto, using(std::proofs::Common::append_assoc))]
+fn take_shown<'a>(
+    alloc: Global,
+    literals: &mut Reserved<Literal<'a>, 1000>,
+) -> Result<Notes<'a>, AllocError>
+    ensures notes { IfOk result (λ notes. notes ≡ map note.Shown literals.old) }
+    ensures none { OnOk result (literals.new ≡ []) }
+{
+    let mut notes = Notes::new(alloc);
+    while let Some(value) = literals.pop() {
+        notes.push(Note::Shown(value))?;
+    }
+    Ok(notes)
+}
