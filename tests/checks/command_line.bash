@@ -20,13 +20,19 @@ refuses budget_below_the_range "invalid value '-1'" --budget=-1 job
 refuses budget_twice "cannot be used multiple times" --budget 1 --budget 2 job
 refuses bytes_that_are_no_text 'invalid UTF-8' $'\xff'
 
+# Help says what the program does, names each word, and lists the statuses.
 begin help
 run_program --help
 wants_status 0
 wants_error ''
 wants_files d.bib job.aux s.bst
+head -n 1 "$folder/stdout" | grep -q '^Writes the list of references of a LaTeX document' ||
+    complaints+=('the help does not begin with what the program does')
 grep -q '^Usage: bibtex ' "$folder/stdout" || complaints+=('standard output has no usage')
 for word in '--budget <N>' '--dir <D>' '<JOB>'; do
     grep -qF -- "$word" "$folder/stdout" || complaints+=("the help does not name $word")
+done
+for number in 0 1 2 3 4 5 6 7; do
+    grep -q "^  $number  ." "$folder/stdout" || complaints+=("the help does not list status $number")
 done
 end

@@ -122,6 +122,28 @@ wants_text job.bbl ''
 wants_text job.blg ''
 end
 
+# The reader of standard output has closed it: the files are written all the same.
+begin output_closed_by_its_reader
+exec {pipe}> >(:)
+wait $!
+status=0
+timeout 60 "$program" job </dev/null >&"$pipe" 2>"$folder/stderr" || status=$?
+exec {pipe}>&-
+wants_status 6
+wants_error "$device_error"
+wants_text job.bbl $'a\n'
+wants_text job.blg "$first_log"
+end
+
+# The name of the outputs is longer than any that the system takes.
+begin long_name_of_a_job
+run_program "$(printf 'n%.0s' {1..300})"
+wants_status 6
+wants_output ''
+wants_error "$device_error"
+wants_files d.bib job.aux s.bst
+end
+
 # Standard output is closed: no file of the job takes its place.
 begin closed_output
 status=0

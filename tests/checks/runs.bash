@@ -115,3 +115,58 @@ wants_error $'bibtex: not yet\n'
 wants_text job.bbl ''
 wants_text job.blg ''
 end
+
+# A file is read to its last byte, however long it is: what matters stands behind more than 64 KiB.
+begin long_top_file
+{
+    printf '\\relax\n%.0s' {1..15000}
+    cat "$examples/first/job.aux"
+} >job.aux
+run_program job
+wants_first_run
+end
+
+begin long_style
+{
+    printf '\n%.0s' {1..100000}
+    printf 'EXECUTE {f}\n'
+} >>s.bst
+run_program job
+twice=${first_log/steps 4/steps 8}
+wants_status 0
+wants_output "$twice"
+wants_error ''
+wants_text job.bbl $'a\na\n'
+wants_text job.blg "$twice"
+end
+
+begin long_database
+{
+    printf '@misc{k, title = {'
+    printf 'T%.0s' {1..100000}
+    printf '}}\n'
+} >d.bib
+run_program job
+wants_first_run
+end
+
+# A name may be longer than any that the system takes: there is no such file.
+begin long_name_of_a_file
+long_name=$(printf 'n%.0s' {1..300})
+{
+    printf '\\@input{%s.aux}\n' "$long_name"
+    cat "$examples/first/job.aux"
+} >job.aux
+run_program job
+long_log="The top-level auxiliary file: job.aux
+Error--I couldn't open auxiliary file $long_name.aux--line 1 of file job.aux
+The style file: s.bst
+Database file #1: d.bib
+Ended: finished, warnings 0, errors 1, steps 4
+"
+wants_status 2
+wants_output "$long_log"
+wants_error ''
+wants_text job.bbl $'a\n'
+wants_text job.blg "$long_log"
+end

@@ -1,6 +1,6 @@
 -- The definitions at command lines that are written out.
 use Rattle.std.proofs.Common.{◌≡◌, refl, List, [], ◌∷◌, Some, codes}
-use Rattle.clap.specs.Words.{Kinds, Text, fault_of, first_of, one_of}
+use Rattle.clap.specs.Words.{Text, fault_of, first_of, one_of}
 use Rattle.clap.specs.declared.error.kind.ErrorKind.TheVariants as kind
 use Rattle.clap.proofs.OnLiterals.{clap_on_literals}
 use Rattle.bibtex.specs.CommandLine.{bibtex_command, given}

@@ -4,6 +4,7 @@ use Rattle.std.specs.Str.Parse.{digits_value, without_leading_plus}
 use Rattle.clap.specs.Words.{App, IsAmong, Kinds, Row, Rule, first_of, matches_of, new_app, new_rule, one_of, with_rule}
 use Rattle.clap.specs.declared.builder.value_parser.ValueParser.TheVariants.{Unsigned}
 use Rattle.bibtex.specs.declared.given.Refusal.{Refusal}
+use Rattle.bibtex.specs.declared.given.Refusal.TheVariants.{Help, Memory, Mistake}
 use Rattle.bibtex.specs.declared.given.Settings.{Settings}
 use Rattle.clap.specs.declared.error.kind.ErrorKind.{ErrorKind}
 use Rattle.clap.specs.declared.error.kind.ErrorKind.TheVariants.{DisplayHelp, OutOfMemory}
@@ -53,7 +54,13 @@ pub record IsSettingsOf (words : List (List ℕ)) (settings : Settings) : Type 0
   pub budget : (text : List ℕ) → one_of (codes "budget") (given words) ≡ Some text → settings.budget ≡ digits_value 10 (without_leading_plus text)
   pub within : settings.budget ≤ most_steps
 
--- the exit status for words that are not run: 0 for help, 5 where memory was refused, 1 for all other mistakes
+-- the exit status of a refusal
+abbrev pub status_of : Refusal → ℕ
+status_of (Help _) = 0
+status_of (Mistake _) = 1
+status_of Memory = 5
+
+-- that of a fault of the words: 0 for help, 1 for all mistakes, and 5 where memory was refused
 abbrev pub refusal_status : ErrorKind → ℕ
 refusal_status DisplayHelp = 0
 refusal_status OutOfMemory = 5
@@ -62,4 +69,4 @@ refusal_status _ = 1
 -- words with these faults: they are run only where they have none, and a refusal has the status of one of them, or of refused memory
 abbrev pub RefusesBy : Kinds → Result Settings Refusal → Type 0
 RefusesBy faults result = MatchResult result (λ _. faults ≡ [])
-    (λ refusal. (refusal.status ≡ 5) ⊎ ((fault : ErrorKind) × IsAmong fault faults × (refusal.status ≡ refusal_status fault)))
+    (λ refusal. (status_of refusal ≡ 5) ⊎ ((fault : ErrorKind) × IsAmong fault faults × (status_of refusal ≡ refusal_status fault)))

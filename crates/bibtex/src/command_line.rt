@@ -2,7 +2,7 @@
 ghost use Rattle.std.specs.Prelude.{◌≡◌, ◌≤◌, ◌⊎◌, ℕ, List, Some, false, IfOk, codes, map, string_bytes, unwrap_or};
 ghost use Rattle.std.specs.Str.Parse.{digits_value, without_leading_plus};
 ghost use Rattle.clap.specs.Words.{FailsBy, IsUnsignedIn, app_of, fault_of, first_of, found_of, kind_of, one_of, one_text, rows_of, rule_of};
-ghost use Rattle.bibtex.specs.CommandLine.{IsNameOf, IsSettingsOf, RefusesBy, bibtex_command, budget_rule, directory_rule, given, job_rule, most_steps, refusal_status};
+ghost use Rattle.bibtex.specs.CommandLine.{IsNameOf, IsSettingsOf, RefusesBy, bibtex_command, budget_rule, directory_rule, given, job_rule, most_steps, refusal_status, status_of};
 
 use crate::given::{Refusal, Settings};
 use clap::error::ErrorKind;
@@ -50,11 +50,28 @@ fn job_word<'a>(alloc: Global) -> Arg<'a>
     )
 }
 
-/// The command `bibtex [--dir D] [--budget N] JOB`.
+/// What the program does.
+const ABOUT: &str =
+    "Writes the list of references of a LaTeX document: reads its .aux files, its databases and a style, and writes JOB.bbl and the log JOB.blg";
+
+/// The exit statuses.
+const STATUSES: &str = "Exit status:
+  0  the job ran to its end, without error messages
+  1  the command line is refused
+  2  the job ran to its end, with error messages in the log
+  3  a limit was met, or there is no JOB.aux
+  4  the budget was spent
+  5  memory was refused
+  6  a file couldn't be read, or an output not be written
+  7  the job is outside the part of the language that is covered so far";
+
+/// The command `bibtex [--dir D] [--budget N] JOB`. Its texts change nothing in how words are read.
 fn bibtex_command<'a>(alloc: Global) -> Result<Command<'a>, AllocError>
     ensures { IfOk result (λ command. app_of command ≡ bibtex_command) }
 {
     Command::new(alloc, "bibtex")
+        .about(ABOUT)
+        .after_help(STATUSES)
         .arg(directory_option(alloc))?
         .arg(budget_option(alloc))?
         .arg(job_word(alloc))
@@ -95,34 +112,18 @@ fn name_of(job: &str) -> &str
     job.strip_suffix(".aux").unwrap_or(job)
 }
 
-/// The exit status for words that are not run.
-fn refusal_status(kind: ErrorKind) -> u8
-    ensures { result ≡ refusal_status kind }
-{
-    match kind {
-        ErrorKind::DisplayHelp => 0,
-        ErrorKind::OutOfMemory => 5,
-        _ => 1,
-    }
-}
-
 /// What is answered for words that are not run.
 fn refusal_of(alloc: Global, error: &Error) -> Refusal
-    ensures { (result.status ≡ 5) ⊎ (result.status ≡ refusal_status (kind_of error.now)) }
+    ensures { (status_of result ≡ 5) ⊎ (status_of result ≡ refusal_status (kind_of error.now)) }
 {
-    let text = match error.kind() {
-        ErrorKind::OutOfMemory => Ok(String::new(alloc)),
-        _ => error.to_string(alloc),
-    };
-    match text {
-        Ok(text) => Refusal {
-            status: refusal_status(error.kind()),
-            text,
-        },
-        Err(_) => Refusal {
-            status: refusal_status(ErrorKind::OutOfMemory),
-            text: String::new(alloc),
-        },
+    let kind = error.kind();
+    if matches!(kind, ErrorKind::OutOfMemory) {
+        return Refusal::Memory;
+    }
+    match (kind, error.to_string(alloc)) {
+        (_, Err(_)) => Refusal::Memory,
+        (ErrorKind::DisplayHelp, Ok(text)) => Refusal::Help(text),
+        (_, Ok(text)) => Refusal::Mistake(text),
     }
 }
 
@@ -148,78 +149,109 @@ pub fn settings<'a>(alloc: Global, words: &'a [String]) -> Result<Settings<'a>, 
 #[cfg(test)]
 mod tests {
     use super::*;
+    use std::process::Abort;
     use std::test::Fail;
 
-    fn owned(alloc: Global, words: &[&str]) -> Result<Vec<String>, AllocError> {
-        let mut all = Vec::new(alloc);
-        for word in words {
-            all.push(String::from_str(alloc, word)?)?;
+    /// What a refusal has: its status, and its text.
+    fn parts_of(alloc: Global, refusal: Refusal) -> (u8, String) {
+        let status = refusal.status();
+        match refusal {
+            Refusal::Help(text) | Refusal::Mistake(text) => (status, text),
+            Refusal::Memory => (status, String::new(alloc)),
         }
-        Ok(all)
     }
 
-    #[test]
-    fn reads_words(rt: HostRuntime) -> Result<(), Fail> {
-        let alloc = rt.alloc();
-        for (words, directory, job, name, budget) in [
-            (["j", "--budget", "7"].as_slice(), ".", "j", "j", 7),
-            (
-                ["--dir", "a/b", "j.aux"].as_slice(),
-                "a/b",
-                "j.aux",
-                "j",
-                1_000_000_000,
-            ),
-            (
-                ["j.aux.aux", "--budget=0"].as_slice(),
-                ".",
-                "j.aux.aux",
-                "j.aux",
-                0,
-            ),
-            (
-                ["--budget=1000000000000000", "--", "-j"].as_slice(),
-                ".",
-                "-j",
-                "-j",
-                1_000_000_000_000_000,
-            ),
-            ([".aux", "--dir="].as_slice(), "", ".aux", "", 1_000_000_000),
-        ] {
-            let mut given = owned(alloc, &["bibtex"])?;
-            for word in words {
-                given.push(String::from_str(alloc, word)?)?;
+    /// What is answered, in one text: the folder, the job, the name and the budget, or a refusal's status and text.
+    fn text_of(alloc: Global, answer: Result<Settings<'_>, Refusal>) -> Result<String, AllocError> {
+        let text = match answer {
+            Ok(settings) => {
+                let (directory, job, name) = (settings.directory, settings.job, settings.name);
+                let budget = settings.budget;
+                format!(in alloc; "{directory} {job} {name} {budget}")?
             }
-            let settings = settings(alloc, given.as_slice()).map_err(|refusal| refusal.status)?;
-            assert_eq!(rt; settings.directory, directory);
-            assert_eq!(rt; settings.job, job);
-            assert_eq!(rt; settings.name, name);
-            assert_eq!(rt; settings.budget, budget);
+            Err(refusal) => {
+                let (status, text) = parts_of(alloc, refusal);
+                format!(in alloc; "refused {status} {text}")?
+            }
+        };
+        Ok(text)
+    }
+
+    /// What is answered for a line of words, the program's name first.
+    fn answered(alloc: Global, line: &str) -> Result<String, AllocError> {
+        let mut words = Vec::new(alloc);
+        for word in line.split(' ') {
+            words.push(String::from_str(alloc, word)?)?;
         }
+        text_of(alloc, settings(alloc, words.as_slice()))
+    }
+
+    /// Asserts what is answered for a line of words.
+    fn gives(
+        rt: &impl Abort,
+        answered: Result<String, AllocError>,
+        want: &str,
+    ) -> Result<(), Fail> {
+        let text = answered?;
+        assert_eq!(rt; text.as_str(), want);
+        Ok(())
+    }
+
+    /// Asserts that what is answered is longer than its beginning.
+    fn begins(
+        rt: &impl Abort,
+        answered: Result<String, AllocError>,
+        front: &str,
+    ) -> Result<(), Fail> {
+        let text = answered?;
+        let text = text.as_str();
+        assert!(rt;
+            text.starts_with(front) && text.len() > front.len(),
+            "{text}"
+        );
         Ok(())
     }
 
     #[test]
-    fn refuses_words(rt: HostRuntime) -> Result<(), Fail> {
-        let alloc = rt.alloc();
-        for (last, status) in [
-            ("--help", 0),
-            ("-h", 0),
-            ("--nope", 1),
-            ("--budget=x", 1),
-            ("--budget=-1", 1),
-            ("--budget=1000000000000001", 1),
-            ("--dir=a", 1),
+    fn reads_words(rt: HostRuntime) -> Result<(), Fail> {
+        for (line, want) in [
+            ("bibtex j --budget 7", ". j j 7"),
+            ("bibtex --dir a/b j.aux", "a/b j.aux j 1000000000"),
+            ("bibtex j.aux.aux --budget=0", ". j.aux.aux j.aux 0"),
+            (
+                "bibtex --budget=1000000000000000 -- -j",
+                ". -j -j 1000000000000000",
+            ),
+            ("bibtex .aux --dir=", " .aux  1000000000"),
         ] {
-            let given = owned(alloc, &["bibtex", last])?;
-            match settings(alloc, given.as_slice()) {
-                Ok(_) => assert!(rt; false, "{last}"),
-                Err(refusal) => {
-                    assert_eq!(rt; refusal.status, status, "{last}");
-                    assert!(rt; !refusal.text.as_str().is_empty(), "{last}");
-                }
-            }
+            gives(&rt, answered(rt.alloc(), line), want)?;
         }
+        Ok(())
+    }
+
+    /// Each refusal has a text.
+    #[test]
+    fn refuses_words(rt: HostRuntime) -> Result<(), Fail> {
+        for (line, front) in [
+            ("bibtex -h", "refused 0 "),
+            ("bibtex", "refused 1 error: "),
+            ("bibtex --nope", "refused 1 error: "),
+            ("bibtex --budget=x j", "refused 1 error: "),
+            ("bibtex --budget=-1 j", "refused 1 error: "),
+            ("bibtex --budget=1000000000000001 j", "refused 1 error: "),
+            ("bibtex --dir=a", "refused 1 error: "),
+        ] {
+            begins(&rt, answered(rt.alloc(), line), front)?;
+        }
+        Ok(())
+    }
+
+    /// The help says what the program does, and lists the statuses.
+    #[test]
+    fn helps(rt: HostRuntime) -> Result<(), Fail> {
+        let help = answered(rt.alloc(), "bibtex --help")?;
+        let help = help.as_str();
+        assert!(rt; help.contains(ABOUT) && help.contains(STATUSES), "{help}");
         Ok(())
     }
 }

@@ -114,37 +114,95 @@ impl<R: Files> Finder for DirectoryFinder<'_, R> {
 #[cfg(test)]
 mod tests {
     use super::*;
-    use crate::scratch::make_folder;
+    use crate::scratch::{make_folder, write_file};
+    use std::process::Abort;
     use std::test::Fail;
+
+    /// What a fetch answered, how often the finder failed then, and the bytes.
+    type Fetched = (Result<bool, FetchFault>, u64, Vec<u8>);
+
+    /// What a new finder over a folder gives for a name.
+    fn fetched(
+        rt: &(impl Files + AllocGlobal),
+        directory: &str,
+        name: &[u8],
+    ) -> Result<Fetched, AllocError> {
+        let mut into = Vec::from_slice(rt.alloc(), b"what was there")?;
+        let mut finder = DirectoryFinder::new(rt, directory);
+        let answer = finder.fetch(rt.alloc(), name, &mut into);
+        Ok((answer, finder.failures, into))
+    }
+
+    /// Asserts what a fetch gave.
+    fn gives(
+        rt: &impl Abort,
+        fetched: Result<Fetched, AllocError>,
+        answer: Result<bool, FetchFault>,
+        failures: u64,
+        bytes: &[u8],
+    ) -> Result<(), Fail> {
+        let (found, failed, into) = fetched?;
+        assert_eq!(rt; (found, failed), (answer, failures));
+        assert!(rt; into.as_slice() == bytes);
+        Ok(())
+    }
 
     #[test]
     fn reads_real_files(rt: HostRuntime) -> Result<(), Fail> {
-        let alloc = rt.alloc();
-        let directory = make_folder(&rt, alloc, "directory")?;
-        for (file, text) in [("present.aux", "text"), ("empty.aux", "")] {
-            let path = format!(in alloc; "{directory}/{file}")?;
-            fs::write(&rt, path.as_str(), text)?;
+        let directory = make_folder(&rt, rt.alloc(), "directory")?;
+        let directory = directory.as_str();
+        write_file(&rt, directory, "present.aux", b"text")?;
+        write_file(&rt, directory, "empty.aux", b"")?;
+        for (name, answer, failures, bytes) in [
+            (b"present.aux".as_slice(), Ok(true), 0, b"text".as_slice()),
+            (b"empty.aux", Ok(true), 0, b""),
+            (b"missing.aux", Ok(false), 0, b""),
+            (b"\xff.aux", Ok(false), 0, b""),
+            // a folder can be opened and not be read
+            (b".", Err(FetchFault::Device), 1, b""),
+        ] {
+            gives(&rt, fetched(&rt, directory, name), answer, failures, bytes)?;
         }
-        let mut finder = DirectoryFinder::new(&rt, directory.as_str());
-        let mut into = Vec::from_slice(alloc, b"what was there")?;
-        for _ in 0..2u8 {
-            assert_eq!(rt; finder.fetch(alloc, b"present.aux", &mut into), Ok(true));
-            assert_eq!(rt; into.as_slice(), b"text".as_slice());
+        fs::remove_dir_all(&rt, directory)?;
+        Ok(())
+    }
+
+    /// A text of so many bytes, in which no two blocks of a power of two are the same.
+    fn long_text(alloc: Global, length: u32) -> Result<Vec<u8>, AllocError> {
+        let mut text = Vec::new(alloc);
+        for place in 0..length {
+            text.push((place % 251) as u8)?;
         }
-        // an empty file is there
-        assert_eq!(rt; finder.fetch(alloc, b"empty.aux", &mut into), Ok(true));
-        assert!(rt; into.is_empty());
-        assert_eq!(rt; finder.fetch(alloc, b"missing.aux", &mut into), Ok(false));
-        assert!(rt; into.is_empty());
-        assert_eq!(rt; finder.fetch(alloc, b"\xff.aux", &mut into), Ok(false));
-        assert_eq!(rt; finder.failures, 0);
-        // a folder can be opened and not be read
-        assert_eq!(rt;
-            finder.fetch(alloc, b".", &mut into),
-            Err(FetchFault::Device)
-        );
-        assert_eq!(rt; finder.failures, 1);
-        fs::remove_dir_all(&rt, directory.as_str())?;
+        Ok(text)
+    }
+
+    /// A file is read to its last byte, however long it is.
+    #[test]
+    fn reads_long_files(rt: HostRuntime) -> Result<(), Fail> {
+        let directory = make_folder(&rt, rt.alloc(), "long")?;
+        let directory = directory.as_str();
+        for length in [4_096, 4_097, 65_537, 1_000_000] {
+            let text = long_text(rt.alloc(), length)?;
+            write_file(&rt, directory, "long.aux", &text)?;
+            gives(
+                &rt,
+                fetched(&rt, directory, b"long.aux"),
+                Ok(true),
+                0,
+                &text,
+            )?;
+        }
+        fs::remove_dir_all(&rt, directory)?;
+        Ok(())
+    }
+
+    /// A name may be longer than any that the system takes: there is no such file.
+    #[test]
+    fn misses_long_names(rt: HostRuntime) -> Result<(), Fail> {
+        for length in [256, 5_000] {
+            let name = vec![in rt.alloc(); b'n'; length]?;
+            gives(&rt, fetched(&rt, ".", &name), Ok(false), 0, b"")?;
+        }
         Ok(())
     }
 }

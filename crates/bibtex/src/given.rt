@@ -1,4 +1,6 @@
 //! What a command line says.
+ghost use Rattle.std.specs.Prelude.{◌≡◌};
+ghost use Rattle.bibtex.specs.CommandLine.{status_of};
 
 /// What the command line asks for.
 #[derive(Debug, Drop)]
@@ -13,11 +15,26 @@ pub struct Settings<'a> {
     pub budget: u64,
 }
 
-/// A command line that is not run.
+/// A command line that is not run. One that is refused for want of memory has no text; each other one has its own.
 #[derive(Debug, Drop)]
-pub struct Refusal {
-    /// The exit status: 0 where help was asked for, 1 where the words are refused, 5 where memory was.
-    pub status: u8,
-    /// What is printed. It is empty where memory was refused.
-    pub text: String,
+pub enum Refusal {
+    /// Help was asked for: what is printed.
+    Help(String),
+    /// The words are refused: what is told.
+    Mistake(String),
+    /// Memory was refused.
+    Memory,
+}
+
+impl Refusal {
+    /// The exit status.
+    pub fn status(&self) -> u8
+        ensures { result ≡ status_of self.now }
+    {
+        match self {
+            Refusal::Help(_) => 0,
+            Refusal::Mistake(_) => 1,
+            Refusal::Memory => 5,
+        }
+    }
 }

@@ -83,41 +83,63 @@ pub fn run_job(
 #[cfg(test)]
 mod tests {
     use super::*;
-    use crate::scratch::make_folder;
+    use crate::scratch::{make_folder, write_file};
+    use std::process::Abort;
     use std::test::Fail;
+
+    const STYLE: &[u8] =
+        b"ENTRY {title}{}{} FUNCTION {misc}{} READ FUNCTION {f} {\"a\" write$ newline$} EXECUTE {f}\n";
 
     const LOG: &str =
         "The top-level auxiliary file: job.aux\nThe style file: s.bst\nDatabase file #1: d.bib\nEnded: finished, warnings 0, errors 0, steps 4\n";
 
-    #[test]
-    fn writes_files(rt: HostRuntime) -> Result<(), Fail> {
-        let alloc = rt.alloc();
-        let directory = make_folder(&rt, alloc, "job")?;
-        for (name, text) in [
-            ("job.aux", "\\citation{k}\n\\bibdata{d}\n\\bibstyle{s}\n"),
-            ("d.bib", "@misc{k, title = {T}}\n"),
-            (
-                "s.bst",
-                "ENTRY {title}{}{} FUNCTION {misc}{} READ FUNCTION {f} {\"a\" write$ newline$} EXECUTE {f}\n",
-            ),
-        ] {
-            let path = format!(in alloc; "{directory}/{name}")?;
-            fs::write(&rt, path.as_str(), text)?;
-        }
-        let settings = Settings {
-            directory: directory.as_str(),
+    /// Writes the files of the job.
+    fn write_job(rt: &(impl Files + AllocGlobal), directory: &str) -> io::Result<()> {
+        let aux = b"\\citation{k}\n\\bibdata{d}\n\\bibstyle{s}\n";
+        write_file(rt, directory, "job.aux", aux)?;
+        write_file(rt, directory, "d.bib", b"@misc{k, title = {T}}\n")?;
+        write_file(rt, directory, "s.bst", STYLE)
+    }
+
+    /// The job in a folder, with a budget that just covers it.
+    fn settings_in(directory: &str) -> Settings<'_> {
+        Settings {
+            directory,
             job: "job.aux",
             name: "job",
             budget: 4,
-        };
-        let report = run_job(&rt, alloc, &settings)?;
-        assert_eq!(rt; report.status, 0);
-        for (ending, text) in [(".bbl", "a\n"), (".blg", LOG)] {
-            let path = path_of(alloc, &settings, ending)?;
-            assert_eq!(rt; fs::read_to_string(&rt, path.as_str())?.as_str(), text);
         }
-        fs::remove_dir_all(&rt, directory.as_str())?;
-        assert_eq!(rt; run_job(&rt, alloc, &settings), Err(RunFault::Device));
+    }
+
+    /// Runs the job in a folder, and gives its status.
+    fn status_in(rt: &(impl Files + Print + AllocGlobal), directory: &str) -> Result<u8, RunFault> {
+        let report = run_job(rt, rt.alloc(), &settings_in(directory))?;
+        Ok(report.status)
+    }
+
+    /// Asserts the text of an output of the job.
+    fn wrote(
+        rt: &(impl Files + AllocGlobal + Abort),
+        directory: &str,
+        ending: &str,
+        text: &str,
+    ) -> Result<(), Fail> {
+        let path = path_of(rt.alloc(), &settings_in(directory), ending)?;
+        let found = fs::read_to_string(rt, path.as_str())?;
+        assert_eq!(rt; found.as_str(), text);
+        Ok(())
+    }
+
+    #[test]
+    fn writes_files(rt: HostRuntime) -> Result<(), Fail> {
+        let directory = make_folder(&rt, rt.alloc(), "job")?;
+        let directory = directory.as_str();
+        write_job(&rt, directory)?;
+        assert_eq!(rt; status_in(&rt, directory), Ok(0));
+        wrote(&rt, directory, ".bbl", "a\n")?;
+        wrote(&rt, directory, ".blg", LOG)?;
+        fs::remove_dir_all(&rt, directory)?;
+        assert_eq!(rt; status_in(&rt, directory), Err(RunFault::Device));
         Ok(())
     }
 }

@@ -1,7 +1,8 @@
 //! The command `bibtex`: runs a job of a folder.
 #![tactic(auto)]
 
-ghost use Rattle.std.specs.Prelude.{◌≡◌};
+ghost use Rattle.std.specs.Prelude.{◌≡◌, ◌⊎◌};
+ghost use Rattle.bibtex.specs.CommandLine.{status_of};
 ghost use Rattle.bibtex.specs.Status.{exit_status};
 
 mod command_line;
@@ -37,19 +38,20 @@ fn tell_fault(rt: &impl Eprint, fault: RunFault) -> u8
     exit_status(&Err(fault))
 }
 
-/// Prints why words are not run, and gives the exit status.
-fn tell_refusal(rt: &(impl Print + Eprint), refusal: &Refusal) -> u8 {
-    let text = refusal.text.as_str();
-    match refusal.status {
-        0 => match print!(rt; "{text}") {
-            Ok(()) => 0,
+/// Prints why words are not run, and gives the exit status: the refusal's, unless its help can't be printed.
+fn tell_refusal(rt: &(impl Print + Eprint), refusal: &Refusal) -> u8
+    ensures { (result ≡ status_of refusal.now) ⊎ (status_of refusal.now ≡ 0) }
+{
+    match refusal {
+        Refusal::Help(text) => match print!(rt; "{text}") {
+            Ok(()) => refusal.status(),
             Err(error) => tell_fault(rt, output_fault(&error)),
         },
-        5 => tell_fault(rt, RunFault::Memory),
-        status => {
+        Refusal::Mistake(text) => {
             let _ = eprint!(rt; "{text}");
-            status
+            refusal.status()
         }
+        Refusal::Memory => tell_fault(rt, RunFault::Memory),
     }
 }
 

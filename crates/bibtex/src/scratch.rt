@@ -20,3 +20,14 @@ pub fn make_folder(
     fs::create_dir_all(rt, folder.as_str())?;
     Ok(folder)
 }
+
+/// Writes a file of a folder.
+pub fn write_file(
+    rt: &(impl Files + AllocGlobal),
+    folder: &str,
+    name: &str,
+    bytes: &[u8],
+) -> io::Result<()> {
+    let path = format!(in rt.alloc(); "{folder}/{name}")?;
+    fs::write(rt, path.as_str(), bytes)
+}

@@ -7,7 +7,8 @@ use Rattle.btx_aux.specs.declared.draft.Draft.{Draft}
 use Rattle.btx_aux.specs.Names.{listed_as, is_same_key, with_ending, is_among, with_name}
 use Rattle.btx_aux.specs.Grammar.{Piece, Taken, Cut, Cites, Databases, Opens}
 use Rattle.btx_aux.specs.Events.{event_at}
-use Rattle.btx_aux.specs.Notes.{Complaint, TopFile, LevelFile, CaseMismatch, RepeatedDatabase, Slipped, Note, Line, line_of, Wrong}
+use Rattle.btx_text.specs.LogLines.{Line}
+use Rattle.btx_aux.specs.Notes.{Complaint, TopFile, LevelFile, CaseMismatch, RepeatedDatabase, Slipped, Note, line_of, Wrong}
 use Rattle.btx_aux.specs.Job.{is_star, taken_with, database_complaints, complain_if}
 use Rattle.btx_aux.specs.Drafts.{learned, asked_in, with_notes, with_database, with_databases, complaining}
 

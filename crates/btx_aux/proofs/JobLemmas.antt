@@ -10,7 +10,8 @@ use Rattle.btx_aux.specs.Files.{Files}
 use Rattle.btx_aux.specs.Names.{with_name, with_key}
 use Rattle.btx_aux.specs.Grammar.{Piece, Opens, Absent, Full, TooLong, end_by, is_whole}
 use Rattle.btx_aux.specs.Events.{Event, event_at, named, files_named, asked_of, Reading, found, followed, expanded, is_too_long, inside, opened, from_top, until_end, events_of, said}
-use Rattle.btx_aux.specs.Notes.{Note, Line, line_of}
+use Rattle.btx_text.specs.LogLines.{Line}
+use Rattle.btx_aux.specs.Notes.{Note, line_of}
 use Rattle.btx_aux.specs.Job.{gathered, first_of, cited, keys_of, star_by, star_at, all_of, bibdata_by, bibdata_of, databases_in, databases_of, bibstyle_by, bibstyle_of, style_in, style_of, notes_at, closing_notes, end_of, job_of, job_of_files}
 use Rattle.btx_aux.specs.Drafts.{blank, with_notes, first_or, databases_after, style_after, ending_after, learned}
 use Rattle.btx_aux.specs.Reads.{after, Opening, included, asked_for, run, within, opened_by, topped, closed}

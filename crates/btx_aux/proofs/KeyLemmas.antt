@@ -1,52 +1,82 @@
--- A table of keys by their lowered forms, as a list of keys.
-use Rattle.std.proofs.Common.{◌≡◌, ℕ, Bool, true, false, cond, List, [], ◌∷◌, ◌++◌, map, Option, None, Some, refl, ap, ◌∙◌}
+-- Keys and the table of their lowered forms, as a list of keys.
+use Rattle.std.proofs.Common.{◌≡◌, ℕ, ◌+◌, nat_lt, arith, Bool, true, false, not, cond, List, [], ◌∷◌, ◌++◌, map, length, Option, None, Some, refl, sym, ap, ◌∙◌}
+use Rattle.std.specs.Prelude.{position, slice_get}
 use Rattle.std.specs.Str.{bytes_eq}
-use Rattle.std.specs.Option.{option_map}
-use Rattle.std.specs.Map.{lookup}
+use Rattle.std.specs.Option.{option_and_then, option_map}
+use Rattle.std.specs.List.{find, list_any, position_or_len}
+use Rattle.std.proofs.lemmas.List.{length-map}
+use Rattle.std.proofs.lemmas.List.Folds.{find_at}
+use Rattle.std.proofs.lemmas.Option.{slice_get_past, slice_get-map}
+use Rattle.std.proofs.lemmas.Bool.Decides.{nat_tests}
 use Rattle.btx_text.specs.Keys.{folded}
 use Rattle.btx_aux.specs.Entries.{Bytes, texts_of}
-use Rattle.btx_aux.specs.KeyTable.{spellings, IsFoldedTable, listed_by}
+use Rattle.btx_aux.specs.KeyTable.{IsTableOf, listed_by}
+use Rattle.btx_aux.proofs.NameLemmas.{is_among-texts_of, texts_of-push}
 
-abbrev items_of : Bytes → List ℕ
-items_of b = b.items
+-- ---- where something stands in a list
 
-mapped : (b : Bool) (v : Bytes) (rest : Option Bytes) → option_map items_of (cond b (Some v) rest) ≡ cond b (Some v.items) (option_map items_of rest)
-mapped true v rest = refl
-mapped false v rest = refl
+position_or_len-map : {A B : Type 0} (test : B → Bool) (f : A → B) (xs : List A) → position_or_len test (map f xs) ≡ position_or_len (λ (x : A). test (f x)) xs
+position_or_len-map test f [] = refl
+position_or_len-map test f (x ∷ xs) = ap (λ (n : ℕ). cond (not (test (f x))) (1 + n) 0) (position_or_len-map test f xs)
 
--- a look-up gives the first key of this lowered form
-lookup-listed_by : (es : List (Bytes × Bytes)) (l : List ℕ) → IsFoldedTable es → option_map items_of (lookup (λ (k : Bytes). bytes_eq l k.items) es) ≡ listed_by (spellings es) l
-lookup-listed_by [] l h = refl
-lookup-listed_by (e ∷ es) l h =
-    let first : e.0.items ≡ folded e.1.items = cc in
-    let rest : IsFoldedTable es = cc in
-    mapped (bytes_eq l e.0.items) e.1 _
-    ∙ ap (cond (bytes_eq l e.0.items) (Some e.1.items)) (lookup-listed_by es l rest)
-    ∙ ap (λ (key : List ℕ). cond (bytes_eq l key) (Some e.1.items) (listed_by (spellings es) l)) first
+position-map : {A B : Type 0} (test : B → Bool) (f : A → B) (xs : List A) → position test (map f xs) ≡ position (λ (x : A). test (f x)) xs
+position-map test f xs =
+    ap (λ (n : ℕ). cond (nat_lt n (length (map f xs))) (Some n) None) (position_or_len-map test f xs)
+    ∙ ap (λ (n : ℕ). cond (nat_lt (position_or_len (λ (x : _). test (f x)) xs) n) (Some (position_or_len (λ (x : _). test (f x)) xs)) None) (length-map xs f)
 
-pub found_by : (es : List (Bytes × Bytes)) (l : List ℕ) (keys : List (List ℕ)) (o : Option Bytes) → IsFoldedTable es → spellings es ≡ keys → o ≡ lookup (λ (k : Bytes). bytes_eq l k.items) es → option_map (λ (b : Bytes). b.items) o ≡ listed_by keys l
-found_by es l keys o table is look =
-    ap (option_map items_of) look ∙ lookup-listed_by es l table ∙ ap (λ (ks : List (List ℕ)). listed_by ks l) is
+-- what stands at the place of the first that passes is the first that passes
+find-position : {A : Type 0} (test : A → Bool) (xs : List A) → find test xs ≡ option_and_then (slice_get xs) (position test xs)
+find-position test xs = find_at test xs ∙ by_test (nat_lt (position_or_len test xs) (length xs)) refl where
+  by_test : (b : Bool) → nat_lt (position_or_len test xs) (length xs) ≡ b → slice_get xs (position_or_len test xs) ≡ option_and_then (slice_get xs) (cond b (Some (position_or_len test xs)) None)
+  by_test true within = refl
+  by_test false past = slice_get_past xs (position_or_len test xs) (grind (arith, nat_tests))
 
-unmapped : (o : Option Bytes) → option_map items_of o ≡ None → o ≡ None
-unmapped None h = refl
-unmapped (Some b) h = cc
+-- ---- the table
 
-pub absent_by : (es : List (Bytes × Bytes)) (l : List ℕ) (keys : List (List ℕ)) → IsFoldedTable es → spellings es ≡ keys → listed_by keys l ≡ None → lookup (λ (k : Bytes). bytes_eq l k.items) es ≡ None
-absent_by es l keys table is none = unmapped _ (found_by es l keys _ table is refl ∙ none)
+-- the place that the table finds
+pub place_in : (lowered keys : List Bytes) (key : List ℕ) (view : List (List ℕ)) → IsTableOf lowered keys → texts_of keys ≡ view → position (λ (other : Bytes). bytes_eq key other.items) lowered ≡ position (bytes_eq key) (map folded view)
+place_in lowered keys key view table is =
+    sym (position-map (bytes_eq key) (λ (b : Bytes). b.items) lowered)
+    ∙ ap (position (bytes_eq key)) (table ∙ ap (map folded) is)
 
-pub spellings-push : (es : List (Bytes × Bytes)) (l k : Bytes) → spellings (es ++ (l, k) ∷ []) ≡ spellings es ++ k.items ∷ []
-spellings-push [] l k = refl
-spellings-push (e ∷ es) l k = ap (λ (rest : List (List ℕ)). e.1.items ∷ rest) (spellings-push es l k)
+-- the key at that place
+pub listed_at : (keys : List (List ℕ)) (lowered : List ℕ) → listed_by keys lowered ≡ option_and_then (slice_get keys) (position (bytes_eq lowered) (map folded keys))
+listed_at keys lowered =
+    find-position (λ (other : List ℕ). bytes_eq lowered (folded other)) keys
+    ∙ ap (option_and_then (slice_get keys)) (sym (position-map (bytes_eq lowered) folded keys))
 
-pub IsFoldedTable-push : (es : List (Bytes × Bytes)) (l k : Bytes) → IsFoldedTable es → l.items ≡ folded k.items → IsFoldedTable (es ++ (l, k) ∷ [])
-IsFoldedTable-push [] l k table form = ap (λ (key : List ℕ). key ∷ []) form
-IsFoldedTable-push (e ∷ es) l k table form =
-    let first : e.0.items ≡ folded e.1.items = cc in
-    let rest : IsFoldedTable es = cc in
-    let more = IsFoldedTable-push es l k rest form in
-    cc
+pub listed_by-some : (keys : List Bytes) (view : List (List ℕ)) (lowered : List ℕ) (place : ℕ) (key : Option Bytes) → texts_of keys ≡ view → Some place ≡ position (bytes_eq lowered) (map folded view) → key ≡ slice_get keys place
+    → option_map (λ (b : Bytes). b.items) key ≡ listed_by view lowered
+listed_by-some keys view lowered place key is at there =
+    ap (option_map (λ (b : Bytes). b.items)) there
+    ∙ sym (slice_get-map (λ (b : Bytes). b.items) keys place)
+    ∙ ap (λ (names : List (List ℕ)). slice_get names place) is
+    ∙ ap (option_and_then (slice_get view)) at
+    ∙ sym (listed_at view lowered)
 
-pub texts_of-values : (es : List (Bytes × Bytes)) → texts_of (map (λ (e : Bytes × Bytes). e.1) es) ≡ spellings es
-texts_of-values [] = refl
-texts_of-values (e ∷ es) = ap (λ (rest : List (List ℕ)). e.1.items ∷ rest) (texts_of-values es)
+pub listed_by-none : (view : List (List ℕ)) (lowered : List ℕ) → None ≡ position (bytes_eq lowered) (map folded view) → None ≡ listed_by view lowered
+listed_by-none view lowered at = ap (option_and_then (slice_get view)) at ∙ sym (listed_at view lowered)
+
+-- ---- one more key
+
+is_listed : (keys : List (List ℕ)) (lowered : List ℕ) → listed_by keys lowered ≡ None → list_any (bytes_eq lowered) (map folded keys) ≡ false
+is_listed [] lowered none = refl
+is_listed (key ∷ keys) lowered none = by_test (bytes_eq lowered (folded key)) refl none (is_listed keys lowered) where
+  by_test : (b : Bool) → bytes_eq lowered (folded key) ≡ b → cond b (Some key) (listed_by keys lowered) ≡ None → (listed_by keys lowered ≡ None → list_any (bytes_eq lowered) (map folded keys) ≡ false) → list_any (bytes_eq lowered) (map folded (key ∷ keys)) ≡ false
+  by_test true same none rest = cc
+  by_test false other none rest = rw other (rest none)
+
+pub absent_in : (lowered keys : List Bytes) (key : List ℕ) (view : List (List ℕ)) → IsTableOf lowered keys → texts_of keys ≡ view → listed_by view key ≡ None → list_any (λ (other : Bytes). bytes_eq key other.items) lowered ≡ false
+absent_in lowered keys key view table is none =
+    is_among-texts_of lowered key ∙ ap (list_any (bytes_eq key)) (table ∙ ap (map folded) is) ∙ is_listed view key none
+
+map-push : (names : List (List ℕ)) (name : List ℕ) → map folded (names ++ name ∷ []) ≡ map folded names ++ folded name ∷ []
+map-push [] name = refl
+map-push (first ∷ names) name = ap (λ (rest : List (List ℕ)). folded first ∷ rest) (map-push names name)
+
+pub IsTableOf-push : (lowered keys : List Bytes) (l k : Bytes) → IsTableOf lowered keys → l.items ≡ folded k.items → IsTableOf (lowered ++ l ∷ []) (keys ++ k ∷ [])
+IsTableOf-push lowered keys l k table form =
+    texts_of-push lowered l
+    ∙ ap (λ (names : List (List ℕ)). names ++ l.items ∷ []) table
+    ∙ ap (λ (name : List ℕ). map folded (texts_of keys) ++ name ∷ []) form
+    ∙ sym (ap (map folded) (texts_of-push keys k) ∙ map-push (texts_of keys) k.items)

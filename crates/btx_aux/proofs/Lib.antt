@@ -1,10 +1,10 @@
 pub mod PairLemmas
 pub mod TableLemmas
 pub mod PieceLemmas
-pub mod NoteLemmas
 pub mod NameLemmas
 pub mod KeyLemmas
 pub mod DraftLemmas
 pub mod ReadLemmas
 pub mod JobLemmas
+pub mod OpeningLemmas
 pub mod Rows

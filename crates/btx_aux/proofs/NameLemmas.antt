@@ -11,7 +11,7 @@ pub is_among-texts_of : (names : List Bytes) (name : List ℕ) → list_any (λ 
 is_among-texts_of [] name = refl
 is_among-texts_of (first ∷ names) name = ap (λ (b : Bool). bytes_eq name first.items || b) (is_among-texts_of names name)
 
-texts_of-push : (names : List Bytes) (name : Bytes) → texts_of (names ++ name ∷ []) ≡ texts_of names ++ name.items ∷ []
+pub texts_of-push : (names : List Bytes) (name : Bytes) → texts_of (names ++ name ∷ []) ≡ texts_of names ++ name.items ∷ []
 texts_of-push [] name = refl
 texts_of-push (first ∷ names) name = ap (λ (rest : List (List ℕ)). first.items ∷ rest) (texts_of-push names name)
 

@@ -7,7 +7,8 @@ use Rattle.btx_aux.specs.declared.end.End.TheVariants as end
 use Rattle.btx_aux.specs.Names.{with_name, with_key, with_ending, is_among}
 use Rattle.btx_aux.specs.Grammar.{Piece, Taken, Cut, Word, end_by}
 use Rattle.btx_aux.specs.Events.{Event, event_at, named, asked_of}
-use Rattle.btx_aux.specs.Notes.{Complaint, Slipped, RepeatedDatabase, Wrong, Note, Line, line_of}
+use Rattle.btx_text.specs.LogLines.{Line}
+use Rattle.btx_aux.specs.Notes.{Complaint, Slipped, RepeatedDatabase, Wrong, Note, line_of}
 use Rattle.btx_aux.specs.Job.{cited, first_of, star_by, bibdata_by, bibstyle_by, databases_in, style_in, complain_if, notes_by}
 
 -- nothing is known

@@ -3,6 +3,7 @@
 -- the finder's content has it and fewer than 20 files are open; the events of an opened file follow at once.
 use Rattle.std.specs.Prelude.{ℕ, zero, suc, ◌+◌, ◌-◌, nat_lt, not, ◌&&◌, Bool, true, false, List, [], ◌∷◌, ◌++◌, map, length, Option, None, Some, if◌then◌else◌, codes}
 use Rattle.std.specs.List.{flat_map}
+use Rattle.btx_text.specs.Limits.{greatest_file}
 use Rattle.btx_text.specs.Lines.{lines_of}
 use Rattle.btx_aux.specs.Files.{Files}
 use Rattle.btx_aux.specs.Names.{has_ending, is_among, distinct}
@@ -84,9 +85,9 @@ expanded files reading earlier (event ∷ events) =
     let more = followed files reading with_event event (asked_of (files_named earlier) event.word) in
     (event ∷ more) ++ expanded files reading (with_event ++ more) events
 
--- a file may have 2,147,483,647 bytes
+-- a file has more bytes than a file may have
 abbrev pub is_too_long : List ℕ → Bool
-is_too_long text = nat_lt 2147483647 (length text)
+is_too_long text = nat_lt greatest_file (length text)
 
 -- the events inside an opened file
 abbrev pub inside : Bool → Files → Reading → List Event → List ℕ → List ℕ → List Event

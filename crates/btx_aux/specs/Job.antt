@@ -9,7 +9,8 @@ use Rattle.btx_aux.specs.Files.{Files}
 use Rattle.btx_aux.specs.Names.{has_ending, with_ending, is_among, with_name, distinct, listed_as, with_key}
 use Rattle.btx_aux.specs.Grammar.{Piece, Taken, Cut, Word, Cites, Databases, Styles, Includes, Opens, Absent, Full, TooLong, NoTop, end_by, is_whole}
 use Rattle.btx_aux.specs.Events.{Event, files_named, events_of}
-use Rattle.btx_aux.specs.Notes.{Complaint, Slipped, AnotherBibdata, AnotherBibstyle, CaseMismatch, SecondStar, WrongExtension, AlreadyMet, NotOpened, RepeatedDatabase, Note, TopFile, LevelFile, Wrong, NoCitations, NoBibdata, NoBibstyle, Line, line_of}
+use Rattle.btx_text.specs.LogLines.{Line}
+use Rattle.btx_aux.specs.Notes.{Complaint, Slipped, AnotherBibdata, AnotherBibstyle, CaseMismatch, SecondStar, WrongExtension, AlreadyMet, NotOpened, RepeatedDatabase, Note, TopFile, LevelFile, Wrong, NoCitations, NoBibdata, NoBibstyle, line_of}
 
 -- ---- reading along the events
 

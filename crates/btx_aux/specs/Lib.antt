@@ -14,4 +14,5 @@ pub mod KeyTable
 pub mod Job
 pub mod Drafts
 pub mod Reads
+pub mod Openings
 pub mod Faults

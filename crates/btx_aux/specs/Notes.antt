@@ -1,6 +1,9 @@
 -- The lines of the log that the reading of the `.aux` files gives: the files that were found, and what is wrong. The words follow
--- those of the original; the form of a line and of its place is this project's own. All that is wrong is an error, none a warning.
+-- those of the original. All that is wrong is an error, none a warning.
 use Rattle.std.specs.Prelude.{ℕ, Bool, true, false, List, ◌++◌, codes, decimal}
+use Rattle.btx_text.specs.declared.log_line.LineKind.{LineKind}
+use Rattle.btx_text.specs.declared.log_line.LineKind.TheVariants.{Plain, Warning, Error}
+use Rattle.btx_text.specs.LogLines.{Line, message, place_text}
 use Rattle.btx_aux.specs.declared.command.Slip.{Slip}
 use Rattle.btx_aux.specs.declared.command.Slip.TheVariants.{WhiteSpace, Unclosed, StuffAfter}
 
@@ -43,29 +46,30 @@ pub data Note : Type 0 where
   NoBibdata : Note
   NoBibstyle : Note
 
--- a line of the log, without its end
-pub record Line : Type 0 where
-  pub text : List ℕ
-  pub is_error : Bool
-
--- the text of a note, as the log has it
+-- the text of a note, as the log has it behind the word for an error
 unfoldable pub note_text : Note → List ℕ
 note_text (TopFile name) = codes "The top-level auxiliary file: " ++ name
 note_text (LevelFile level name) = codes "A level-" ++ decimal level ++ codes " auxiliary file: " ++ name
-note_text (Wrong complaint line file) = codes "Error--" ++ complaint_text complaint ++ codes "--line " ++ decimal line ++ codes " of file " ++ file
-note_text NoCitations = codes "Error--I found no \\citation commands"
-note_text NoBibdata = codes "Error--I found no \\bibdata command"
-note_text NoBibstyle = codes "Error--I found no \\bibstyle command"
+note_text (Wrong complaint line file) = complaint_text complaint ++ place_text line file
+note_text NoCitations = codes "I found no \\citation commands"
+note_text NoBibdata = codes "I found no \\bibdata command"
+note_text NoBibstyle = codes "I found no \\bibstyle command"
 
--- the note is an error: all are but those of the files that were found
-unfoldable pub is_error_note : Note → Bool
-is_error_note (TopFile name) = false
-is_error_note (LevelFile level name) = false
-is_error_note (Wrong complaint line file) = true
-is_error_note NoCitations = true
-is_error_note NoBibdata = true
-is_error_note NoBibstyle = true
+-- what a note is: an error, unless it tells of a file that was found
+unfoldable pub kind_of : Note → LineKind
+kind_of (TopFile name) = Plain
+kind_of (LevelFile level name) = Plain
+kind_of (Wrong complaint line file) = Error
+kind_of NoCitations = Error
+kind_of NoBibdata = Error
+kind_of NoBibstyle = Error
 
 -- the line of a note
 abbrev pub line_of : Note → Line
-line_of note = record { text = note_text note; is_error = is_error_note note }
+line_of note = message (kind_of note) (note_text note)
+
+-- the line is an error
+abbrev pub is_error : LineKind → Bool
+is_error Plain = false
+is_error Warning = false
+is_error Error = true

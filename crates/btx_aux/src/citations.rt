@@ -68,7 +68,6 @@ fn close(alloc: Global, draft: Draft) -> Result<AuxJob, AllocError>
         log,
         ending,
     } = draft;
-    let keys = keys.into_list(alloc)?;
     Ok(AuxJob {
         keys,
         all,

@@ -3,11 +3,11 @@ use crate::command::{Command, Slip};
 use crate::end::End;
 use crate::keys::{Keys, lowered};
 use crate::line_words::command_line;
-use crate::log_lines::LogLines;
 use crate::name::{Name, has_ending, with_ending};
 use crate::name_set::NameSet;
-use crate::notes::{Complaint, Note, Place, log_line};
+use crate::notes::{Complaint, Note, log_line};
 use crate::pieces::{Pieces, first_piece};
+use btx_text::{LogLines, Place};
 use std::alloc::{AllocError, Global};
 
 const STAR: &[u8] = b"*";
@@ -131,7 +131,7 @@ impl Draft {
     {
         let lowered = lowered(alloc, key)?;
         match self.keys.find(lowered.as_slice()) {
-            None => self.keys.add(lowered, Vec::from_slice(alloc, key)?),
+            None => self.keys.add(Vec::from_slice(alloc, key)?, lowered),
             Some(earlier) => {
                 if earlier == key {
                     return Ok(());

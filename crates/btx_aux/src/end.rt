@@ -9,6 +9,6 @@ pub enum End {
     TooManyOpen,
     /// There is no top file.
     TopMissing,
-    /// A file has more than 2,147,483,647 bytes.
+    /// A file has more bytes than a file may have.
     FileLimit,
 }

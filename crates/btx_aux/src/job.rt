@@ -1,18 +1,22 @@
 //! What the `.aux` files of a job say.
-ghost use Rattle.std.specs.Prelude.{◌≡◌, ◌==◌, length, option_copied, count_by};
+ghost use Rattle.std.specs.Prelude.{◌≡◌, count_by, map, option_copied, position};
+ghost use Rattle.std.specs.Str.{bytes_eq};
+ghost use Rattle.btx_text.specs.Keys.{folded};
 ghost use Rattle.btx_aux.specs.Entries.{texts_of};
-ghost use Rattle.btx_aux.specs.Notes.{Line};
+ghost use Rattle.btx_text.specs.LogLines.{Line};
+ghost use Rattle.btx_aux.specs.Notes.{is_error};
 
 use crate::end::End;
-use crate::log_lines::{LogLine, LogLines};
+use crate::keys::Keys;
 use crate::name::Name;
 use crate::name_set::NameSet;
+use btx_text::{LineKind, LogLine, LogLines};
 use std::marker::Model;
 
 /// What the `.aux` files of a job say.
 #[derive(Drop)]
 pub struct AuxJob {
-    pub(crate) keys: Vec<Vec<u8>>,
+    pub(crate) keys: Keys,
     pub(crate) all: Option<usize>,
     pub(crate) databases: NameSet,
     pub(crate) style: Option<Name>,
@@ -22,12 +26,11 @@ pub struct AuxJob {
 
 impl Model for AuxJob {
     ghost use Rattle.btx_aux.specs.Job.{Job};
-    ghost use Rattle.btx_aux.specs.Entries.{texts_of};
 
     ghost Value = { Job };
 
     ghost view = { λ job. record {
-      keys = texts_of job.keys.items;
+      keys = job.keys;
       all = job.all;
       databases = job.databases;
       style = job.style;
@@ -42,6 +45,13 @@ impl AuxJob {
         ensures { texts_of result.now ≡ self.now.keys }
     {
         self.keys.as_slice()
+    }
+
+    /// The place among the keys of the one whose lowered form this is, if it is cited. A key is lowered by `fold_key`.
+    pub fn position(&self, lowered: &[u8]) -> Option<usize>
+        ensures { result ≡ position (bytes_eq lowered.now) (map folded self.now.keys) }
+    {
+        self.keys.position(lowered)
     }
 
     /// The place of `*`, which stands for all entries, if it was cited: the number of keys that stand before it.
@@ -75,10 +85,10 @@ impl AuxJob {
 
     /// How many lines of the log are errors.
     pub fn errors(&self) -> usize
-        ensures { result ≡ count_by (λ line. line.is_error) self.now.log }
+        ensures { result ≡ count_by (λ line. is_error line.kind) self.now.log }
     {
         let lines = self.log().iter();
-        lines.filter(|line| line.is_error()).count()
+        lines.filter(|line| line.kind() == LineKind::Error).count()
     }
 
     /// How the reading ended. After any end but `Whole` the rest is what was read so far.

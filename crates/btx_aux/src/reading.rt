@@ -1,22 +1,19 @@
 //! The reading of the `.aux` files.
 ghost use Rattle.std.specs.Prelude.{◌≡◌, ◌≤◌, length, map, true, IfSome, OnOk};
+ghost use Rattle.btx_text.specs.Limits.{greatest_file};
 ghost use Rattle.btx_aux.specs.Faults.{CountsOfOne};
 ghost use Rattle.btx_aux.specs.Grammar.{is_whole, words_of};
-ghost use Rattle.btx_aux.specs.Events.{event_at, said};
+ghost use Rattle.btx_aux.specs.Events.{event_at, is_too_long, said};
 ghost use Rattle.btx_aux.specs.Reads.{included, opened_by, run};
 
 use crate::draft::Draft;
 use crate::end::End;
 use crate::finder::Finder;
-use crate::notes::Place;
-use btx_text::{Fault, lines};
+use btx_text::{Fault, GREATEST_FILE, Place, lines};
 use std::alloc::Global;
 
 /// How many files may be open at once.
 pub const MOST_OPEN: usize = 20;
-
-/// How many bytes a file may have.
-const MOST_BYTES: usize = 2_147_483_647;
 
 /// An include of a file at a place, where so many more files may be opened.
 #[cycle(reading)]
@@ -63,11 +60,18 @@ pub fn open_file<F: Finder>(
         return Ok(());
     }
     draft.open_file(alloc, name, MOST_OPEN - room)?;
-    if text.len() > MOST_BYTES {
+    if is_too_long(text) {
         draft.ending = End::FileLimit;
         return Ok(());
     }
     read_lines(alloc, finder, draft, name, text, room - 1)
+}
+
+/// Whether a file is too long to be read.
+fn is_too_long(text: &[u8]) -> bool
+    ensures { result ≡ is_too_long text.now }
+{
+    text.len() > GREATEST_FILE
 }
 
 /// The lines of an open file, where so many more files may be opened.
@@ -82,7 +86,7 @@ fn read_lines<F: Finder>(
 ) -> Result<(), Fault>
     requires whole { is_whole draft.old.ending ≡ true }
     requires room { room ≤ 20 }
-    requires length { length text.now ≤ 2147483647 }
+    requires length { length text.now ≤ greatest_file }
     ensures draft { OnOk result (IfSome (F.content finder.old) (λ files. draft.new ≡ run files (opened_by files room) draft.old (said name.now text.now))) }
     ensures counts { CountsOfOne result (F.failures finder.old, F.failures finder.new) }
     ensures stays { F.content finder.new ≡ F.content finder.old }

@@ -2,8 +2,10 @@
 //! the time for one byte on standard error.
 #![tactic(auto)]
 
+mod names;
 mod work;
 
+use names::{Shape, formatted_len};
 use std::alloc::Global;
 use std::io;
 use std::rt::Clock;
@@ -34,6 +36,40 @@ fn measure(
     )
 }
 
+/// How many bytes a name and its format have, each.
+const SIZES: [usize; 3] = [20_000, 40_000, 80_000];
+
+/// How often a usual name is formatted.
+const NAMES: u32 = 100_000;
+
+/// Formats a name, and prints the length of the text and the time.
+fn measure_name(
+    rt: &(impl Print + Eprint + Clock),
+    alloc: Global,
+    shape: Shape,
+    size: usize,
+) -> io::Result<()> {
+    let name = shape.name(alloc, size)?;
+    let format = shape.format(alloc, size)?;
+    let start = Instant::now(rt)?;
+    let length = formatted_len(alloc, &name, &format)?;
+    let micros = start.elapsed(rt)?.as_micros();
+    println!(rt; "{shape}, {size} bytes: {length}")?;
+    eprintln!(rt; "{shape}, {size} bytes: {micros} microseconds")
+}
+
+/// Formats a usual name over and over, and prints what its text comes to and the time.
+fn measure_usual_name(rt: &(impl Print + Eprint + Clock), alloc: Global) -> io::Result<()> {
+    let start = Instant::now(rt)?;
+    let mut length = 0;
+    for _turn in 0..NAMES {
+        length = formatted_len(alloc, b"Donald E. Knuth", b"{vv~}{ll}{, jj}{, f.}")?;
+    }
+    let nanos = start.elapsed(rt)?.as_nanos() / u128::from(NAMES);
+    println!(rt; "a usual name: {length}")?;
+    eprintln!(rt; "a usual name: {nanos} nanoseconds")
+}
+
 fn main(rt: HostRuntime) -> io::Result<()> {
     let alloc = rt.alloc();
     let plain = b"The quick brown fox: jumps over the lazy Dog ".as_slice();
@@ -44,5 +80,10 @@ fn main(rt: HostRuntime) -> io::Result<()> {
             measure(&rt, alloc, work, &text)?;
         }
     }
-    Ok(())
+    for shape in Shape::ALL {
+        for size in SIZES {
+            measure_name(&rt, alloc, shape, size)?;
+        }
+    }
+    measure_usual_name(&rt, alloc)
 }

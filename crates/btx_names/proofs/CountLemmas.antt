@@ -1,61 +1,85 @@
 -- Lemmas on places in a list of tokens.
-use Rattle.std.proofs.Common.{◌≡◌, ℕ, zero, suc, ◌+◌, Bool, true, false, cond, ltb, List, [], ◌∷◌, refl, sym, ◌∙◌, arith}
+use Rattle.std.proofs.Common.{◌≡◌, ℕ, zero, suc, ◌+◌, ◌-◌, ◌<◌, ◌≤◌, Bool, true, false, cond, ltb, List, [], ◌∷◌, ◌++◌, length, get_or, take, drop, map, refl, sym, ◌∙◌, ap, arith, length-append}
 use Rattle.std.proofs.lemmas.Bool.{lt-ltb}
+use Rattle.std.proofs.lemmas.List.{drop_all, drop_more, take_more, take-map, length-map, take_rest, length-take-le}
 use Rattle.btx_names.specs.Tokens.{Token}
+use Rattle.btx_names.specs.declared.name_token.NameToken.{NameToken}
 use Rattle.btx_names.specs.declared.token_counts.TokenTest.{TokenTest}
 use Rattle.btx_names.specs.NameParts.{passes, before_final, up_to_last, before_first}
+use Rattle.btx_names.specs.NameTokens.{token_of, tokens_in}
 
--- ---- the first
+-- ---- the first, of a list whose first tokens were seen
 
-pub before_first_here : (test : TokenTest) (token : Token) (tokens : List Token) → passes test token ≡ true → before_first (passes test) (token ∷ tokens) ≡ 0
+pub before_first_here : (test : TokenTest) (tokens : List NameToken) (i : ℕ) (token : NameToken) → i < length tokens → get_or tokens i token ≡ token →
+    passes test (token_of token) ≡ true → before_first (passes test) (tokens_in (drop i tokens)) ≡ 0
 unfolding before_first
-before_first_here test token tokens is = rw is refl
+before_first_here test tokens i token h at is = rw (drop_more tokens i token h, at, is) refl
 
-pub before_first_next : (test : TokenTest) (token : Token) (tokens : List Token) → passes test token ≡ false →
-    before_first (passes test) (token ∷ tokens) ≡ suc (before_first (passes test) tokens)
+pub before_first_next : (test : TokenTest) (tokens : List NameToken) (i : ℕ) (token : NameToken) → i < length tokens → get_or tokens i token ≡ token →
+    passes test (token_of token) ≡ false →
+    before_first (passes test) (tokens_in (drop i tokens)) ≡ suc (before_first (passes test) (tokens_in (drop (i + 1) tokens)))
 unfolding before_first
-before_first_next test token tokens is = rw is refl
+before_first_next test tokens i token h at is = rw (drop_more tokens i token h, at, is) refl
 
-pub before_first_nil : (test : TokenTest) → before_first (passes test) [] ≡ 0
+pub before_first_all : (test : TokenTest) (tokens : List NameToken) (i : ℕ) → length tokens ≤ i → before_first (passes test) (tokens_in (drop i tokens)) ≡ 0
 unfolding before_first
-before_first_nil test = refl
+before_first_all test tokens i h = rw (drop_all i tokens h) refl
 
-pub ruleset first_steps = (before_first_here, before_first_next, before_first_nil)
+pub ruleset first_steps = (before_first_here, before_first_next, before_first_all, take_rest)
 
--- ---- the last before the final one, as the code carries it on: how many it has seen, whether the latest passes, and the count up to the
--- last one that passes and isn't the latest
+-- ---- the last
 
-abbrev pub end_from : TokenTest → Bool → ℕ → ℕ → List Token → ℕ
-end_from test holds seen end [] = end
-end_from test holds seen end (token ∷ tokens) = end_from test (passes test token) (seen + 1) (cond holds seen end) tokens
+-- the tokens before the final one are all but one
+pub before_final_front : (tokens : List Token) → before_final tokens ≡ take (length tokens - 1) tokens
+unfolding before_final
+before_final_front [] = refl
+before_final_front (token ∷ []) = refl
+before_final_front (token ∷ next ∷ tokens) =
+    let e : length (token ∷ next ∷ tokens) - 1 ≡ suc (length (next ∷ tokens) - 1) = omega arith in
+    rw e (ap (λ (others : List Token). token ∷ others) (before_final_front (next ∷ tokens)))
 
--- what it gives, by how many of the others there are up to the last that passes
-abbrev pub joined_end : Bool → ℕ → ℕ → ℕ → ℕ
-joined_end holds seen end more = cond (ltb 0 more) (seen + more) (cond holds seen end)
+-- with one token more at the end
+up_to_last_push : (test : TokenTest) (tokens : List Token) (token : Token) →
+    up_to_last (passes test) (tokens ++ token ∷ []) ≡ cond (passes test token) (length tokens + 1) (up_to_last (passes test) tokens)
+unfolding up_to_last
+up_to_last_push test [] token = refl
+up_to_last_push test (first ∷ tokens) token =
+    ap (λ n. cond (ltb 0 n) (suc n) (cond (passes test first) 1 0)) (up_to_last_push test tokens token) ∙ at (passes test token) where
+      at : (t : Bool) →
+          cond (ltb 0 (cond t (length tokens + 1) (up_to_last (passes test) tokens))) (suc (cond t (length tokens + 1) (up_to_last (passes test) tokens))) (cond (passes test first) 1 0)
+          ≡ cond t (suc (length tokens) + 1) (up_to_last (passes test) (first ∷ tokens))
+      at true = let some : ltb 0 (length tokens + 1) ≡ true = lt-ltb 0 (length tokens + 1) (omega arith) in rw some (omega arith)
+      at false = refl
 
-end_from-some : (test : TokenTest) (holds : Bool) (seen end : ℕ) (token : Token) (tokens : List Token) →
-    end_from test holds seen end (token ∷ tokens) ≡ joined_end holds seen end (up_to_last (passes test) (before_final (token ∷ tokens)))
-unfolding up_to_last before_final
-end_from-some test holds seen end token [] = refl
-end_from-some test holds seen end token (next ∷ tokens) =
-    end_from-some test (passes test token) (seen + 1) (cond holds seen end) next tokens
-    ∙ at (passes test token) (cond holds seen end) (up_to_last (passes test) (before_final (next ∷ tokens))) where
-      at : (t : Bool) (end' more : ℕ) → joined_end t (seen + 1) end' more ≡ cond (ltb 0 (cond (ltb 0 more) (suc more) (cond t 1 0))) (seen + cond (ltb 0 more) (suc more) (cond t 1 0)) end'
-      at t end' zero = low t end' where
-        low : (t : Bool) (end' : ℕ) → cond t (seen + 1) end' ≡ cond (ltb 0 (cond t 1 0)) (seen + cond t 1 0) end'
-        low true end' = refl
-        low false end' = refl
-      at t end' (suc more) =
-          let some : ltb 0 (suc more) ≡ true = lt-ltb 0 (suc more) (omega arith) in
-          let some' : ltb 0 (suc (suc more)) ≡ true = lt-ltb 0 (suc (suc more)) (omega arith) in
-          rw (some, some') (omega arith)
+one_more : (tokens : List NameToken) (i : ℕ) (token : NameToken) → 0 < i → i ≤ length tokens → get_or tokens (i - 1) token ≡ token →
+    tokens_in (take i tokens) ≡ tokens_in (take (i - 1) tokens) ++ token_of token ∷ []
+one_more tokens i token some le at =
+    let e : i ≡ i - 1 + 1 = omega arith in
+    let split : take (i - 1 + 1) tokens ≡ take (i - 1) tokens ++ token ∷ [] = take_more tokens (i - 1) token (omega arith) ∙ ap (λ (last : NameToken). take (i - 1) tokens ++ last ∷ []) at in
+    ap (λ n. tokens_in (take n tokens)) e ∙ ap (λ (front : List NameToken). tokens_in front) split ∙ map_push (take (i - 1) tokens) token where
+      map_push : (tokens : List NameToken) (token : NameToken) → tokens_in (tokens ++ token ∷ []) ≡ tokens_in tokens ++ token_of token ∷ []
+      map_push [] token = refl
+      map_push (first ∷ tokens) token = ap (λ (others : List Token). token_of first ∷ others) (map_push tokens token)
 
-pub up_to_last_carried : (test : TokenTest) (tokens : List Token) → up_to_last (passes test) (before_final tokens) ≡ end_from test false 0 0 tokens
-unfolding up_to_last before_final
-up_to_last_carried test [] = refl
-up_to_last_carried test (token ∷ tokens) = sym (end_from-some test false 0 0 token tokens ∙ at (up_to_last (passes test) (before_final (token ∷ tokens)))) where
-  at : (n : ℕ) → cond (ltb 0 n) (0 + n) 0 ≡ n
-  at zero = refl
-  at (suc n) = let some : ltb 0 (suc n) ≡ true = lt-ltb 0 (suc n) (omega arith) in rw some (omega arith)
+-- the last that passes is the last of the first `i` tokens
+pub up_to_last_here : (test : TokenTest) (tokens : List NameToken) (i : ℕ) (token : NameToken) → 0 < i → i ≤ length tokens → get_or tokens (i - 1) token ≡ token →
+    passes test (token_of token) ≡ true → up_to_last (passes test) (tokens_in (take i tokens)) ≡ i
+up_to_last_here test tokens i token some le at is =
+    let len : length (tokens_in (take (i - 1) tokens)) ≡ i - 1 = length-map (take (i - 1) tokens) token_of ∙ length-take-le (i - 1) tokens (omega arith) in
+    rw (one_more tokens i token some le at, up_to_last_push test (tokens_in (take (i - 1) tokens)) (token_of token), is) (omega (arith, len))
 
-pub ruleset last_steps = (up_to_last_carried)
+pub up_to_last_next : (test : TokenTest) (tokens : List NameToken) (i : ℕ) (token : NameToken) → 0 < i → i ≤ length tokens → get_or tokens (i - 1) token ≡ token →
+    passes test (token_of token) ≡ false → up_to_last (passes test) (tokens_in (take i tokens)) ≡ up_to_last (passes test) (tokens_in (take (i - 1) tokens))
+up_to_last_next test tokens i token some le at is =
+    rw (one_more tokens i token some le at, up_to_last_push test (tokens_in (take (i - 1) tokens)) (token_of token), is) refl
+
+pub up_to_last_none : (test : TokenTest) (tokens : List NameToken) (i : ℕ) → i ≡ 0 → up_to_last (passes test) (tokens_in (take i tokens)) ≡ 0
+unfolding up_to_last
+up_to_last_none test tokens i is = rw is refl
+
+pub up_to_last_start : (test : TokenTest) (tokens : List NameToken) →
+    up_to_last (passes test) (before_final (tokens_in tokens)) ≡ up_to_last (passes test) (tokens_in (take (length tokens - 1) tokens))
+up_to_last_start test tokens =
+    rw (before_final_front (tokens_in tokens), length-map tokens token_of, take-map token_of (length tokens - 1) tokens) refl
+
+pub ruleset last_steps = (up_to_last_here, up_to_last_next, up_to_last_none, up_to_last_start)

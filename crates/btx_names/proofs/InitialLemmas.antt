@@ -1,22 +1,40 @@
 -- Lemmas on abbreviated tokens.
-use Rattle.std.proofs.Common.{◌≡◌, ℕ, ◌+◌, ◌<◌, ◌≤◌, true, false, List, [], length, drop, refl}
+use Rattle.std.proofs.Common.{◌≡◌, ℕ, ◌+◌, ◌<◌, ◌≤◌, Bool, true, false, cond, List, [], ◌∷◌, length, drop, refl}
 use Rattle.std.proofs.lemmas.List.{drop_all, drop_more, take_rest}
 use Rattle.btx_text.specs.declared.element_kind.TextMode.{TextMode}
 use Rattle.btx_text.specs.Elements.{elements_of}
+use Rattle.btx_text.specs.Elements as Elements
 use Rattle.btx_names.specs.FormattedNames.{begins_initial, first_text, initial_of}
+use Rattle.btx_names.specs.Lettered.{lettered_of}
 
-pub initial_of_here : (mode : TextMode) (s : List ℕ) (i : ℕ) → i < length s → begins_initial (drop i s) ≡ true →
-    initial_of mode (drop i s) ≡ first_text (elements_of mode (drop i s))
-unfolding initial_of
-initial_of_here mode s i h test = let split = drop_more s i 0 h in rw split (rw (rw split at test) refl)
+-- ---- where it begins
 
-pub initial_of_next : (mode : TextMode) (s : List ℕ) (i : ℕ) → i < length s → begins_initial (drop i s) ≡ false →
-    initial_of mode (drop i s) ≡ initial_of mode (drop (i + 1) s)
-unfolding initial_of
-initial_of_next mode s i h test = let split = drop_more s i 0 h in rw split (rw (rw split at test) refl)
+pub lettered_here : (s : List ℕ) (i : ℕ) → i < length s → begins_initial (drop i s) ≡ true → lettered_of (drop i s) ≡ drop i s
+unfolding lettered_of
+lettered_here s i h test = let split = drop_more s i 0 h in rw split (rw (rw split at test) refl)
 
-pub initial_of_all : (mode : TextMode) (s : List ℕ) (i : ℕ) → length s ≤ i → initial_of mode (drop i s) ≡ []
-unfolding initial_of
-initial_of_all mode s i h = rw (drop_all i s h) refl
+pub lettered_next : (s : List ℕ) (i : ℕ) → i < length s → begins_initial (drop i s) ≡ false → lettered_of (drop i s) ≡ lettered_of (drop (i + 1) s)
+unfolding lettered_of
+lettered_next s i h test = let split = drop_more s i 0 h in rw split (rw (rw split at test) refl)
 
-pub ruleset initial_steps = (initial_of_here, initial_of_next, initial_of_all, take_rest)
+pub lettered_all : (s : List ℕ) (i : ℕ) → length s ≤ i → lettered_of (drop i s) ≡ []
+unfolding lettered_of
+lettered_all s i h = rw (drop_all i s h) refl
+
+pub ruleset lettered_steps = (lettered_here, lettered_next, lettered_all, take_rest)
+
+-- ---- what stands for a token
+
+pub elements_of_nothing : (mode : TextMode) → elements_of mode [] ≡ []
+unfolding elements_of Elements.elements_from
+elements_of_nothing mode = refl
+
+-- it is the first element from where it begins
+pub initial_from : (mode : TextMode) (s lettered : List ℕ) → lettered ≡ lettered_of s → initial_of mode s ≡ first_text (elements_of mode lettered)
+unfolding initial_of lettered_of
+initial_from mode s lettered is = rw is (at s) where
+  at : (s : List ℕ) → initial_of mode s ≡ first_text (elements_of mode (lettered_of s))
+  at [] = rw (elements_of_nothing mode) refl
+  at (b ∷ bs) = elim (begins_initial (b ∷ bs)) as (λ t. cond t (first_text (elements_of mode (b ∷ bs))) (initial_of mode bs) ≡ first_text (elements_of mode (cond t (b ∷ bs) (lettered_of bs)))) [ true ↦ refl | false ↦ at bs ]
+
+pub ruleset initial_steps = (initial_from)

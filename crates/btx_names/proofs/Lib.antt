@@ -21,3 +21,4 @@ pub mod CommaLemmas
 pub mod EndingLemmas
 pub mod JoinLemmas
 pub mod ItemLemmas
+pub mod VonLawLemmas

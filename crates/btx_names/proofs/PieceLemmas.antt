@@ -1,13 +1,17 @@
 -- Lemmas on the pieces of a formatted name.
-use Rattle.std.proofs.Common.{Err, ◌≡◌, ℕ, ◌+◌, ◌-◌, ◌<◌, ◌≤◌, Bool, true, false, cond, List, [], ◌∷◌, ◌++◌, length, take, drop, refl, sym, ◌∙◌, ap, arith, length-append, append_assoc}
+use Rattle.std.proofs.Common.{Err, ◌≡◌, ℕ, ◌+◌, ◌-◌, ◌<◌, ◌≤◌, Bool, true, false, not, ◌&&◌, cond, eqb, Option, Some, None, List, [], ◌∷◌, ◌++◌, length, take, drop, refl, sym, ◌∙◌, ap, arith, length-append, append_assoc}
 use Rattle.std.proofs.lemmas.List.{take-append-drop, length-take, take_at, drop_at, take-append-le, drop-append-le, length-drop, append-nil}
+use Rattle.std.proofs.lemmas.Bool.{eqb-true, false≢true}
+use Rattle.btx_names.specs.ItemViews.{is_nothing, has_nothing_between}
 use Rattle.btx_text.specs.declared.element_kind.TextMode.{TextMode}
+use Rattle.btx_names.specs.declared.name_tokens.Joint.{Joint}
 use Rattle.btx_text.specs.declared.fault.Fault.{Fault}
 use Rattle.btx_text.specs.declared.fault.Fault.TheVariants.{Memory, Device, FileLimit, StringLimit}
 use Rattle.btx_names.specs.Becomes.{Becomes}
 use Rattle.btx_names.specs.Tokens.{Token}
 use Rattle.btx_names.specs.Formats.{Piece}
-use Rattle.btx_names.specs.FormattedNames.{shown, between_text, with_tokens, piece_text, finished, ends_in_tie, front_of, is_short}
+use Rattle.std.specs.List.{flat_map, join_by}
+use Rattle.btx_names.specs.FormattedNames.{initial_of, shown, between_text, joined_by, with_tokens, piece_text, finished, ends_in_tie, front_of, is_short}
 
 pub with_tokens_cons : (mode : TextMode) (piece : Piece) (so_far : List ℕ) (token : Token) (tokens : List Token) →
     with_tokens mode piece so_far (token ∷ tokens)
@@ -29,6 +33,44 @@ with_tokens_grows mode piece so_far (token ∷ tokens) =
     let h = with_tokens_grows mode piece (next ++ more) tokens in
     omega (arith, length-append next more, length-append so_far (shown mode piece.is_full token.text))
 
+-- ---- a string between
+
+-- what stands behind a token with others left is the string between
+between_some : (mode : TextMode) (piece : Piece) (between so_far : List ℕ) (joint : Joint) (left : ℕ) → piece.between ≡ Some between → 0 < left →
+    between_text mode piece so_far joint left ≡ between
+unfolding between_text
+between_some mode piece between so_far joint left is some = at (eqb left 0) refl where
+  at : (none : Bool) → eqb left 0 ≡ none → cond none [] (joined_by mode piece.is_full piece.between so_far joint (eqb left 1)) ≡ between
+  at true none = let zero_left : left ≡ 0 = eqb-true left 0 none in absurd (omega arith)
+  at false none = rw is refl
+
+-- behind the last token stands nothing
+between_none : (mode : TextMode) (piece : Piece) (so_far : List ℕ) (joint : Joint) → between_text mode piece so_far joint 0 ≡ []
+unfolding between_text
+between_none mode piece so_far joint = refl
+
+-- the tokens follow what stands so far, joined
+pub joined : (mode : TextMode) (piece : Piece) (between so_far : List ℕ) (tokens : List Token) → piece.between ≡ Some between →
+    with_tokens mode piece so_far tokens ≡ so_far ++ join_by (λ token. shown mode piece.is_full token.text) between tokens
+joined mode piece between so_far [] is = with_tokens_nil mode piece so_far ∙ sym (append-nil so_far)
+joined mode piece between so_far (token ∷ []) is =
+    let word = shown mode piece.is_full token.text in
+    with_tokens_cons mode piece so_far token []
+    ∙ with_tokens_nil mode piece (so_far ++ word ++ between_text mode piece (so_far ++ word) token.joint 0)
+    ∙ ap (λ text. so_far ++ word ++ text) (between_none mode piece (so_far ++ word) token.joint)
+    ∙ append_assoc so_far word []
+joined mode piece between so_far (token ∷ next ∷ tokens) is =
+    let word = shown mode piece.is_full token.text in
+    let rest = flat_map (λ token. between ++ shown mode piece.is_full token.text) tokens in
+    with_tokens_cons mode piece so_far token (next ∷ tokens)
+    ∙ ap (λ text. with_tokens mode piece (so_far ++ word ++ text) (next ∷ tokens)) (between_some mode piece between (so_far ++ word) token.joint (length (next ∷ tokens)) is (omega arith))
+    ∙ joined mode piece between (so_far ++ word ++ between) (next ∷ tokens) is
+    ∙ in_a_row so_far word between (shown mode piece.is_full next.text) rest where
+      in_a_row : (a b c d e : List ℕ) → a ++ b ++ c ++ (d ++ e) ≡ a ++ (b ++ (c ++ d ++ e))
+      in_a_row a b c d e = simp append_assoc refl
+
+-- ---- token by token
+
 -- one turn: a token is added, and what stands behind it
 pub one_token_more : (mode : TextMode) (piece : Piece) (start : ℕ) (old mid new before : List ℕ) (token : Token) (tokens all : List Token) →
     start ≤ length old → take start old ≡ before → mid ≡ old ++ shown mode piece.is_full token.text →
@@ -46,24 +88,68 @@ one_token_more mode piece start old mid new before token tokens all le front fir
       rw (rest', is) (sym (with_tokens_cons mode piece (drop start old) token tokens)),
     )
 
--- the text is too long already
-pub too_long : (mode : TextMode) (piece : Piece) (start limit : ℕ) (new before : List ℕ) (tokens : List Token) → start ≤ length new → take start new ≡ before →
-    limit < length new → limit < length (before ++ with_tokens mode piece (drop start new) tokens)
-too_long mode piece start limit new before tokens le front long =
-    omega (arith, length-append before (with_tokens mode piece (drop start new) tokens), with_tokens_grows mode piece (drop start new) tokens, length-drop start new, sym (ap length front), length-take start new)
+-- what a piece comes to is at least as long as its text so far, with one more token and what stands behind it
+pub grows_by_token : (mode : TextMode) (piece : Piece) (start : ℕ) (text before : List ℕ) (token : Token) (tokens all : List Token) → start ≤ length text → take start text ≡ before →
+    all ≡ token ∷ tokens →
+    length text + length (shown mode piece.is_full token.text)
+    + length (between_text mode piece (drop start text ++ shown mode piece.is_full token.text) token.joint (length tokens))
+    ≤ length (before ++ with_tokens mode piece (drop start text) all)
+grows_by_token mode piece start text before token tokens all le front is =
+    let word = shown mode piece.is_full token.text in
+    let next = drop start text ++ word in
+    let more = between_text mode piece next token.joint (length tokens) in
+    let step : with_tokens mode piece (drop start text) all ≡ with_tokens mode piece (next ++ more) tokens = rw is (with_tokens_cons mode piece (drop start text) token tokens) in
+    omega (arith, length-append before (with_tokens mode piece (drop start text) all), ap (λ (t : List ℕ). length t) step, with_tokens_grows mode piece (next ++ more) tokens, length-append next more, length-append (drop start text) word, length-drop start text, sym (ap (λ (t : List ℕ). length t) front), length-take start text)
 
-pub ruleset piece_steps = (with_tokens_nil)
+pub shown_too_long : (mode : TextMode) (piece : Piece) (start limit : ℕ) (text before wanted : List ℕ) (token : Token) (tokens all : List Token) → start ≤ length text →
+    take start text ≡ before → all ≡ token ∷ tokens → with_tokens mode piece (drop start text) all ≡ wanted →
+    limit < length (text ++ shown mode piece.is_full token.text) → limit < length (before ++ wanted)
+shown_too_long mode piece start limit text before wanted token tokens all le front is made long =
+    let grown = rw made at (grows_by_token mode piece start text before token tokens all le front is) in
+    omega (arith, grown, long, length-append text (shown mode piece.is_full token.text))
+
+pub between_too_long : (mode : TextMode) (piece : Piece) (start limit : ℕ) (text mid before wanted : List ℕ) (token : Token) (tokens all : List Token) → start ≤ length text →
+    take start text ≡ before → all ≡ token ∷ tokens → with_tokens mode piece (drop start text) all ≡ wanted → mid ≡ text ++ shown mode piece.is_full token.text →
+    limit < length (mid ++ between_text mode piece (drop start mid) token.joint (length tokens)) → limit < length (before ++ wanted)
+between_too_long mode piece start limit text mid before wanted token tokens all le front is made added long =
+    let word = shown mode piece.is_full token.text in
+    let more = between_text mode piece (drop start text ++ word) token.joint (length tokens) in
+    let grown = rw made at (grows_by_token mode piece start text before token tokens all le front is) in
+    let long' : limit < length (text ++ word ++ more) = rw (added, drop-append-le start text word le) at long in
+    omega (arith, grown, long', length-append (text ++ word) more, length-append text word)
 
 -- the text at the end of a piece's tokens
-pub tokens_done : (mode : TextMode) (piece : Piece) (start : ℕ) (text before all : List ℕ) → take start text ≡ before → with_tokens mode piece (drop start text) [] ≡ all →
-    text ≡ before ++ all
-tokens_done mode piece start text before all front is = sym (take-append-drop start text) ∙ rw (front, sym (with_tokens_nil mode piece (drop start text)), is) refl
+pub tokens_done : (mode : TextMode) (piece : Piece) (start : ℕ) (text before all : List ℕ) (none : List Token) → take start text ≡ before → none ≡ [] →
+    with_tokens mode piece (drop start text) none ≡ all → text ≡ before ++ all
+tokens_done mode piece start text before all none front is made =
+    sym (take-append-drop start text) ∙ rw (front, sym made, is, with_tokens_nil mode piece (drop start text)) refl
+
+-- a piece with abbreviated tokens and nothing between
+pub nothing_between : (piece : Piece) → has_nothing_between piece ≡ true → (piece.is_full ≡ false) × (piece.between ≡ Some [])
+nothing_between piece is = at piece.is_full piece.between is where
+  at : (full : Bool) (between : Option (List ℕ)) → (not full && is_nothing between) ≡ true → (full ≡ false) × (between ≡ Some [])
+  at true between is = absurd (false≢true is)
+  at false None is = absurd (false≢true is)
+  at false (Some []) is = (refl, refl)
+  at false (Some (b ∷ bs)) is = absurd (false≢true is)
+
+-- abbreviated tokens with nothing between
+pub initials_joined : (mode : TextMode) (piece : Piece) (start : ℕ) (old : List ℕ) (tokens : List Token) → piece.is_full ≡ false → piece.between ≡ Some [] →
+    take start old ++ with_tokens mode piece (drop start old) tokens ≡ old ++ flat_map (λ token. initial_of mode token.text) tokens
+initials_joined mode piece start old tokens short is =
+    ap (λ text. take start old ++ text) (joined mode piece [] (drop start old) tokens is ∙ ap (λ text. drop start old ++ text) (at tokens))
+    ∙ sym (append_assoc (take start old) (drop start old) (flat_map (λ token. initial_of mode token.text) tokens))
+    ∙ ap (λ text. text ++ flat_map (λ token. initial_of mode token.text) tokens) (take-append-drop start old) where
+      at : (tokens : List Token) → join_by (λ token. shown mode piece.is_full token.text) [] tokens ≡ flat_map (λ token. initial_of mode token.text) tokens
+      at [] = refl
+      at (token ∷ tokens) = rw short refl
 
 -- ---- a piece
 
-pub piece_of_none : (mode : TextMode) (piece : Piece) (tokens : List Token) (n : ℕ) (text : List ℕ) → n ≡ 0 → text ≡ text ++ piece_text mode piece (take n tokens)
+pub piece_of_none : (mode : TextMode) (piece : Piece) (tokens : List Token) (text : List ℕ) → length tokens ≡ 0 → text ≡ text ++ piece_text mode piece tokens
 unfolding piece_text
-piece_of_none mode piece tokens n text none = rw none (sym (append-nil text))
+piece_of_none mode piece [] text none = sym (append-nil text)
+piece_of_none mode piece (token ∷ tokens) text none = absurd (omega arith)
 
 piece_of_some : (mode : TextMode) (piece : Piece) (tokens : List Token) → 0 < length tokens →
     piece_text mode piece tokens ≡ finished mode (with_tokens mode piece piece.before tokens ++ piece.after)
@@ -96,16 +182,40 @@ piece_made mode piece tokens start old opened filled closed new some at first se
     let two = behind old (with_tokens mode piece piece.before tokens ++ piece.after) start at in
     rw (fourth, closed', two.0, two.1, piece_of_some mode piece tokens some) refl
 
--- a piece whose tokens are too long already
-pub piece_too_long : (mode : TextMode) (piece : Piece) (tokens : List Token) (start limit : ℕ) (old opened : List ℕ) → 0 < length tokens → start ≡ length old →
+-- a piece is, but for one byte, at least as long as what stands before its tokens
+pub opened_too_long : (mode : TextMode) (piece : Piece) (tokens : List Token) (limit : ℕ) (old : List ℕ) → 0 < length tokens →
+    limit + 1 < length (old ++ piece.before) → limit < length (old ++ piece_text mode piece tokens)
+opened_too_long mode piece tokens limit old some long =
+    let filled = with_tokens mode piece piece.before tokens in
+    rw (piece_of_some mode piece tokens some)
+    (omega (arith, length-append old piece.before, with_tokens_grows mode piece piece.before tokens, length-append old (finished mode (filled ++ piece.after)), length-append filled piece.after, length-finished mode (filled ++ piece.after)))
+
+-- as its tokens with what stands before
+pub filled_too_long : (mode : TextMode) (piece : Piece) (tokens : List Token) (start limit : ℕ) (old opened : List ℕ) → 0 < length tokens → start ≡ length old →
     opened ≡ old ++ piece.before → limit + 1 < length (take start opened ++ with_tokens mode piece (drop start opened) tokens) →
     limit < length (old ++ piece_text mode piece tokens)
-piece_too_long mode piece tokens start limit old opened some at first long =
+filled_too_long mode piece tokens start limit old opened some at first long =
     let one = behind old piece.before start at in
     let long' : limit + 1 < length (old ++ with_tokens mode piece piece.before tokens) = rw (first, one.0, one.1) at long in
     let filled = with_tokens mode piece piece.before tokens in
     rw (piece_of_some mode piece tokens some)
     (omega (arith, length-append old (finished mode (filled ++ piece.after)), length-append old filled, length-append filled piece.after, length-finished mode (filled ++ piece.after)))
+
+-- and as all of it
+pub closed_too_long : (mode : TextMode) (piece : Piece) (tokens : List Token) (start limit : ℕ) (old opened filled : List ℕ) → 0 < length tokens → start ≡ length old →
+    opened ≡ old ++ piece.before → filled ≡ take start opened ++ with_tokens mode piece (drop start opened) tokens → limit + 1 < length (filled ++ piece.after) →
+    limit < length (old ++ piece_text mode piece tokens)
+closed_too_long mode piece tokens start limit old opened filled some at first second long =
+    let one = behind old piece.before start at in
+    let made = with_tokens mode piece piece.before tokens in
+    let filled' : filled ≡ old ++ made = rw (second, first, one.0, one.1) refl in
+    rw (piece_of_some mode piece tokens some)
+    (omega (arith, length-append filled piece.after, ap (λ (t : List ℕ). length t) filled', length-append old (finished mode (made ++ piece.after)), length-append old made, length-append made piece.after, length-finished mode (made ++ piece.after)))
+
+-- a group without a letter is, but for one byte, as long as what stands in it
+pub plain_too_long : (mode : TextMode) (limit : ℕ) (old same inside : List ℕ) → same ≡ old → limit + 1 < length (same ++ inside) → limit < length (old ++ finished mode inside)
+plain_too_long mode limit old same inside is long =
+    omega (arith, rw is at long, length-append old inside, length-append old (finished mode inside), length-finished mode inside)
 
 -- a fault on the way is the fault of the whole
 pub fails_too : (limit more : ℕ) (fault : Fault) (new new' wanted wanted' : List ℕ) → (limit < length wanted → more < length wanted') →

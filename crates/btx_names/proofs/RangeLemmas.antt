@@ -1,7 +1,6 @@
 -- Lemmas on the ranges of the parts of a name.
 use Rattle.std.proofs.Common.{◌≡◌, ℕ, zero, suc, ◌+◌, ◌-◌, ◌<◌, ◌≤◌, Bool, true, false, cond, ltb, List, [], ◌∷◌, length, drop, refl, sym, arith}
 use Rattle.std.proofs.lemmas.Bool.{ltb-true, lt-ltb}
-use Rattle.std.proofs.lemmas.List.{drop_all, drop-drop}
 use Rattle.btx_names.specs.Tokens.{Token, tokens_of, tokens_from}
 use Rattle.btx_names.specs.declared.token_counts.TokenTest.{TokenTest}
 use Rattle.btx_names.specs.declared.token_counts.TokenTest.TheVariants.{Von, Apart}
@@ -61,18 +60,6 @@ von_start-le tokens = at (ltb 0 (von_end tokens)) refl where
 
 pub ruleset ranges = (up_to_last-le, last_start-le, von_start-le)
 
--- ---- going on in a list of tokens
-
-pub drop_one_more : (tokens rest : List Token) (token : Token) (n : ℕ) → drop n tokens ≡ token ∷ rest → drop (n + 1) tokens ≡ rest
-drop_one_more tokens rest token n is = rw (sym (drop-drop 1 n tokens), is) refl
-
-pub drop_none_left : (tokens : List Token) (n count : ℕ) → drop n tokens ≡ [] → n ≤ count → drop count tokens ≡ []
-drop_none_left tokens n count is le =
-    let e : n + (count - n) ≡ count = omega arith in
-    rw (sym e, sym (drop-drop (count - n) n tokens), is) (drop_all (count - n) [] (omega arith))
-
 pub tokens_of_nothing : tokens_of [] ≡ []
 unfolding tokens_of tokens_from
 tokens_of_nothing = refl
-
-pub ruleset drop_steps = (drop_one_more, drop_none_left, tokens_of_nothing)

@@ -51,6 +51,20 @@ two_commas : format_name_text Bytes (codes "Smith, Jr, John") (pos 1) (codes "{f
 unfolding kind_at group_len elements_from elements_of is_separator pieces_from names_of run_len tokens_from tokens_of letters_of is_lower_special first_is_lower is_von split_at_comma sections_of ends_in_comma before_final up_to_last before_first part_named piece_item inside_item group_item items_from items_of initial_of between_text with_tokens finished piece_text names_before nth_name one_name_text one_name_complaints
 two_commas = refl
 
+-- abbreviations with nothing between pass over tokens without a letter
+nothing_between : format_name_text Bytes (codes "1 Donald 2 E. 3 Knuth") (pos 1) (codes "{f{}}") ≡ codes "DE"
+unfolding kind_at group_len elements_from elements_of is_separator pieces_from names_of run_len tokens_from tokens_of letters_of is_lower_special first_is_lower is_von split_at_comma sections_of ends_in_comma before_final up_to_last before_first part_named piece_item inside_item group_item items_from items_of initial_of between_text with_tokens finished piece_text names_before nth_name one_name_text one_name_complaints
+nothing_between = refl
+
+-- the letters of a format stand in either case
+capital_letters : format_name_text Bytes (codes "Smith, Jr, John") (pos 1) (codes "{FF }{VV }{LL}{, JJ}") ≡ codes "John Smith, Jr"
+unfolding kind_at group_len elements_from elements_of is_separator pieces_from names_of run_len tokens_from tokens_of letters_of is_lower_special first_is_lower is_von split_at_comma sections_of ends_in_comma before_final up_to_last before_first part_named piece_item inside_item group_item items_from items_of initial_of between_text with_tokens finished piece_text names_before nth_name one_name_text one_name_complaints
+capital_letters = refl
+
+capital_letters_once : format_name_text Bytes (codes "de la Smith, Jr, John") (pos 1) (codes "{F.}{V.}{L.}{J.}") ≡ codes "J.d.~l.S.J."
+unfolding kind_at group_len elements_from elements_of is_separator pieces_from names_of run_len tokens_from tokens_of letters_of is_lower_special first_is_lower is_von split_at_comma sections_of ends_in_comma before_final up_to_last before_first part_named piece_item inside_item group_item items_from items_of initial_of between_text with_tokens finished piece_text names_before nth_name one_name_text one_name_complaints
+capital_letters_once = refl
+
 last_is_never_von : format_name_text Bytes (codes "jean de la fontaine") (pos 1) (codes "{f. }{vv }{ll}") ≡ codes "jean de~la fontaine"
 unfolding kind_at group_len elements_from elements_of is_separator pieces_from names_of run_len tokens_from tokens_of letters_of is_lower_special first_is_lower is_von split_at_comma sections_of ends_in_comma before_final up_to_last before_first part_named piece_item inside_item group_item items_from items_of initial_of between_text with_tokens finished piece_text names_before nth_name one_name_text one_name_complaints
 last_is_never_von = refl

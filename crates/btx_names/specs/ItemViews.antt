@@ -1,4 +1,5 @@
 -- What clauses see of an item of a format in the code.
+use Rattle.std.specs.Prelude.{ℕ, Bool, true, false, not, ◌&&◌, List, [], ◌∷◌, Option, Some, None}
 use Rattle.btx_names.specs.Formats as spec
 use Rattle.btx_names.specs.declared.format_items.Piece.{Piece}
 use Rattle.btx_names.specs.declared.format_items.Item.{Item}
@@ -22,3 +23,13 @@ item_view (Literal text) = spec.Literal text.now
 item_view (Plain text) = spec.Plain text.now
 item_view (Name piece) = spec.Name (piece_view piece)
 item_view Illegal = spec.Illegal
+
+-- the empty string
+abbrev pub is_nothing : Option (List ℕ) → Bool
+is_nothing None = false
+is_nothing (Some []) = true
+is_nothing (Some (b ∷ bs)) = false
+
+-- a piece whose tokens are abbreviated, with the empty string between them
+abbrev pub has_nothing_between : spec.Piece → Bool
+has_nothing_between piece = not piece.is_full && is_nothing piece.between

@@ -2,6 +2,9 @@ pub mod NameLists
 pub mod Runs
 pub mod Tokens
 pub mod TokenViews
+pub mod Lettered
+pub mod NameTokens
+pub mod TokenLists
 pub mod VonTokens
 pub mod NameParts
 pub mod Commas

@@ -1,13 +1,14 @@
 -- What clauses see of a part of a name in the code.
-use Rattle.std.specs.Prelude.{List, take}
-use Rattle.btx_names.specs.Tokens.{Token, tokens_of}
+use Rattle.std.specs.Prelude.{List}
+use Rattle.btx_names.specs.Tokens.{Token}
+use Rattle.btx_names.specs.NameTokens.{tokens_in}
 use Rattle.btx_names.specs.NameParts as spec
 use Rattle.btx_names.specs.declared.name_parts.NameParts.{NameParts}
-use Rattle.btx_names.specs.declared.name_parts.Part.{Part}
+use Rattle.btx_names.specs.declared.part.Part.{Part}
 
--- the tokens of a part: the first of its text
+-- the tokens of a part
 abbrev pub part_tokens : Part → List Token
-part_tokens part = take part.count (tokens_of part.text.now)
+part_tokens part = tokens_in part.tokens.now
 
 -- the parts of a name, as lists of tokens
 abbrev pub parts_view : NameParts → spec.NameParts

@@ -1,4 +1,5 @@
 -- What clauses see of the sections of a name in the code.
+use Rattle.std.specs.Prelude.{ℕ, List, []}
 use Rattle.btx_names.specs.NameParts as spec
 use Rattle.btx_names.specs.declared.name_sections.Sections.{Sections}
 use Rattle.btx_names.specs.declared.name_sections.Sections.TheVariants.{One, Two, Three}
@@ -8,3 +9,14 @@ abbrev pub sections_view : Sections → spec.Sections
 sections_view (One one) = spec.One one.now
 sections_view (Two one two) = spec.Two one.now two.now
 sections_view (Three one two three) = spec.Three one.now two.now three.now
+
+-- the section of a Jr, nothing in a name without one
+abbrev pub jr_of : spec.Sections → List ℕ
+jr_of (spec.Three surname jr first) = jr
+jr_of _ = []
+
+-- the section of First behind a comma, nothing in a name without one
+abbrev pub first_of : spec.Sections → List ℕ
+first_of (spec.One name) = []
+first_of (spec.Two surname first) = first
+first_of (spec.Three surname jr first) = first

@@ -1,7 +1,7 @@
 //! A name in a format.
 ghost use Rattle.std.specs.Prelude.{◌≡◌, ◌++◌, ◌≤◌, length, MatchOption, None, Some};
 ghost use Rattle.btx_strings.specs.Answers.{Answers};
-ghost use Rattle.btx_strings.specs.Limit.{string_limit};
+ghost use Rattle.btx_text.specs.Limits.{greatest_string};
 ghost use Rattle.btx_names.specs.Becomes.{Becomes, Makes};
 ghost use Rattle.btx_names.specs.Answered as spec;
 ghost use Rattle.btx_names.specs.FormattedNames.{formatted, item_text, tokens_of_part};
@@ -12,10 +12,13 @@ ghost use Rattle.btx_names.specs.SectionViews.{sections_view};
 
 use crate::format_items::{Item, Items, PartName, is_legal};
 use crate::name_list::Names;
-use crate::name_parts::{NameParts, Part};
+use crate::name_parts::NameParts;
 use crate::name_sections::{Sections, ends_in_comma};
-use crate::pieces::{push_piece, push_plain};
-use btx_strings::answers::{Answer, Complaints, STRING_LIMIT};
+use crate::part::Part;
+use crate::pieces::{push_literal, push_piece, push_plain};
+use crate::token_list::TokenList;
+use crate::writer::Writer;
+use btx_strings::{Answer, Complaints};
 use btx_text::{Fault, TextMode};
 use std::alloc::Global;
 
@@ -79,7 +82,8 @@ fn format_one(alloc: Global, name: &[u8], format: &[u8], mode: TextMode) -> Resu
     if !legal {
         return Answer::new(Vec::new(alloc), complaints);
     }
-    let text = formatted(alloc, NameParts::of(sections), format, mode)?;
+    let list = TokenList::of(alloc, sections)?;
+    let text = formatted(alloc, NameParts::of(&list, sections), format, mode)?;
     Answer::new(text, complaints)
 }
 
@@ -96,50 +100,37 @@ fn complaints_of(name: &[u8], sections: Sections<'_>, is_legal: bool) -> Complai
     }
 }
 
-// The parts of a name in a legal format. It goes no further than the limit of a string.
+// The parts of a name in a legal format.
 fn formatted(
     alloc: Global,
-    parts: NameParts<'_>,
+    parts: NameParts<'_, '_>,
     format: &[u8],
     mode: TextMode,
 ) -> Result<Vec<u8>, Fault>
-    ensures { Makes string_limit result (formatted mode (parts_view parts.entry) format.now) }
+    ensures { Makes greatest_string result (formatted mode (parts_view parts.entry) format.now) }
 {
-    let mut text = Vec::new(alloc);
+    let mut writer = Writer::new(alloc, mode);
     for item in Items::of(format) {
-        push_item(&mut text, item, parts, mode)?;
-        if text.len() > STRING_LIMIT {
-            return Err(Fault::StringLimit);
-        }
+        push_item(&mut writer, item, parts)?;
     }
-    Ok(text)
+    Ok(writer.into_text())
 }
 
 // Adds what an item of a format gives.
-fn push_item(
-    text: &mut Vec<u8>,
-    item: Item<'_>,
-    parts: NameParts<'_>,
-    mode: TextMode,
-) -> Result<(), Fault>
-    ensures { Becomes string_limit result text.new.items (text.old.items ++ item_text mode (parts_view parts.entry) (item_view item.entry)) }
+fn push_item(writer: &mut Writer, item: Item<'_>, parts: NameParts<'_, '_>) -> Result<(), Fault>
+    ensures text { Becomes greatest_string result writer.new.text.items (writer.old.text.items ++ item_text writer.old.mode (parts_view parts.entry) (item_view item.entry)) }
+    ensures mode { writer.new.mode ≡ writer.old.mode }
 {
     match item {
-        Item::Literal(literal) => {
-            text.extend_from_slice(literal)?;
-            Ok(())
-        }
-        Item::Plain(inside) => {
-            push_plain(text, inside, mode)?;
-            Ok(())
-        }
-        Item::Name(piece) => push_piece(text, piece, part_of(parts, piece.part), mode),
+        Item::Literal(literal) => push_literal(writer, literal),
+        Item::Plain(inside) => push_plain(writer, inside),
+        Item::Name(piece) => push_piece(writer, piece, part_of(parts, piece.part)),
         Item::Illegal => Ok(()),
     }
 }
 
 // The part of a name that a piece of a format asks for.
-fn part_of(parts: NameParts<'_>, part: PartName) -> Part<'_>
+fn part_of<'t, 'a>(parts: NameParts<'t, 'a>, part: PartName) -> Part<'t, 'a>
     ensures { part_tokens result ≡ tokens_of_part part (parts_view parts.entry) }
 {
     match part {

@@ -1,13 +1,14 @@
 //! Laws over the definitions. Each function has an empty body, and its contract is the law.
-ghost use Rattle.std.specs.Prelude.{◌≡◌, ℕ, List, [], ◌∷◌, ◌++◌, ◌+◌, Some, length, map, filter, min, nat_lt, true};
-ghost use Rattle.std.specs.List.{join_by};
+ghost use Rattle.std.specs.Prelude.{◌≡◌, ℕ, List, [], ◌∷◌, ◌++◌, ◌+◌, ◌==◌, None, Some, length, map, filter, min, nat_lt, false, not, true};
+ghost use Rattle.std.specs.List.{join_by, list_all};
+ghost use Rattle.btx_names.specs.VonTokens.{is_von};
 ghost use Rattle.btx_text.specs.declared.element_kind.TextMode.{TextMode};
 ghost use Rattle.btx_names.specs.NameLists.{names_of, separators_of};
 ghost use Rattle.btx_names.specs.Commas.{commas_in, commas_of, final_commas_of};
-ghost use Rattle.btx_names.specs.NameParts.{HasJrByForm, before_last, ends_in_comma, final_of, has_third_comma, in_order, parts_of, sections_of, surname_of};
+ghost use Rattle.btx_names.specs.NameParts.{HasJrByForm, before_last, ends_in_comma, final_of, has_third_comma, in_order, is_hyphen, One, before_final, parts_of, sections_of, surname_of};
 ghost use Rattle.btx_names.specs.Gaps.{and_gap, byte_gap, pieces_between};
 ghost use Rattle.btx_names.specs.Formats.{Piece, is_legal, items_of};
-ghost use Rattle.btx_names.specs.FormattedNames.{finished, piece_text, shown};
+ghost use Rattle.btx_names.specs.FormattedNames.{finished, period_of, piece_text, shown, tie_of, with_tokens};
 ghost use Rattle.btx_names.specs.FormatTexts.{copied_of, in_lower_case, literals_of, text_of_items};
 ghost use Rattle.btx_names.specs.Tokens.{Token, breaks_of, is_some_text, tokens_of};
 
@@ -43,6 +44,26 @@ pub fn final_token_is_last()
         (rest : List Token) × (front ≡ before_last (sections_of name) (parts_of name) ++ rest) }
 {}
 
+/// Von ends in a von token. Where a name has no comma, von begins in one too, and First has none.
+#[tactic(auto, using(crate::proofs::VonLawLemmas::von_laws))]
+pub fn von_between_von_tokens()
+    ensures ends { (name : List ℕ) (front : List Token) (final : Token) → (parts_of name).von ≡ front ++ final ∷ [] → is_von final.text ≡ true }
+    ensures begins { (name : List ℕ) (token : Token) (tokens : List Token) → sections_of name ≡ One name → (parts_of name).von ≡ token ∷ tokens →
+        is_von token.text ≡ true }
+    ensures first { (name : List ℕ) → sections_of name ≡ One name → list_all (λ token. not (is_von token.text)) (parts_of name).first ≡ true }
+{}
+
+/// In a name without commas, and without a von token before the final one, all tokens of Last but the final one are joined to the next by `-`,
+/// and the last token of First isn't: so Last has those that `-` joins to the final token, and no other.
+#[tactic(auto, using(crate::proofs::VonLawLemmas::von_laws))]
+pub fn hyphens_join_to_last()
+    ensures joined { (name : List ℕ) → sections_of name ≡ One name → list_all (λ token. not (is_von token.text)) (before_final (tokens_of name)) ≡ true →
+        list_all (λ token. is_hyphen token.joint) (before_final (parts_of name).last) ≡ true }
+    ensures apart { (name : List ℕ) (front : List Token) (final : Token) → sections_of name ≡ One name →
+        list_all (λ token. not (is_von token.text)) (before_final (tokens_of name)) ≡ true → (parts_of name).first ≡ front ++ final ∷ [] →
+        is_hyphen final.joint ≡ false }
+{}
+
 /// How many commas count in a name says its form: without one it is First von Last, with one it is von Last, First, and with two or more it is
 /// von Last, Jr, First; a third one is told. And a name is told to end in a comma exactly where it has a comma at depth 0 that no token
 /// follows.
@@ -60,6 +81,16 @@ pub fn tokens_joined_by_the_string_between()
     ensures { (mode : TextMode) (piece : Piece) (between : List ℕ) (token : Token) (tokens : List Token) → piece.between ≡ Some between →
         piece_text mode piece (token ∷ tokens)
         ≡ finished mode (piece.before ++ join_by (λ token. shown mode piece.is_full token.text) between (token ∷ tokens) ++ piece.after) }
+{}
+
+/// Between two tokens of a piece without a string between stands a period, if they are abbreviated, and a tie: the `~` or `-` of the name; else
+/// a `~` before the part's last token and where the piece's text is still short, its beginning and that period included; else a space.
+#[tactic(auto, using(crate::proofs::JoinLemmas::tokens_tied))]
+pub fn tokens_tied_without_a_string()
+    ensures { (mode : TextMode) (piece : Piece) (so_far : List ℕ) (token next : Token) (tokens : List Token) → piece.between ≡ None →
+        let text = so_far ++ shown mode piece.is_full token.text ++ period_of piece.is_full in
+        with_tokens mode piece so_far (token ∷ next ∷ tokens)
+        ≡ with_tokens mode piece (text ++ tie_of mode text token.joint (length tokens == 0) ∷ []) (next ∷ tokens) }
 {}
 
 /// The items of a legal format, written one after another, are the format, but for the case of letters: an item doesn't say in which case

@@ -10,14 +10,16 @@ mod name_list;
 mod name_parts;
 mod name_ranges;
 mod name_sections;
+mod name_token;
 mod name_tokens;
-mod part_tokens;
+mod part;
 mod pieces;
 mod runs;
 mod separators;
-mod ties;
 mod token_counts;
+mod token_list;
 mod von_tokens;
+mod writer;
 
 pub use formatted::format_name;
 pub use name_list::num_names;

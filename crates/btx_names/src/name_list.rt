@@ -1,6 +1,6 @@
 //! The names of a string, one at a time.
 ghost use Rattle.std.specs.Prelude.{◌≡◌, ◌≤◌, ◌+◌, length, pos};
-ghost use Rattle.btx_strings.specs.Limit.{string_limit};
+ghost use Rattle.btx_text.specs.Limits.{greatest_string};
 ghost use Rattle.btx_names.specs.NameLists.{names_of};
 
 use crate::separators::name_len;
@@ -61,7 +61,7 @@ impl<'a> Iterator for Names<'a> {
 
 /// How many names a string holds.
 pub fn num_names(names: &[u8]) -> i32
-    requires { length names.now ≤ string_limit }
+    requires { length names.now ≤ greatest_string }
     ensures { result ≡ pos (length (names_of names.now)) }
 {
     Names::of(names).count() as i32

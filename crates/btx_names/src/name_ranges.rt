@@ -1,9 +1,9 @@
 //! Where the parts of a name begin and end in the list of its tokens.
-ghost use Rattle.std.specs.Prelude.{◌≡◌, ◌≤◌, drop, length};
-ghost use Rattle.btx_names.specs.Tokens.{tokens_of};
+ghost use Rattle.std.specs.Prelude.{◌≡◌, ◌≤◌, length};
+ghost use Rattle.btx_names.specs.PartViews.{part_tokens};
 ghost use Rattle.btx_names.specs.NameParts as spec;
 
-use crate::name_tokens::Tokens;
+use crate::part::Part;
 use crate::token_counts::{TokenTest, before_first, up_to_last_before_final};
 
 /// Where von and Last begin in a name without commas, as counts of tokens.
@@ -18,11 +18,11 @@ pub struct Ranges {
 impl Ranges {
     /// Where von and Last begin in a name without commas.
     #[tactic(auto, using(crate::proofs::RangeLemmas::ranges))]
-    pub fn of(name: &[u8]) -> Ranges
-        ensures von_start { result.von_start ≡ spec.von_start (tokens_of name.now) }
-        ensures last_start { result.last_start ≡ spec.last_start (tokens_of name.now) }
+    pub fn of(name: Part<'_, '_>) -> Ranges
+        ensures von_start { result.von_start ≡ spec.von_start (part_tokens name.entry) }
+        ensures last_start { result.last_start ≡ spec.last_start (part_tokens name.entry) }
         ensures ordered { result.von_start ≤ result.last_start }
-        ensures bound { result.last_start ≤ length (tokens_of name.now) }
+        ensures bound { result.last_start ≤ length (part_tokens name.entry) }
     {
         let end = von_end(name);
         if end > 0 {
@@ -41,23 +41,9 @@ impl Ranges {
 
 /// How many tokens there are up to the last von token before the final one.
 #[tactic(auto, using(crate::proofs::RangeLemmas::ranges))]
-pub fn von_end(surname: &[u8]) -> usize
-    ensures value { result ≡ spec.von_end (tokens_of surname.now) }
-    ensures bound { result ≤ length (tokens_of surname.now) }
+pub fn von_end(surname: Part<'_, '_>) -> usize
+    ensures value { result ≡ spec.von_end (part_tokens surname.entry) }
+    ensures bound { result ≤ length (part_tokens surname.entry) }
 {
     up_to_last_before_final(surname, TokenTest::Von)
-}
-
-/// The text behind its first tokens.
-#[tactic(auto, using(crate::proofs::RangeLemmas::drop_steps))]
-pub fn text_after(text: &[u8], count: usize) -> &[u8]
-    ensures { tokens_of result.now ≡ drop count (tokens_of text.now) }
-{
-    let mut tokens = Tokens::of(text);
-    for _turn in 0..count {
-        if tokens.next().is_none() {
-            return &[];
-        }
-    }
-    tokens.behind()
 }

@@ -18,7 +18,7 @@ pub enum Sections<'a> {
 }
 
 impl<'a> Sections<'a> {
-    ghost use Rattle.btx_names.specs.SectionViews.{sections_view};
+    ghost use Rattle.btx_names.specs.SectionViews.{first_of, jr_of, sections_view};
 
     /// The sections of a name.
     #[tactic(auto, unfolding(crate::specs::NameParts::sections_of))]
@@ -31,6 +31,20 @@ impl<'a> Sections<'a> {
         match split_at_comma(rest) {
             Some((two, three)) => Sections::Three(one, two, three),
             None => Sections::Two(one, rest),
+        }
+    }
+
+    /// Its texts: the section of the surname, which is the whole name where there is but one, that of a Jr, and that of First behind a comma.
+    /// What isn't there is empty.
+    pub fn texts(self) -> (&'a [u8], &'a [u8], &'a [u8])
+        ensures surname { result.0.now ≡ spec.surname_of (sections_view self.entry) }
+        ensures jr { result.1.now ≡ jr_of (sections_view self.entry) }
+        ensures first { result.2.now ≡ first_of (sections_view self.entry) }
+    {
+        match self {
+            Sections::One(name) => (name, &[], &[]),
+            Sections::Two(surname, first) => (surname, &[], first),
+            Sections::Three(surname, jr, first) => (surname, jr, first),
         }
     }
 

@@ -1,5 +1,5 @@
 //! The tokens of a name, one at a time.
-ghost use Rattle.std.specs.Prelude.{◌≡◌, ◌≤◌, length};
+ghost use Rattle.std.specs.Prelude.{◌≡◌};
 ghost use Rattle.btx_names.specs.Tokens.{joint_of, skip_breaks, tokens_of};
 
 use crate::runs::{Stop, is_break, run_len};
@@ -42,19 +42,10 @@ impl<'a> Model for Tokens<'a> {
 
 impl<'a> Tokens<'a> {
     /// The tokens of a text, whose brace depth begins at 0.
-    #[tactic(auto, using(crate::proofs::TokenLemmas::token_lengths))]
     pub fn of(text: &'a [u8]) -> Tokens<'a>
-        ensures value { result ≡ tokens_of text.now }
-        ensures len { length result ≤ length text.now }
+        ensures { result ≡ tokens_of text.now }
     {
         Tokens { rest: text }
-    }
-
-    /// The text that the tokens still to come stand in.
-    pub fn behind(self) -> &'a [u8]
-        ensures { tokens_of result.now ≡ self.entry }
-    {
-        self.rest
     }
 }
 

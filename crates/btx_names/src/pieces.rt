@@ -1,91 +1,130 @@
 //! The pieces of a formatted name.
-ghost use Rattle.std.specs.Prelude.{◌≡◌, ◌++◌, ◌+◌, ◌≤◌, length, drop, take, OnOk};
-ghost use Rattle.btx_strings.specs.Limit.{string_limit};
+ghost use Rattle.std.specs.Prelude.{◌≡◌, ◌++◌, ◌+◌, drop, take};
+ghost use Rattle.std.specs.List.{flat_map};
+ghost use Rattle.btx_text.specs.Limits.{greatest_string};
 ghost use Rattle.btx_names.specs.Becomes.{Becomes};
 ghost use Rattle.btx_names.specs.FormattedNames as spec;
-ghost use Rattle.btx_names.specs.ItemViews.{piece_view};
+ghost use Rattle.btx_names.specs.ItemViews.{has_nothing_between, piece_view};
 ghost use Rattle.btx_names.specs.PartViews.{part_tokens};
 
 use crate::format_items::Piece;
 use crate::initials::initial_of;
-use crate::name_parts::Part;
-use crate::part_tokens::PartTokens;
-use crate::ties::{finish, push_between, push_between_long};
-use btx_strings::answers::STRING_LIMIT;
-use btx_text::{Fault, TextMode};
-use std::alloc::AllocError;
+use crate::name_token::NameToken;
+use crate::name_tokens::Joint;
+use crate::part::Part;
+use crate::writer::Writer;
+use btx_text::Fault;
 
 /// Adds a piece with the tokens of its part; nothing, where the part has none.
-pub fn push_piece(
-    text: &mut Vec<u8>,
-    piece: Piece<'_>,
-    part: Part<'_>,
-    mode: TextMode,
-) -> Result<(), Fault>
-    ensures { Becomes string_limit result text.new.items (text.old.items ++ spec.piece_text mode (piece_view piece.entry) (part_tokens part.entry)) }
+pub fn push_piece(writer: &mut Writer, piece: Piece<'_>, part: Part<'_, '_>) -> Result<(), Fault>
+    ensures text { Becomes greatest_string result writer.new.text.items (writer.old.text.items ++ spec.piece_text writer.old.mode (piece_view piece.entry) (part_tokens part.entry)) }
+    ensures mode { writer.new.mode ≡ writer.old.mode }
 {
-    if part.count == 0 {
+    if part.tokens.is_empty() {
         return Ok(());
     }
-    let start = text.len();
-    text.extend_from_slice(piece.before)?;
-    push_tokens(text, start, piece, part, mode)?;
-    text.extend_from_slice(piece.after)?;
-    finish(text, start, mode);
+    writer.begin_piece();
+    writer.push(piece.before)?;
+    push_tokens(writer, piece, part)?;
+    writer.push(piece.after)?;
+    writer.finish_piece();
     Ok(())
+}
+
+/// Adds bytes outside braces.
+pub fn push_literal(writer: &mut Writer, literal: &[u8]) -> Result<(), Fault>
+    ensures text { Becomes greatest_string result writer.new.text.items (writer.old.text.items ++ literal.now) }
+    ensures mode { writer.new.mode ≡ writer.old.mode }
+{
+    writer.push(literal)
 }
 
 /// Adds a group without a letter.
-pub fn push_plain(text: &mut Vec<u8>, inside: &[u8], mode: TextMode) -> Result<(), AllocError>
-    ensures { OnOk result (text.new.items ≡ text.old.items ++ spec.finished mode inside.now) }
+pub fn push_plain(writer: &mut Writer, inside: &[u8]) -> Result<(), Fault>
+    ensures text { Becomes greatest_string result writer.new.text.items (writer.old.text.items ++ spec.finished writer.old.mode inside.now) }
+    ensures mode { writer.new.mode ≡ writer.old.mode }
 {
-    let start = text.len();
-    text.extend_from_slice(inside)?;
-    finish(text, start, mode);
+    writer.begin_piece();
+    writer.push(inside)?;
+    writer.finish_piece();
     Ok(())
 }
 
-// Adds the tokens of a piece's part, where the piece's text begins at `start`. It goes no further than the limit of a string.
-#[tactic(auto, using(crate::proofs::PieceLemmas::piece_steps))]
-fn push_tokens(
-    text: &mut Vec<u8>,
-    start: usize,
-    piece: Piece<'_>,
-    part: Part<'_>,
-    mode: TextMode,
-) -> Result<(), Fault>
-    requires { start ≤ length text.old.items }
-    ensures { Becomes (string_limit + 1) result text.new.items
-        (take start text.old.items ++ spec.with_tokens mode (piece_view piece.entry) (drop start text.old.items) (part_tokens part.entry)) }
+// Adds the tokens of a piece's part. It takes no more turns than it adds bytes, or one.
+fn push_tokens(writer: &mut Writer, piece: Piece<'_>, part: Part<'_, '_>) -> Result<(), Fault>
+    ensures text { Becomes (greatest_string + 1) result writer.new.text.items
+        (take writer.old.start writer.old.text.items ++ spec.with_tokens writer.old.mode (piece_view piece.entry) (drop writer.old.start writer.old.text.items) (part_tokens part.entry)) }
+    ensures start { writer.new.start ≡ writer.old.start }
+    ensures mode { writer.new.mode ≡ writer.old.mode }
 {
-    let mut left = part.count;
-    let mut is_long = false;
-    for token in PartTokens::of(part) {
+    if has_nothing_between(piece) {
+        return push_initials(writer, part);
+    }
+    let mut left = part.tokens.len();
+    for token in part.tokens {
         left -= 1;
-        push_shown(text, token.text, piece.is_full, mode)?;
-        if is_long {
-            push_between_long(text, piece, token.joint, left)?;
-        } else {
-            is_long = push_between(text, start, piece, token.joint, left, mode)?;
-        }
-        if text.len() > STRING_LIMIT + 1 {
-            return Err(Fault::StringLimit);
-        }
+        push_shown(writer, token, piece.is_full)?;
+        push_between(writer, piece, token.joint, left)?;
+    }
+    Ok(())
+}
+
+// Whether a piece's tokens are abbreviated, with the empty string between them.
+fn has_nothing_between(piece: Piece<'_>) -> bool
+    ensures { result ≡ has_nothing_between (piece_view piece.entry) }
+{
+    !piece.is_full && matches!(piece.between, Some([]))
+}
+
+// Adds the tokens of a part, abbreviated and with nothing between them. It passes over those that have no abbreviation.
+fn push_initials(writer: &mut Writer, part: Part<'_, '_>) -> Result<(), Fault>
+    ensures text { Becomes (greatest_string + 1) result writer.new.text.items
+        (writer.old.text.items ++ flat_map (λ token. spec.initial_of writer.old.mode token.text) (part_tokens part.entry)) }
+    ensures start { writer.new.start ≡ writer.old.start }
+    ensures mode { writer.new.mode ≡ writer.old.mode }
+{
+    let mut place = 0;
+    while place < part.tokens.len() {
+        let token = &part.tokens[place];
+        writer.push(initial_of(token, writer.mode()))?;
+        place += 1 + token.bare_behind.min(part.tokens.len() - 1 - place);
     }
     Ok(())
 }
 
 // Adds a token, in full or abbreviated.
-fn push_shown(
-    text: &mut Vec<u8>,
-    token: &[u8],
-    is_full: bool,
-    mode: TextMode,
-) -> Result<(), AllocError>
-    ensures { OnOk result (text.new.items ≡ text.old.items ++ spec.shown mode is_full token.now) }
+fn push_shown(writer: &mut Writer, token: &NameToken<'_>, is_full: bool) -> Result<(), Fault>
+    ensures text { Becomes (greatest_string + 1) result writer.new.text.items (writer.old.text.items ++ spec.shown writer.old.mode is_full token.now.text.now) }
+    ensures start { writer.new.start ≡ writer.old.start }
+    ensures mode { writer.new.mode ≡ writer.old.mode }
 {
     if is_full {
-        return text.extend_from_slice(token);
+        return writer.push(token.text);
     }
-    text.extend_from_slice(initial_of(token, mode))
+    writer.push(initial_of(token, writer.mode()))
+}
+
+// Adds what stands behind a token, with how many are left.
+#[tactic(auto, unfolding(crate::specs::FormattedNames::between_text))]
+fn push_between(
+    writer: &mut Writer,
+    piece: Piece<'_>,
+    joint: Joint,
+    left: usize,
+) -> Result<(), Fault>
+    ensures text { Becomes (greatest_string + 1) result writer.new.text.items
+        (writer.old.text.items ++ spec.between_text writer.old.mode (piece_view piece.entry) (drop writer.old.start writer.old.text.items) joint left) }
+    ensures start { writer.new.start ≡ writer.old.start }
+    ensures mode { writer.new.mode ≡ writer.old.mode }
+{
+    if left == 0 {
+        return Ok(());
+    }
+    if let Some(between) = piece.between {
+        return writer.push(between);
+    }
+    if !piece.is_full {
+        writer.push(b".")?;
+    }
+    writer.push_tie(joint, left == 1)
 }

@@ -1,10 +1,12 @@
 //! Places in the list of a name's tokens.
-ghost use Rattle.std.specs.Prelude.{◌≡◌, ◌≤◌, length, drop};
-ghost use Rattle.btx_names.specs.Tokens.{tokens_of};
-ghost use Rattle.btx_names.specs.TokenViews.{token_of};
+ghost use Rattle.std.specs.Prelude.{◌≡◌};
+ghost use Rattle.btx_names.specs.NameTokens.{token_of};
+ghost use Rattle.btx_names.specs.PartViews.{part_tokens};
 ghost use Rattle.btx_names.specs.NameParts as spec;
 
-use crate::name_tokens::{Joint, Token, Tokens};
+use crate::name_token::NameToken;
+use crate::name_tokens::Joint;
+use crate::part::Part;
 use crate::von_tokens::is_von;
 
 /// What is asked of a token.
@@ -17,8 +19,8 @@ pub enum TokenTest {
 }
 
 // Whether a token passes a test.
-fn passes(test: TokenTest, token: Token<'_>) -> bool
-    ensures { result ≡ spec.passes test (token_of token.entry) }
+fn passes(test: TokenTest, token: &NameToken<'_>) -> bool
+    ensures { result ≡ spec.passes test (token_of token.now) }
 {
     match test {
         TokenTest::Von => is_von(token.text),
@@ -26,42 +28,30 @@ fn passes(test: TokenTest, token: Token<'_>) -> bool
     }
 }
 
-/// How many tokens a text has.
-pub fn token_count(text: &[u8]) -> usize
-    ensures { result ≡ length (tokens_of text.now) }
-{
-    Tokens::of(text).count()
-}
-
 /// How many tokens there are up to the last one before the final token that passes a test, 0 where none does.
 #[tactic(auto, using(crate::proofs::CountLemmas::last_steps))]
-pub fn up_to_last_before_final(text: &[u8], test: TokenTest) -> usize
-    ensures { result ≡ spec.up_to_last (spec.passes test) (spec.before_final (tokens_of text.now)) }
+pub fn up_to_last_before_final(part: Part<'_, '_>, test: TokenTest) -> usize
+    ensures { result ≡ spec.up_to_last (spec.passes test) (spec.before_final (part_tokens part.entry)) }
 {
-    let mut seen = 0;
-    let mut end = 0;
-    let mut previous_passes = false;
-    for token in Tokens::of(text) {
-        if previous_passes {
-            end = seen;
+    let mut place = part.tokens.len().saturating_sub(1);
+    while place > 0 {
+        if passes(test, &part.tokens[place - 1]) {
+            return place;
         }
-        previous_passes = passes(test, token);
-        seen += 1;
+        place -= 1;
     }
-    end
+    0
 }
 
 /// How many tokens stand before the first that passes a test.
 #[tactic(auto, using(crate::proofs::CountLemmas::first_steps))]
-pub fn before_first(text: &[u8], test: TokenTest) -> usize
-    ensures { result ≡ spec.before_first (spec.passes test) (tokens_of text.now) }
+pub fn before_first(part: Part<'_, '_>, test: TokenTest) -> usize
+    ensures { result ≡ spec.before_first (spec.passes test) (part_tokens part.entry) }
 {
-    let mut seen = 0;
-    for token in Tokens::of(text) {
+    for (place, token) in part.tokens.iter().enumerate() {
         if passes(test, token) {
-            return seen;
+            return place;
         }
-        seen += 1;
     }
-    seen
+    part.tokens.len()
 }

@@ -1,7 +1,7 @@
 -- The law over budgets.
 use Rattle.std.proofs.Common.{◌≡◌, ◌≢◌, ℕ, ◌+◌, ◌-◌, ◌≤◌, List, Option, None, Some, IsSomeAnd, refl, ap, ◌∙◌, subst, arith}
 use Rattle.std.specs.Option.{option_map}
-use Rattle.btx_aux.specs.Notes.{Line}
+use Rattle.btx_text.specs.LogLines.{Line}
 use Rattle.btx_run.specs.declared.report.End.TheVariants as ended
 use Rattle.btx_run.specs.Budgets.{Begins, BudgetLaw, Foretells}
 use Rattle.btx_run.specs.Execution.{Outcome, actions_of, bbl_of, no_work, outcome_of}

@@ -3,7 +3,7 @@ use Rattle.std.proofs.Common.{◌≡◌, ℕ, zero, suc, ◌+◌, ◌-◌, ◌�
 use Rattle.std.proofs.lemmas.Grind.{flat_map-append}
 use Rattle.std.specs.Io.KnownBytes.{Appends, Keeps}
 use Rattle.std.proofs.KnownBytes.{Appends-trans, Appends-nil}
-use Rattle.btx_aux.specs.Notes.{Line}
+use Rattle.btx_text.specs.LogLines.{Line}
 use Rattle.btx_out.specs.Pieces.{AppendsAtLeast, AppendsBeginning}
 use Rattle.btx_out.proofs.PieceLemmas.{beginning-after, beginning-all, beginning-longer, beginning-none_same}
 use Rattle.btx_run.specs.Budgets.{Begins}

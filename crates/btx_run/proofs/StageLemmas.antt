@@ -5,7 +5,7 @@ use Rattle.btx_aux.specs.Files.{Files, file_of}
 use Rattle.btx_aux.specs.declared.fetch_fault.FetchFault.{FetchFault}
 use Rattle.btx_aux.specs.declared.fetch_fault.FetchFault.TheVariants as fetch_fault
 use Rattle.btx_run.specs.RunFaults.{run_fault_of_fetch}
-use Rattle.btx_aux.specs.Notes.{Line}
+use Rattle.btx_text.specs.LogLines.{Line}
 use Rattle.btx_aux.specs.Job.{Job, job_of_files}
 use Rattle.btx_aux.specs.declared.end.End.{End as AuxEnd}
 use Rattle.btx_aux.specs.declared.end.End.TheVariants as aux
@@ -18,7 +18,7 @@ use Rattle.btx_run.specs.declared.run_fault.RunFault.{RunFault}
 use Rattle.btx_run.specs.declared.run_fault.RunFault.TheVariants.{Memory, Device, NotYet}
 use Rattle.btx_run.specs.KeepingStep.{NothingWritten, Received}
 use Rattle.btx_run.specs.LogLines.{database_line, no_style_line, style_line}
-use Rattle.btx_run.specs.Product.{Ends, Executes, Reading, error, is_too_long, named_once, plain, after_ending, after_database, after_databases, after_style_named, after_style, reading, reading_of, top_name}
+use Rattle.btx_run.specs.Product.{Ends, Executes, Reading, is_too_long, named_once, after_ending, after_database, after_databases, after_style_named, after_style, reading, reading_of, top_name}
 use Rattle.btx_run.specs.Runs.{RunsAs}
 use Rattle.btx_run.specs.Styles.{Part, Style}
 use Rattle.btx_run.specs.StyleViews.{functions_view, names_in}
@@ -40,12 +40,12 @@ runs_outside r bbl log read budget is none = subst (λ (a : Result Report RunFau
 -- ---- the database
 
 pub database_too_long : (told : List Line) (key : List ℕ) (style : Style) (name text : List ℕ) → is_too_long text ≡ true
-    → after_database told key style name (Some text) ≡ Some (reading (told ++ plain (database_line 1 name) ∷ []) (Ends (ended.Limit File)))
+    → after_database told key style name (Some text) ≡ Some (reading (told ++ database_line 1 name ∷ []) (Ends (ended.Limit File)))
 unfolding after_database
 database_too_long told key style name text long = rw long refl
 
 pub database_fits : (told : List Line) (key : List ℕ) (style : Style) (name text : List ℕ) → is_too_long text ≡ false → is_database style.types key text ≡ true
-    → after_database told key style name (Some text) ≡ Some (reading (told ++ plain (database_line 1 name) ∷ []) (Executes style.bodies))
+    → after_database told key style name (Some text) ≡ Some (reading (told ++ database_line 1 name ∷ []) (Executes style.bodies))
 unfolding after_database
 database_fits told key style name text long fits = rw (long, fits) refl
 
@@ -104,9 +104,8 @@ pub runs_is : (r : Result Report RunFault) (bbl log : Received) (read read' : Op
 runs_is r bbl log read read' budget is runs = subst (λ (x : Option Reading). RunsAs r bbl log x budget) (sym is) runs
 
 -- a line more
-pub one_more : (told told' : List Line) (text text' : List ℕ) (is_error : Bool) → told' ≡ told ++ record { text = text; is_error = is_error } ∷ [] → text ≡ text'
-    → told' ≡ told ++ record { text = text'; is_error = is_error } ∷ []
-one_more told told' text text' is_error more is = more ∙ ap (λ t. told ++ record { text = t; is_error = is_error } ∷ []) is
+pub one_more : (told told' : List Line) (line line' : Line) → told' ≡ told ++ line ∷ [] → line ≡ line' → told' ≡ told ++ line' ∷ []
+one_more told told' line line' more is = more ∙ ap (λ l. told ++ l ∷ []) is
 
 -- ---- the databases
 
@@ -138,7 +137,7 @@ runs_database_once content r bbl log told style job name key text budget is foun
 -- ---- the style
 
 style_is_too_long : (files : Files) (told : List Line) (job : Job) (name text : List ℕ) → is_too_long text ≡ true
-    → after_style files told job name (Some text) ≡ Some (reading (told ++ plain (style_line name) ∷ []) (Ends (ended.Limit File)))
+    → after_style files told job name (Some text) ≡ Some (reading (told ++ style_line name ∷ []) (Ends (ended.Limit File)))
 unfolding after_style
 style_is_too_long files told job name text long = rw long refl
 
@@ -148,16 +147,16 @@ unfolding after_style
 style_is_outside files told job name text long none = rw (long, none) refl
 
 style_is_read : (files : Files) (told : List Line) (job : Job) (style : Style) (name text : List ℕ) → is_too_long text ≡ false → style_of text ≡ Some style
-    → after_style files told job name (Some text) ≡ after_databases files (told ++ plain (style_line name) ∷ []) style job
+    → after_style files told job name (Some text) ≡ after_databases files (told ++ style_line name ∷ []) style job
 unfolding after_style
 style_is_read files told job style name text long is = rw (long, is) refl
 
-pub no_style : (files : Files) (told : List Line) (job : Job) (name : List ℕ) → after_style files told job name None ≡ Some (reading (told ++ error (no_style_line name) ∷ []) (Ends ended.Finished))
+pub no_style : (files : Files) (told : List Line) (job : Job) (name : List ℕ) → after_style files told job name None ≡ Some (reading (told ++ no_style_line name ∷ []) (Ends ended.Finished))
 unfolding after_style
 no_style files told job name = refl
 
 pub runs_style_too_long : (content : Option Files) (r : Result Report RunFault) (bbl log : Received) (told told' : List Line) (job : Job) (name text : List ℕ) (budget : ℕ)
-    → told' ≡ told ++ plain (style_line name) ∷ [] → is_too_long text ≡ true → RunsAs r bbl log (Some (reading told' (Ends (ended.Limit File)))) budget
+    → told' ≡ told ++ style_line name ∷ [] → is_too_long text ≡ true → RunsAs r bbl log (Some (reading told' (Ends (ended.Limit File)))) budget
     → IfSome content (λ files. RunsAs r bbl log (after_style files told job name (Some text)) budget)
 runs_style_too_long content r bbl log told told' job name text budget more long runs =
     if_told content _ (λ files. runs_is r bbl log _ _ budget (style_is_too_long files told job name text long ∙ ap (λ t. Some (reading t (Ends (ended.Limit File)))) (sym more)) runs)
@@ -168,7 +167,7 @@ pub runs_style_outside : (content : Option Files) (bbl log : Option (List ℕ)) 
 runs_style_outside content bbl log told job name text budget long none = if_told content _ (λ files. (style_is_outside files told job name text long none, nothing_written bbl log))
 
 pub runs_style_read : (content : Option Files) (r : Result Report RunFault) (bbl log : Received) (told told' : List Line) (job : Job) (style : Style) (name text : List ℕ) (budget : ℕ)
-    → told' ≡ told ++ plain (style_line name) ∷ [] → is_too_long text ≡ false → style_of text ≡ Some style
+    → told' ≡ told ++ style_line name ∷ [] → is_too_long text ≡ false → style_of text ≡ Some style
     → IfSome content (λ files. RunsAs r bbl log (after_databases files told' style job) budget)
     → IfSome content (λ files. RunsAs r bbl log (after_style files told job name (Some text)) budget)
 runs_style_read content r bbl log told told' job style name text budget more long is runs =

@@ -3,7 +3,7 @@ use Rattle.std.proofs.Common.{◌≡◌, ◌≢◌, ℕ, zero, suc, ◌-◌, ◌
 use Rattle.std.specs.Bool.{⊤}
 use Rattle.std.specs.Option.{option_and_then, option_map}
 use Rattle.btx_aux.specs.Files.{Files}
-use Rattle.btx_aux.specs.Notes.{Line}
+use Rattle.btx_text.specs.LogLines.{Line}
 use Rattle.btx_aux.specs.Job.{Job, job_of_files}
 use Rattle.btx_aux.specs.declared.end.End.{End as AuxEnd}
 use Rattle.btx_aux.specs.declared.end.End.TheVariants as aux

@@ -4,6 +4,7 @@ use Rattle.std.specs.List.{list_any, prefix_len}
 use Rattle.std.specs.Option.{option_map_or}
 use Rattle.std.specs.Char.{is_ascii_alphanumeric}
 use Rattle.std.specs.Str.{bytes_eq}
+use Rattle.btx_text.specs.Limits.{greatest_string}
 use Rattle.btx_text.specs.Lines.{lines_of}
 use Rattle.btx_run.specs.Fronts.{after_front, letters_of, behind, behind_letters}
 
@@ -30,7 +31,7 @@ is_field word = not (length word == 0) && not (bytes_eq word (codes "crossref"))
 -- letters and digits, at most 1,000,000, and then the two braces that end the value and the entry. What a longer value comes to
 -- depends on whether the style declares its field, so it isn't covered
 abbrev pub is_value : List ℕ → Bool
-is_value text = not (nat_lt 1000000 (prefix_len is_ascii_alphanumeric text)) && bytes_eq (behind is_ascii_alphanumeric text) (codes "}}")
+is_value text = not (nat_lt greatest_string (prefix_len is_ascii_alphanumeric text)) && bytes_eq (behind is_ascii_alphanumeric text) (codes "}}")
 
 -- ` = {V}}`, a value of letters and digits and the end of the entry
 abbrev pub is_assigned : List ℕ → Bool

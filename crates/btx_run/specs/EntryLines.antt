@@ -2,6 +2,7 @@
 use Rattle.std.specs.Prelude.{◌≡◌, ℕ, true, ◌≤◌, length, List, [], ◌∷◌, ◌++◌, codes}
 use Rattle.std.specs.List.{list_all}
 use Rattle.std.specs.Char.{is_ascii_alphanumeric, is_ascii_lowercase}
+use Rattle.btx_text.specs.Limits.{greatest_string}
 use Rattle.btx_text.specs.Lines.{lines_of}
 use Rattle.btx_run.specs.Database.{is_field, is_type}
 
@@ -17,7 +18,7 @@ pub record IsEntryLine (types : List (List ℕ)) (key line : List ℕ) : Type 0 
   pub field_is_letters : list_all is_ascii_lowercase field ≡ true
   pub field_fits : is_field field ≡ true
   pub value_is_alphanumeric : list_all is_ascii_alphanumeric value ≡ true
-  pub value_fits : length value ≤ 1000000
+  pub value_fits : length value ≤ greatest_string
 
 -- the text is one such line
 abbrev pub IsOneEntry : List (List ℕ) → List ℕ → List ℕ → Type 0

@@ -1,19 +1,21 @@
 -- The lines of a log, without byte 10. They stand in the order in which things happen.
 use Rattle.std.specs.Prelude.{ℕ, List, ◌++◌, codes, decimal}
+use Rattle.btx_text.specs.declared.log_line.LineKind.TheVariants.{Plain, Error}
+use Rattle.btx_text.specs.LogLines.{Line, message}
 use Rattle.btx_run.specs.declared.report.Report.{Report}
 use Rattle.btx_run.specs.Ends.{word_of}
 
 -- the style was found
-unfoldable pub style_line : List ℕ → List ℕ
-style_line name = codes "The style file: " ++ name
+unfoldable pub style_line : List ℕ → Line
+style_line name = message Plain (codes "The style file: " ++ name)
 
 -- the style was not found
-unfoldable pub no_style_line : List ℕ → List ℕ
-no_style_line name = codes "Error--I couldn't open style file " ++ name
+unfoldable pub no_style_line : List ℕ → Line
+no_style_line name = message Error (codes "I couldn't open style file " ++ name)
 
 -- a database was found, of those found the one of this number
-unfoldable pub database_line : ℕ → List ℕ → List ℕ
-database_line number name = codes "Database file #" ++ decimal number ++ codes ": " ++ name
+unfoldable pub database_line : ℕ → List ℕ → Line
+database_line number name = message Plain (codes "Database file #" ++ decimal number ++ codes ": " ++ name)
 
 -- the last line of each log
 unfoldable pub last_line : Report → List ℕ

@@ -4,7 +4,9 @@ use Rattle.std.specs.Prelude.{ℕ, ◌-◌, ◌^◌, Bool, true, false, nat_lt, 
 use Rattle.std.specs.List.{flat_map, ends_with}
 use Rattle.std.specs.Option.{option_and_then, option_map}
 use Rattle.btx_aux.specs.Files.{Files}
-use Rattle.btx_aux.specs.Notes.{Line}
+use Rattle.btx_text.specs.Limits.{greatest_file}
+use Rattle.btx_text.specs.LogLines.{Line}
+use Rattle.btx_aux.specs.Notes.{is_error}
 use Rattle.btx_aux.specs.Job.{Job, job_of_files}
 use Rattle.btx_aux.specs.declared.end.End.{End as AuxEnd}
 use Rattle.btx_aux.specs.declared.end.End.TheVariants as aux
@@ -26,7 +28,7 @@ top_name job = if ends_with nat_eq job (codes ".aux") then job else job ++ codes
 
 -- a file that is too long to be read
 abbrev pub is_too_long : List ℕ → Bool
-is_too_long text = nat_lt 2147483647 (length text)
+is_too_long text = nat_lt greatest_file (length text)
 
 -- ---- reading
 
@@ -43,18 +45,11 @@ pub record Reading : Type 0 where
 abbrev pub reading : List Line → Then → Reading
 reading told follows = record { told = told; follows = follows }
 
--- a line of the log that is no error, and one that is
-abbrev pub plain : List ℕ → Line
-plain text = record { text = text; is_error = false }
-
-abbrev pub error : List ℕ → Line
-error text = record { text = text; is_error = true }
-
 -- the database, once it is looked for: it has to be found, and to be covered
 unfoldable pub after_database : List Line → List ℕ → Style → List ℕ → Option (List ℕ) → Option Reading
 after_database told key style name None = None
 after_database told key style name (Some text) =
-    let found = told ++ plain (database_line 1 name) ∷ [] in
+    let found = told ++ database_line 1 name ∷ [] in
     if is_too_long text then Some (reading found (Ends (ended.Limit File)))
     else if is_database style.types key text then Some (reading found (Executes style.bodies))
     else None
@@ -77,9 +72,9 @@ after_databases files told style job = option_and_then (λ both. after_database 
 
 -- the style, once it is looked for: without it the run ends
 unfoldable pub after_style : Files → List Line → Job → List ℕ → Option (List ℕ) → Option Reading
-after_style files told job name None = Some (reading (told ++ error (no_style_line name) ∷ []) (Ends ended.Finished))
+after_style files told job name None = Some (reading (told ++ no_style_line name ∷ []) (Ends ended.Finished))
 after_style files told job name (Some text) =
-    let found = told ++ plain (style_line name) ∷ [] in
+    let found = told ++ style_line name ∷ [] in
     if is_too_long text then Some (reading found (Ends (ended.Limit File)))
     else option_and_then (λ style. after_databases files found style job) (style_of text)
 
@@ -121,7 +116,7 @@ bytes_of_lines lines = flat_map (λ line. ended_line line.text) lines
 
 -- how many of these lines are errors; the greatest number of 64 bits stands for itself and all above
 abbrev pub errors_in : List Line → ℕ
-errors_in lines = min (count_by (λ line. line.is_error) lines) (2 ^ 64 - 1)
+errors_in lines = min (count_by (λ line. is_error line.kind) lines) (2 ^ 64 - 1)
 
 -- the report of a run with so many error messages, and without a warning
 abbrev pub report_of : End → ℕ → ℕ → ℕ → Report

@@ -1,6 +1,6 @@
 -- What clauses see of the lines that the code holds.
 use Rattle.std.specs.Prelude.{List, ◌++◌}
-use Rattle.btx_aux.specs.Notes.{Line}
+use Rattle.btx_text.specs.LogLines.{Line}
 use Rattle.btx_run.specs.declared.told.Told.{Told}
 
 -- the lines of the `.aux` files, and those of the other files

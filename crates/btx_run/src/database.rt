@@ -8,10 +8,7 @@ ghost use Rattle.btx_run.specs.StyleViews.{names_in};
 
 use crate::fronts::{after_front, cut_letters};
 use crate::style_text::function::Function;
-use btx_text::lines;
-
-/// The greatest number of bytes of a value.
-const VALUE_LIMIT: usize = 1_000_000;
+use btx_text::{GREATEST_STRING, lines};
 
 /// Whether a text is the one line `@T{K, F = {V}}` of an entry with this key, where T names one of these functions.
 pub fn is_database(types: &[Function<'_>], key: &[u8], text: &[u8]) -> bool
@@ -104,7 +101,7 @@ fn is_value(text: &[u8]) -> bool
 {
     let count = alphanumeric_count(text);
     let (_, rest) = text.split_at(count);
-    count <= VALUE_LIMIT && rest == b"}}".as_slice()
+    count <= GREATEST_STRING && rest == b"}}".as_slice()
 }
 
 /// How many letters and digits a text begins with.

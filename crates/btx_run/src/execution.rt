@@ -13,10 +13,7 @@ use crate::actions::{Action, Actions};
 use crate::report::{End, Limit};
 use crate::style_text::style::Style;
 use btx_out::{Breaker, LineLength, Sink};
-use btx_text::Fault;
-
-/// The greatest number of bytes of a string.
-const STRING_LIMIT: usize = 1_000_000;
+use btx_text::{Fault, GREATEST_STRING};
 
 /// How an execution ended.
 #[derive(Clone, Copy, Debug, PartialEq, Eq)]
@@ -40,7 +37,7 @@ fn is_past_limit(action: Action<'_>) -> bool
     ensures { result ≡ is_past_limit (action_view action.entry) }
 {
     match action {
-        Action::Push(text) => text.len() > STRING_LIMIT,
+        Action::Push(text) => text.len() > GREATEST_STRING,
         _ => false,
     }
 }

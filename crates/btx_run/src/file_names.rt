@@ -2,10 +2,8 @@
 ghost use Rattle.std.specs.Prelude.{◌≡◌, IfOk};
 ghost use Rattle.btx_run.specs.Product.{is_too_long, top_name};
 
+use btx_text::GREATEST_FILE;
 use std::alloc::{AllocError, Global};
-
-/// The greatest number of bytes of a file.
-const FILE_LIMIT: usize = 2_147_483_647;
 
 /// The name of the top-level file: the job's name with `.aux`, unless it ends so.
 pub fn top_name(alloc: Global, job: &[u8]) -> Result<Vec<u8>, AllocError>
@@ -22,5 +20,5 @@ pub fn top_name(alloc: Global, job: &[u8]) -> Result<Vec<u8>, AllocError>
 pub fn is_too_long(text: &[u8]) -> bool
     ensures { result ≡ is_too_long text.now }
 {
-    text.len() > FILE_LIMIT
+    text.len() > GREATEST_FILE
 }

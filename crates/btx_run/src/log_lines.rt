@@ -1,42 +1,62 @@
 //! The lines of a log, without byte 10.
-ghost use Rattle.std.specs.Prelude.{◌≡◌, ◌++◌, IfOk, OnOk, decimal};
+ghost use Rattle.std.specs.Prelude.{◌≡◌, ◌++◌, IfOk, OnOk, codes, decimal};
+ghost use Rattle.btx_text.specs.LogLines.{message};
 ghost use Rattle.btx_run.specs.LogLines.{database_line, last_line, no_style_line, style_line};
 
 use crate::report::Report;
-use itoa::Buffer;
+use btx_text::log_texts::{push_mark, push_number, push_two};
+use btx_text::{LineKind, LogLine};
 use std::alloc::{AllocError, Global};
 
 /// The style was found.
 #[tactic(auto, unfolding(crate::specs::LogLines::style_line))]
-pub fn style_line(alloc: Global, name: &[u8]) -> Result<Vec<u8>, AllocError>
-    ensures { IfOk result (λ line. line.items ≡ style_line name.now) }
+pub fn style_line(alloc: Global, name: &[u8]) -> Result<LogLine, AllocError>
+    ensures { IfOk result (λ line. line ≡ style_line name.now) }
 {
-    let mut line = Vec::from_slice(alloc, b"The style file: ")?;
-    line.extend_from_slice(name)?;
-    Ok(line)
+    line_of_two(alloc, LineKind::Plain, b"The style file: ", name)
 }
 
 /// The style was not found.
 #[tactic(auto, unfolding(crate::specs::LogLines::no_style_line))]
-pub fn no_style_line(alloc: Global, name: &[u8]) -> Result<Vec<u8>, AllocError>
-    ensures { IfOk result (λ line. line.items ≡ no_style_line name.now) }
+pub fn no_style_line(alloc: Global, name: &[u8]) -> Result<LogLine, AllocError>
+    ensures { IfOk result (λ line. line ≡ no_style_line name.now) }
 {
-    let mut line = Vec::from_slice(alloc, b"Error--I couldn't open style file ")?;
-    line.extend_from_slice(name)?;
-    Ok(line)
+    line_of_two(alloc, LineKind::Error, b"I couldn't open style file ", name)
+}
+
+/// A line of this kind with two pieces of text.
+fn line_of_two(
+    alloc: Global,
+    kind: LineKind,
+    first: &[u8],
+    second: &[u8],
+) -> Result<LogLine, AllocError>
+    ensures { IfOk result (λ line. line ≡ message kind (first.now ++ second.now)) }
+{
+    let mut text = Vec::new(alloc);
+    push_mark(&mut text, kind)?;
+    push_two(&mut text, first, second)?;
+    Ok(LogLine::new(text, kind))
 }
 
 /// A database was found, of those found the one of this number.
 #[tactic(auto, unfolding(crate::specs::LogLines::database_line))]
-pub fn database_line(alloc: Global, number: u64, name: &[u8]) -> Result<Vec<u8>, AllocError>
-    ensures { IfOk result (λ line. line.items ≡ database_line number name.now) }
+pub fn database_line(alloc: Global, number: u64, name: &[u8]) -> Result<LogLine, AllocError>
+    ensures { IfOk result (λ line. line ≡ database_line number name.now) }
 {
-    let mut buffer = Buffer::new();
-    let mut line = Vec::from_slice(alloc, b"Database file #")?;
-    line.extend_from_slice(buffer.format(number).as_bytes())?;
-    line.extend_from_slice(b": ")?;
-    line.extend_from_slice(name)?;
-    Ok(line)
+    let mut text = Vec::new(alloc);
+    push_mark(&mut text, LineKind::Plain)?;
+    push_database(&mut text, number, name)?;
+    Ok(LogLine::new(text, LineKind::Plain))
+}
+
+/// Appends that a database was found.
+#[tactic(auto, using(btx_text::proofs::JoinLemmas::joins))]
+fn push_database(text: &mut Vec<u8>, number: u64, name: &[u8]) -> Result<(), AllocError>
+    ensures { OnOk result (text.new.items ≡ text.old.items ++ (codes "Database file #" ++ decimal number ++ codes ": " ++ name.now)) }
+{
+    push_number(text, b"Database file #", number)?;
+    push_two(text, b": ", name)
 }
 
 /// The last line of a log.
@@ -50,13 +70,4 @@ pub fn last_line(alloc: Global, report: &Report) -> Result<Vec<u8>, AllocError>
     push_number(&mut line, b", errors ", report.errors)?;
     push_number(&mut line, b", steps ", report.steps)?;
     Ok(line)
-}
-
-/// Appends a word and a number.
-fn push_number(line: &mut Vec<u8>, word: &[u8], number: u64) -> Result<(), AllocError>
-    ensures { OnOk result (line.new.items ≡ line.old.items ++ (word.now ++ decimal number)) }
-{
-    let mut buffer = Buffer::new();
-    line.extend_from_slice(word)?;
-    line.extend_from_slice(buffer.format(number).as_bytes())
 }

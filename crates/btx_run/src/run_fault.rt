@@ -4,6 +4,7 @@ ghost use Rattle.btx_run.specs.RunFaults.{run_fault_of_fetch};
 ghost use Rattle.btx_run.specs.declared.run_fault.RunFault.TheVariants.{Memory};
 
 use btx_aux::FetchFault;
+use btx_text::Fault;
 use std::alloc::{AllocError, AllocFailed};
 use thiserror::Error;
 
@@ -45,5 +46,16 @@ impl From<FetchFault> for RunFault {
             FetchFault::Memory => RunFault::Memory,
             FetchFault::Device => RunFault::Device,
         }
+    }
+}
+
+/// The device's fault of an output, as one of the run.
+pub fn device_fault(fault: Fault) -> RunFault
+    requires { fault ≡ Fault.Device }
+    ensures { result ≡ RunFault.Device }
+{
+    match fault {
+        Fault::Device => RunFault::Device,
+        Fault::Memory | Fault::FileLimit | Fault::StringLimit => unreachable!(),
     }
 }

@@ -60,7 +60,7 @@ fn with_database<W: Sink, L: Sink>(
     ensures counts { CountsOfOutputs result (W.failures bbl.old, W.failures bbl.new) (L.failures log.old, L.failures log.new) }
 {
     let line = database_line(alloc, 1, database.name)?;
-    told.push(line, false)?;
+    told.push(line)?;
     if is_too_long(database.text) {
         return end_at_once(alloc, &told, End::Limit(Limit::File), log);
     }
@@ -147,7 +147,7 @@ fn with_style<F: Finder, W: Sink, L: Sink>(
     ensures counts { CountsOfRun result (F.failures finder.old, F.failures finder.new) (W.failures bbl.old, W.failures bbl.new) (L.failures log.old, L.failures log.new) }
 {
     let line = style_line(alloc, style.name)?;
-    told.push(line, false)?;
+    told.push(line)?;
     if is_too_long(style.text) {
         return end_at_once(alloc, &told, End::Limit(Limit::File), log);
     }
@@ -171,7 +171,7 @@ fn without_style<L: Sink>(
     ensures counts { CountsOfLog result (L.failures log.old, L.failures log.new) }
 {
     let line = no_style_line(alloc, name)?;
-    told.push(line, true)?;
+    told.push(line)?;
     end_at_once(alloc, &told, End::Finished, log)
 }
 
@@ -301,8 +301,9 @@ fn citations<F: Finder>(alloc: Global, finder: &mut F, top: &[u8]) -> Result<Aux
 {
     match read_aux(alloc, finder, top) {
         Ok(job) => Ok(job),
+        Err(Fault::Memory) => Err(RunFault::Memory),
         Err(Fault::Device) => Err(RunFault::Device),
-        Err(Fault::Memory | Fault::FileLimit | Fault::StringLimit) => Err(RunFault::Memory),
+        Err(Fault::FileLimit | Fault::StringLimit) => unreachable!(),
     }
 }
 

@@ -3,7 +3,8 @@ ghost use Rattle.std.specs.Prelude.{◌≡◌, ◌++◌, ◌∷◌, [], OnOk};
 ghost use Rattle.btx_run.specs.Product.{errors_in};
 ghost use Rattle.btx_run.specs.ToldLines.{told_view};
 
-use btx_aux::{AuxJob, LogLine};
+use btx_aux::AuxJob;
+use btx_text::{LineKind, LogLine};
 use std::alloc::{AllocError, Global};
 
 /// The lines that the `.aux` files of a job gave, and those of the other files.
@@ -26,11 +27,11 @@ impl<'a> Told<'a> {
     }
 
     /// Adds a line.
-    pub fn push(&mut self, text: Vec<u8>, is_error: bool) -> Result<(), AllocError>
-        ensures told { OnOk result (told_view self.new ≡ told_view self.old ++ record { text = text.items; is_error = is_error } ∷ []) }
+    pub fn push(&mut self, line: LogLine) -> Result<(), AllocError>
+        ensures told { OnOk result (told_view self.new ≡ told_view self.old ++ line ∷ []) }
         ensures job { self.new.job.now ≡ self.old.job.now }
     {
-        self.others.push(LogLine::new(text, is_error))?;
+        self.others.push(line)?;
         Ok(())
     }
 
@@ -42,7 +43,7 @@ impl<'a> Told<'a> {
             .others
             .as_slice()
             .iter()
-            .filter(|line| line.is_error())
+            .filter(|line| line.kind() == LineKind::Error)
             .count();
         (self.job.errors() as u64).saturating_add(others as u64)
     }

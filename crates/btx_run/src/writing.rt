@@ -13,12 +13,11 @@ ghost use Rattle.btx_run.specs.DraftViews.{view_of};
 use crate::execution::execute;
 use crate::log_lines::last_line;
 use crate::report::{End, Report};
-use crate::run_fault::RunFault;
+use crate::run_fault::{RunFault, device_fault};
 use crate::style_text::style::Style;
 use crate::told::Told;
-use btx_aux::LogLine;
 use btx_out::{Log, Sink};
-use btx_text::Fault;
+use btx_text::{Fault, LogLine};
 use std::alloc::Global;
 
 /// The report of a run with so many error messages, and without a warning.
@@ -68,9 +67,7 @@ fn conclude<L: Sink>(alloc: Global, report: Report, log: &mut L) -> Result<Repor
     ensures counts { CountsOfLog result (L.failures log.old, L.failures log.new) }
 {
     let line = last_line(alloc, &report)?;
-    Log::new()
-        .line(line.as_slice(), log)
-        .map_err(|_| RunFault::Device)?;
+    Log::new().line(line.as_slice(), log).map_err(device_fault)?;
     Ok(report)
 }
 
@@ -87,7 +84,7 @@ pub fn end_at_once<L: Sink>(
     ensures covered { result ≢ Err RunFault.NotYet }
     ensures counts { CountsOfLog result (L.failures log.old, L.failures log.new) }
 {
-    tell(told, log).map_err(|_| RunFault::Device)?;
+    tell(told, log).map_err(device_fault)?;
     let report = report_of(end, 0, 0, told.errors());
     conclude(alloc, report, log)
 }
@@ -107,8 +104,8 @@ pub fn execute_style<W: Sink, L: Sink>(
     ensures covered { result ≢ Err RunFault.NotYet }
     ensures counts { CountsOfOutputs result (W.failures bbl.old, W.failures bbl.new) (L.failures log.old, L.failures log.new) }
 {
-    tell(told, log).map_err(|_| RunFault::Device)?;
-    let outcome = execute(style, budget, bbl).map_err(|_| RunFault::Device)?;
+    tell(told, log).map_err(device_fault)?;
+    let outcome = execute(style, budget, bbl).map_err(device_fault)?;
     let report = report_of(
         outcome.end,
         budget - outcome.left,

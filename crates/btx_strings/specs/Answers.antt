@@ -2,7 +2,7 @@
 use Rattle.std.specs.Prelude.{◌≡◌, ℕ, ◌<◌, ◌≤◌, true, false, List, length, Result, Ok, Err}
 use Rattle.btx_text.specs.declared.fault.Fault.{Fault}
 use Rattle.btx_text.specs.declared.fault.Fault.TheVariants.{Memory, StringLimit}
-use Rattle.btx_strings.specs.Limit.{string_limit}
+use Rattle.btx_text.specs.Limits.{greatest_string}
 use Rattle.btx_strings.specs.declared.answers.Answer.{Answer}
 use Rattle.btx_strings.specs.declared.answers.Complaints.{Complaints}
 
@@ -17,7 +17,7 @@ wrong_conversion = record no_complaints { x9 = true }
 -- this text with these complaints, where the text is within the limit; the fault of the limit exactly where it is longer; want of
 -- memory says nothing
 abbrev pub Answers : Result Answer Fault → List ℕ → Complaints → Type 0
-Answers (Ok answer) text complaints = (answer.text.items ≡ text) × (answer.complaints ≡ complaints) × (length text ≤ string_limit)
+Answers (Ok answer) text complaints = (answer.text.items ≡ text) × (answer.complaints ≡ complaints) × (length text ≤ greatest_string)
 Answers (Err Memory) text complaints = Unit {0}
-Answers (Err StringLimit) text complaints = string_limit < length text
+Answers (Err StringLimit) text complaints = greatest_string < length text
 Answers (Err _) text complaints = ⊥

@@ -76,11 +76,6 @@ without_white test before (glyph ∷ glyphs) =
     let others = without_white test (glyph ∷ before) glyphs in
     if follows test before && is_white_glyph glyph then others else glyph ∷ others
 
--- the same, carried on from glyph to glyph: whether white goes after this one
-abbrev pub gone_after : (List ℕ → Bool) → Bool → Glyph → Bool
-gone_after test gone (Control name) = test name
-gone_after test gone (Plain b) = is_white b && gone
-
 -- ---- the same, stated
 
 -- the bytes of a glyph

@@ -1,11 +1,10 @@
 //! What a string function answers.
-ghost use Rattle.btx_strings.specs.Limit.{KeepsLimit};
+ghost use Rattle.std.specs.Prelude.{◌≤◌, ◌+◌, length};
+ghost use Rattle.btx_text.specs.Limits.{greatest_string};
 
+use crate::limit::within_limit;
 use btx_text::Fault;
 use std::alloc::Global;
-
-/// The greatest length of a string, in bytes.
-pub const STRING_LIMIT: usize = 1_000_000;
 
 /// What was wrong with the operands of a string function or a name function.
 #[derive(Clone, Copy, Debug, PartialEq, Eq)]
@@ -33,17 +32,19 @@ impl Complaints {
     };
 }
 
-/// A text of at most [`STRING_LIMIT`] bytes, and what was wrong with the operands.
+/// A text that is no longer than a string may be, and what was wrong with the operands.
 #[derive(Debug, Drop)]
 pub struct Answer {
     /// The text.
     pub text: Vec<u8>,
     /// What was wrong.
     pub complaints: Complaints,
+    pub ghost within: { length text.items ≤ greatest_string },
 }
 
 impl Answer {
-    ghost use Rattle.btx_strings.specs.Answers.{Answers};
+    ghost use Rattle.std.specs.Prelude.{◌++◌, replicate};
+    ghost use Rattle.btx_strings.specs.Answers.{Answers, no_complaints};
 
     /// A text as an answer with these complaints, or [`Fault::StringLimit`] where it is too long.
     pub fn new(text: Vec<u8>, complaints: Complaints) -> Result<Answer, Fault>
@@ -63,14 +64,25 @@ impl Answer {
             complaints,
         })
     }
-}
 
-/// Nothing where a string may have so many bytes, else [`Fault::StringLimit`].
-pub fn within_limit(length: usize) -> Result<(), Fault>
-    ensures { KeepsLimit result length }
-{
-    if length > STRING_LIMIT {
-        return Err(Fault::StringLimit);
+    // A text with a byte so many times behind it, without complaints, or [`Fault::StringLimit`] where that is too long.
+    pub(crate) fn extended(
+        alloc: Global,
+        text: &[u8],
+        count: usize,
+        byte: u8,
+    ) -> Result<Answer, Fault>
+        requires { count ≤ length text.now + 1 }
+        ensures { Answers result (text.now ++ replicate count byte) no_complaints }
+    {
+        let size = text.len() + count;
+        within_limit(size)?;
+        let mut extended = Vec::with_capacity(alloc, size)?;
+        extended.extend_from_slice(text)?;
+        extended.resize(size, byte)?;
+        Ok(Answer {
+            text: extended,
+            complaints: Complaints::NONE,
+        })
     }
-    Ok(())
 }

@@ -3,14 +3,12 @@ ghost use Rattle.std.specs.Prelude.{◌≡◌, ◌++◌, map, OnOk};
 ghost use Rattle.btx_strings.specs.Answers.{Answers, no_complaints};
 ghost use Rattle.btx_strings.specs.Case as spec;
 ghost use Rattle.btx_strings.specs.CaseState.{place_after};
-ghost use Rattle.btx_strings.specs.Controls.{gone_after};
 ghost use Rattle.btx_strings.specs.Glyphs.{glyph_of};
 ghost use Rattle.btx_text.specs.Parts.{part_of};
 
 use crate::answers::{Answer, Complaints};
-use crate::controls::{Glyph, Glyphs};
+use crate::controls::{Glyph, Glyphs, Sequences};
 use crate::conversions::Conversion;
-use btx_text::classify::is_white;
 use btx_text::{Element, Elements, Fault, Kind};
 use std::alloc::{AllocError, Global};
 
@@ -118,19 +116,9 @@ fn push_special(
         if !(gone && glyph.is_white()) {
             push_glyph(text, conversion, glyph)?;
         }
-        gone = gone_after(conversion, gone, glyph);
+        gone = glyph.is_white_gone(gone, Sequences::MadeLetters(conversion));
     }
     Ok(())
-}
-
-// Whether white goes after this glyph.
-fn gone_after(conversion: Conversion, gone: bool, glyph: Glyph<'_>) -> bool
-    ensures { result ≡ gone_after (spec.becomes_letters conversion) gone (glyph_of glyph.entry) }
-{
-    match glyph {
-        Glyph::Control(name) => conversion.makes_letters(name),
-        Glyph::Plain(byte) => is_white(byte) && gone,
-    }
 }
 
 // Adds a glyph in another case.

@@ -3,6 +3,7 @@ ghost use Rattle.std.specs.Prelude.{◌≡◌, length, take_while};
 ghost use Rattle.btx_strings.specs.Controls.{control_name, glyphs_of, is_white_glyph, letters_of};
 ghost use Rattle.btx_text.specs.Class.{is_alpha};
 
+use crate::conversions::Conversion;
 use btx_text::classify::{is_alpha, is_white};
 use std::marker::Model;
 
@@ -13,6 +14,29 @@ pub enum Glyph<'a> {
     Control(&'a [u8]),
     /// A byte, which may be a brace.
     Plain(u8),
+}
+
+// The control sequences of which the white that directly follows goes with them.
+#[derive(Clone, Copy, Debug)]
+pub(crate) enum Sequences {
+    // All of them.
+    All,
+    // Those that a conversion turns into letters.
+    MadeLetters(Conversion),
+}
+
+impl Sequences {
+    ghost use Rattle.btx_strings.specs.Glyphs.{is_of};
+
+    // Whether a control sequence is among them.
+    fn has(self, name: &[u8]) -> bool
+        ensures { result ≡ is_of self name.now }
+    {
+        match self {
+            Sequences::All => true,
+            Sequences::MadeLetters(conversion) => conversion.makes_letters(name),
+        }
+    }
 }
 
 /// The glyphs of a special character, first to last. It takes no memory.
@@ -40,7 +64,17 @@ impl<'a> Glyphs<'a> {
 }
 
 impl<'a> Glyph<'a> {
-    ghost use Rattle.btx_strings.specs.Glyphs.{glyph_of};
+    ghost use Rattle.btx_strings.specs.Glyphs.{glyph_of, gone_after, is_of};
+
+    // Whether white goes after this glyph, by whether white before it went: with control sequences of these the white behind them goes.
+    pub(crate) fn is_white_gone(self, gone: bool, sequences: Sequences) -> bool
+        ensures { result ≡ gone_after (is_of sequences) gone (glyph_of self.entry) }
+    {
+        match self {
+            Glyph::Control(name) => sequences.has(name),
+            Glyph::Plain(byte) => is_white(byte) && gone,
+        }
+    }
 
     /// Whether it is a byte of white.
     pub fn is_white(&self) -> bool

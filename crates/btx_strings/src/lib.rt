@@ -1,17 +1,18 @@
 //! The functions of the style language on strings: lengths and beginnings in characters of text, case, purified forms, widths, pieces.
 #![tactic(auto)]
 
-pub mod answers;
-pub mod case_change;
+mod answers;
+mod case_change;
 pub mod controls;
 pub mod conversions;
 pub mod laws;
-pub mod lengths;
-pub mod periods;
-pub mod prefixes;
-pub mod purified;
-pub mod substrings;
-pub mod widths;
+mod lengths;
+mod limit;
+mod periods;
+mod prefixes;
+mod purified;
+mod substrings;
+mod widths;
 
 pub use answers::{Answer, Complaints};
 pub use case_change::change_case;

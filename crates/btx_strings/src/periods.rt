@@ -3,7 +3,7 @@ ghost use Rattle.std.specs.Prelude.{◌≡◌};
 ghost use Rattle.btx_strings.specs.Answers.{Answers, no_complaints};
 ghost use Rattle.btx_strings.specs.Positions as spec;
 
-use crate::answers::{Answer, Complaints, within_limit};
+use crate::answers::{Answer, Complaints};
 use btx_text::Fault;
 use std::alloc::Global;
 
@@ -16,14 +16,7 @@ pub fn add_period(alloc: Global, string: &[u8]) -> Result<Answer, Fault>
     if string.is_empty() || is_ended(string) {
         return Answer::copy_of(alloc, string, Complaints::NONE);
     }
-    within_limit(string.len() + 1)?;
-    let mut text = Vec::with_capacity(alloc, string.len() + 1)?;
-    text.extend_from_slice(string)?;
-    text.push(b'.')?;
-    Ok(Answer {
-        text,
-        complaints: Complaints::NONE,
-    })
+    Answer::extended(alloc, string, 1, b'.')
 }
 
 // Whether a string ends in a stop, closing braces aside.

@@ -4,7 +4,7 @@ ghost use Rattle.btx_text.specs.Elements.{elements_of, text_of};
 ghost use Rattle.btx_strings.specs.Answers.{Answers, no_complaints};
 ghost use Rattle.btx_strings.specs.Lengths.{closed, take_characters, text_prefix_of, wanted};
 
-use crate::answers::{Answer, Complaints, within_limit};
+use crate::answers::Answer;
 use btx_text::{Elements, Fault, TextMode, depth_at};
 use std::alloc::Global;
 
@@ -52,13 +52,5 @@ fn wanted(count: i32) -> usize
 fn closed(alloc: Global, front: &[u8]) -> Result<Answer, Fault>
     ensures { Answers result (closed front.now) no_complaints }
 {
-    let open = depth_at(front, front.len());
-    within_limit(front.len() + open)?;
-    let mut text = Vec::with_capacity(alloc, front.len() + open)?;
-    text.extend_from_slice(front)?;
-    text.resize(front.len() + open, b'}')?;
-    Ok(Answer {
-        text,
-        complaints: Complaints::NONE,
-    })
+    Answer::extended(alloc, front, depth_at(front, front.len()), b'}')
 }

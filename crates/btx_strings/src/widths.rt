@@ -1,13 +1,11 @@
 //! The width of a string.
 ghost use Rattle.std.specs.Prelude.{◌≡◌, ◌≤◌, ◌<◌, ◌+◌, ◌^◌, length, pos, sum_by, true};
-ghost use Rattle.btx_strings.specs.Controls.{gone_after};
 ghost use Rattle.btx_strings.specs.Glyphs.{glyph_of};
 ghost use Rattle.btx_strings.specs.Width as spec;
-ghost use Rattle.btx_strings.specs.Limit.{string_limit};
+ghost use Rattle.btx_text.specs.Limits.{greatest_string};
 ghost use Rattle.btx_text.specs.Parts.{part_of};
 
-use crate::controls::{Glyph, Glyphs, letters};
-use btx_text::classify::is_white;
+use crate::controls::{Glyph, Glyphs, Sequences, letters};
 use btx_text::{Element, Elements, Kind};
 
 // The widths of the bytes from 0 on, in hundredths of a point.
@@ -27,7 +25,7 @@ const WIDTHS: [u16; 127] = [
 /// The width of a string in hundredths of a point. Outside special characters each byte has its own, braces too; in them braces have
 /// none, nor control sequences but the foreign ones, nor the white directly after a control sequence. It takes no memory.
 pub fn width(string: &[u8]) -> i32
-    requires { length string.now ≤ string_limit }
+    requires { length string.now ≤ greatest_string }
     ensures { result ≡ pos (spec.width_of string.now) }
 {
     let mut total = 0;
@@ -81,19 +79,9 @@ fn with_special(mut total: u32, special: &[u8]) -> u32
         if !(gone && glyph.is_white()) {
             total += glyph_width(glyph);
         }
-        gone = gone_after(gone, glyph);
+        gone = glyph.is_white_gone(gone, Sequences::All);
     }
     total
-}
-
-// Whether white counts nothing after this glyph.
-fn gone_after(gone: bool, glyph: Glyph<'_>) -> bool
-    ensures { result ≡ gone_after (λ _. true) gone (glyph_of glyph.entry) }
-{
-    match glyph {
-        Glyph::Control(_) => true,
-        Glyph::Plain(byte) => is_white(byte) && gone,
-    }
 }
 
 // The width of a glyph of a special character.

@@ -1,30 +1,12 @@
 //! How long lines are broken.
 use crate::fakes::{Failing, FakeWriter};
+use crate::texts::text_of;
+use crate::worked_lines::{ROWS, Row};
 use btx_out::{Breaker, LineLength, Over};
 use btx_text::Fault;
 use std::alloc::{AllocError, Global};
 use std::process::Abort;
 use std::test::Fail;
-
-/// A byte, and how often it stands there.
-pub type Run = (u8, usize);
-
-/// A logical line, what of it is sure while it is pending, and the lines that come of it.
-pub struct Row<'a> {
-    pub limit: u32,
-    pub literal: &'a [Run],
-    pub sure: &'a [Run],
-    pub lines: &'a [Run],
-}
-
-/// The text that these bytes stand for.
-pub fn text_of(alloc: Global, runs: &[Run]) -> Result<Vec<u8>, AllocError> {
-    let mut text = Vec::new(alloc);
-    for (byte, count) in runs {
-        text.extend_from_slice(&vec![in alloc; *byte; *count]?)?;
-    }
-    Ok(text)
-}
 
 /// Whether a byte is white.
 fn is_white(byte: u8) -> bool {
@@ -120,248 +102,113 @@ fn taken_apart(alloc: Global, limit: usize, text: &[u8]) -> Result<Pieces, Alloc
     Ok(Pieces { sure, lines })
 }
 
-/// A breaker that keeps all of the pending line, and computes what is sure anew at each call.
+/// What a breaker wrote of a logical line: all of it, and how much of that stood there behind each piece.
 #[derive(Drop)]
-struct PlainBreaker {
-    limit: usize,
-    pending: Vec<u8>,
-    /// How many bytes of what is sure are written.
-    done: usize,
-    output: Vec<u8>,
+struct Written {
+    bytes: Vec<u8>,
+    sure: Vec<usize>,
+    answer: Result<(), Fault>,
+    failures: u64,
 }
 
-impl PlainBreaker {
-    fn new(alloc: Global, limit: usize) -> Self {
-        PlainBreaker {
-            limit,
-            pending: Vec::new(alloc),
-            done: 0,
-            output: Vec::new(alloc),
-        }
+/// Puts a logical line in pieces of a size, and ends it.
+fn put_pieces(
+    breaker: &mut Breaker,
+    literal: &[u8],
+    size: usize,
+    sink: &mut Over<FakeWriter>,
+    sure: &mut Vec<usize>,
+) -> Result<(), Fault> {
+    for piece in literal.chunks(size.max(1)) {
+        breaker.put(piece, sink)?;
+        sure.push(sink.writer.bytes.len())?;
     }
-
-    fn put(&mut self, alloc: Global, bytes: &[u8]) -> Result<(), AllocError> {
-        self.pending.extend_from_slice(bytes)?;
-        let all = taken_apart(alloc, self.limit, &self.pending)?;
-        self.output
-            .extend_from_slice(all.sure.get(self.done..).unwrap_or(b"lost"))?;
-        self.done = all.sure.len();
-        Ok(())
-    }
-
-    fn newline(&mut self, alloc: Global) -> Result<(), AllocError> {
-        let all = taken_apart(alloc, self.limit, &self.pending)?;
-        self.output
-            .extend_from_slice(all.lines.get(self.done..).unwrap_or(b"lost"))?;
-        self.done = 0;
-        self.pending.clear();
-        Ok(())
-    }
+    breaker.newline(sink)
 }
-
-/// The lines by hand from the rules.
-pub const ROWS: [Row<'static>; 19] = [
-    // White directly behind a full line breaks it.
-    Row {
-        limit: 79,
-        literal: &[(b'a', 79), (b' ', 1), (b'b', 1)],
-        sure: &[(b'a', 79), (b'\n', 1)],
-        lines: &[(b'a', 79), (b'\n', 1), (b' ', 2), (b'b', 1), (b'\n', 1)],
-    },
-    // The whole run of white behind a longer one goes.
-    Row {
-        limit: 79,
-        literal: &[(b'a', 80), (b' ', 2), (b'b', 1)],
-        sure: &[(b'a', 80), (b'\n', 1)],
-        lines: &[(b'a', 80), (b'\n', 1), (b' ', 2), (b'b', 1), (b'\n', 1)],
-    },
-    // Of the white behind a full line one byte goes.
-    Row {
-        limit: 79,
-        literal: &[(b'a', 79), (b' ', 2), (b'b', 1)],
-        sure: &[(b'a', 79), (b'\n', 1)],
-        lines: &[(b'a', 79), (b'\n', 1), (b' ', 3), (b'b', 1), (b'\n', 1)],
-    },
-    // A line that can't be broken is sure from its beginning.
-    Row {
-        limit: 79,
-        literal: &[(b'a', 3), (b' ', 1), (b'b', 80)],
-        sure: &[(b'a', 3), (b'\n', 1), (b' ', 2), (b'b', 80)],
-        lines: &[(b'a', 3), (b'\n', 1), (b' ', 2), (b'b', 80), (b'\n', 1)],
-    },
-    // An empty line is written, white alone isn't.
-    Row {
-        limit: 79,
-        literal: &[],
-        sure: &[],
-        lines: &[(b'\n', 1)],
-    },
-    Row {
-        limit: 79,
-        literal: &[(b' ', 1)],
-        sure: &[],
-        lines: &[],
-    },
-    Row {
-        limit: 79,
-        literal: &[(b' ', 80)],
-        sure: &[],
-        lines: &[],
-    },
-    Row {
-        limit: 20,
-        literal: &[(b'a', 20), (b' ', 1), (b'b', 1)],
-        sure: &[(b'a', 20), (b'\n', 1)],
-        lines: &[(b'a', 20), (b'\n', 1), (b' ', 2), (b'b', 1), (b'\n', 1)],
-    },
-    Row {
-        limit: 20,
-        literal: &[(b'a', 21), (b' ', 2), (b'b', 1)],
-        sure: &[(b'a', 21), (b'\n', 1)],
-        lines: &[(b'a', 21), (b'\n', 1), (b' ', 2), (b'b', 1), (b'\n', 1)],
-    },
-    Row {
-        limit: 20,
-        literal: &[
-            (b'a', 3),
-            (b' ', 1),
-            (b'b', 3),
-            (b' ', 1),
-            (b'c', 3),
-            (b' ', 1),
-            (b'd', 3),
-            (b' ', 1),
-            (b'e', 3),
-            (b' ', 1),
-            (b'f', 3),
-            (b' ', 1),
-            (b'g', 3),
-        ],
-        sure: &[
-            (b'a', 3),
-            (b' ', 1),
-            (b'b', 3),
-            (b' ', 1),
-            (b'c', 3),
-            (b' ', 1),
-            (b'd', 3),
-            (b' ', 1),
-            (b'e', 3),
-            (b'\n', 1),
-        ],
-        lines: &[
-            (b'a', 3),
-            (b' ', 1),
-            (b'b', 3),
-            (b' ', 1),
-            (b'c', 3),
-            (b' ', 1),
-            (b'd', 3),
-            (b' ', 1),
-            (b'e', 3),
-            (b'\n', 1),
-            (b' ', 2),
-            (b'f', 3),
-            (b' ', 1),
-            (b'g', 3),
-            (b'\n', 1),
-        ],
-    },
-    // A full line isn't broken, and nothing of it is sure; of one byte more all is.
-    Row {
-        limit: 80,
-        literal: &[(b'a', 80)],
-        sure: &[],
-        lines: &[(b'a', 80), (b'\n', 1)],
-    },
-    Row {
-        limit: 80,
-        literal: &[(b'a', 81)],
-        sure: &[(b'a', 81)],
-        lines: &[(b'a', 81), (b'\n', 1)],
-    },
-    // White at index 2 is no break, at index 3 it is one.
-    Row {
-        limit: 20,
-        literal: &[(b'a', 2), (b' ', 1), (b'b', 20)],
-        sure: &[(b'a', 2), (b' ', 1), (b'b', 20)],
-        lines: &[(b'a', 2), (b' ', 1), (b'b', 20), (b'\n', 1)],
-    },
-    Row {
-        limit: 20,
-        literal: &[(b'a', 3), (b'\t', 1), (b'b', 20)],
-        sure: &[(b'a', 3), (b'\n', 1), (b' ', 2), (b'b', 20)],
-        lines: &[(b'a', 3), (b'\n', 1), (b' ', 2), (b'b', 20), (b'\n', 1)],
-    },
-    // A head of white alone isn't written, and the two spaces of the next line count.
-    Row {
-        limit: 20,
-        literal: &[(b' ', 5), (b'b', 20)],
-        sure: &[(b' ', 2), (b'b', 20)],
-        lines: &[(b' ', 2), (b'b', 20), (b'\n', 1)],
-    },
-    // A head loses all the white at its end.
-    Row {
-        limit: 20,
-        literal: &[(b'a', 4), (b' ', 4), (b'b', 13), (b'\r', 3)],
-        sure: &[(b'a', 4), (b'\n', 1)],
-        lines: &[(b'a', 4), (b'\n', 1), (b' ', 2), (b'b', 13), (b'\n', 1)],
-    },
-    // A line that ends with its break writes nothing more.
-    Row {
-        limit: 20,
-        literal: &[(b'a', 21), (b' ', 1), (b'\t', 1), (b' ', 1)],
-        sure: &[(b'a', 21), (b'\n', 1)],
-        lines: &[(b'a', 21), (b'\n', 1)],
-    },
-    // The longest lines.
-    Row {
-        limit: 1000,
-        literal: &[(b'a', 1000), (b' ', 1), (b'b', 1)],
-        sure: &[(b'a', 1000), (b'\n', 1)],
-        lines: &[(b'a', 1000), (b'\n', 1), (b' ', 2), (b'b', 1), (b'\n', 1)],
-    },
-    Row {
-        limit: 1000,
-        literal: &[(b'a', 1001), (b' ', 2), (b'b', 1)],
-        sure: &[(b'a', 1001), (b'\n', 1)],
-        lines: &[(b'a', 1001), (b'\n', 1), (b' ', 2), (b'b', 1), (b'\n', 1)],
-    },
-];
 
 fn breaker_of(rt: &impl Abort, limit: u32) -> Breaker {
     Breaker::new(LineLength::new(limit).expect(rt, "a length from 20 to 1,000"))
 }
 
+/// What a breaker writes of a logical line in pieces of a size, into a sink that takes so many bytes at a time. A test that holds both
+/// takes long to prove, since each `?` is a way out on which all of them is dropped.
+fn write_line(
+    rt: &(impl Abort + AllocGlobal),
+    limit: u32,
+    literal: &[u8],
+    size: usize,
+    most: usize,
+) -> Written {
+    let mut breaker = breaker_of(rt, limit);
+    let mut sink = Over::new(FakeWriter::new(rt.alloc(), most, Failing::Never, 0));
+    let mut sure = Vec::new(rt.alloc());
+    let answer = put_pieces(&mut breaker, literal, size, &mut sink, &mut sure);
+    Written {
+        bytes: sink.writer.bytes,
+        sure,
+        answer,
+        failures: sink.failures,
+    }
+}
+
+/// Asserts what was written of a logical line when it had ended.
+fn gives(rt: &impl Abort, written: &Written, lines: &[u8]) {
+    assert!(rt; written.answer.is_ok() && written.failures == 0);
+    assert_eq!(rt; written.bytes.as_slice(), lines);
+}
+
+/// A row is written so, put in one piece: what is sure of it, and its lines.
+fn is_written(rt: &(impl Abort + AllocGlobal), row: &Row<'_>) -> Result<(), AllocError> {
+    let literal = text_of(rt.alloc(), row.literal)?;
+    let sure = text_of(rt.alloc(), row.sure)?;
+    let lines = text_of(rt.alloc(), row.lines)?;
+    let written = write_line(rt, row.limit, &literal, literal.len(), 10_000);
+    gives(rt, &written, &lines);
+    if let Some(count) = written.sure.first() {
+        assert!(rt; *count == sure.len());
+    }
+    assert!(rt; lines.starts_with(&sure));
+    Ok(())
+}
+
 #[test]
 fn rows(rt: HostRuntime) -> Result<(), Fail> {
-    for (number, row) in ROWS.iter().enumerate() {
-        let literal = text_of(rt.alloc(), row.literal)?;
-        let sure = text_of(rt.alloc(), row.sure)?;
-        let lines = text_of(rt.alloc(), row.lines)?;
-        let mut breaker = breaker_of(&rt, row.limit);
-        let mut sink = Over::new(Vec::new(rt.alloc()));
-        breaker.put(&literal, &mut sink)?;
-        assert_eq!(rt;
-            sink.writer.as_slice(),
-            sure.as_slice(),
-            "sure of row {number}"
-        );
-        breaker.newline(&mut sink)?;
-        assert_eq!(rt;
-            sink.writer.as_slice(),
-            lines.as_slice(),
-            "lines of row {number}"
-        );
+    for row in &ROWS {
+        is_written(&rt, row)?;
+    }
+    Ok(())
+}
+
+/// What is sure of the first bytes of a text is what stood there behind them.
+fn is_sure(
+    rt: &(impl Abort + AllocGlobal),
+    limit: usize,
+    front: &[u8],
+    found: &[u8],
+) -> Result<(), AllocError> {
+    let all = taken_apart(rt.alloc(), limit, front)?;
+    assert!(rt; all.sure.as_slice() == found);
+    Ok(())
+}
+
+/// A row is written so in pieces of a size: what is sure behind each of them, and its lines.
+fn is_cut(rt: &(impl Abort + AllocGlobal), row: &Row<'_>, size: usize) -> Result<(), AllocError> {
+    let literal = text_of(rt.alloc(), row.literal)?;
+    let lines = text_of(rt.alloc(), row.lines)?;
+    let written = write_line(rt, row.limit, &literal, size, 10_000);
+    gives(rt, &written, &lines);
+    for (number, count) in written.sure.iter().enumerate() {
+        let taken = number.saturating_add(1).saturating_mul(size);
+        let front = literal.get(..taken).unwrap_or(&literal);
+        let found = lines.get(..*count).unwrap_or(b"lost");
+        is_sure(rt, row.limit as usize, front, found)?;
     }
     Ok(())
 }
 
 #[test]
 fn cuts(rt: HostRuntime) -> Result<(), Fail> {
-    for (number, row) in ROWS.iter().enumerate() {
-        let literal = text_of(rt.alloc(), row.literal)?;
-        let lines = text_of(rt.alloc(), row.lines)?;
+    for row in &ROWS {
         let limit = row.limit as usize;
         for size in [
             1,
@@ -371,86 +218,67 @@ fn cuts(rt: HostRuntime) -> Result<(), Fail> {
             limit.saturating_add(1),
             limit.saturating_add(2),
         ] {
-            let mut breaker = breaker_of(&rt, row.limit);
-            let mut sink = Over::new(Vec::new(rt.alloc()));
-            let mut plain = PlainBreaker::new(rt.alloc(), limit);
-            for piece in literal.chunks(size.max(1)) {
-                breaker.put(piece, &mut sink)?;
-                plain.put(rt.alloc(), piece)?;
-                assert_eq!(rt;
-                    sink.writer.as_slice(),
-                    plain.output.as_slice(),
-                    "row {number} in pieces of {size}"
-                );
-            }
-            breaker.newline(&mut sink)?;
-            plain.newline(rt.alloc())?;
-            assert_eq!(rt;
-                sink.writer.as_slice(),
-                plain.output.as_slice(),
-                "row {number} in pieces of {size}"
-            );
-            assert_eq!(rt;
-                sink.writer.as_slice(),
-                lines.as_slice(),
-                "row {number} in pieces of {size}"
-            );
+            is_cut(&rt, row, size)?;
         }
     }
     Ok(())
 }
 
-#[test]
-fn several_lines(rt: HostRuntime) -> Result<(), Fail> {
-    let mut breaker = Breaker::new(LineLength::default());
-    let mut sink = Over::new(Vec::new(rt.alloc()));
-    breaker.finish(&mut sink)?;
-    assert_eq!(rt;
-        sink.writer.as_slice(),
-        b"".as_slice(),
-        "nothing is pending"
-    );
-    breaker.put(b"one ", &mut sink)?;
-    breaker.newline(&mut sink)?;
-    breaker.newline(&mut sink)?;
-    breaker.put(b"tw", &mut sink)?;
-    breaker.put(b"o", &mut sink)?;
-    breaker.finish(&mut sink)?;
-    assert_eq!(rt; sink.writer.as_slice(), b"one\n\ntwo\n".as_slice());
-    breaker.finish(&mut sink)?;
-    assert_eq!(rt;
-        sink.writer.as_slice(),
-        b"one\n\ntwo\n".as_slice(),
-        "nothing is pending any more"
-    );
-    breaker.put(b" \t", &mut sink)?;
-    breaker.finish(&mut sink)?;
-    assert_eq!(rt;
-        sink.writer.as_slice(),
-        b"one\n\ntwo\n".as_slice(),
-        "white alone isn't written"
-    );
-    assert_eq!(rt; sink.failures, 0);
-    Ok(())
+/// Lines of several pieces, and one that is finished: how much was written at the first `finish`, at the one that ends a line, at the
+/// one behind it, and at one behind white alone.
+fn write_several(breaker: &mut Breaker, sink: &mut Over<FakeWriter>) -> Result<[usize; 4], Fault> {
+    breaker.finish(sink)?;
+    let nothing = sink.writer.bytes.len();
+    breaker.put(b"one ", sink)?;
+    breaker.newline(sink)?;
+    breaker.newline(sink)?;
+    breaker.put(b"tw", sink)?;
+    breaker.put(b"o", sink)?;
+    breaker.finish(sink)?;
+    let ended = sink.writer.bytes.len();
+    breaker.finish(sink)?;
+    let again = sink.writer.bytes.len();
+    breaker.put(b" \t", sink)?;
+    breaker.finish(sink)?;
+    Ok([nothing, ended, again, sink.writer.bytes.len()])
 }
 
 #[test]
+fn several_lines(rt: HostRuntime) {
+    let mut breaker = Breaker::new(LineLength::default());
+    let mut sink = Over::new(FakeWriter::new(rt.alloc(), 1000, Failing::Never, 0));
+    let counts = write_several(&mut breaker, &mut sink);
+    assert!(rt; counts == Ok([0, 9, 9, 9]));
+    assert_eq!(rt; sink.writer.bytes.as_slice(), b"one\n\ntwo\n".as_slice());
+}
+
+/// How often a breaker of lines of 20 bytes wrote: behind three lines, behind two pieces of a line that can't be broken, and behind
+/// that line's end.
+fn count_writes(
+    breaker: &mut Breaker,
+    long: &[u8],
+    sink: &mut Over<FakeWriter>,
+) -> Result<[u64; 3], Fault> {
+    breaker.put(b"aaa bbb ccc ddd eee fff ggg hhh iii jjj", sink)?;
+    breaker.newline(sink)?;
+    let lines = sink.writer.writes;
+    breaker.put(long, sink)?;
+    breaker.put(long, sink)?;
+    let pieces = sink.writer.writes;
+    breaker.put(b"b  c", sink)?;
+    Ok([lines, pieces, sink.writer.writes])
+}
+
+/// A write for each line, a long line in pieces, and its last piece and its end.
+#[test]
 fn whole_lines(rt: HostRuntime) -> Result<(), Fail> {
+    let long = text_of(rt.alloc(), &[(b'a', 500)])?;
     let mut breaker = breaker_of(&rt, 20);
     let mut sink = Over::new(FakeWriter::new(rt.alloc(), 1000, Failing::Never, 0));
-    breaker.put(b"aaa bbb ccc ddd eee fff ggg hhh iii jjj", &mut sink)?;
-    breaker.newline(&mut sink)?;
-    assert_eq!(rt;
-        sink.writer.bytes.as_slice(),
-        b"aaa bbb ccc ddd eee\n  fff ggg hhh iii\n  jjj\n".as_slice()
-    );
-    assert_eq!(rt; sink.writer.writes, 3, "a write for each line");
-    let long = text_of(rt.alloc(), &[(b'a', 500)])?;
-    breaker.put(&long, &mut sink)?;
-    breaker.put(&long, &mut sink)?;
-    assert_eq!(rt; sink.writer.writes, 6, "a long line in pieces");
-    breaker.put(b"b  c", &mut sink)?;
-    assert_eq!(rt; sink.writer.writes, 8, "a piece and the line's end");
+    let counts = count_writes(&mut breaker, &long, &mut sink);
+    assert!(rt; counts == Ok([3, 6, 8]));
+    let lines = b"aaa bbb ccc ddd eee\n  fff ggg hhh iii\n  jjj\n";
+    assert!(rt; sink.writer.bytes.starts_with(lines));
     Ok(())
 }
 
@@ -460,21 +288,31 @@ fn short_writes(rt: HostRuntime) -> Result<(), Fail> {
         let literal = text_of(rt.alloc(), row.literal)?;
         let lines = text_of(rt.alloc(), row.lines)?;
         for most in 1..8 {
-            let mut breaker = breaker_of(&rt, row.limit);
-            let mut sink = Over::new(FakeWriter::new(rt.alloc(), most, Failing::Never, 0));
-            breaker.put(&literal, &mut sink)?;
-            breaker.finish(&mut sink)?;
-            if !literal.is_empty() {
-                assert_eq!(rt;
-                    sink.writer.bytes.as_slice(),
-                    lines.as_slice(),
-                    "{most} bytes a write"
-                );
-            }
-            assert_eq!(rt; sink.failures, 0);
+            gives(
+                &rt,
+                &write_line(&rt, row.limit, &literal, 5000, most),
+                &lines,
+            );
         }
     }
     Ok(())
+}
+
+/// What a breaker has done whose sink fails at one write.
+#[derive(Drop)]
+struct Tried {
+    answer: Result<(), Fault>,
+    bytes: Vec<u8>,
+    writes: u64,
+    failures: u64,
+}
+
+/// Whether each call answers the device's fault.
+fn stays_failed(breaker: &mut Breaker, sink: &mut Over<FakeWriter>) -> bool {
+    let device = Err(Fault::Device);
+    breaker.put(b"more", sink) == device
+        && breaker.newline(sink) == device
+        && breaker.finish(sink) == device
 }
 
 /// A logical line in two pieces, and its end.
@@ -485,45 +323,48 @@ fn broken(breaker: &mut Breaker, literal: &[u8], sink: &mut Over<FakeWriter>) ->
     breaker.newline(sink)
 }
 
-/// Whether a breaker whose sink fails at one write answers Device, leaves a beginning of the lines and doesn't write again. False
-/// where there are fewer writes.
-fn fails(
+/// Breaks a logical line into a sink that fails at one write, and tries each call twice after that.
+fn try_failing(
     rt: &(impl Abort + AllocGlobal),
-    row: &Row<'_>,
+    limit: u32,
+    literal: &[u8],
     how: Failing,
     at: u64,
-) -> Result<bool, AllocError> {
-    let literal = text_of(rt.alloc(), row.literal)?;
-    let lines = text_of(rt.alloc(), row.lines)?;
-    let mut breaker = breaker_of(rt, row.limit);
+) -> Tried {
+    let mut breaker = breaker_of(rt, limit);
     let mut sink = Over::new(FakeWriter::new(rt.alloc(), 7, how, at));
-    if broken(&mut breaker, &literal, &mut sink).is_ok() {
-        return Ok(false);
+    let answer = broken(&mut breaker, literal, &mut sink);
+    if answer.is_err() {
+        assert!(rt; stays_failed(&mut breaker, &mut sink));
+        assert!(rt; stays_failed(&mut breaker, &mut sink));
     }
-    assert!(rt;
-        lines.starts_with(&sink.writer.bytes),
-        "write {at}, {how:?}"
-    );
-    for _turn in 0..2 {
-        assert_eq!(rt; breaker.put(b"more", &mut sink), Err(Fault::Device));
-        assert_eq!(rt; breaker.newline(&mut sink), Err(Fault::Device));
-        assert_eq!(rt; breaker.finish(&mut sink), Err(Fault::Device));
+    Tried {
+        answer,
+        bytes: sink.writer.bytes,
+        writes: sink.writer.writes,
+        failures: sink.failures,
     }
-    assert_eq!(rt;
-        sink.writer.writes,
-        at.saturating_add(1),
-        "nothing follows the write that failed"
-    );
-    assert_eq!(rt; sink.failures, 1);
-    Ok(true)
+}
+
+/// Whether a write failed: a beginning of the lines stands there then, and nothing followed it.
+fn fails(rt: &impl Abort, tried: &Tried, at: u64, lines: &[u8]) -> bool {
+    if tried.answer.is_ok() {
+        return false;
+    }
+    assert!(rt; lines.starts_with(&tried.bytes), "write {at}");
+    assert!(rt; tried.writes == at.saturating_add(1) && tried.failures == 1);
+    true
 }
 
 #[test]
 fn failed_writes(rt: HostRuntime) -> Result<(), Fail> {
     for row in &ROWS {
+        let literal = text_of(rt.alloc(), row.literal)?;
+        let lines = text_of(rt.alloc(), row.lines)?;
         for how in [Failing::Error, Failing::Zero, Failing::Interrupted] {
             for at in 0..1000 {
-                if !fails(&rt, row, how, at)? {
+                let tried = try_failing(&rt, row.limit, &literal, how, at);
+                if !fails(&rt, &tried, at, &lines) {
                     break;
                 }
             }

@@ -1,7 +1,8 @@
 //! What the `.aux` files of a job say, and files in memory.
 use crate::finders::{EveryFinder, FailingFinder, RefusedFinder};
-use btx_aux::{AuxJob, End, FetchFault, Finder, LogLine, MemoryFinder, read_aux};
-use btx_text::Fault;
+use crate::texts::joined;
+use btx_aux::{AuxJob, End, FetchFault, Finder, MemoryFinder, read_aux};
+use btx_text::{Fault, LineKind, LogLine};
 use std::alloc::{AllocError, Global};
 use std::ops::Range;
 use std::process::Abort;
@@ -119,7 +120,7 @@ struct Told {
 fn log_of(alloc: Global, lines: &[LogLine]) -> Result<Vec<u8>, AllocError> {
     let mut text = Vec::new(alloc);
     for line in lines {
-        if line.is_error() {
+        if line.kind() == LineKind::Error {
             text.push(b'!')?;
         }
         text.extend_from_slice(line.text())?;
@@ -146,15 +147,6 @@ fn files_of(alloc: Global, job: &AuxJob) -> Result<Vec<u8>, AllocError> {
         text.extend_from_slice(style)?;
     }
     Ok(text)
-}
-
-/// These texts, one behind the other.
-fn joined(alloc: Global, texts: &[&[u8]]) -> Result<Vec<u8>, AllocError> {
-    let mut whole = Vec::new(alloc);
-    for text in texts {
-        whole.extend_from_slice(text)?;
-    }
-    Ok(whole)
 }
 
 /// How many lines, errors and keys a job has, and how its reading ended.
@@ -199,6 +191,13 @@ fn read_lines(alloc: Global, lines: &[u8]) -> Result<Told, Fault> {
     read(alloc, &[(b"job.aux", &top)])
 }
 
+/// The place of a key, given by its lowered form, in the job of these lines.
+fn place_of(alloc: Global, lines: &[u8], lowered: &[u8]) -> Result<Option<usize>, Fault> {
+    let mut finder = MemoryFinder::new(alloc, &[(b"job.aux", lines)])?;
+    let job = read_aux(alloc, &mut finder, b"job.aux")?;
+    Ok(job.position(lowered))
+}
+
 /// Asserts that two texts are the same.
 fn same(rt: &impl Abort, found: &[u8], wanted: &[u8]) {
     assert_eq!(rt; found, wanted);
@@ -229,6 +228,17 @@ fn uses(
     let told = told?;
     same(rt, &told.files, files);
     assert_eq!(rt; told.all, all);
+    Ok(())
+}
+
+/// Asserts at which place a key stands.
+fn stands(
+    rt: &impl Abort,
+    place: Result<Option<usize>, Fault>,
+    wanted: Option<usize>,
+) -> Result<(), Fail> {
+    let place = place?;
+    assert_eq!(rt; place, wanted);
     Ok(())
 }
 
@@ -305,6 +315,13 @@ fn gives_each_part(rt: HostRuntime) -> Result<(), Fail> {
     says(&rt, told, b"a;B;c;", two_bibdata(), (2, 1, 3, End::Whole))?;
     let told = read_lines(rt.alloc(), PARTS);
     uses(&rt, told, b"x.bib;y.bib;:s.bst", Some(2))
+}
+
+#[test]
+fn finds_keys_by_their_lowered_forms(rt: HostRuntime) -> Result<(), Fail> {
+    stands(&rt, place_of(rt.alloc(), PARTS, b"b"), Some(1))?;
+    stands(&rt, place_of(rt.alloc(), PARTS, b"c"), Some(2))?;
+    stands(&rt, place_of(rt.alloc(), PARTS, b"B"), None)
 }
 
 /// The log of an empty top file.

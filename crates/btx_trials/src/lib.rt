@@ -1,25 +1,20 @@
-//! Tests of the other crates, for what no contract says. It has no code of its own.
+//! Tests of the layers, each by itself, for what no contract says; and what tests of whole runs take as well: devices that fail, texts,
+//! and logical lines.
 #![tactic(auto)]
 
 #[cfg(test)]
 mod breaking;
 #[cfg(test)]
 mod citations;
-#[cfg(test)]
-mod coverage;
-#[cfg(test)]
-mod failing_runs;
-#[cfg(test)]
-mod fakes;
-#[cfg(test)]
-mod finders;
+pub mod fakes;
+pub mod finders;
 #[cfg(test)]
 mod logs;
 #[cfg(test)]
 mod names;
 #[cfg(test)]
-mod runs;
-#[cfg(test)]
 mod sinks;
 #[cfg(test)]
 mod strings;
+pub mod texts;
+pub mod worked_lines;

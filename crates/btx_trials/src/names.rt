@@ -1,6 +1,6 @@
 //! Names: how many, and in the formats that styles use.
 use btx_names::{format_name, num_names};
-use btx_strings::answers::{Answer, Complaints};
+use btx_strings::{Answer, Complaints};
 use btx_text::{Fault, TextMode};
 use std::alloc::Global;
 use std::process::Abort;

@@ -25,8 +25,8 @@ pub open_file-returns-then-room-eq0-clause-draft : goal.open_file-returns-then-r
 open_file-returns-then-room-eq0-clause-draft g t c =
     if_some _ (λ files. opened_by-full files c.args.room c.args.draft.now c.args.name.now c.args.text.now c.if-room-eq0.true c.requires.whole)
 
-pub open_file-returns-then-text-gt-MOST_BYTES-clause-draft : goal.open_file-returns-then-text-gt-MOST_BYTES-clause-draft
-open_file-returns-then-text-gt-MOST_BYTES-clause-draft g t c =
+pub open_file-returns-then-is_too_long-clause-draft : goal.open_file-returns-then-is_too_long-clause-draft
+open_file-returns-then-is_too_long-clause-draft g t c =
     let long : is_too_long c.args.text.now ≡ true = search (rules, tests) in
     if_some _ (λ files. opened_by-long files c.args.room c.args.draft.now c.open_file.new.self c.args.name.now c.args.text.now c.if-room-eq0.false c.requires.whole c.in_ok-open_file.ensures.ending c.in_ok-open_file.ensures.draft long)
 

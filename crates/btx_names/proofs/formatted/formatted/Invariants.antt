@@ -6,4 +6,5 @@ use Rattle.btx_names.proofs.formatted.formatted.Given as goal
 
 abbrev pub invariant-loop-item : goal.invariant-loop-item
 invariant-loop-item l =
-    l.text.items ++ flat_map (item_text l.mode (parts_view l.parts)) l.item-iterator ≡ formatted l.mode (parts_view l.parts) l.format
+    (l.writer.mode ≡ l.fn.mode)
+    × (l.writer.text.items ++ flat_map (item_text l.fn.mode (parts_view l.parts)) l.item-iterator ≡ formatted l.fn.mode (parts_view l.parts) l.format)

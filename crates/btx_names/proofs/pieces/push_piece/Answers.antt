@@ -1,28 +1,66 @@
-use Rattle.std.proofs.Common.{◌≡◌, ◌<◌, length, arith}
+use Rattle.std.proofs.Common.{◌≡◌, ◌<◌, ◌++◌, ◌∙◌, length, ap, arith}
 use Rattle.std.proofs.lemmas.Result.{err_from_is_err_and}
-use Rattle.btx_names.specs.Tokens.{tokens_of}
 use Rattle.btx_names.specs.ItemViews.{piece_view}
 use Rattle.btx_names.specs.PartViews.{part_tokens}
-use Rattle.btx_names.proofs.PartLemmas.{length_taken}
-use Rattle.btx_names.proofs.PieceLemmas.{piece_of_none, piece_made, piece_too_long, fails_too}
+use Rattle.btx_names.proofs.PartLemmas.{some_tokens, no_tokens}
+use Rattle.btx_names.proofs.PieceLemmas.{piece_of_none, piece_made, opened_too_long, filled_too_long, closed_too_long, fails_too}
 use Rattle.btx_names.proofs.pieces.push_piece.Goals as goal
 
-pub returns-then-part-eq0 : goal.returns-then-part-eq0
-returns-then-part-eq0 c = piece_of_none c.args.mode (piece_view c.args.piece) (tokens_of c.args.part.text.now) c.args.part.count c.args.text.now.items c.if-part-eq0.true
+pub returns-then-is_empty-clause-text : goal.returns-then-is_empty-clause-text
+returns-then-is_empty-clause-text c =
+    piece_of_none c.args.writer.now.mode (piece_view c.args.piece) (part_tokens c.args.part) c.args.writer.now.text.items
+    (no_tokens c.args.part.tokens.now c.is_empty.result c.is_empty.ensures c.if-is_empty.true)
 
-pub returns-in_err-push_tokens : goal.returns-in_err-push_tokens
-returns-in_err-push_tokens c =
+pub returns-in_err-push-clause-text : goal.returns-in_err-push-clause-text
+returns-in_err-push-clause-text c =
+    let piece = piece_view c.args.piece in
+    let tokens = part_tokens c.args.part in
+    let text = c.args.writer.now.text.items in
+    let some : 0 < length tokens = some_tokens c.args.part.tokens.now c.is_empty.result c.is_empty.ensures c.if-is_empty.false in
+    let p = err_from_is_err_and c.from_residual.result c.from_residual.ensures.1 in
+    rw (p.1, p.2)
+    (fails_too 1000001 1000000 c.in_err-push.field-0.0 _ _ _ _
+    (λ long. opened_too_long c.args.writer.now.mode piece tokens 1000000 text some (rw c.begin_piece.ensures.text at long))
+    c.in_err-push.ensures.text)
+
+pub returns-in_err-push_tokens-clause-text : goal.returns-in_err-push_tokens-clause-text
+returns-in_err-push_tokens-clause-text c =
+    let piece = piece_view c.args.piece in
+    let tokens = part_tokens c.args.part in
+    let text = c.args.writer.now.text.items in
+    let some : 0 < length tokens = some_tokens c.args.part.tokens.now c.is_empty.result c.is_empty.ensures c.if-is_empty.false in
+    let start : c.begin_piece.new.self.start ≡ length text = c.begin_piece.ensures.start in
+    let opened : c.push.new.self.text.items ≡ text ++ piece.before = rw c.begin_piece.ensures.text at c.in_ok-push.ensures.text in
     let p = err_from_is_err_and c.from_residual-in_err-push_tokens.result c.from_residual-in_err-push_tokens.ensures.1 in
-    let some : 0 < length (part_tokens c.args.part) = omega (arith, length_taken c.args.part.count (tokens_of c.args.part.text.now) c.args.part.counted) in
-    let start : c.len-start.result ≡ length c.args.text.now.items = omega (arith, c.len-start.ensures, c.args.text.now.ok.0) in
     rw (p.1, p.2)
     (fails_too 1000001 1000000 c.in_err-push_tokens.field-0.0 _ _ _ _
-    (λ long. piece_too_long c.args.mode (piece_view c.args.piece) (part_tokens c.args.part) c.len-start.result 1000000 c.args.text.now.items c.extend_from_slice.new.self.items some start c.in_ok-extend_from_slice.ensures.items long)
-    c.in_err-push_tokens.ensures)
+    (λ long. filled_too_long c.args.writer.now.mode piece tokens c.begin_piece.new.self.start 1000000 text c.push.new.self.text.items some start opened (rw (c.in_ok-push.ensures.start, c.in_ok-push.ensures.mode, c.begin_piece.ensures.mode) at long))
+    c.in_err-push_tokens.ensures.text)
 
-pub returns : goal.returns
-returns c =
-    let some : 0 < length (part_tokens c.args.part) = omega (arith, length_taken c.args.part.count (tokens_of c.args.part.text.now) c.args.part.counted) in
-    let start : c.len-start.result ≡ length c.args.text.now.items = omega (arith, c.len-start.ensures, c.args.text.now.ok.0) in
-    piece_made c.args.mode (piece_view c.args.piece) (part_tokens c.args.part) c.len-start.result c.args.text.now.items c.extend_from_slice.new.self.items c.push_tokens.new.text.items c.extend_from_slice-2.new.self.items c.finish.new.text.items some start
-    c.in_ok-extend_from_slice.ensures.items c.in_ok-push_tokens.ensures c.in_ok-extend_from_slice-2.ensures.items c.finish.ensures
+pub returns-in_err-push-2-clause-text : goal.returns-in_err-push-2-clause-text
+returns-in_err-push-2-clause-text c =
+    let piece = piece_view c.args.piece in
+    let tokens = part_tokens c.args.part in
+    let text = c.args.writer.now.text.items in
+    let some : 0 < length tokens = some_tokens c.args.part.tokens.now c.is_empty.result c.is_empty.ensures c.if-is_empty.false in
+    let start : c.begin_piece.new.self.start ≡ length text = c.begin_piece.ensures.start in
+    let opened : c.push.new.self.text.items ≡ text ++ piece.before = rw c.begin_piece.ensures.text at c.in_ok-push.ensures.text in
+    let filled = rw (c.in_ok-push.ensures.start, c.in_ok-push.ensures.mode, c.begin_piece.ensures.mode) at c.in_ok-push_tokens.ensures.text in
+    let p = err_from_is_err_and c.from_residual-in_err-push-2.result c.from_residual-in_err-push-2.ensures.1 in
+    rw (p.1, p.2)
+    (fails_too 1000001 1000000 c.in_err-push-2.field-0.0 _ _ _ _
+    (λ long. closed_too_long c.args.writer.now.mode piece tokens c.begin_piece.new.self.start 1000000 text c.push.new.self.text.items c.push_tokens.new.writer.text.items some start opened filled long)
+    c.in_err-push-2.ensures.text)
+
+pub returns-clause-text : goal.returns-clause-text
+returns-clause-text c =
+    let piece = piece_view c.args.piece in
+    let tokens = part_tokens c.args.part in
+    let text = c.args.writer.now.text.items in
+    let some : 0 < length tokens = some_tokens c.args.part.tokens.now c.is_empty.result c.is_empty.ensures c.if-is_empty.false in
+    let start : c.begin_piece.new.self.start ≡ length text = c.begin_piece.ensures.start in
+    let opened : c.push.new.self.text.items ≡ text ++ piece.before = rw c.begin_piece.ensures.text at c.in_ok-push.ensures.text in
+    let filled = rw (c.in_ok-push.ensures.start, c.in_ok-push.ensures.mode, c.begin_piece.ensures.mode) at c.in_ok-push_tokens.ensures.text in
+    let closed = c.in_ok-push-2.ensures in
+    let finished = rw (closed.start, c.in_ok-push_tokens.ensures.start, c.in_ok-push.ensures.start, closed.mode, c.in_ok-push_tokens.ensures.mode, c.in_ok-push.ensures.mode, c.begin_piece.ensures.mode) at c.finish_piece.ensures.text in
+    piece_made c.args.writer.now.mode piece tokens c.begin_piece.new.self.start text c.push.new.self.text.items c.push_tokens.new.writer.text.items c.push-2.new.self.text.items c.finish_piece.new.self.text.items some start opened filled closed.text finished

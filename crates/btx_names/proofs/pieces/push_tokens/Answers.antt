@@ -1,63 +1,96 @@
-use Rattle.std.proofs.Common.{◌≡◌, ◌-◌, ◌<◌, ◌≤◌, ◌++◌, ◌∙◌, sym, ℕ, List, false, IsTrue, length, length-append, take, drop, ap, arith}
-use Rattle.btx_names.specs.Tokens.{Token}
-use Rattle.btx_names.specs.FormattedNames.{with_tokens, between_text, shown, is_short}
+use Rattle.std.proofs.Common.{◌≡◌, ◌<◌, ◌≤◌, ◌+◌, ◌-◌, ◌++◌, ◌∷◌, ◌∙◌, sym, length, take, drop, arith}
+use Rattle.std.proofs.lemmas.Result.{err_from_is_err_and}
+use Rattle.btx_names.specs.FormattedNames.{with_tokens, shown, between_text}
 use Rattle.btx_names.specs.ItemViews.{piece_view}
+use Rattle.btx_names.specs.NameTokens.{token_of, tokens_in}
 use Rattle.btx_names.specs.PartViews.{part_tokens}
-use Rattle.btx_names.specs.TokenViews.{token_of}
-use Rattle.btx_names.proofs.PieceLemmas.{one_token_more, too_long, tokens_done}
-use Rattle.btx_names.proofs.ShortLemmas.{still_long}
+use Rattle.btx_names.proofs.PartLemmas.{tokens_at, tokens_left, no_tokens_left}
+use Rattle.btx_names.proofs.PieceLemmas.{one_token_more, shown_too_long, between_too_long, tokens_done, nothing_between, initials_joined, fails_too}
 use Rattle.btx_names.proofs.pieces.push_tokens.Goals as goal
-use Rattle.btx_names.proofs.pieces.push_tokens.Goals.{then-is_long+in_ok-push_between_long, else-is_long+in_ok-is_long}
+
+pub returns-then-has_nothing_between-clause-text : goal.returns-then-has_nothing_between-clause-text
+returns-then-has_nothing_between-clause-text c =
+    let piece = piece_view c.args.piece in
+    let is = nothing_between piece (sym c.has_nothing_between.ensures ∙ c.if-has_nothing_between.true) in
+    rw (initials_joined c.args.writer.now.mode piece c.args.writer.now.start c.args.writer.now.text.items (part_tokens c.args.part) is.0 is.1) c.push_initials.ensures.text
+
+pub returns-in_err-push_shown-clause-text : goal.returns-in_err-push_shown-clause-text
+returns-in_err-push_shown-clause-text c =
+    let mode = c.args.writer.now.mode in
+    let start = c.args.writer.now.start in
+    let piece = piece_view c.args.piece in
+    let items = c.args.part.tokens.now in
+    let i = c.loop-token.token-index in
+    let kept = c.loop-token.invariant in
+    let old = c.loop-token.writer.text.items in
+    let before = take start c.args.writer.now.text.items in
+    let token = token_of c.token-item.result in
+    let tokens = tokens_in (drop (i + 1) items) in
+    let all = tokens_in (drop i items) in
+    let inside : start ≤ length old = rw kept.start at c.loop-token.writer.begun in
+    let split : all ≡ token ∷ tokens = tokens_at items i c.token-item.result (omega arith) c.token-item.is in
+    let p = err_from_is_err_and c.from_residual.result c.from_residual.ensures.1 in
+    rw (p.1, p.2)
+    (fails_too 1000001 1000001 c.in_err-push_shown.field-0.0 _ _ _ _
+    (λ long. shown_too_long mode piece start 1000001 old before (with_tokens mode piece (drop start c.args.writer.now.text.items) (part_tokens c.args.part)) token tokens all inside kept.before split kept.rest (rw kept.mode at long))
+    c.in_err-push_shown.ensures.text)
+
+pub returns-in_err-push_between-clause-text : goal.returns-in_err-push_between-clause-text
+returns-in_err-push_between-clause-text c =
+    let mode = c.args.writer.now.mode in
+    let start = c.args.writer.now.start in
+    let piece = piece_view c.args.piece in
+    let items = c.args.part.tokens.now in
+    let i = c.loop-token.token-index in
+    let kept = c.loop-token.invariant in
+    let old = c.loop-token.writer.text.items in
+    let before = take start c.args.writer.now.text.items in
+    let token = token_of c.token-item.result in
+    let tokens = tokens_in (drop (i + 1) items) in
+    let all = tokens_in (drop i items) in
+    let inside : start ≤ length old = rw kept.start at c.loop-token.writer.begun in
+    let split : all ≡ token ∷ tokens = tokens_at items i c.token-item.result (omega arith) c.token-item.is in
+    let mid = c.push_shown.new.writer.text.items in
+    let first : mid ≡ old ++ shown mode piece.is_full token.text = rw kept.mode at c.in_ok-push_shown.ensures.text in
+    let count : c.loop-token.left - 1 ≡ length tokens = omega (arith, kept.counted, tokens_left items (i + 1)) in
+    let p = err_from_is_err_and c.from_residual-in_err-push_between.result c.from_residual-in_err-push_between.ensures.1 in
+    rw (p.1, p.2)
+    (fails_too 1000001 1000001 c.in_err-push_between.field-0.0 _ _ _ _
+    (λ long. between_too_long mode piece start 1000001 old mid before (with_tokens mode piece (drop start c.args.writer.now.text.items) (part_tokens c.args.part)) token tokens all inside kept.before split kept.rest first (rw (c.in_ok-push_shown.ensures.mode, kept.mode, c.in_ok-push_shown.ensures.start, kept.start, count) at long))
+    c.in_err-push_between.ensures.text)
 
 pub loop-token-preserved : goal.loop-token-preserved
 loop-token-preserved c =
-    let mode = c.args.mode in
-    let start = c.args.start in
+    let mode = c.args.writer.now.mode in
+    let start = c.args.writer.now.start in
     let piece = piece_view c.args.piece in
-    let old = c.loop-token.text.items in
-    let mid = c.push_shown.new.text.items in
-    let new = c.if-is_long.text.items in
-    let token = token_of c.in-Some.token in
-    let word = shown mode piece.is_full token.text in
-    let between = between_text mode piece (drop start mid) token.joint (c.loop-token.left - 1) in
-    let inside : start ≤ length mid = omega (arith, c.loop-token.invariant.inside, ap (λ (t : List ℕ). length t) c.in_ok-push_shown.ensures, length-append old word) in
-    let added : new ≡ mid ++ between =
-    elim c.if-is_long.branch [
-      | then-is_long+in_ok-push_between_long w ↦ rw w.text-is (w.in_ok-push_between_long.ensures mode (drop start mid) (still_long mode start old word mid c.loop-token.invariant.inside c.in_ok-push_shown.ensures (c.loop-token.invariant.long w.if-is_long.true)))
-      | else-is_long+in_ok-is_long w ↦ rw w.text-is w.in_ok-is_long.ensures.text
-    ] in
-    let long : IsTrue c.if-is_long.is_long → (more : List ℕ) → is_short mode (drop start new ++ more) ≡ false =
-    elim c.if-is_long.branch [
-      | then-is_long+in_ok-push_between_long w ↦ λ is. still_long mode start mid between new inside added (still_long mode start old word mid c.loop-token.invariant.inside c.in_ok-push_shown.ensures (c.loop-token.invariant.long w.if-is_long.true))
-      | else-is_long+in_ok-is_long w ↦ rw (w.text-is, w.is_long-is) w.in_ok-is_long.ensures.long
-    ] in
-    let count : c.loop-token.left - 1 ≡ length c.next.new.self = omega (arith, c.loop-token.invariant.counted, ap (λ (tokens : List Token). length tokens) c.in-Some.ensures.steps) in
-    let turn = one_token_more mode piece start old mid new (take start c.args.text.now.items) token c.next.new.self c.loop-token.token-iterator c.loop-token.invariant.inside c.loop-token.invariant.before c.in_ok-push_shown.ensures (rw count at added) c.in-Some.ensures.steps in
-    record { counted = count; inside = turn.0; before = turn.1; rest = turn.2 ∙ c.loop-token.invariant.rest; long = long }
+    let items = c.args.part.tokens.now in
+    let i = c.loop-token.token-index in
+    let kept = c.loop-token.invariant in
+    let old = c.loop-token.writer.text.items in
+    let before = take start c.args.writer.now.text.items in
+    let token = token_of c.token-item.result in
+    let tokens = tokens_in (drop (i + 1) items) in
+    let all = tokens_in (drop i items) in
+    let inside : start ≤ length old = rw kept.start at c.loop-token.writer.begun in
+    let split : all ≡ token ∷ tokens = tokens_at items i c.token-item.result (omega arith) c.token-item.is in
+    let mid = c.push_shown.new.writer.text.items in
+    let first : mid ≡ old ++ shown mode piece.is_full token.text = rw kept.mode at c.in_ok-push_shown.ensures.text in
+    let count : c.loop-token.left - 1 ≡ length tokens = omega (arith, kept.counted, tokens_left items (i + 1)) in
+    let new = c.push_between.new.writer.text.items in
+    let second : new ≡ mid ++ between_text mode piece (drop start mid) token.joint (length tokens) =
+    rw (c.in_ok-push_shown.ensures.mode, kept.mode, c.in_ok-push_shown.ensures.start, kept.start, count) at c.in_ok-push_between.ensures.text in
+    let turn = one_token_more mode piece start old mid new before token tokens all inside kept.before first second split in
+    record {
+      counted = omega (arith, kept.counted);
+      start = c.in_ok-push_between.ensures.start ∙ c.in_ok-push_shown.ensures.start ∙ kept.start;
+      mode = c.in_ok-push_between.ensures.mode ∙ c.in_ok-push_shown.ensures.mode ∙ kept.mode;
+      before = turn.1;
+      rest = turn.2 ∙ kept.rest;
+    }
 
-pub returns-then-len : goal.returns-then-len
-returns-then-len c =
-    let mode = c.args.mode in
-    let start = c.args.start in
-    let piece = piece_view c.args.piece in
-    let old = c.loop-token.text.items in
-    let mid = c.push_shown.new.text.items in
-    let new = c.if-is_long.text.items in
-    let before = take start c.args.text.now.items in
-    let token = token_of c.in-Some.token in
-    let word = shown mode piece.is_full token.text in
-    let added : new ≡ mid ++ between_text mode piece (drop start mid) token.joint (c.loop-token.left - 1) =
-    elim c.if-is_long.branch [
-      | then-is_long+in_ok-push_between_long w ↦ rw w.text-is (w.in_ok-push_between_long.ensures mode (drop start mid) (still_long mode start old word mid c.loop-token.invariant.inside c.in_ok-push_shown.ensures (c.loop-token.invariant.long w.if-is_long.true)))
-      | else-is_long+in_ok-is_long w ↦ rw w.text-is w.in_ok-is_long.ensures.text
-    ] in
-    let count : c.loop-token.left - 1 ≡ length c.next.new.self = omega (arith, c.loop-token.invariant.counted, ap (λ (tokens : List Token). length tokens) c.in-Some.ensures.steps) in
-    let turn = one_token_more mode piece start old mid new before token c.next.new.self c.loop-token.token-iterator c.loop-token.invariant.inside c.loop-token.invariant.before c.in_ok-push_shown.ensures (rw count at added) c.in-Some.ensures.steps in
-    let long : 1000001 < length new = omega (arith, c.if-is_long.text.ok.0, c.len.ensures, c.if-len.true) in
-    rw (sym (turn.2 ∙ c.loop-token.invariant.rest))
-    (too_long mode piece start 1000001 new before c.next.new.self turn.0 turn.1 long)
-
-pub returns : goal.returns
-returns c =
-    let none = c.in-None.ensures.steps.0 in
-    tokens_done c.args.mode (piece_view c.args.piece) c.args.start c.loop-token.text.items (take c.args.start c.args.text.now.items) (with_tokens c.args.mode (piece_view c.args.piece) (drop c.args.start c.args.text.now.items) (part_tokens c.args.part)) c.loop-token.invariant.before (rw none at c.loop-token.invariant.rest)
+pub returns-clause-text : goal.returns-clause-text
+returns-clause-text c =
+    let items = c.args.part.tokens.now in
+    let kept = c.loop-token.invariant in
+    tokens_done c.args.writer.now.mode (piece_view c.args.piece) c.args.writer.now.start c.loop-token.writer.text.items (take c.args.writer.now.start c.args.writer.now.text.items) (with_tokens c.args.writer.now.mode (piece_view c.args.piece) (drop c.args.writer.now.start c.args.writer.now.text.items) (part_tokens c.args.part)) (tokens_in (drop c.loop-token.token-index items)) kept.before (no_tokens_left items c.loop-token.token-index (omega arith)) kept.rest

@@ -1,15 +1,15 @@
-use Rattle.std.proofs.Common.{◌≡◌, ◌≤◌, ◌++◌, ℕ, List, false, IsTrue, length, take, drop}
-use Rattle.btx_names.specs.FormattedNames.{with_tokens, is_short}
+use Rattle.std.proofs.Common.{◌≡◌, ◌+◌, ◌≤◌, length, take, drop}
+use Rattle.btx_names.specs.FormattedNames.{with_tokens}
 use Rattle.btx_names.specs.ItemViews.{piece_view}
-use Rattle.btx_names.specs.PartViews.{part_tokens}
+use Rattle.btx_names.specs.NameTokens.{tokens_in}
 use Rattle.btx_names.proofs.pieces.push_tokens.Given as goal
 
 abbrev pub invariant-loop-token : goal.invariant-loop-token
 invariant-loop-token l = record {
-  counted : l.left ≡ length l.token-iterator;
-  inside : l.start ≤ length l.text.items;
-  before : take l.start l.text.items ≡ take l.start l.initial.text.items;
-  rest : with_tokens l.mode (piece_view l.piece) (drop l.start l.text.items) l.token-iterator
-      ≡ with_tokens l.mode (piece_view l.piece) (drop l.start l.initial.text.items) (part_tokens l.fn.part);
-  long : IsTrue l.is_long → (more : List ℕ) → is_short l.mode (drop l.start l.text.items ++ more) ≡ false;
+  counted : l.left + l.token-index ≡ length l.fn.part.tokens.now;
+  start : l.writer.start ≡ l.initial.writer.start;
+  mode : l.writer.mode ≡ l.initial.writer.mode;
+  before : take l.initial.writer.start l.writer.text.items ≡ take l.initial.writer.start l.initial.writer.text.items;
+  rest : with_tokens l.initial.writer.mode (piece_view l.piece) (drop l.initial.writer.start l.writer.text.items) (tokens_in (drop l.token-index l.fn.part.tokens.now))
+      ≡ with_tokens l.initial.writer.mode (piece_view l.piece) (drop l.initial.writer.start l.initial.writer.text.items) (tokens_in l.fn.part.tokens.now);
 }

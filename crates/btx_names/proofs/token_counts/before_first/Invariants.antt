@@ -1,8 +1,8 @@
-use Rattle.std.proofs.Common.{◌≡◌, ◌+◌, ◌≤◌, length}
-use Rattle.btx_names.specs.Tokens.{tokens_of}
+use Rattle.std.proofs.Common.{◌≡◌, ◌+◌, drop}
 use Rattle.btx_names.specs.NameParts.{passes, before_first}
+use Rattle.btx_names.specs.NameTokens.{tokens_in}
 use Rattle.btx_names.proofs.token_counts.before_first.Given as goal
 
-abbrev pub invariant-loop-token : goal.invariant-loop-token
-invariant-loop-token l =
-    (l.seen + before_first (passes l.test) l.token-iterator ≡ before_first (passes l.test) (tokens_of l.text)) × (l.seen + length l.token-iterator ≤ length l.text)
+abbrev pub invariant-loop-place : goal.invariant-loop-place
+invariant-loop-place l =
+    l.place + before_first (passes l.test) (tokens_in (drop l.place l.fn.part.tokens.now)) ≡ before_first (passes l.test) (tokens_in l.fn.part.tokens.now)

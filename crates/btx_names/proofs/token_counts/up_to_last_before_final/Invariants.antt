@@ -1,8 +1,12 @@
-use Rattle.std.proofs.Common.{◌≡◌, ◌+◌, ◌≤◌, length, false}
-use Rattle.btx_names.specs.Tokens.{tokens_of}
-use Rattle.btx_names.proofs.CountLemmas.{end_from}
+use Rattle.std.proofs.Common.{◌≡◌, ◌≤◌, take, length}
+use Rattle.btx_names.specs.NameParts.{passes, up_to_last, before_final}
+use Rattle.btx_names.specs.NameTokens.{tokens_in}
 use Rattle.btx_names.proofs.token_counts.up_to_last_before_final.Given as goal
 
-abbrev pub invariant-loop-token : goal.invariant-loop-token
-invariant-loop-token l =
-    (end_from l.test l.previous_passes l.seen l.end l.token-iterator ≡ end_from l.test false 0 0 (tokens_of l.text)) × (l.seen + length l.token-iterator ≤ length l.text)
+abbrev pub invariant-loop-place : goal.invariant-loop-place
+invariant-loop-place l =
+    (l.place ≤ length l.fn.part.tokens.now)
+    × (up_to_last (passes l.test) (tokens_in (take l.place l.fn.part.tokens.now)) ≡ up_to_last (passes l.test) (before_final (tokens_in l.fn.part.tokens.now)))
+
+abbrev pub decreases-loop-place : goal.decreases-loop-place
+decreases-loop-place l = l.place

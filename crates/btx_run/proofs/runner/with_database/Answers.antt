@@ -5,7 +5,7 @@ use Rattle.btx_run.specs.declared.report.End.TheVariants as ended
 use Rattle.btx_run.specs.declared.report.Limit.TheVariants.{File}
 use Rattle.btx_run.specs.DraftViews.{view_of}
 use Rattle.btx_run.specs.LogLines.{database_line}
-use Rattle.btx_run.specs.Product.{Ends, Executes, is_too_long, plain, reading}
+use Rattle.btx_run.specs.Product.{Ends, Executes, is_too_long, reading}
 use Rattle.btx_run.specs.ToldLines.{told_view}
 use Rattle.btx_run.proofs.StageLemmas.{database_fits, database_outside, database_too_long, judged, nothing_written, one_more, runs_is, runs_memory}
 use Rattle.btx_run.proofs.runner.with_database.Goals as goal
@@ -20,7 +20,7 @@ pub returns-then-is_too_long-clause-runs : goal.returns-then-is_too_long-clause-
 returns-then-is_too_long-clause-runs g c =
     let old = told_view c.args.told in
     let style = view_of c.args.style.now in
-    let told : told_view c.push.new.self ≡ old ++ plain (database_line 1 c.args.database.name.now) ∷ [] = one_more old _ _ _ false c.in_ok-push.ensures.told c.in_ok-line.ensures in
+    let told : told_view c.push.new.self ≡ old ++ database_line 1 c.args.database.name.now ∷ [] = one_more old _ _ _ c.in_ok-push.ensures.told c.in_ok-line.ensures in
     let long : is_too_long c.args.database.text.now ≡ true = search rules in
     runs_is c.end_at_once.result _ _ _ _ c.args.budget
     (database_too_long old c.args.database.key.now style c.args.database.name.now c.args.database.text.now long ∙ ap (λ t. Some (reading t (Ends (ended.Limit File)))) (sym told))
@@ -38,7 +38,7 @@ pub returns-clause-runs : goal.returns-clause-runs
 returns-clause-runs g c =
     let old = told_view c.args.told in
     let style = view_of c.args.style.now in
-    let told : told_view c.push.new.self ≡ old ++ plain (database_line 1 c.args.database.name.now) ∷ [] = one_more old _ _ _ false c.in_ok-push.ensures.told c.in_ok-line.ensures in
+    let told : told_view c.push.new.self ≡ old ++ database_line 1 c.args.database.name.now ∷ [] = one_more old _ _ _ c.in_ok-push.ensures.told c.in_ok-line.ensures in
     let fits : is_database style.types c.args.database.key.now c.args.database.text.now ≡ true =
     judged c.args.style.now.functions.items _ c.args.style.now.before_read c.args.database.key.now c.args.database.text.now _ (grind (arith, common_steps)) c.is_database.ensures ∙ search rules in
     let short : is_too_long c.args.database.text.now ≡ false = search rules in

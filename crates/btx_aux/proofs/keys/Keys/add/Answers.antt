@@ -1,21 +1,23 @@
-use Rattle.std.proofs.Common.{◌∙◌, ap, ◌∷◌, ◌++◌, [], List, ℕ, sym, subst}
-use Rattle.indexmap.proofs.CallerLemmas.{insert_entry-new}
-use Rattle.btx_aux.specs.Entries.{Bytes}
-use Rattle.btx_aux.specs.KeyTable.{spellings, IsFoldedTable}
-use Rattle.btx_aux.proofs.TableLemmas.{same_key}
-use Rattle.btx_aux.proofs.KeyLemmas.{absent_by, spellings-push, IsFoldedTable-push}
+use Rattle.std.proofs.Common.{◌≡◌, ◌∙◌, ap, sym, ◌∷◌, ◌++◌, [], List, ℕ, map, if◌then◌else◌, Bool}
+use Rattle.btx_text.specs.Keys.{folded}
+use Rattle.btx_aux.specs.Entries.{Bytes, texts_of}
+use Rattle.btx_aux.proofs.KeyLemmas.{absent_in, IsTableOf-push}
+use Rattle.btx_aux.proofs.NameLemmas.{texts_of-push}
 use Rattle.btx_aux.proofs.keys.Keys.add.Goals as goal
 
 pub invariant_of-self-2 : goal.invariant_of-self-2
 invariant_of-self-2 c =
-    let es = c.self.inside.table.entries in
-    let absent = absent_by es c.args.lowered.items c.args.self.now c.self.invariant c.self.view_is c.requires.absent in
-    let entries = c.in_ok-insert.ensures.entries ∙ insert_entry-new same_key c.self.inside.table c.args.lowered c.args.key absent in
-    subst (λ (table : List (Bytes × Bytes)). IsFoldedTable table) (sym entries) (IsFoldedTable-push es c.args.lowered c.args.key c.self.invariant c.requires.form)
+    let lowered = c.self.inside.lowered.keys in
+    let spelled = c.self.inside.spelled.items in
+    let absent = absent_in lowered spelled c.args.lowered.items c.args.self.now c.self.invariant c.self.view_is c.requires.absent in
+    let listed : c.push_reserved.new.self.items ≡ spelled ++ c.args.key ∷ [] = c.push_reserved.ensures.items ∙ ap (λ (keys : List Bytes). keys ++ c.args.key ∷ []) c.reserve.ensures.items in
+    ap texts_of (c.in_ok-insert.ensures.keys ∙ ap (λ (b : Bool). if b then lowered else lowered ++ c.args.lowered ∷ []) absent)
+    ∙ IsTableOf-push lowered spelled c.args.lowered c.args.key c.self.invariant c.requires.form
+    ∙ sym (ap (λ (keys : List Bytes). map folded (texts_of keys)) listed)
 
 pub returns : goal.returns
 returns c =
-    let es = c.self.inside.table.entries in
-    let absent = absent_by es c.args.lowered.items c.args.self.now c.self.invariant c.self.view_is c.requires.absent in
-    let entries = c.in_ok-insert.ensures.entries ∙ insert_entry-new same_key c.self.inside.table c.args.lowered c.args.key absent in
-    ap spellings entries ∙ spellings-push es c.args.lowered c.args.key ∙ ap (λ (keys : List (List ℕ)). keys ++ c.args.key.items ∷ []) c.self.view_is
+    let spelled = c.self.inside.spelled.items in
+    ap texts_of (c.push_reserved.ensures.items ∙ ap (λ (keys : List Bytes). keys ++ c.args.key ∷ []) c.reserve.ensures.items)
+    ∙ texts_of-push spelled c.args.key
+    ∙ ap (λ (keys : List (List ℕ)). keys ++ c.args.key.items ∷ []) c.self.view_is

@@ -1,5 +1,0 @@
--- Texts that are written piece by piece.
-use Rattle.std.proofs.Common.{append_assoc}
-use Rattle.std.proofs.lemmas.Result.{IfOk-equal}
-
-pub ruleset joins = (append_assoc, IfOk-equal)

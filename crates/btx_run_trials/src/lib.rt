@@ -1,0 +1,11 @@
+//! Tests of whole runs, for what no contract says. It has no code of its own.
+#![tactic(auto)]
+
+#[cfg(test)]
+mod coverage;
+#[cfg(test)]
+mod failing_runs;
+#[cfg(test)]
+mod jobs;
+#[cfg(test)]
+mod runs;

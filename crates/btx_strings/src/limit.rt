@@ -1,0 +1,14 @@
+//! The limit of a string.
+ghost use Rattle.btx_strings.specs.Limit.{KeepsLimit};
+
+use btx_text::{Fault, GREATEST_STRING};
+
+// Nothing where a string may have so many bytes, else [`Fault::StringLimit`].
+pub(crate) fn within_limit(length: usize) -> Result<(), Fault>
+    ensures { KeepsLimit result length }
+{
+    if length > GREATEST_STRING {
+        return Err(Fault::StringLimit);
+    }
+    Ok(())
+}
