@@ -11,6 +11,7 @@ use Rattle.btx_bst.specs.Direct.{is_direct_at, is_call_type, is_user_literal, be
 
 -- past its end a body is direct
 direct-past : (body : Body) (i : ℕ) → length body ≤ i → is_direct_at body i ≡ true
+unfolding is_direct_at is_call_type is_user_literal
 direct-past body i h = rw (slice_get_past body i h) refl
 
 cases : (k n : ℕ) → (k < n) ⊎ (n ≤ k)
@@ -27,6 +28,7 @@ direct-body body n h all k = at (cases k n) where
   at (inr l) = direct-past body k (omega arith)
 
 pub direct-no_body : IsDirectBody []
+unfolding is_direct_at is_call_type is_user_literal
 direct-no_body k = refl
 
 -- a style whose bodies are direct is direct

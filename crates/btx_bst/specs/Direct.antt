@@ -13,33 +13,33 @@ use Rattle.btx_bst.specs.Bodies.{Body}
 use Rattle.btx_bst.specs.Style.{Style}
 
 -- `call.type$`, executed or as a literal
-abbrev pub is_call_type : Option Token → Bool
+unfoldable pub is_call_type : Option Token → Bool
 is_call_type (Some (Quote (callee.BuiltIn CallType))) = true
 is_call_type (Some (Run (callee.BuiltIn CallType))) = true
 is_call_type _ = false
 
 -- a literal of a function of the style
-abbrev pub is_user_literal : Option Token → Bool
+unfoldable pub is_user_literal : Option Token → Bool
 is_user_literal (Some (Quote (User number))) = true
 is_user_literal _ = false
 
 -- a function literal of any kind
-abbrev pub is_literal : Option Token → Bool
+unfoldable pub is_literal : Option Token → Bool
 is_literal (Some (Quote callee)) = true
 is_literal _ = false
 
 -- an `if$` or a `while$` that is executed
-abbrev pub is_choice : Option Token → Bool
+unfoldable pub is_choice : Option Token → Bool
 is_choice (Some (Run (callee.BuiltIn If))) = true
 is_choice (Some (Run (callee.BuiltIn While))) = true
 is_choice _ = false
 
 -- at this place two function literals stand side by side directly before an `if$` or a `while$`
-abbrev pub begins_pair : Body → ℕ → Bool
+unfoldable pub begins_pair : Body → ℕ → Bool
 begins_pair body i = is_literal (slice_get body i) && is_literal (slice_get body (i + 1)) && is_choice (slice_get body (i + 2))
 
 -- what stands at a place of a body is no `call.type$`, and no literal of a function of the style but one of such two
-abbrev pub is_direct_at : Body → ℕ → Bool
+unfoldable pub is_direct_at : Body → ℕ → Bool
 is_direct_at body i =
     not (is_call_type (slice_get body i))
     && (not (is_user_literal (slice_get body i)) || begins_pair body i || (nat_lt 0 i && begins_pair body (i - 1)))

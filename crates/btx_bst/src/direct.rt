@@ -35,6 +35,7 @@ fn is_direct_body(body: &[Token]) -> bool
 }
 
 /// Whether what stands at a place of a body is direct.
+#[tactic(auto, unfolding(crate::specs::Direct::is_direct_at))]
 fn is_direct_at(body: &[Token], i: usize) -> bool
     requires { i < length body.now }
     ensures { result ≡ spec.is_direct_at body.now i }
@@ -45,6 +46,7 @@ fn is_direct_at(body: &[Token], i: usize) -> bool
 }
 
 /// Whether two function literals begin at a place, directly before an `if$` or a `while$`.
+#[tactic(auto, unfolding(crate::specs::Direct::begins_pair))]
 fn begins_pair(body: &[Token], i: usize) -> bool
     requires { i < length body.now }
     ensures { result ≡ spec.begins_pair body.now i }
@@ -55,6 +57,7 @@ fn begins_pair(body: &[Token], i: usize) -> bool
 }
 
 /// Whether this is `call.type$`, executed or as a literal.
+#[tactic(auto, unfolding(crate::specs::Direct::is_call_type))]
 fn is_call_type(token: Option<Token>) -> bool
     ensures { result ≡ spec.is_call_type token }
 {
@@ -68,6 +71,7 @@ fn is_call_type(token: Option<Token>) -> bool
 }
 
 /// Whether this is a literal of a function of the style.
+#[tactic(auto, unfolding(crate::specs::Direct::is_user_literal))]
 fn is_user_literal(token: Option<Token>) -> bool
     ensures { result ≡ spec.is_user_literal token }
 {
@@ -75,6 +79,7 @@ fn is_user_literal(token: Option<Token>) -> bool
 }
 
 /// Whether this is a function literal of any kind.
+#[tactic(auto, unfolding(crate::specs::Direct::is_literal))]
 fn is_literal(token: Option<Token>) -> bool
     ensures { result ≡ spec.is_literal token }
 {
@@ -82,13 +87,12 @@ fn is_literal(token: Option<Token>) -> bool
 }
 
 /// Whether this is an `if$` or a `while$` that is executed.
+#[tactic(auto, unfolding(crate::specs::Direct::is_choice))]
 fn is_choice(token: Option<Token>) -> bool
     ensures { result ≡ spec.is_choice token }
 {
     matches!(
         token,
-        Some(Token::Run(Callee::BuiltIn(
-            BuiltIn::If | BuiltIn::While
-        )))
+        Some(Token::Run(Callee::BuiltIn(BuiltIn::If | BuiltIn::While)))
     )
 }
