@@ -16,3 +16,4 @@ pub mod DefineLemmas
 pub mod PredefinedLemmas
 pub mod RoomLemmas
 pub mod LineLemmas
+pub mod DirectLemmas

@@ -26,3 +26,4 @@ pub mod Pending
 pub mod DraftViews
 pub mod StyleReads
 pub mod MessageTexts
+pub mod Direct

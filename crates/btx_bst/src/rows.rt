@@ -1,15 +1,35 @@
 //! A style read and shown by each call.
 use crate::built_in::BuiltIn;
 use crate::callee::Callee;
+use crate::direct::is_direct;
 use crate::item::Item;
 use crate::style::{Style, read_style};
 use crate::token::Token;
 use btx_text::Fault;
+use std::alloc::Global;
 use std::process::Abort;
 
 const TEXT: &[u8] =
     b"ENTRY {Title}{n}{label} integers {i} STRINGS {s}\nmacro {jan} {\"January\"} function {misc} {} read\n\
 function {f} {\"a\" write$ {'f title} % none }\n #1 'skip$ if$} EXECUTE {F}\n\nSORT x";
+
+/// Styles that are direct.
+const DIRECT: &[&[u8]] = &[
+    b"FUNCTION {f} {#1 {#1} 'skip$ if$ pop$}",
+    b"FUNCTION {f} {'skip$ {skip$} while$}",
+    b"FUNCTION {f} {#1 'skip$ duplicate$ if$}",
+    b"ENTRY {} {} {} READ ITERATE {call.type$}",
+];
+
+/// Styles that are not.
+const NOT_DIRECT: &[&[u8]] = &[
+    b"FUNCTION {f} {#1 {skip$} duplicate$ if$}",
+    b"FUNCTION {f} {duplicate$ #1 swap$ {skip$} if$}",
+    b"FUNCTION {f} {#1 {skip$} 'skip$ 'skip$ if$}",
+    b"FUNCTION {f} {{skip$} 'skip$ 'if$}",
+    b"FUNCTION {f} {'call.type$ pop$}",
+    b"FUNCTION {f} {} FUNCTION {g} {call.type$}",
+];
 
 /// The calls that take a name.
 fn names(rt: &impl Abort, style: &Style<'_>) {
@@ -63,5 +83,23 @@ fn a_message(rt: HostRuntime) -> Result<(), Fault> {
         );
     }
     assert_eq!(rt; style.items().len(), 2);
+    Ok(())
+}
+
+/// How many of these styles are direct.
+fn direct_ones(alloc: Global, texts: &[&[u8]]) -> Result<usize, Fault> {
+    let mut count = 0;
+    for text in texts {
+        if is_direct(&read_style(alloc, b"s.bst", text)?) {
+            count += 1;
+        }
+    }
+    Ok(count)
+}
+
+#[test]
+fn direct_styles(rt: HostRuntime) -> Result<(), Fault> {
+    assert_eq!(rt; direct_ones(rt.alloc(), DIRECT)?, DIRECT.len());
+    assert_eq!(rt; direct_ones(rt.alloc(), NOT_DIRECT)?, 0);
     Ok(())
 }

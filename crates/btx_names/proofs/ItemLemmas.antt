@@ -44,7 +44,7 @@ run_cut stop depth (b ∷ bs) less = at (eqb depth 0 && stops stop b) refl less 
       record { byte = cut.byte; rest = cut.rest; behind = cut.behind; with_it = ap (λ xs. b ∷ xs) cut.with_it; is_stop = cut.is_stop; level = cut.level }
 
 -- a text that goes down to depth 0 from above has a closing brace
-deeper : (depth b : ℕ) → (eqb depth 0 && eqb b 125) ≡ false → depth_after (suc depth) b ≡ suc (depth_after depth b)
+pub deeper : (depth b : ℕ) → (eqb depth 0 && eqb b 125) ≡ false → depth_after (suc depth) b ≡ suc (depth_after depth b)
 deeper depth b stays = at (eqb b 123) (eqb b 125) refl where
   down : (n : ℕ) → (eqb n 0 && true) ≡ false → suc n - 1 ≡ suc (n - 1)
   down zero h = absurd (true≢false h)
@@ -103,7 +103,7 @@ named letter part is =
       at false false false false a b c d same = let none : ⊥ = cc in absurd none
 
 -- such a letter is no brace
-letter_keeps : (part : PartName) (b depth : ℕ) → eqb (to_ascii_lowercase b) (letter_of part) ≡ true → depth_after depth b ≡ depth
+pub letter_keeps : (part : PartName) (b depth : ℕ) → eqb (to_ascii_lowercase b) (letter_of part) ≡ true → depth_after depth b ≡ depth
 letter_keeps First b depth is = rw (never (λ x. eqb (to_ascii_lowercase x) 102) b 123 is refl, never (λ x. eqb (to_ascii_lowercase x) 102) b 125 is refl) refl
 letter_keeps Von b depth is = rw (never (λ x. eqb (to_ascii_lowercase x) 118) b 123 is refl, never (λ x. eqb (to_ascii_lowercase x) 118) b 125 is refl) refl
 letter_keeps Last b depth is = rw (never (λ x. eqb (to_ascii_lowercase x) 108) b 123 is refl, never (λ x. eqb (to_ascii_lowercase x) 108) b 125 is refl) refl
@@ -115,7 +115,7 @@ lower_of_letter Von = refl
 lower_of_letter Last = refl
 lower_of_letter Jr = refl
 
-same_head : (a b : ℕ) (xs ys : List ℕ) → a ≡ b → xs ≡ ys → a ∷ xs ≡ b ∷ ys
+pub same_head : (a b : ℕ) (xs ys : List ℕ) → a ≡ b → xs ≡ ys → a ∷ xs ≡ b ∷ ys
 same_head a b xs ys head tail = rw (head, tail) refl
 
 abbrev tail_text : List ℕ → List ℕ

@@ -21,4 +21,5 @@ pub mod CommaLemmas
 pub mod EndingLemmas
 pub mod JoinLemmas
 pub mod ItemLemmas
+pub mod WrittenLemmas
 pub mod VonLawLemmas

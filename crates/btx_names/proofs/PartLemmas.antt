@@ -1,7 +1,7 @@
 -- Lemmas on the parts of a name and the list of its tokens.
-use Rattle.std.proofs.Common.{◌≡◌, ℕ, zero, suc, ◌+◌, ◌-◌, ◌<◌, ◌≤◌, List, [], ◌∷◌, ◌++◌, length, take, drop, map, refl, sym, ◌∙◌, ap, arith, append_assoc, get_or, set, add-one, min, Bool, true, false, leb, eqb}
+use Rattle.std.proofs.Common.{◌≡◌, ℕ, zero, suc, ◌+◌, ◌-◌, ◌<◌, ◌≤◌, List, [], ◌∷◌, ◌++◌, length, take, drop, refl, sym, ◌∙◌, ap, arith, get_or, set, add-one, min, Bool, true, false, leb, eqb}
 use Rattle.std.proofs.lemmas.Bool.{leb-true, leb-false, eqb-true, true≢false}
-use Rattle.std.proofs.lemmas.List.{take_all, take-map, drop-map, length-map, drop_all, take_at, drop_at, append-nil, length-drop, drop-drop, drop_more, drop-set, get_or-set_same}
+use Rattle.std.proofs.lemmas.List.{take-map, drop-map, length-map, drop_all, take_at, drop_at, length-drop, drop-drop, drop_more, drop-set, get_or-set_same}
 use Rattle.std.specs.List.{flat_map}
 use Rattle.btx_text.specs.declared.element_kind.TextMode.{TextMode}
 use Rattle.btx_names.specs.FormattedNames.{initial_of}

@@ -13,6 +13,7 @@ use Rattle.btx_names.specs.NameParts.{split_at_comma, sections_of, ends_in_comma
 use Rattle.btx_names.specs.Commas.{commas_of, commas_in}
 use Rattle.btx_names.specs.Formats.{part_named, piece_item, inside_item, group_item, items_from, items_of}
 use Rattle.btx_names.specs.FormatTexts.{text_of_items, copied_of}
+use Rattle.btx_names.specs.WrittenFormats.{are_items}
 use Rattle.btx_names.specs.FormattedNames.{initial_of, between_text, with_tokens, finished, piece_text}
 use Rattle.btx_names.specs.Answered.{names_before, nth_name, one_name_text, one_name_complaints, format_name_text, format_name_complaints}
 
@@ -144,3 +145,13 @@ format_again = refl
 -- a stray brace is no literal, and nothing that follows a brace that stays open is one
 copied_bytes : copied_of (codes "{ff~}a {b}}c{d") ≡ codes "a c"
 copied_bytes = refl
+
+-- the items of a format can be written: a string between tokens, a special character before a letter, a group without one, literals
+can_be_written : are_items (items_of (codes "{VV~}{ll}{, jj}{, {\\bf x}f{-}.} and {~{x}}!")) ≡ true
+unfolding run_len part_named piece_item inside_item group_item items_from items_of are_items
+can_be_written = refl
+
+-- a letter stands for its part in either case, both where it stands twice
+either_case : items_of (codes "{VV~}{Ll}{, J}{, F.}") ≡ items_of (codes "{vv~}{ll}{, j}{, f.}")
+unfolding run_len part_named piece_item inside_item group_item items_from items_of
+either_case = refl

@@ -12,6 +12,7 @@ pub mod SectionViews
 pub mod PartViews
 pub mod Formats
 pub mod FormatTexts
+pub mod WrittenFormats
 pub mod ItemViews
 pub mod FormattedNames
 pub mod Becomes

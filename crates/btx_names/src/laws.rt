@@ -7,8 +7,9 @@ ghost use Rattle.btx_names.specs.NameLists.{names_of, separators_of};
 ghost use Rattle.btx_names.specs.Commas.{commas_in, commas_of, final_commas_of};
 ghost use Rattle.btx_names.specs.NameParts.{HasJrByForm, before_last, ends_in_comma, final_of, has_third_comma, in_order, is_hyphen, One, before_final, parts_of, sections_of, surname_of};
 ghost use Rattle.btx_names.specs.Gaps.{and_gap, byte_gap, pieces_between};
-ghost use Rattle.btx_names.specs.Formats.{Piece, is_legal, items_of};
+ghost use Rattle.btx_names.specs.Formats.{Item, Piece, is_legal, items_of};
 ghost use Rattle.btx_names.specs.FormattedNames.{finished, period_of, piece_text, shown, tie_of, with_tokens};
+ghost use Rattle.btx_names.specs.WrittenFormats.{IsFormatOf, are_items};
 ghost use Rattle.btx_names.specs.FormatTexts.{copied_of, in_lower_case, literals_of, text_of_items};
 ghost use Rattle.btx_names.specs.Tokens.{Token, breaks_of, is_some_text, tokens_of};
 
@@ -101,4 +102,12 @@ pub fn items_joined_are_the_format()
     ensures written { (format : List ℕ) →
         is_legal format ≡ true → in_lower_case (text_of_items (items_of format)) ≡ in_lower_case format }
     ensures copied { (format : List ℕ) → literals_of (items_of format) ≡ copied_of format }
+{}
+
+/// Which formats are legal, in the format's own words: literals, groups without a letter at their own level, and pieces with a part's letter,
+/// once or twice and in either case, between texts without one. Such items, written one after another, are a legal format, and its items.
+#[tactic(auto, using(crate::proofs::WrittenLemmas::written_laws))]
+pub fn written_items_are_legal()
+    ensures items { (items : List Item) (format : List ℕ) → are_items items ≡ true → IsFormatOf items format → items_of format ≡ items }
+    ensures legal { (items : List Item) (format : List ℕ) → are_items items ≡ true → IsFormatOf items format → is_legal format ≡ true }
 {}

@@ -1,4 +1,4 @@
-use Rattle.std.proofs.Common.{◌≡◌, ◌+◌, ◌≤◌, length, take, drop}
+use Rattle.std.proofs.Common.{◌≡◌, ◌+◌, length, take, drop}
 use Rattle.btx_names.specs.FormattedNames.{with_tokens}
 use Rattle.btx_names.specs.ItemViews.{piece_view}
 use Rattle.btx_names.specs.NameTokens.{tokens_in}

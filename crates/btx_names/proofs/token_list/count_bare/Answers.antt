@@ -1,4 +1,4 @@
-use Rattle.std.proofs.Common.{◌≡◌, ℕ, ◌-◌, ◌≤◌, ◌∙◌, length, refl, arith}
+use Rattle.std.proofs.Common.{◌≡◌, ◌-◌, ◌≤◌, ◌∙◌, length, refl, arith}
 use Rattle.std.proofs.lemmas.List.{length-set}
 use Rattle.btx_names.specs.declared.name_token.NameToken.{NameToken}
 use Rattle.btx_names.proofs.PartLemmas.{set_same, one_counted, one_bare_more, none_counted}

@@ -1,5 +1,5 @@
-use Rattle.std.proofs.Common.{sym, ◌∙◌, ap, inl, inr, List, ℕ, take, drop}
-use Rattle.btx_names.specs.Tokens.{Token, tokens_of}
+use Rattle.std.proofs.Common.{sym, ◌∙◌, ap, inl, inr, List, take, drop}
+use Rattle.btx_names.specs.Tokens.{Token}
 use Rattle.btx_names.specs.NameParts.{von_end}
 use Rattle.btx_names.specs.NameTokens.{tokens_in}
 use Rattle.btx_names.specs.PartViews.{part_tokens}

@@ -1,0 +1,51 @@
+-- Direct styles: each function literal is one of two that stand side by side directly before an `if$` or a `while$`, and no body runs the
+-- function of an entry's type. Where a style is direct, a function runs only functions before it, so that no more bodies are ever open
+-- than the style has functions.
+use Rattle.std.specs.Prelude.{◌≡◌, ℕ, ◌+◌, ◌-◌, ◌&&◌, ◌||◌, not, nat_lt, Bool, true, false, List, [], Option, None, Some, slice_get, slice_index_or}
+use Rattle.btx_bst.specs.declared.built_in.BuiltIn.{BuiltIn}
+use Rattle.btx_bst.specs.declared.built_in.BuiltIn.TheVariants.{CallType, If, While}
+use Rattle.btx_bst.specs.declared.callee.Callee.{Callee}
+use Rattle.btx_bst.specs.declared.callee.Callee.TheVariants as callee
+use Rattle.btx_bst.specs.declared.callee.Callee.TheVariants.{User}
+use Rattle.btx_bst.specs.declared.token.Token.{Token}
+use Rattle.btx_bst.specs.declared.token.Token.TheVariants.{Quote, Run}
+use Rattle.btx_bst.specs.Bodies.{Body}
+use Rattle.btx_bst.specs.Style.{Style}
+
+-- `call.type$`, executed or as a literal
+unfoldable pub is_call_type : Option Token → Bool
+is_call_type (Some (Quote (callee.BuiltIn CallType))) = true
+is_call_type (Some (Run (callee.BuiltIn CallType))) = true
+is_call_type _ = false
+
+-- a literal of a function of the style
+unfoldable pub is_user_literal : Option Token → Bool
+is_user_literal (Some (Quote (User number))) = true
+is_user_literal _ = false
+
+-- a function literal of any kind
+unfoldable pub is_literal : Option Token → Bool
+is_literal (Some (Quote callee)) = true
+is_literal _ = false
+
+-- an `if$` or a `while$` that is executed
+unfoldable pub is_choice : Option Token → Bool
+is_choice (Some (Run (callee.BuiltIn If))) = true
+is_choice (Some (Run (callee.BuiltIn While))) = true
+is_choice _ = false
+
+-- at this place two function literals stand side by side directly before an `if$` or a `while$`
+unfoldable pub begins_pair : Body → ℕ → Bool
+begins_pair body i = is_literal (slice_get body i) && is_literal (slice_get body (i + 1)) && is_choice (slice_get body (i + 2))
+
+-- what stands at a place of a body is no `call.type$`, and no literal of a function of the style but one of such two
+unfoldable pub is_direct_at : Body → ℕ → Bool
+is_direct_at body i =
+    not (is_call_type (slice_get body i))
+    && (not (is_user_literal (slice_get body i)) || begins_pair body i || (nat_lt 0 i && begins_pair body (i - 1)))
+
+abbrev pub IsDirectBody : Body → Type 0
+IsDirectBody body = (i : ℕ) → is_direct_at body i ≡ true
+
+abbrev pub IsDirect : Style → Type 0
+IsDirect style = (number : ℕ) → IsDirectBody (slice_index_or style.bodies number [])
