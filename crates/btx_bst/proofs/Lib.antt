@@ -17,3 +17,5 @@ pub mod PredefinedLemmas
 pub mod RoomLemmas
 pub mod LineLemmas
 pub mod DirectLemmas
+pub mod KeepLemmas
+pub mod ReferenceLemmas

@@ -27,3 +27,4 @@ pub mod DraftViews
 pub mod StyleReads
 pub mod MessageTexts
 pub mod Direct
+pub mod References
