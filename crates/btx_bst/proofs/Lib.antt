@@ -19,3 +19,4 @@ pub mod LineLemmas
 pub mod DirectLemmas
 pub mod KeepLemmas
 pub mod ReferenceLemmas
+pub mod MeaningLemmas

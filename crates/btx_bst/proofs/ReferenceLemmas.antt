@@ -65,7 +65,7 @@ refers_more a b t u n m (Quote c) w g h k = known_more a b n m c w h k
 refers_more a b t u n m (Run c) w g h k = known_more a b n m c w h k
 
 -- all tokens of a body
-abbrev AllRefer : Names → ℕ → ℕ → Body → Type 0
+abbrev pub AllRefer : Names → ℕ → ℕ → Body → Type 0
 AllRefer names t n [] = Unit {0}
 AllRefer names t n (x ∷ xs) = Refers names t n x × AllRefer names t n xs
 
@@ -78,7 +78,7 @@ all_push a t n [] x h k = (k, tt)
 all_push a t n (y ∷ xs) x h k = (h.0, all_push a t n xs x h.1 k)
 
 -- each body, the first of which has this number
-abbrev AreEarlier : Names → ℕ → ℕ → List Body → Type 0
+abbrev pub AreEarlier : Names → ℕ → ℕ → List Body → Type 0
 AreEarlier names t n [] = Unit {0}
 AreEarlier names t n (body ∷ bodies) = AllRefer names t n body × AreEarlier names t (suc n) bodies
 
@@ -91,7 +91,7 @@ earlier_push a t n m [] body e h k = (all_more a a t t m n body (same-width a) (
 earlier_push a t n m (first ∷ bodies) body e h k = (h.0, earlier_push a t (suc n) m bodies body (omega arith) h.1 k)
 
 -- the bodies round the innermost one
-abbrev AroundRefer : Names → ℕ → ℕ → List Body → Type 0
+abbrev pub AroundRefer : Names → ℕ → ℕ → List Body → Type 0
 AroundRefer names t n [] = Unit {0}
 AroundRefer names t n (body ∷ bodies) = AllRefer names t n body × AroundRefer names t n bodies
 
@@ -100,7 +100,7 @@ around_more a t u n m [] g h k = tt
 around_more a t u n m (body ∷ bodies) g h k = (all_more a a t u n m body (same-width a) g h k.0, around_more a t u n m bodies g h k.1)
 
 -- all items
-abbrev AllItems : Names → ℕ → List Item → Type 0
+abbrev pub AllItems : Names → ℕ → List Item → Type 0
 AllItems names n [] = Unit {0}
 AllItems names n (i ∷ is) = IsKnownItem names n i × AllItems names n is
 
@@ -156,14 +156,14 @@ found_known a n name h =
 -- ---- bodies
 
 -- inside a body, that began when so many functions were defined
-record Fine (names : Names) (before : ℕ) (inside : Inside) : Type 0 where
-  grown : before ≤ length inside.bodies
-  tokens_known : AllRefer names (length inside.texts) (length inside.bodies) inside.tokens
-  around_known : AroundRefer names (length inside.texts) (length inside.bodies) inside.around
-  earlier : AreEarlier names (length inside.texts) 0 inside.bodies
-  items_known : AllItems names before inside.items
+pub record Fine (names : Names) (before : ℕ) (inside : Inside) : Type 0 where
+  pub grown : before ≤ length inside.bodies
+  pub tokens_known : AllRefer names (length inside.texts) (length inside.bodies) inside.tokens
+  pub around_known : AroundRefer names (length inside.texts) (length inside.bodies) inside.around
+  pub earlier : AreEarlier names (length inside.texts) 0 inside.bodies
+  pub items_known : AllItems names before inside.items
 
-abbrev FineEnd : Names → ℕ → End → Type 0
+abbrev pub FineEnd : Names → ℕ → End → Type 0
 FineEnd names before (Whole inside) = Fine names before inside
 FineEnd names before (Broken complaint inside) = Fine names before inside
 
@@ -281,10 +281,10 @@ further_read a k (Took x p) = further_end a k (listing a p) (same-width a, omega
 
 -- ---- styles
 
-record FineStyle (s : Style) : Type 0 where
-  no_later : length s.names.functions ≤ length s.bodies
-  earlier : AreEarlier s.names (length s.texts) 0 s.bodies
-  items_known : AllItems s.names (length s.bodies) s.items
+pub record FineStyle (s : Style) : Type 0 where
+  pub no_later : length s.names.functions ≤ length s.bodies
+  pub earlier : AreEarlier s.names (length s.texts) 0 s.bodies
+  pub items_known : AllItems s.names (length s.bodies) s.items
 
 fine_item : (i : Item) (s : Style) → IsKnownItem s.names (length s.bodies) i → FineStyle s → FineStyle (with_item i s)
 fine_item i s k f = record { no_later = f.no_later; earlier = f.earlier; items_known = items_push s.names (length s.bodies) s.items i f.items_known k }
@@ -321,10 +321,12 @@ fine_ended s name (Whole i) h f =
       items_known = items_push names m i.items (item.Function n) (items_more s.names names (length s.bodies) m i.items w (omega arith) f.items_known) (omega arith);
     }
 
+pub fine_function_body : (s : Style) (p : Place) → FineStyle s → FineEnd s.names (length s.bodies) (body_end s.names (inside_at s p))
+fine_function_body s p h =
+    fine_body s.names (length s.bodies) (inside_at s p) h.no_later (record { grown = omega arith; tokens_known = tt; around_known = tt; earlier = h.earlier; items_known = h.items_known })
+
 fine_function : (s : Style) (name : List ℕ) (p : Place) → FineStyle s → FineStyle (function_ended s (folded name) (body_end s.names (inside_at s p))).style
-fine_function s name p h =
-    fine_ended s (folded name) (body_end s.names (inside_at s p)) h
-    (fine_body s.names (length s.bodies) (inside_at s p) h.no_later (record { grown = omega arith; tokens_known = tt; around_known = tt; earlier = h.earlier; items_known = h.items_known }))
+fine_function s name p h = fine_ended s (folded name) (body_end s.names (inside_at s p)) h (fine_function_body s p h)
 
 found_function : (a : Names) (n : ℕ) (o : Option Callee) (c : Callee) → function_in o ≡ Some c → FoundKnown a n o → IsKnown a n c
 found_function a n None c e h = absurd (cc)
@@ -339,7 +341,7 @@ found_function a n (Some (GlobalString k)) c e h = absurd (cc)
 fine_run : (s : Style) (name : List ℕ) (c : Callee) → function_in (named s.names name) ≡ Some c → FineStyle s → IsKnown s.names (length s.bodies) c
 fine_run s name c e f = found_function s.names (length s.bodies) (named s.names name) c e (found_known s.names (length s.bodies) (folded name) f.no_later)
 
-fine_keeps : Keeps FineStyle
+pub fine_keeps : Keeps FineStyle
 fine_keeps = record {
   on_message = λ c line s f. fine_item (item.Message c line) s tt f;
   on_names = fine_names;
@@ -355,7 +357,7 @@ fine_keeps = record {
   on_macro = λ s name text f. fine_item item.Macro (record s { macros = s.macros ++ (folded name, text) ∷ [] }) tt (record { no_later = f.no_later; earlier = f.earlier; items_known = f.items_known });
 }
 
-fine_start : (file : List ℕ) → FineStyle (start file predefined)
+pub fine_start : (file : List ℕ) → FineStyle (start file predefined)
 fine_start file = record { no_later = omega arith; earlier = tt; items_known = tt }
 
 fine_style : (file text : List ℕ) → FineStyle (style_of file text)

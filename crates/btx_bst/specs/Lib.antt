@@ -28,3 +28,4 @@ pub mod StyleReads
 pub mod MessageTexts
 pub mod Direct
 pub mod References
+pub mod Meanings

@@ -1,4 +1,5 @@
 //! Laws over the definition of a style, each the contract of a function that does nothing.
+ghost use Rattle.btx_bst.specs.Meanings.{MeaningsLaw, OneMeaningLaw};
 ghost use Rattle.btx_bst.specs.References.{ReferencesLaw, ItemsLaw};
 
 /// Each token refers to strings, fields and variables of the style and to functions before its own alone; each command to functions of the
@@ -7,4 +8,11 @@ ghost use Rattle.btx_bst.specs.References.{ReferencesLaw, ItemsLaw};
 pub fn references_are_earlier()
     ensures bodies { ReferencesLaw }
     ensures commands { ItemsLaw }
+{}
+
+/// No name has two meanings: the name of anything names it, and two things of one name are one.
+#[tactic(auto, using(crate::proofs::MeaningLemmas::meaning_laws))]
+pub fn no_name_has_two_meanings()
+    ensures names { MeaningsLaw }
+    ensures one { OneMeaningLaw }
 {}
