@@ -39,7 +39,7 @@ pub record Keeps (P : Style → Type 0) : Type 0 where
   pub on_execute : OnRun P item.Execute
   pub on_iterate : OnRun P item.Iterate
   pub on_reverse : OnRun P item.Reverse
-  pub on_sort : OnItem P item.Sort
+  pub on_sort : (s : Style) → has_read s ≡ true → P s → P (with_item item.Sort s)
   pub on_integers : OnItem P item.Integers
   pub on_strings : OnItem P item.Strings
   pub on_macro : (s : Style) (name text : List ℕ) → P s → P (with_item item.Macro (record s { macros = s.macros ++ (folded name, text) ∷ [] }))
@@ -105,10 +105,10 @@ kept_run P c make each s p h = at (has_read s) refl where
 
 kept_sort : (P : Style → Type 0) → Keeps P → (s : Style) (p : Place) → P s → P (sort s p).style
 unfolding sort
-kept_sort P keeps s p h = at (has_read s) where
-  at : (t : Bool) → P (cond t (outcome None (with_item item.Sort s) p) (outcome (Some (BeforeRead command.Sort)) s p)).style
-  at true = keeps.on_sort s h
-  at false = h
+kept_sort P keeps s p h = at (has_read s) refl where
+  at : (t : Bool) → has_read s ≡ t → P (cond t (outcome None (with_item item.Sort s) p) (outcome (Some (BeforeRead command.Sort)) s p)).style
+  at true e = keeps.on_sort s e h
+  at false e = h
 
 kept_declare : (P : Style → Type 0) → Keeps P → (kind : Kind) (i : Item) → OnItem P i → (s : Style) (p : Place) → P s → P (declare kind i s p).style
 unfolding declare

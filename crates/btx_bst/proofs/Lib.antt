@@ -19,4 +19,6 @@ pub mod LineLemmas
 pub mod DirectLemmas
 pub mod KeepLemmas
 pub mod ReferenceLemmas
+pub mod ItemLemmas
 pub mod MeaningLemmas
+pub mod OrderLemmas

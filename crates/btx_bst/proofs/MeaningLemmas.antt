@@ -30,6 +30,7 @@ use Rattle.btx_bst.specs.Meanings.{HasName, MeaningsLaw, OneMeaningLaw}
 use Rattle.btx_bst.proofs.TurnLemmas.{OnTurn, turns-keep}
 use Rattle.btx_bst.proofs.TableLemmas.{IsFurther}
 use Rattle.btx_bst.proofs.FurtherLemmas.{further-function, further-field, further-entry_integer, further-entry_string, further-global_integer, further-global_string, named-pad, padded-length}
+use Rattle.btx_bst.proofs.ItemLemmas.{push_cases}
 use Rattle.btx_bst.proofs.KeepLemmas.{Keeps, kept-style}
 use Rattle.btx_bst.proofs.ReferenceLemmas.{FineEnd, FineStyle, fine_keeps, fine_start, fine_function_body}
 
@@ -41,15 +42,6 @@ Told look f xs = (k : ℕ) (m : List ℕ) → slice_get xs k ≡ Some m → look
 
 abbrev ToldFunctions : (List ℕ → Option Callee) → List (Option (List ℕ)) → Type 0
 ToldFunctions look xs = (k : ℕ) (m : List ℕ) → slice_get xs k ≡ Some (Some m) → look m ≡ Some (User k)
-
-push_cases : {A : Type 0} (xs : List A) (y : A) (k : ℕ) (m : A) → slice_get (xs ++ y ∷ []) k ≡ Some m → (slice_get xs k ≡ Some m) ⊎ ((k ≡ length xs) × (y ≡ m))
-push_cases [] y zero m e = inr (refl, cc)
-push_cases [] y (suc k) m e = absurd (cc)
-push_cases (x ∷ xs) y zero m e = inl e
-push_cases {A = A} (x ∷ xs) y (suc k) m e = at (push_cases xs y k m e) where
-  at : (slice_get xs k ≡ Some m) ⊎ ((k ≡ length xs) × (y ≡ m)) → (slice_get xs k ≡ Some m) ⊎ ((suc k ≡ suc (length xs)) × (y ≡ m))
-  at (inl h) = inl h
-  at (inr h) = inr (omega (arith, h.0), h.1)
 
 same : (name : List ℕ) → bytes_eq name name ≡ true
 same name = (bytes_eq-Decides name name).1 refl
@@ -183,7 +175,7 @@ clear_keeps = record {
   on_execute = λ s name c r e h. (fine_keeps.on_execute s name c r e h.0, h.1);
   on_iterate = λ s name c r e h. (fine_keeps.on_iterate s name c r e h.0, h.1);
   on_reverse = λ s name c r e h. (fine_keeps.on_reverse s name c r e h.0, h.1);
-  on_sort = λ s h. (fine_keeps.on_sort s h.0, h.1);
+  on_sort = λ s r h. (fine_keeps.on_sort s r h.0, h.1);
   on_integers = λ s h. (fine_keeps.on_integers s h.0, h.1);
   on_strings = λ s h. (fine_keeps.on_strings s h.0, h.1);
   on_macro = λ s name text h. (fine_keeps.on_macro s name text h.0, h.1);

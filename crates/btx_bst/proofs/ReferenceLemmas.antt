@@ -351,7 +351,7 @@ fine_keeps = record {
   on_execute = λ s name c r e f. fine_item (item.Execute c) s (fine_run s name c e f) f;
   on_iterate = λ s name c r e f. fine_item (item.Iterate c) s (fine_run s name c e f) f;
   on_reverse = λ s name c r e f. fine_item (item.Reverse c) s (fine_run s name c e f) f;
-  on_sort = λ s f. fine_item item.Sort s tt f;
+  on_sort = λ s r f. fine_item item.Sort s tt f;
   on_integers = λ s f. fine_item item.Integers s tt f;
   on_strings = λ s f. fine_item item.Strings s tt f;
   on_macro = λ s name text f. fine_item item.Macro (record s { macros = s.macros ++ (folded name, text) ∷ [] }) tt (record { no_later = f.no_later; earlier = f.earlier; items_known = f.items_known });

@@ -29,3 +29,4 @@ pub mod MessageTexts
 pub mod Direct
 pub mod References
 pub mod Meanings
+pub mod Order

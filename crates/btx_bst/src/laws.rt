@@ -1,5 +1,6 @@
 //! Laws over the definition of a style, each the contract of a function that does nothing.
 ghost use Rattle.btx_bst.specs.Meanings.{MeaningsLaw, OneMeaningLaw};
+ghost use Rattle.btx_bst.specs.Order.{OnceLaw, OrderLaw};
 ghost use Rattle.btx_bst.specs.References.{ReferencesLaw, ItemsLaw};
 
 /// Each token refers to strings, fields and variables of the style and to functions before its own alone; each command to functions of the
@@ -15,4 +16,11 @@ pub fn references_are_earlier()
 pub fn no_name_has_two_meanings()
     ensures names { MeaningsLaw }
     ensures one { OneMeaningLaw }
+{}
+
+/// ENTRY and READ take effect at most once, READ only after ENTRY, and what is executed only after READ.
+#[tactic(auto, using(crate::proofs::OrderLemmas::order_laws))]
+pub fn commands_are_in_order()
+    ensures once { OnceLaw }
+    ensures order { OrderLaw }
 {}
