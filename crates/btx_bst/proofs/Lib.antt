@@ -22,3 +22,4 @@ pub mod ReferenceLemmas
 pub mod ItemLemmas
 pub mod MeaningLemmas
 pub mod OrderLemmas
+pub mod SpellingLemmas

@@ -30,3 +30,4 @@ pub mod Direct
 pub mod References
 pub mod Meanings
 pub mod Order
+pub mod Spelling

@@ -2,6 +2,7 @@
 ghost use Rattle.btx_bst.specs.Meanings.{MeaningsLaw, OneMeaningLaw};
 ghost use Rattle.btx_bst.specs.Order.{OnceLaw, OrderLaw};
 ghost use Rattle.btx_bst.specs.References.{ReferencesLaw, ItemsLaw};
+ghost use Rattle.btx_bst.specs.Spelling.{SpelledLaw, BrokenLaw, DividedLaw};
 
 /// Each token refers to strings, fields and variables of the style and to functions before its own alone; each command to functions of the
 /// style or built-in ones.
@@ -23,4 +24,13 @@ pub fn no_name_has_two_meanings()
 pub fn commands_are_in_order()
     ensures once { OnceLaw }
     ensures order { OrderLaw }
+{}
+
+/// A body is read as it is spelled: parts up to its `}` as what they come to, and parts that break off with the complaint of the word that
+/// breaks them, where it stands. Every text begins with one or the other.
+#[tactic(auto, using(crate::proofs::SpellingLemmas::spelling_laws))]
+pub fn bodies_are_spelled()
+    ensures spelled { SpelledLaw }
+    ensures broken { BrokenLaw }
+    ensures divided { DividedLaw }
 {}
