@@ -23,3 +23,4 @@ pub mod ItemLemmas
 pub mod MeaningLemmas
 pub mod OrderLemmas
 pub mod SpellingLemmas
+pub mod ItemSpellingLemmas

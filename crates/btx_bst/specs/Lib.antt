@@ -31,3 +31,4 @@ pub mod References
 pub mod Meanings
 pub mod Order
 pub mod Spelling
+pub mod ItemSpelling

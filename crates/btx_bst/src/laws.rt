@@ -1,4 +1,5 @@
 //! Laws over the definition of a style, each the contract of a function that does nothing.
+ghost use Rattle.btx_bst.specs.ItemSpelling.{GivenLaw, GivingLaw, SkippedLaw, SkippedToEndLaw};
 ghost use Rattle.btx_bst.specs.Meanings.{MeaningsLaw, OneMeaningLaw};
 ghost use Rattle.btx_bst.specs.Order.{OnceLaw, OrderLaw};
 ghost use Rattle.btx_bst.specs.References.{ReferencesLaw, ItemsLaw};
@@ -33,4 +34,13 @@ pub fn bodies_are_spelled()
     ensures spelled { SpelledLaw }
     ensures broken { BrokenLaw }
     ensures divided { DividedLaw }
+{}
+
+/// A style is read as its commands give it, whole ones and those with a fault; every text is such commands and its end; and what stands behind
+/// a fault up to the next empty line changes nothing.
+pub fn styles_are_spelled()
+    ensures given { GivenLaw }
+    ensures giving { GivingLaw }
+    ensures skipped { SkippedLaw }
+    ensures skipped_to_end { SkippedToEndLaw }
 {}
