@@ -5,7 +5,7 @@ use Rattle.btx_bst.specs.Complaints.{Complaint}
 use Rattle.btx_bst.specs.Style.{Style}
 use Rattle.btx_bst.specs.Items.{Message}
 use Rattle.btx_bst.specs.Outcomes.{Outcome, outcome, with_item}
-use Rattle.btx_bst.specs.Turns.{Turn, Again, Ends}
+use Rattle.btx_bst.specs.Turns.{Again, Ends}
 use Rattle.btx_bst.specs.StyleText.{State, state, resumed_after, command_outcome, item_in, item_turn, style_from}
 use Rattle.btx_bst.specs.ItemSpelling.{Step, Whole, Faulty, IsEnd, Gives, GivenLaw, GivingLaw, AreFull, SkippedLaw, SkippedToEndLaw}
 use Rattle.btx_bst.proofs.StyleLemmas.{style_from-again, style_from-ends, item_turn-less}

@@ -1,5 +1,5 @@
 -- The name of anything names it.
-use Rattle.std.proofs.Common.{◌≡◌, ℕ, zero, suc, ◌+◌, ◌-◌, ◌<◌, ◌≤◌, ◌⊎◌, inl, inr, Bool, true, false, cond, List, [], ◌∷◌, ◌++◌, length, refl, sym, ap, ◌∙◌, arith, Option, None, Some}
+use Rattle.std.proofs.Common.{◌≡◌, ℕ, zero, suc, ◌+◌, ◌-◌, ◌<◌, ◌≤◌, ◌⊎◌, inl, inr, Bool, true, cond, List, [], ◌∷◌, ◌++◌, length, refl, sym, ap, ◌∙◌, arith, Option, None, Some}
 use Rattle.std.specs.Prelude.{slice_get, slice_index_or, replicate, codes}
 use Rattle.std.specs.Option.{option_or}
 use Rattle.std.specs.Str.{bytes_eq}
@@ -16,16 +16,15 @@ use Rattle.btx_bst.specs.declared.callee.Kind.{Kind}
 use Rattle.btx_bst.specs.declared.callee.Kind.TheVariants as kind
 use Rattle.btx_bst.specs.Places.{Place, size}
 use Rattle.btx_bst.specs.Reads.{Read, Took, Slip}
-use Rattle.btx_bst.specs.Items as item
 use Rattle.btx_bst.specs.BuiltIns.{built_ins, built_in_of, word_of}
 use Rattle.btx_bst.specs.Names.{Names, named, named_lower, name_of, with_name, with_function, padded}
 use Rattle.btx_bst.specs.Style.{Style}
 use Rattle.btx_bst.specs.Turns.{Turn}
-use Rattle.btx_bst.specs.Lists.{opening, closing, name_at, Listing, listing, Listed, with_new, name_turn, list_turn_in, list_turn, list_end, list_read, list_at, unlisted}
+use Rattle.btx_bst.specs.Lists.{opening, closing, name_at, Listing, listing, Listed, with_new, name_turn, list_turn_in, list_turn, list_end, list_read, unlisted}
 use Rattle.btx_bst.specs.BodyText.{End, Whole, Broken, body_end}
 use Rattle.btx_bst.specs.Commands.{function_ended, inside_at}
 use Rattle.btx_bst.specs.Predefined.{predefined}
-use Rattle.btx_bst.specs.StyleText.{style_of, start}
+use Rattle.btx_bst.specs.StyleText.{style_of}
 use Rattle.btx_bst.specs.Meanings.{HasName, MeaningsLaw, OneMeaningLaw}
 use Rattle.btx_bst.proofs.TurnLemmas.{OnTurn, turns-keep}
 use Rattle.btx_bst.proofs.TableLemmas.{IsFurther}

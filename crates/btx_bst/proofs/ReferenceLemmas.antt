@@ -1,11 +1,10 @@
 -- Bodies and commands refer to what is defined before.
-use Rattle.std.proofs.Common.{◌≡◌, ℕ, zero, suc, ◌+◌, ◌-◌, ◌<◌, ◌≤◌, Bool, true, false, cond, List, [], ◌∷◌, ◌++◌, length, refl, sym, ap, ◌∙◌, arith, Option, None, Some}
+use Rattle.std.proofs.Common.{◌≡◌, ℕ, zero, suc, ◌+◌, ◌-◌, ◌<◌, ◌≤◌, true, List, [], ◌∷◌, ◌++◌, length, refl, sym, arith, Option, None, Some}
 use Rattle.std.specs.Prelude.{slice_get, slice_index_or, position, replicate}
 use Rattle.std.specs.Option.{option_map, option_or}
 use Rattle.std.specs.Str.{bytes_eq}
 use Rattle.std.proofs.lemmas.List.{length-append, length-replicate}
 use Rattle.std.proofs.lemmas.List.Quantifiers.{position-Some}
-use Rattle.std.proofs.lemmas.Option.{slice_get_within}
 use Rattle.btx_text.specs.Keys.{folded}
 use Rattle.btx_bst.specs.declared.callee.Callee.{Callee}
 use Rattle.btx_bst.specs.declared.callee.Callee.TheVariants.{User, Field, EntryInteger, EntryString, GlobalInteger, GlobalString}
@@ -29,7 +28,7 @@ use Rattle.btx_bst.specs.Words.{Word, Open, Close, String, Integer, Quoted, Name
 use Rattle.btx_bst.specs.Lists.{opening, closing, name_at, Listing, listing, Listed, with_new, name_turn, list_turn_in, list_turn, list_end, list_read, list_at, unlisted}
 use Rattle.btx_bst.specs.BodyText.{Inside, End, Whole, Broken, with_named, closed_inside, word_turn, body_turn, body_end}
 use Rattle.btx_bst.specs.Outcomes.{with_item}
-use Rattle.btx_bst.specs.Commands.{function_ended, function_in, inside_at, has_read}
+use Rattle.btx_bst.specs.Commands.{function_ended, function_in, inside_at}
 use Rattle.btx_bst.specs.Predefined.{predefined}
 use Rattle.btx_bst.specs.StyleText.{style_of, start}
 use Rattle.btx_bst.specs.References.{IsKnown, Refers, IsKnownItem, ReferencesLaw, ItemsLaw}

@@ -10,7 +10,7 @@ use Rattle.btx_bst.specs.Words.{Word, Open, Close, String, Integer, Quoted, Name
 use Rattle.btx_bst.specs.Names.{Names, named}
 use Rattle.btx_bst.specs.Turns.{Again, Ends, follow}
 use Rattle.btx_bst.specs.BodyText.{Whole, Broken, with_named, closed_inside, word_turn, body_turn, body_end}
-use Rattle.btx_bst.specs.Spelling.{Parts, Nothing, Plain, Group, IsPlain, Spells, Fragment, Here, After, AfterGroup, Inner, breaks, Breaks, Made, made_named, made_word, begun, defined, made_by, complaint_in, made_till, Division, inside_made, IsBroken, SpelledLaw, BrokenLaw, DividedLaw}
+use Rattle.btx_bst.specs.Spelling.{Parts, Nothing, Plain, Group, IsPlain, Spells, Fragment, Here, After, AfterGroup, Inner, breaks, Breaks, Made, made_named, made_word, begun, defined, made_by, complaint_in, made_till, Division, inside_made, IsBroken}
 use Rattle.btx_bst.proofs.BodyTurnLemmas.{body_end-next, met_at-size, is_ended}
 
 -- ---- one word

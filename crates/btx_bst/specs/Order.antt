@@ -1,6 +1,6 @@
 -- The order of a style's commands.
 use Rattle.std.specs.Prelude.{◌≡◌, ℕ, ◌<◌, List, Option, None, Some, slice_get}
-use Rattle.btx_bst.specs.Items.{Item, Message, Entry, Function, Read, Execute, Iterate, Reverse, Sort, Integers, Strings, Macro}
+use Rattle.btx_bst.specs.Items.{Item, Entry, Read, Execute, Iterate, Reverse, Sort}
 use Rattle.btx_bst.specs.StyleText.{style_of}
 
 -- what takes effect once
