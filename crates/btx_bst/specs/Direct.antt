@@ -2,7 +2,6 @@
 -- function of an entry's type. Where a style is direct, a function runs only functions before it, so that no more bodies are ever open
 -- than the style has functions.
 use Rattle.std.specs.Prelude.{◌≡◌, ℕ, ◌+◌, ◌-◌, ◌&&◌, ◌||◌, not, nat_lt, Bool, true, false, [], Option, Some, slice_get, slice_index_or}
-use Rattle.btx_bst.specs.declared.built_in.BuiltIn.{BuiltIn}
 use Rattle.btx_bst.specs.declared.built_in.BuiltIn.TheVariants.{CallType, If, While}
 use Rattle.btx_bst.specs.declared.callee.Callee.TheVariants as callee
 use Rattle.btx_bst.specs.declared.callee.Callee.TheVariants.{User}
