@@ -1,13 +1,12 @@
 -- Direct styles, place by place.
-use Rattle.std.proofs.Common.{◌≡◌, ℕ, ◌+◌, ◌<◌, ◌≤◌, ◌⊎◌, inl, inr, Bool, true, false, not, ◌&&◌, ◌||◌, List, [], length, Option, None, refl, ap, sym, ◌∙◌, arith, ltb, below_more, get_or}
-use Rattle.std.specs.Prelude.{slice_get, slice_index_or}
+use Rattle.std.proofs.Common.{◌≡◌, ℕ, ◌<◌, ◌≤◌, ◌⊎◌, inl, inr, Bool, true, false, [], length, refl, arith, ltb}
+use Rattle.std.specs.Prelude.{slice_index_or}
 use Rattle.std.proofs.lemmas.Option.{slice_get_past}
 use Rattle.std.proofs.lemmas.Bool.{ltb-true, ltb-false}
 use Rattle.std.proofs.lemmas.List.{get_or_past}
-use Rattle.btx_bst.specs.declared.token.Token.{Token}
 use Rattle.btx_bst.specs.Bodies.{Body}
 use Rattle.btx_bst.specs.Style.{Style}
-use Rattle.btx_bst.specs.Direct.{is_direct_at, is_call_type, is_user_literal, begins_pair, IsDirectBody, IsDirect}
+use Rattle.btx_bst.specs.Direct.{is_direct_at, is_call_type, is_user_literal, IsDirectBody, IsDirect}
 
 -- past its end a body is direct
 direct-past : (body : Body) (i : ℕ) → length body ≤ i → is_direct_at body i ≡ true

@@ -17,3 +17,10 @@ pub mod PredefinedLemmas
 pub mod RoomLemmas
 pub mod LineLemmas
 pub mod DirectLemmas
+pub mod KeepLemmas
+pub mod ReferenceLemmas
+pub mod ItemLemmas
+pub mod MeaningLemmas
+pub mod OrderLemmas
+pub mod SpellingLemmas
+pub mod ItemSpellingLemmas

@@ -1,5 +1,5 @@
 -- Lists of names, name by name.
-use Rattle.std.proofs.Common.{◌≡◌, ℕ, zero, suc, ◌+◌, ◌<◌, ◌++◌, ◌≤◌, Bool, true, false, cond, List, [], ◌∷◌, length, take, drop, refl, ◌==◌, arith, Option, Some, None}
+use Rattle.std.proofs.Common.{◌≡◌, ℕ, zero, suc, ◌+◌, ◌<◌, ◌≤◌, Bool, true, false, cond, List, [], ◌∷◌, length, take, drop, refl, ◌==◌, arith, Option, Some, None}
 use Rattle.std.proofs.lemmas.List.{length-drop, length-append}
 use Rattle.btx_text.specs.Keys.{folded}
 use Rattle.btx_bst.specs.declared.callee.Callee.{Callee}
@@ -12,7 +12,7 @@ use Rattle.btx_bst.specs.Complaints.{Complaint, NoQuote}
 use Rattle.btx_bst.specs.Reads.{Read, Took, Slip}
 use Rattle.btx_bst.specs.Names.{Names, named, with_name}
 use Rattle.btx_bst.specs.Turns.{Turn, Again, Ends, follow}
-use Rattle.btx_bst.specs.Lists.{brace_in, opening, closing, front_of, name_in, name_at, text_of, quoted_in, quoted_at, Listing, listing, Listed, listed, list_read, list_at, with_new, name_turn, list_turn_in, list_turn, list_end, unlisted}
+use Rattle.btx_bst.specs.Lists.{brace_in, opening, closing, front_of, name_in, name_at, text_of, quoted_in, quoted_at, Listing, listing, Listed, list_read, list_at, with_new, name_turn, list_turn_in, list_turn, list_end, unlisted}
 use Rattle.btx_bst.proofs.TurnLemmas.{OnTurn, turns-next, turns-keep}
 use Rattle.btx_bst.proofs.SizeLemmas.{ink-size}
 

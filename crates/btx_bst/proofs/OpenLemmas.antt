@@ -1,11 +1,9 @@
 -- The tokens of functions that are being read, in one list.
-use Rattle.std.proofs.Common.{◌≡◌, ℕ, ◌+◌, ◌≤◌, List, [], ◌∷◌, ◌++◌, length, take, drop, refl, sym, ap, ◌∙◌, arith, Option, Some, None}
-use Rattle.std.specs.Prelude.{reverse}
+use Rattle.std.proofs.Common.{◌≡◌, ℕ, List, [], ◌∷◌, ◌++◌, length, take, drop, refl, ap, ◌∙◌, arith}
 use Rattle.std.proofs.lemmas.List.{take-append-le, drop-append-le, length-append, take_all, drop_all}
 use Rattle.btx_bst.specs.declared.token.Token.{Token}
-use Rattle.btx_bst.specs.Bodies.{Body}
-use Rattle.btx_bst.specs.Views.{Opened, opened, left_alone}
-use Rattle.btx_bst.specs.Pending.{innermost, around_in, opened_in, IsCut, is_nested}
+use Rattle.btx_bst.specs.Views.{opened}
+use Rattle.btx_bst.specs.Pending.{innermost, around_in, opened_in, IsCut}
 
 -- one more token
 pub opened-push : (ts : List Token) (t : Token) (starts : List ℕ) → IsCut ts starts → opened_in (ts ++ t ∷ []) starts ≡ opened (innermost ts starts ++ t ∷ []) (around_in ts starts)

@@ -1,7 +1,7 @@
 -- Nameless functions behind others.
-use Rattle.std.proofs.Common.{◌≡◌, ℕ, ◌+◌, ◌-◌, ◌<◌, ◌≤◌, List, [], ◌∷◌, ◌++◌, length, refl, sym, ap, ◌∙◌, arith, append_assoc, Option, None, append-nil}
+use Rattle.std.proofs.Common.{◌≡◌, ℕ, ◌+◌, ◌-◌, ◌<◌, ◌≤◌, List, [], ◌∷◌, ◌++◌, length, sym, ap, ◌∙◌, arith, append_assoc, Option, None, append-nil}
 use Rattle.std.specs.Prelude.{replicate}
-use Rattle.std.proofs.lemmas.List.{length-append, length-replicate, replicate_more}
+use Rattle.std.proofs.lemmas.List.{length-append, replicate_more}
 use Rattle.btx_bst.specs.Names.{padded}
 use Rattle.btx_bst.specs.NameTables.{IsPadded}
 

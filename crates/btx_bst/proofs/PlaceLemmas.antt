@@ -3,7 +3,7 @@ use Rattle.std.proofs.Common.{◌≡◌, ℕ, suc, ◌+◌, ◌<◌, ◌≤◌, 
 use Rattle.std.proofs.lemmas.List.{length-map}
 use Rattle.btx_text.specs.Lines.{lines_of, pieces_of, in_front, trimmed, white_before}
 use Rattle.btx_text.specs.Class.{is_white}
-use Rattle.btx_bst.specs.Places.{Place, beginning, size, lines_size, place_at, behind_white, ink_from, skipped_from, line_or}
+use Rattle.btx_bst.specs.Places.{beginning, size, lines_size, place_at, behind_white, ink_from, skipped_from, line_or}
 
 in_front-len : (b : ℕ) (pieces : List (List ℕ)) (n : ℕ) → length pieces ≤ n → length (in_front b pieces) ≤ suc n
 in_front-len b [] n h = omega arith

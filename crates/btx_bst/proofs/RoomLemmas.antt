@@ -1,5 +1,5 @@
 -- Room for what follows: what was read leaves no more of the text, and what was made of it weighs no more than it did.
-use Rattle.std.proofs.Common.{◌≡◌, ℕ, zero, suc, drop, ◌+◌, ◌≤◌, ◌<◌, List, length, Option, None, Some, Ok, Err, arith, sym}
+use Rattle.std.proofs.Common.{◌≡◌, ℕ, zero, suc, ◌+◌, ◌≤◌, List, length, Option, None, Some, Ok, Err, arith}
 use Rattle.std.specs.Prelude.{Result}
 use Rattle.std.proofs.lemmas.List.{length-drop}
 use Rattle.std.specs.Borrow.{Bor}
@@ -11,9 +11,8 @@ use Rattle.btx_bst.specs.Style.{Style}
 use Rattle.btx_bst.specs.StyleText.{start}
 use Rattle.btx_bst.specs.Predefined.{predefined}
 use Rattle.btx_bst.proofs.PlaceLemmas.{beginning-size}
-use Rattle.btx_bst.specs.Reads.{Read}
 use Rattle.btx_bst.specs.Names.{Names}
-use Rattle.btx_bst.specs.Lists.{front_of, opening, closing, name_at, letters_at, list_at, Listed}
+use Rattle.btx_bst.specs.Lists.{front_of, opening, closing, name_at, letters_at, list_at}
 use Rattle.btx_bst.specs.Complaints.{NoCommand}
 use Rattle.btx_bst.specs.Fronts.{letters_len}
 use Rattle.btx_bst.specs.BodyText.{Inside, End, Whole, Broken, body_end}

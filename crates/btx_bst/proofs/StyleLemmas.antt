@@ -1,5 +1,5 @@
 -- Styles, item by item.
-use Rattle.std.proofs.Common.{◌≡◌, ℕ, zero, suc, ◌+◌, ◌-◌, ◌<◌, ◌≤◌, Bool, true, false, cond, List, [], ◌∷◌, ◌++◌, length, take, drop, refl, sym, ap, arith, Option, Some, None}
+use Rattle.std.proofs.Common.{◌≡◌, ℕ, zero, suc, ◌+◌, ◌-◌, ◌<◌, ◌≤◌, Bool, true, false, cond, List, [], ◌∷◌, ◌++◌, length, take, drop, refl, ap, arith, Option, Some, None}
 use Rattle.std.specs.Prelude.{is_some, replicate}
 use Rattle.std.proofs.lemmas.List.{length-drop, length-append, take-append-le, length-replicate}
 use Rattle.btx_text.specs.Keys.{folded}
@@ -17,14 +17,14 @@ use Rattle.btx_bst.specs.Reads.{Read, Took, Slip}
 use Rattle.btx_bst.specs.Bodies.{Body}
 use Rattle.btx_bst.specs.Items.{Item, Read as ReadItem, Sort as SortItem}
 use Rattle.btx_bst.specs.Words.{Word, Open, Close, String, Integer, Quoted, Name, Faulty, Unended, Ended, met_at}
-use Rattle.btx_bst.specs.Names.{Names, named, macro_lower, padded, with_function}
+use Rattle.btx_bst.specs.Names.{Names, named, macro_lower, padded}
 use Rattle.btx_bst.specs.Turns.{Turn, Again, Ends, follow}
 use Rattle.btx_bst.specs.Lists.{opening, closing, name_at, quoted_at, front_of, list_at, list_read, list_end, list_turn, Listing, Listed, listing, unlisted}
 use Rattle.btx_bst.specs.BodyText.{Inside, End, Whole, Broken, with_named, closed_inside, word_turn, body_turn, body_end}
 use Rattle.btx_bst.specs.Style.{Style}
 use Rattle.btx_bst.specs.Outcomes.{Outcome, outcome, after_read, with_item}
 use Rattle.btx_bst.specs.Commands.{after_list, after_listed, entry, entry_lists, function, function_of, function_ended, inside_at, read, run, run_of, run_name, sort, declare, macro_command, macro_of, macro_name, function_in, command_at, command_named}
-use Rattle.btx_bst.specs.StyleText.{State, state, resumed, resumed_after, word_outcome, item_in, item_turn, style_in, style_from}
+use Rattle.btx_bst.specs.StyleText.{State, resumed, resumed_after, word_outcome, item_in, item_turn, style_in, style_from}
 use Rattle.btx_bst.specs.Weights.{names_weight, weight, HasRoom}
 use Rattle.btx_bst.proofs.TurnLemmas.{OnTurn, turns-next, turns-keep}
 use Rattle.btx_bst.proofs.SizeLemmas.{ink-size, skipped-size}

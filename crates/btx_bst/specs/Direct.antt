@@ -1,10 +1,8 @@
 -- Direct styles: each function literal is one of two that stand side by side directly before an `if$` or a `while$`, and no body runs the
 -- function of an entry's type. Where a style is direct, a function runs only functions before it, so that no more bodies are ever open
 -- than the style has functions.
-use Rattle.std.specs.Prelude.{◌≡◌, ℕ, ◌+◌, ◌-◌, ◌&&◌, ◌||◌, not, nat_lt, Bool, true, false, List, [], Option, None, Some, slice_get, slice_index_or}
-use Rattle.btx_bst.specs.declared.built_in.BuiltIn.{BuiltIn}
+use Rattle.std.specs.Prelude.{◌≡◌, ℕ, ◌+◌, ◌-◌, ◌&&◌, ◌||◌, not, nat_lt, Bool, true, false, [], Option, Some, slice_get, slice_index_or}
 use Rattle.btx_bst.specs.declared.built_in.BuiltIn.TheVariants.{CallType, If, While}
-use Rattle.btx_bst.specs.declared.callee.Callee.{Callee}
 use Rattle.btx_bst.specs.declared.callee.Callee.TheVariants as callee
 use Rattle.btx_bst.specs.declared.callee.Callee.TheVariants.{User}
 use Rattle.btx_bst.specs.declared.token.Token.{Token}

@@ -27,3 +27,8 @@ pub mod DraftViews
 pub mod StyleReads
 pub mod MessageTexts
 pub mod Direct
+pub mod References
+pub mod Meanings
+pub mod Order
+pub mod Spelling
+pub mod ItemSpelling

@@ -20,7 +20,6 @@ use Rattle.btx_bst.specs.declared.word.Word.{Word}
 use Rattle.btx_bst.specs.declared.word.Word.TheVariants as word
 use Rattle.btx_bst.specs.declared.complaint.Complaint.{Complaint}
 use Rattle.btx_bst.specs.declared.complaint.Complaint.TheVariants as complaint
-use Rattle.btx_bst.specs.declared.message.Message.{Message}
 use Rattle.btx_bst.specs.declared.item.Item.{Item}
 use Rattle.btx_bst.specs.declared.item.Item.TheVariants as item
 

@@ -13,6 +13,7 @@ mod draft;
 mod fronts;
 mod integers;
 pub mod item;
+pub mod laws;
 mod lists;
 pub mod macros;
 pub mod message;

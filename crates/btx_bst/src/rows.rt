@@ -86,20 +86,19 @@ fn a_message(rt: HostRuntime) -> Result<(), Fault> {
     Ok(())
 }
 
-/// How many of these styles are direct.
-fn direct_ones(alloc: Global, texts: &[&[u8]]) -> Result<usize, Fault> {
-    let mut count = 0;
+/// Whether each of these styles is told direct, or each told not direct.
+fn all_told(alloc: Global, texts: &[&[u8]], direct: bool) -> Result<bool, Fault> {
     for text in texts {
-        if is_direct(&read_style(alloc, b"s.bst", text)?) {
-            count += 1;
+        if is_direct(&read_style(alloc, b"s.bst", text)?) != direct {
+            return Ok(false);
         }
     }
-    Ok(count)
+    Ok(true)
 }
 
 #[test]
 fn direct_styles(rt: HostRuntime) -> Result<(), Fault> {
-    assert_eq!(rt; direct_ones(rt.alloc(), DIRECT)?, DIRECT.len());
-    assert_eq!(rt; direct_ones(rt.alloc(), NOT_DIRECT)?, 0);
+    assert_eq!(rt; all_told(rt.alloc(), DIRECT, true)?, true);
+    assert_eq!(rt; all_told(rt.alloc(), NOT_DIRECT, false)?, true);
     Ok(())
 }

@@ -1,4 +1,4 @@
-use Rattle.std.proofs.Common.{◌∙◌, ap, List, ℕ, Option, arith}
+use Rattle.std.proofs.Common.{◌∙◌, ap, List, ℕ, arith}
 use Rattle.btx_bst.specs.Names.{Names, named_lower}
 use Rattle.btx_bst.specs.NameTables.{known_in}
 use Rattle.btx_bst.specs.declared.callee.Callee.TheVariants as callee

@@ -1,6 +1,3 @@
-use Rattle.std.proofs.Common.{◌∙◌, ap}
-use Rattle.btx_bst.specs.Names.{Names, no_names}
-use Rattle.btx_bst.specs.NameTables.{IsTable}
 use Rattle.btx_bst.proofs.TableLemmas.{table-new}
 use Rattle.btx_bst.proofs.names.Names.new.Goals as goal
 

@@ -1,0 +1,166 @@
+-- What each command keeps, the style of a text has.
+use Rattle.std.proofs.Common.{◌≡◌, ℕ, suc, Bool, true, false, cond, List, [], ◌∷◌, ◌++◌, length, refl, Option, Some, None}
+use Rattle.btx_text.specs.Keys.{folded}
+use Rattle.btx_bst.specs.declared.callee.Callee.{Callee}
+use Rattle.btx_bst.specs.declared.callee.Kind.{Kind}
+use Rattle.btx_bst.specs.declared.callee.Kind.TheVariants as kind
+use Rattle.btx_bst.specs.declared.command.Command.{Command}
+use Rattle.btx_bst.specs.declared.command.Command.TheVariants as command
+use Rattle.btx_bst.specs.Places.{Place, ink, size, beginning}
+use Rattle.btx_bst.specs.Complaints.{Complaint, Another, BeforeEntry, BeforeRead, AfterRead}
+use Rattle.btx_bst.specs.Reads.{Read, Took, Slip}
+use Rattle.btx_bst.specs.Items.{Item}
+use Rattle.btx_bst.specs.Items as item
+use Rattle.btx_bst.specs.Names.{named, macro_lower}
+use Rattle.btx_bst.specs.Style.{Style}
+use Rattle.btx_bst.specs.BodyText.{body_end}
+use Rattle.btx_bst.specs.Lists.{opening, closing, name_at, quoted_at, letters_at, list_at}
+use Rattle.btx_bst.specs.Outcomes.{Outcome, outcome, after_read, with_item}
+use Rattle.btx_bst.specs.Commands.{after_list, after_listed, entry, entry_lists, function, function_of, function_ended, inside_at, has_read, read, run, run_of, run_name, sort, declare, macro_command, macro_of, macro_name, function_in, command_at, command_named}
+use Rattle.btx_bst.specs.StyleText.{State, state, start, resumed, word_outcome, command_outcome, item_in, item_turn, style_in, style_from, style_of}
+use Rattle.btx_bst.specs.Predefined.{predefined}
+use Rattle.btx_bst.proofs.TurnLemmas.{OnTurn, turns-keep}
+
+-- kept by a further item
+abbrev pub OnItem : (Style → Type 0) → Item → Type 0
+OnItem P item = (s : Style) → P s → P (with_item item s)
+
+-- kept by a further item that executes a function
+abbrev pub OnRun : (Style → Type 0) → (Callee → Item) → Type 0
+OnRun P make = (s : Style) (name : List ℕ) (c : Callee) → has_read s ≡ true → function_in (named s.names name) ≡ Some c → P s → P (with_item (make c) s)
+
+-- kept by each change
+pub record Keeps (P : Style → Type 0) : Type 0 where
+  pub on_message : (c : Complaint) (line : ℕ) → OnItem P (item.Message c line)
+  pub on_names : (s : Style) (kind : Kind) (p : Place) → P s → P (record s { names = (list_at kind s.names p).listing.names })
+  pub on_entry : (s : Style) → s.has_entry ≡ false → P s → P (with_item item.Entry (record s { has_entry = true }))
+  pub on_read : (s : Style) → s.has_entry ≡ true → has_read s ≡ false → P s → P (with_item item.Read (record s { before_read = Some (length s.bodies) }))
+  pub on_function : (s : Style) (name : List ℕ) (p : Place) → named s.names name ≡ None → P s → P (function_ended s (folded name) (body_end s.names (inside_at s p))).style
+  pub on_execute : OnRun P item.Execute
+  pub on_iterate : OnRun P item.Iterate
+  pub on_reverse : OnRun P item.Reverse
+  pub on_sort : (s : Style) → has_read s ≡ true → P s → P (with_item item.Sort s)
+  pub on_integers : OnItem P item.Integers
+  pub on_strings : OnItem P item.Strings
+  pub on_macro : (s : Style) (name text : List ℕ) → P s → P (with_item item.Macro (record s { macros = s.macros ++ (folded name, text) ∷ [] }))
+
+after : {A : Type 0} (P : Style → Type 0) (s : Style) (r : Read A) (go : A → Place → Outcome) → P s → ((x : A) (p : Place) → P (go x p).style) → P (after_read s r go).style
+after P s (Took x p) go h k = k x p
+after P s (Slip c p) go h k = h
+
+listed_after : (P : Style → Type 0) (c : Option Complaint) (s : Style) (p : Place) (go : Style → Place → Outcome) → P s → P (go s p).style → P (after_listed c s p go).style
+listed_after P None s p go h k = k
+listed_after P (Some c) s p go h k = h
+
+list_after : (P : Style → Type 0) → Keeps P → (s : Style) (kind : Kind) (p : Place) (go : Style → Place → Outcome) → P s → ((t : Style) (q : Place) → t.has_entry ≡ s.has_entry → P t → P (go t q).style) → P (after_list s (list_at kind s.names p) go).style
+list_after P keeps s kind p go h k =
+    let l = list_at kind s.names p in
+    let t : Style = record s { names = l.listing.names } in
+    let f : P t = keeps.on_names s kind p h in
+    listed_after P l.complaint t l.listing.place go f (k t l.listing.place refl f)
+
+kept_entry : (P : Style → Type 0) → Keeps P → (s : Style) (p : Place) → P s → P (entry s p).style
+unfolding entry
+kept_entry P keeps s p h = at s.has_entry refl where
+  at : (t : Bool) → s.has_entry ≡ t → P (cond t (outcome (Some (Another command.Entry)) s p) (entry_lists s p)).style
+  at true e = h
+  at false e =
+      list_after P keeps s kind.Field p _ h (λ t q a f.
+      list_after P keeps t kind.EntryInteger q _ f (λ u r b g.
+      list_after P keeps u kind.EntryString r _ g (λ v z c i.
+      keeps.on_entry v (rw (c, b, a) e) i)))
+
+kept_function_of : (P : Style → Type 0) → Keeps P → (s : Style) (name : List ℕ) (p : Place) (o : Option Callee) → named s.names name ≡ o → P s → P (function_of s name p o).style
+kept_function_of P keeps s name p (Some other) e h = h
+kept_function_of P keeps s name p None e h =
+    after P s (closing p) _ h (λ x q.
+    after P s (opening q) _ h (λ x r. keeps.on_function s name r e h))
+
+kept_function : (P : Style → Type 0) → Keeps P → (s : Style) (p : Place) → P s → P (function s p).style
+unfolding function
+kept_function P keeps s p h =
+    after P s (opening p) _ h (λ x q.
+    after P s (name_at q) _ h (λ name r. kept_function_of P keeps s name r (named s.names name) refl h))
+
+kept_read : (P : Style → Type 0) → Keeps P → (s : Style) (p : Place) → P s → P (read s p).style
+unfolding read
+kept_read P keeps s p h = at (has_read s) s.has_entry refl refl where
+  at : (t u : Bool) → has_read s ≡ t → s.has_entry ≡ u → P (cond t (outcome (Some (Another command.Read)) s p) (cond u (outcome None (with_item item.Read (record s { before_read = Some (length s.bodies) })) p) (outcome (Some BeforeEntry) s p))).style
+  at true u e f = h
+  at false true e f = keeps.on_read s f e h
+  at false false e f = h
+
+kept_run_of : (P : Style → Type 0) (make : Callee → Item) → OnRun P make → (s : Style) (name : List ℕ) (p : Place) (o : Option Callee) → has_read s ≡ true → function_in (named s.names name) ≡ o → P s → P (run_of make s name p o).style
+kept_run_of P make each s name p None r e h = h
+kept_run_of P make each s name p (Some c) r e h = after P s (closing p) _ h (λ x q. each s name c r e h)
+
+kept_run : (P : Style → Type 0) (c : Command) (make : Callee → Item) → OnRun P make → (s : Style) (p : Place) → P s → P (run c make s p).style
+unfolding run
+kept_run P c make each s p h = at (has_read s) refl where
+  at : (t : Bool) → has_read s ≡ t → P (cond t (run_name make s p) (outcome (Some (BeforeRead c)) s p)).style
+  at true e =
+      after P s (opening p) _ h (λ x q.
+      after P s (name_at q) _ h (λ name r. kept_run_of P make each s name r (function_in (named s.names name)) e refl h))
+  at false e = h
+
+kept_sort : (P : Style → Type 0) → Keeps P → (s : Style) (p : Place) → P s → P (sort s p).style
+unfolding sort
+kept_sort P keeps s p h = at (has_read s) refl where
+  at : (t : Bool) → has_read s ≡ t → P (cond t (outcome None (with_item item.Sort s) p) (outcome (Some (BeforeRead command.Sort)) s p)).style
+  at true e = keeps.on_sort s e h
+  at false e = h
+
+kept_declare : (P : Style → Type 0) → Keeps P → (kind : Kind) (i : Item) → OnItem P i → (s : Style) (p : Place) → P s → P (declare kind i s p).style
+unfolding declare
+kept_declare P keeps kind i each s p h = list_after P keeps s kind p _ h (λ t q e f. each t f)
+
+kept_macro_of : (P : Style → Type 0) → Keeps P → (s : Style) (name : List ℕ) (p : Place) (o : Option (List ℕ)) → P s → P (macro_of s name p o).style
+kept_macro_of P keeps s name p (Some other) h = h
+kept_macro_of P keeps s name p None h =
+    after P s (closing p) _ h (λ x q.
+    after P s (opening q) _ h (λ x r.
+    after P s (quoted_at r) _ h (λ text t.
+    after P s (closing t) _ h (λ x u. keeps.on_macro s name text h))))
+
+kept_macro : (P : Style → Type 0) → Keeps P → (s : Style) (p : Place) → P s → P (macro_command s p).style
+unfolding macro_command
+kept_macro P keeps s p h = at (has_read s) where
+  at : (t : Bool) → P (cond t (outcome (Some AfterRead) s p) (macro_name s p)).style
+  at true = h
+  at false =
+      after P s (opening p) _ h (λ x q.
+      after P s (name_at q) _ h (λ name r. kept_macro_of P keeps s name r (macro_lower s.macros (folded name)) h))
+
+kept_command : (P : Style → Type 0) → Keeps P → (c : Command) (s : Style) (p : Place) → P s → P (command_at c s p).style
+kept_command P keeps command.Entry s p h = kept_entry P keeps s p h
+kept_command P keeps command.Function s p h = kept_function P keeps s p h
+kept_command P keeps command.Read s p h = kept_read P keeps s p h
+kept_command P keeps command.Execute s p h = kept_run P command.Execute item.Execute keeps.on_execute s p h
+kept_command P keeps command.Iterate s p h = kept_run P command.Iterate item.Iterate keeps.on_iterate s p h
+kept_command P keeps command.Reverse s p h = kept_run P command.Reverse item.Reverse keeps.on_reverse s p h
+kept_command P keeps command.Sort s p h = kept_sort P keeps s p h
+kept_command P keeps command.Integers s p h = kept_declare P keeps kind.GlobalInteger item.Integers keeps.on_integers s p h
+kept_command P keeps command.Strings s p h = kept_declare P keeps kind.GlobalString item.Strings keeps.on_strings s p h
+kept_command P keeps command.Macro s p h = kept_macro P keeps s p h
+
+kept_word : (P : Style → Type 0) → Keeps P → (s : Style) (p : Place) (word : List ℕ) (o : Option Command) → P s → P (word_outcome s p word o).style
+kept_word P keeps s p word None h = h
+kept_word P keeps s p word (Some c) h = kept_command P keeps c s p h
+
+kept_resumed : (P : Style → Type 0) → Keeps P → (c : Option Complaint) (s : Style) (p : Place) → P s → P (resumed c s p).style
+kept_resumed P keeps None s p h = h
+kept_resumed P keeps (Some c) s p h = keeps.on_message c p.number s h
+
+kept_outcome : (P : Style → Type 0) → Keeps P → (s : Style) (p : Place) → P s → P (command_outcome s p).style
+kept_outcome P keeps s p h = after P s (letters_at p) _ h (λ word q. kept_word P keeps s q word (command_named (folded word)) h)
+
+kept_item : (P : Style → Type 0) → Keeps P → (s : Style) (p : Place) (line : List ℕ) → P s → OnTurn (λ (t : State). P t.style) P (item_in s p line)
+kept_item P keeps s p [] h = h
+kept_item P keeps s p (b ∷ bs) h =
+    let o = command_outcome s p in kept_resumed P keeps o.complaint o.style o.place (kept_outcome P keeps s p h)
+
+pub kept-style : (P : Style → Type 0) → Keeps P → (file text : List ℕ) → P (start file predefined) → P (style_of file text)
+unfolding style_of style_from item_turn
+kept-style P keeps file text h =
+    let s : State = state (start file predefined) (beginning text) in
+    turns-keep (λ (t : State). P t.style) P item_turn style_in (λ t k. kept_item P keeps t.style (ink t.place) (ink t.place).line k) (λ t k. k) (suc (size s.place)) s h
