@@ -10,6 +10,7 @@ pub mod PassLemmas
 pub mod DraftLemmas
 pub mod CitedLemmas
 pub mod StoringLemmas
+pub mod GatheringLemmas
 pub mod StringLemmas
 pub mod ListLemmas
 pub mod LibraryRows
