@@ -11,6 +11,8 @@ pub mod DraftLemmas
 pub mod CitedLemmas
 pub mod StoringLemmas
 pub mod GatheringLemmas
+pub mod KeptLemmas
+pub mod AlongLemmas
 pub mod StringLemmas
 pub mod ListLemmas
 pub mod LibraryRows

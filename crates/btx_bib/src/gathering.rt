@@ -294,15 +294,15 @@ impl<'a> Gathering<'a> {
         }
     }
 
-    // Whether the reading has ended at a limit.
-    fn has_ended(&self) -> bool
+    /// Whether the reading has ended at a limit.
+    pub fn has_ended(&self) -> bool
         ensures { result ≡ not (goes_on self.now.ending) }
     {
         self.ending != End::Whole
     }
 
-    // The events of a database.
-    fn read_events(
+    /// The events of a database.
+    pub fn read_events(
         &mut self,
         alloc: Global,
         request: &Request<'a>,
