@@ -98,10 +98,11 @@ module _ (wanted : Wanted) where
         Sound wanted (after_all wanted known (known_events known w s))
 
     ended-agrees : (known : Known) (w : Next) (s : List ℕ) → Sound wanted known → goes_on known.ending ≡ false → Agrees known w s
-    ended-agrees known w s sound ended =
-        (ended-along wanted (kept_of wanted known) (events_with wanted (kept_of wanted known) w s) ended ∙ ap (kept_of wanted) (sym (all-ended known (known_events known w s) ended)),
-        ended-told wanted database (kept_of wanted known) (events_with wanted (kept_of wanted known) w s) ended ∙ sym (told-ended database known (known_events known w s) ended),
-        subst (Sound wanted) (sym (all-ended known (known_events known w s) ended)) sound)
+    ended-agrees known w s sound ended = (
+      ended-along wanted (kept_of wanted known) (events_with wanted (kept_of wanted known) w s) ended ∙ ap (kept_of wanted) (sym (all-ended known (known_events known w s) ended)),
+      ended-told wanted database (kept_of wanted known) (events_with wanted (kept_of wanted known) w s) ended ∙ sym (told-ended database known (known_events known w s) ended),
+      subst (Sound wanted) (sym (all-ended known (known_events known w s) ended)) sound,
+    )
 
     abbrev stored : Known → List ℕ → Bool
     stored known key = is_some (entry_of (stored_in known) key)
@@ -110,10 +111,11 @@ module _ (wanted : Wanted) where
         → ((q : Known) (v : Next) (t : List ℕ) → left v (length t) < left w (length s) → Sound wanted q → Agrees q v t) → Agrees known w s
     step-agrees known w s None e sound whole others =
         let kept : next_step (is_kept (kept_of wanted known)) w s ≡ None = next-same (is_kept (kept_of wanted known)) (stored known) (λ key. stored-kept wanted known key sound) w s ∙ e in
-        let none : known_events known w s ≡ [] = events-none (keeping wanted) known w s e in
-        (none-along wanted (kept_of wanted known) w s kept ∙ ap (λ (es : List Placed). kept_of wanted (after_all wanted known es)) (sym none),
-        none-told wanted (kept_of wanted known) w s database kept ∙ ap (told_along wanted database known) (sym none),
-        subst (λ (es : List Placed). Sound wanted (after_all wanted known es)) (sym none) sound)
+        let none : known_events known w s ≡ [] = events-none (keeping wanted) known w s e in (
+          none-along wanted (kept_of wanted known) w s kept ∙ ap (λ (es : List Placed). kept_of wanted (after_all wanted known es)) (sym none),
+          none-told wanted (kept_of wanted known) w s database kept ∙ ap (told_along wanted database known) (sym none),
+          subst (λ (es : List Placed). Sound wanted (after_all wanted known es)) (sym none) sound,
+        )
     step-agrees known w s (Some step) e sound whole others =
         let kept : next_step (is_kept (kept_of wanted known)) w s ≡ Some step = next-same (is_kept (kept_of wanted known)) (stored known) (λ key. stored-kept wanted known key sound) w s ∙ e in
         let fresh : IsFresh wanted known step.event = next-fresh (stored known) w s step e in
@@ -124,15 +126,16 @@ module _ (wanted : Wanted) where
         let some = sym (events-some (keeping wanted) known w s step e) in
         let all : after_all wanted next (known_events next step.wanted step.rest) ≡ after_all wanted known (known_events known w s) =
         ap (λ (k : Known). after_all wanted k (known_events k step.wanted step.rest)) goes ∙ ap (after_all wanted known) some in
-        let said = event_told wanted database known step.event step.rest in
-        (sym (turn-along wanted (kept_of wanted known) w s step (kept_of wanted next) whole kept same) ∙ rest.0 ∙ ap (kept_of wanted) all,
-        sym (turn-told wanted (kept_of wanted known) w s step (kept_of wanted next) whole kept same database)
-        ∙ ap (λ (ms : List Message). ms ++ kept_told wanted database (kept_of wanted next) (events_with wanted (kept_of wanted next) step.wanted step.rest)) (event-said wanted database known step.event step.rest sound fresh)
-        ∙ ap (λ (ms : List Message). said ++ ms) rest.1
-        ∙ ap (λ (k : Known). said ++ told_along wanted database k (known_events k step.wanted step.rest)) goes
-        ∙ ap (λ (b : Bool). (if b then said else []) ++ told_along wanted database (after wanted known step.event) (known_events (after wanted known step.event) step.wanted step.rest)) (sym whole)
-        ∙ ap (told_along wanted database known) some,
-        subst (Sound wanted) all rest.2)
+        let said = event_told wanted database known step.event step.rest in (
+          sym (turn-along wanted (kept_of wanted known) w s step (kept_of wanted next) whole kept same) ∙ rest.0 ∙ ap (kept_of wanted) all,
+          sym (turn-told wanted (kept_of wanted known) w s step (kept_of wanted next) whole kept same database)
+              ∙ ap (λ (ms : List Message). ms ++ kept_told wanted database (kept_of wanted next) (events_with wanted (kept_of wanted next) step.wanted step.rest)) (event-said wanted database known step.event step.rest sound fresh)
+              ∙ ap (λ (ms : List Message). said ++ ms) rest.1
+              ∙ ap (λ (k : Known). said ++ told_along wanted database k (known_events k step.wanted step.rest)) goes
+              ∙ ap (λ (b : Bool). (if b then said else []) ++ told_along wanted database (after wanted known step.event) (known_events (after wanted known step.event) step.wanted step.rest)) (sym whole)
+              ∙ ap (told_along wanted database known) some,
+          subst (Sound wanted) all rest.2,
+        )
 
     agrees-within : (m : ℕ) (known : Known) (w : Next) (s : List ℕ) → left w (length s) < m → Sound wanted known → Agrees known w s
     agrees-within zero known w s lt sound = absurd (omega arith)

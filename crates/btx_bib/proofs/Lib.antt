@@ -13,6 +13,7 @@ pub mod StoringLemmas
 pub mod GatheringLemmas
 pub mod KeptLemmas
 pub mod AlongLemmas
+pub mod RequestLemmas
 pub mod StringLemmas
 pub mod ListLemmas
 pub mod LibraryRows

@@ -1,13 +1,17 @@
 //! The reading of databases.
+use crate::draft::Draft;
 use crate::end::End;
 use crate::gathering::Gathering;
 use crate::grammar::line_counter::LineCounter;
+use crate::library::Library;
 use crate::message::Messages;
+use crate::passes::entries_of;
 use crate::request::Request;
 use crate::site::Site;
 use crate::spelling::Word;
-use btx_text::{Fault, GREATEST_FILE};
-use std::alloc::Global;
+use crate::strings::StringTable;
+use btx_text::{Fault, GREATEST_FILE, Text};
+use std::alloc::{AllocError, Global};
 
 /// A database: the name of its file, and its bytes.
 #[derive(Drop)]
@@ -19,11 +23,12 @@ pub struct Source<'a> {
 }
 
 impl<'a> Gathering<'a> {
-    ghost use Rattle.std.specs.Prelude.{◌≡◌, ◌++◌, true, OnOk};
+    ghost use Rattle.std.specs.Prelude.{◌≡◌, ◌++◌, true, IfOk, OnOk};
+    ghost use Rattle.btx_bib.specs.declared.end.End.TheVariants as end;
     ghost use Rattle.btx_bib.specs.declared.grammar.commands.Wanted.TheVariants as next;
     ghost use Rattle.btx_bib.specs.Gatherings.{closed, events_with, kept_along, kept_told};
     ghost use Rattle.btx_bib.specs.Known.{goes_on};
-    ghost use Rattle.btx_bib.specs.Readings.{database_of, databases_of, kept_by_all, kept_one, told_by_all, told_by_one};
+    ghost use Rattle.btx_bib.specs.Readings.{IsListed, beginning, library_kept, listed_draft, database_of, databases_of, kept_by_all, kept_one, told_by_all, told_by_one};
     ghost use Rattle.btx_bib.specs.Requests.{wanted};
 
     // A database that isn't too long.
@@ -82,5 +87,70 @@ impl<'a> Gathering<'a> {
             self.read_one(alloc, request, source, messages)?;
         }
         Ok(())
+    }
+
+    /// What is kept where nothing was read.
+    pub fn new(alloc: Global, request: &Request<'a>) -> Result<Gathering<'a>, AllocError>
+        ensures { IfOk result (λ kept. kept ≡ beginning (wanted request.now)) }
+    {
+        let mut draft = Draft::new(alloc);
+        draft.cite_all(alloc, request, request.first_cited())?;
+        Ok(Gathering {
+            draft,
+            strings: StringTable::new(alloc),
+            current: None,
+            preamble: Text::empty(),
+            ending: End::Whole,
+        })
+    }
+
+    // The library of what is kept and told, where all databases were read.
+    fn whole_library(
+        self,
+        alloc: Global,
+        request: &Request<'a>,
+        mut messages: Messages<'a>,
+    ) -> Result<Library<'a>, AllocError>
+        requires { IsListed (listed_draft (wanted request.now) self.draft) }
+        ensures { IfOk result (λ library. library ≡ library_kept end.Whole (wanted request.now) self.entry messages.entry) }
+    {
+        let Gathering {
+            mut draft,
+            strings: _,
+            current: _,
+            preamble,
+            ending: _,
+        } = self;
+        draft.cite_all(alloc, request, request.last_cited())?;
+        let Draft { names, slots } = draft;
+        let entries = entries_of(slots, alloc, &names, &mut messages)?;
+        Ok(Library {
+            entries,
+            preamble,
+            messages,
+            ending: End::Whole,
+        })
+    }
+
+    /// The library of what is kept and told.
+    pub fn library(
+        self,
+        alloc: Global,
+        request: &Request<'a>,
+        messages: Messages<'a>,
+    ) -> Result<Library<'a>, AllocError>
+        requires { IsListed (listed_draft (wanted request.now) self.draft) }
+        ensures { IfOk result (λ library. library ≡ library_kept self.entry.ending (wanted request.now) self.entry messages.entry) }
+    {
+        let ending = self.ending;
+        match ending {
+            End::Whole => self.whole_library(alloc, request, messages),
+            End::FileLimit | End::StringLimit => Ok(Library {
+                entries: Vec::new(alloc),
+                preamble: Text::empty(),
+                messages,
+                ending,
+            }),
+        }
     }
 }
