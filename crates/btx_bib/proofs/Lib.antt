@@ -14,6 +14,7 @@ pub mod GatheringLemmas
 pub mod KeptLemmas
 pub mod AlongLemmas
 pub mod RequestLemmas
+pub mod WholeLemmas
 pub mod StringLemmas
 pub mod ListLemmas
 pub mod LibraryRows

@@ -3,6 +3,7 @@ use crate::draft::Draft;
 use crate::end::End;
 use crate::gathering::Gathering;
 use crate::grammar::line_counter::LineCounter;
+use crate::grammar::value_texts::squeezed_text;
 use crate::library::Library;
 use crate::message::Messages;
 use crate::passes::entries_of;
@@ -10,6 +11,8 @@ use crate::request::Request;
 use crate::site::Site;
 use crate::spelling::Word;
 use crate::strings::StringTable;
+use btx_aux::AuxJob;
+use btx_bst::{Macros, Style};
 use btx_text::{Fault, GREATEST_FILE, Text};
 use std::alloc::{AllocError, Global};
 
@@ -28,7 +31,7 @@ impl<'a> Gathering<'a> {
     ghost use Rattle.btx_bib.specs.declared.grammar.commands.Wanted.TheVariants as next;
     ghost use Rattle.btx_bib.specs.Gatherings.{closed, events_with, kept_along, kept_told};
     ghost use Rattle.btx_bib.specs.Known.{goes_on};
-    ghost use Rattle.btx_bib.specs.Readings.{IsListed, beginning, library_kept, listed_draft, database_of, databases_of, kept_by_all, kept_one, told_by_all, told_by_one};
+    ghost use Rattle.btx_bib.specs.Readings.{IsListed, kept_macro, kept_macros, beginning, library_kept, listed_draft, database_of, databases_of, kept_by_all, kept_one, told_by_all, told_by_one};
     ghost use Rattle.btx_bib.specs.Requests.{wanted};
 
     // A database that isn't too long.
@@ -104,6 +107,38 @@ impl<'a> Gathering<'a> {
         })
     }
 
+    // A macro of the style.
+    fn define_macro(&mut self, alloc: Global, name: &[u8], text: &'a [u8]) -> Result<(), Fault>
+        ensures { OnOk result (self.new ≡ kept_macro self.old (name.now, text.entry.now)) }
+    {
+        if self.has_ended() {
+            return Ok(());
+        }
+        match squeezed_text(alloc, text) {
+            Ok(text) => {
+                let text = text.share()?;
+                Ok(self.strings.define(alloc, name, text)?)
+            }
+            Err(Fault::StringLimit) => {
+                self.ending = End::StringLimit;
+                Ok(())
+            }
+            Err(fault) => Err(fault),
+        }
+    }
+
+    /// The macros of the style.
+    pub fn define_macros(&mut self, alloc: Global, macros: &Macros<'a>) -> Result<(), Fault>
+        ensures { OnOk result (self.new ≡ kept_macros self.old macros.now) }
+    {
+        for index in 0..macros.len() {
+            if let Some((name, text)) = macros.get(index) {
+                self.define_macro(alloc, name, text)?;
+            }
+        }
+        Ok(())
+    }
+
     // The library of what is kept and told, where all databases were read.
     fn whole_library(
         self,
@@ -153,4 +188,27 @@ impl<'a> Gathering<'a> {
             }),
         }
     }
+}
+
+ghost use Rattle.std.specs.Prelude.{◌≡◌, IfOk};
+ghost use Rattle.btx_bib.specs.Databases.{library_of};
+ghost use Rattle.btx_bib.specs.Readings.{databases_of};
+ghost use Rattle.btx_bib.specs.Requests.{asked};
+
+/// Reads the databases of a job: what they give to it and its style, where an entry that isn't cited takes so many references to stay.
+pub fn read_databases<'a>(
+    alloc: Global,
+    style: &'a Style<'a>,
+    job: &'a AuxJob,
+    sources: &'a [Source<'a>],
+    min_crossrefs: u32,
+) -> Result<Library<'a>, Fault>
+    ensures { IfOk result (λ library. library ≡ library_of (asked style.entry.now job.entry.now min_crossrefs) style.entry.now.macros (databases_of sources.entry.now)) }
+{
+    let request = Request::of(style, job, min_crossrefs);
+    let mut messages = Messages::new(alloc);
+    let mut gathering = Gathering::new(alloc, &request)?;
+    gathering.define_macros(alloc, style.macros())?;
+    gathering.read_all(alloc, &request, sources, &mut messages)?;
+    Ok(gathering.library(alloc, &request, messages)?)
 }

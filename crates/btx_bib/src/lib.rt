@@ -20,7 +20,7 @@ pub mod spelling;
 mod strings;
 pub mod values;
 
-pub use databases::Source;
+pub use databases::{Source, read_databases};
 pub use end::End;
 pub use entry::Entry;
 pub use library::Library;
