@@ -10,6 +10,11 @@ pub mod PassLemmas
 pub mod DraftLemmas
 pub mod CitedLemmas
 pub mod StoringLemmas
+pub mod GatheringLemmas
+pub mod KeptLemmas
+pub mod AlongLemmas
+pub mod RequestLemmas
+pub mod WholeLemmas
 pub mod StringLemmas
 pub mod ListLemmas
 pub mod LibraryRows

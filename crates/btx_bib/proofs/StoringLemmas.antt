@@ -92,7 +92,7 @@ none_if : {T : Type 0} (o : Option T) (b : Bool) → (is_some o ≡ true → b �
 none_if None b h f = refl
 none_if (Some x) b h f = let t = h refl in cc
 
-none-of : {T : Type 0} (o : Option T) → is_some o ≡ false → o ≡ None
+pub none-of : {T : Type 0} (o : Option T) → is_some o ≡ false → o ≡ None
 none-of None h = refl
 none-of (Some x) h = cc
 

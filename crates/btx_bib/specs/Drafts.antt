@@ -48,6 +48,11 @@ abbrev pub has_body : Option Slot → Bool
 has_body None = false
 has_body (Some slot) = is_some slot.body
 
+-- there is an entry at the place of a key
+abbrev pub has_entry : Draft → Option ℕ → Bool
+has_entry draft None = false
+has_entry draft (Some place) = has_body (slice_get draft.slots place)
+
 -- how an entry stands whose key isn't in the list, and whose key has this place
 abbrev pub new_standing : Option ℕ → Standing
 new_standing None = Unwanted

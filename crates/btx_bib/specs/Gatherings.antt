@@ -1,25 +1,29 @@
 -- The code's steps: what is kept while databases are read.
-use Rattle.std.specs.Prelude.{ℕ, nat_lt, Bool, true, false, List, [], ◌∷◌, ◌++◌, length, Option, None, Some, is_some, if◌then◌else◌}
+use Rattle.std.specs.Prelude.{ℕ, nat_lt, ◌||◌, Bool, true, false, List, [], ◌∷◌, ◌++◌, length, Option, None, Some, is_some, if◌then◌else◌}
 use Rattle.btx_text.specs.Keys.{folded}
 use Rattle.btx_text.specs.Limits.{greatest_string}
+use Rattle.btx_aux.specs.Names.{is_same_key}
 use Rattle.btx_bib.specs.declared.draft.Standing.{Standing}
 use Rattle.btx_bib.specs.declared.draft.Standing.TheVariants as standing
 use Rattle.btx_bib.specs.declared.end.End.TheVariants.{StringLimit}
 use Rattle.btx_bib.specs.declared.gathering.Gathering.{Gathering}
 use Rattle.btx_bib.specs.declared.gathering.Pending.{Pending}
+use Rattle.btx_bib.specs.declared.grammar.commands.Wanted.{Wanted as Next}
 use Rattle.btx_bib.specs.declared.grammar.value_ends.Ends.TheVariants.{Kept, Trimmed}
 use Rattle.btx_bib.specs.declared.message.Message.{Message}
-use Rattle.btx_bib.specs.declared.message.Message.TheVariants.{ExtraField}
+use Rattle.btx_bib.specs.declared.message.Message.TheVariants as message
 use Rattle.btx_bib.specs.Grammar.Fields.{Field}
+use Rattle.btx_bib.specs.Grammar.Items.{Event, Comment, Preamble, Definition, Entry, FieldOf, End, Wrong, Placed, Keeping, events_from}
 use Rattle.btx_bib.specs.Grammar.Values.{Part}
 use Rattle.btx_bib.specs.Grammar.ValueTexts.{value_text}
-use Rattle.btx_bib.specs.Drafts.{place_in, stored_at}
+use Rattle.btx_bib.specs.Drafts.{place_in, has_entry, standing_at, stored_at}
 use Rattle.btx_bib.specs.Filling.{blanks}
 use Rattle.btx_bib.specs.Finding.{changed_at}
 use Rattle.btx_bib.specs.Values.{value_at}
 use Rattle.btx_bib.specs.Wanted.{Wanted}
 use Rattle.btx_bib.specs.Strings.{Strings, defined, other_value, string_value}
-use Rattle.btx_bib.specs.Told.{Database, names_told, spot_before}
+use Rattle.btx_bib.specs.Known.{goes_on}
+use Rattle.btx_bib.specs.Told.{Database, kind_told, names_told, spot_at, spot_before}
 
 -- an entry with the value of a field
 abbrev pub with_text : Pending → ℕ → List ℕ → Pending
@@ -39,7 +43,7 @@ taken_by wanted strings pending field = taken_at strings pending field (wanted.f
 abbrev pub told_of_number : Database → Strings → Pending → Field → List ℕ → Option ℕ → List Message
 told_of_number database strings pending field rest None = []
 told_of_number database strings pending field rest (Some number) =
-    if is_some (value_at number pending.body.values) then ExtraField pending.key field.name (spot_before database rest) ∷ [] else names_told database strings None field.value
+    if is_some (value_at number pending.body.values) then message.ExtraField pending.key field.name (spot_before database rest) ∷ [] else names_told database strings None field.value
 
 abbrev pub field_told_of : Wanted → Database → Strings → Pending → Field → List ℕ → List Message
 field_told_of wanted database strings pending field rest = told_of_number database strings pending field rest (wanted.field (folded field.name))
@@ -57,11 +61,15 @@ closed_by wanted kept (Some pending) = record kept { draft = stored_at wanted pe
 abbrev pub closed : Wanted → Gathering → Gathering
 closed wanted kept = closed_by wanted kept kept.current
 
+-- what is kept where an entry of this type begins
+abbrev pub begun : Wanted → Gathering → Option ℕ → List ℕ → Gathering
+begun wanted kept kind key = record kept { current = Some (record { key = key; body = record { kind = kind; values = blanks wanted.count } }) }
+
 -- what is kept after the key of an entry that stands so
 abbrev pub begun_by : Wanted → Gathering → List ℕ → List ℕ → Standing → Gathering
 begun_by wanted kept kind key standing.Unwanted = kept
 begun_by wanted kept kind key standing.Repeated = kept
-begun_by wanted kept kind key standing.Wanted = record kept { current = Some (record { key = key; body = record { kind = wanted.kind (folded kind); values = blanks wanted.count } }) }
+begun_by wanted kept kind key standing.Wanted = begun wanted kept (wanted.kind (folded kind)) key
 
 -- what is kept after a field
 abbrev pub ended_if : Bool → Gathering → Gathering
@@ -82,3 +90,71 @@ abbrev pub with_preamble : Gathering → List Part → Gathering
 with_preamble kept value =
     let whole = kept.preamble ++ value_text Kept (string_value kept.strings) value in
     if nat_lt greatest_string (length whole) then record kept { ending = StringLimit } else record kept { preamble = whole }
+
+-- what is kept after an entry's type and key
+abbrev pub entered : Wanted → Gathering → List ℕ → List ℕ → Gathering
+entered wanted kept kind key = let before = closed wanted kept in begun_by wanted before kind key (standing_at wanted before.draft (place_in before.draft key))
+
+-- what is told of an entry that stands so
+abbrev pub told_of_standing : Wanted → Database → List ℕ → List ℕ → List ℕ → Standing → List Message
+told_of_standing wanted database kind key rest standing.Unwanted = []
+told_of_standing wanted database kind key rest standing.Repeated = []
+told_of_standing wanted database kind key rest standing.Wanted = kind_told key (wanted.kind (folded kind)) (spot_at database rest)
+
+abbrev pub told_of_entry : Wanted → Database → Gathering → List ℕ → List ℕ → List ℕ → List Message
+told_of_entry wanted database kept kind key rest =
+    let before = closed wanted kept in told_of_standing wanted database kind key rest (standing_at wanted before.draft (place_in before.draft key))
+
+-- ---- along a database
+
+-- the key is that of the entry that is being read
+abbrev pub is_pending : Option Pending → List ℕ → Bool
+is_pending None key = false
+is_pending (Some pending) key = is_same_key pending.key key
+
+-- an entry with this key is kept
+abbrev pub is_kept : Gathering → List ℕ → Bool
+is_kept kept key = is_pending kept.current key || has_entry kept.draft (place_in kept.draft key)
+
+-- what is kept after something that was read
+abbrev pub kept_after : Wanted → Gathering → Event → Gathering
+kept_after wanted kept Comment = kept
+kept_after wanted kept (Preamble value) = with_preamble kept value
+kept_after wanted kept (Definition name value) = with_string kept name value
+kept_after wanted kept (Entry kind key) = entered wanted kept kind key
+kept_after wanted kept (FieldOf field) = fielded_by wanted kept field kept.current
+kept_after wanted kept End = kept
+kept_after wanted kept (Wrong slip) = kept
+
+-- what is told of it
+abbrev pub told_of : Wanted → Database → Gathering → Event → List ℕ → List Message
+told_of wanted database kept Comment rest = []
+told_of wanted database kept (Preamble value) rest = names_told database kept.strings None value
+told_of wanted database kept (Definition name value) rest = names_told database kept.strings (Some name) value
+told_of wanted database kept (Entry kind key) rest = told_of_entry wanted database kept kind key rest
+told_of wanted database kept (FieldOf field) rest = told_of_current wanted database kept.strings field rest kept.current
+told_of wanted database kept End rest = []
+told_of wanted database kept (Wrong slip) rest = message.Wrong slip (spot_at database rest) ∷ []
+
+-- the same, while the reading goes on
+abbrev pub kept_next : Wanted → Gathering → Event → Gathering
+kept_next wanted kept event = if goes_on kept.ending then kept_after wanted kept event else kept
+
+abbrev pub told_next : Wanted → Database → Gathering → Placed → List Message
+told_next wanted database kept placed = if goes_on kept.ending then told_of wanted database kept placed.event placed.rest else []
+
+-- what is kept after some events, and what is told along them
+abbrev pub kept_along : Wanted → Gathering → List Placed → Gathering
+kept_along wanted kept [] = kept
+kept_along wanted kept (placed ∷ events) = kept_along wanted (kept_next wanted kept placed.event) events
+
+abbrev pub kept_told : Wanted → Database → Gathering → List Placed → List Message
+kept_told wanted database kept [] = []
+kept_told wanted database kept (placed ∷ events) = told_next wanted database kept placed ++ kept_told wanted database (kept_next wanted kept placed.event) events
+
+-- the events of a text where this is kept and this is wanted first
+abbrev pub keeping_kept : Wanted → Keeping Gathering
+keeping_kept wanted = record { is_stored = is_kept; after = kept_next wanted }
+
+abbrev pub events_with : Wanted → Gathering → Next → List ℕ → List Placed
+events_with wanted kept next text = events_from (keeping_kept wanted) kept next text

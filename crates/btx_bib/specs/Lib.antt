@@ -17,5 +17,6 @@ pub mod Told
 pub mod Sites
 pub mod Gatherings
 pub mod Databases
+pub mod Readings
 pub mod Laws
 pub mod Steps

@@ -28,7 +28,7 @@ pub enum Standing {
 impl<'a> Draft<'a> {
     ghost use Rattle.std.specs.Prelude.{◌≡◌, OnOk, IfOk};
     ghost use Rattle.btx_aux.specs.Entries.{texts_of};
-    ghost use Rattle.btx_bib.specs.Drafts.{cited_all, cited_at, empty, place_in, put_at, referred, referred_at, standing_at, stored_at};
+    ghost use Rattle.btx_bib.specs.Drafts.{cited_all, cited_at, empty, has_entry, place_in, put_at, referred, referred_at, standing_at, stored_at};
     ghost use Rattle.btx_bib.specs.Requests.{wanted};
 
     /// No key is known.
@@ -96,6 +96,17 @@ impl<'a> Draft<'a> {
             return Ok(Standing::Repeated);
         }
         Ok(Standing::Wanted)
+    }
+
+    /// Whether an entry with this key is stored.
+    pub fn has_entry(&self, alloc: Global, key: &[u8]) -> Result<bool, AllocError>
+        ensures { IfOk result (λ stored. stored ≡ has_entry self.now (place_in self.now key.now)) }
+    {
+        let lowered = in_lower_case(alloc, key)?;
+        match self.names.position(lowered.as_bytes()) {
+            Some(place) => Ok(self.slots.has_body(place)),
+            None => Ok(false),
+        }
     }
 
     /// Stores an entry.

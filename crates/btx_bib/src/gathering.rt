@@ -1,18 +1,20 @@
 //! What is known of databases while they are read.
-use crate::draft::Draft;
+use crate::draft::{Draft, Standing};
 use crate::end::End;
+use crate::grammar::events::Event;
 use crate::grammar::fields::Field;
+use crate::grammar::reader::{Reader, StoredKeys};
 use crate::grammar::value_ends::Ends;
 use crate::grammar::value_texts::value_text;
 use crate::grammar::values::Value;
 use crate::message::{Message, Messages};
 use crate::request::Request;
-use crate::site::{Site, tell_names};
+use crate::site::{Site, tell_kind, tell_names};
 use crate::slots::Body;
 use crate::spelling::Word;
 use crate::strings::{Others, StringTable};
 use crate::values::Values;
-use btx_text::{Fault, GREATEST_STRING, Text};
+use btx_text::{Fault, GREATEST_STRING, Text, same_key};
 use std::alloc::{AllocError, Global};
 
 /// An entry that is being read: its key, and what the list has of it.
@@ -88,12 +90,15 @@ impl<'a> Pending<'a> {
 }
 
 impl<'a> Gathering<'a> {
-    ghost use Rattle.std.specs.Prelude.{◌≡◌, ◌++◌, None, Some, OnOk};
+    ghost use Rattle.std.specs.Prelude.{◌≡◌, ◌++◌, None, Some, true, not, OnOk};
     ghost use Rattle.btx_bib.specs.declared.draft.Standing.TheVariants as standing;
-    ghost use Rattle.btx_bib.specs.Gatherings.{closed, begun_by, fielded_by, told_of_current, with_preamble, with_string};
+    ghost use Rattle.btx_bib.specs.Gatherings.{closed, begun, begun_by, entered, events_with, fielded_by, kept_after, kept_along, kept_told, told_of, told_of_current, told_of_entry, told_of_standing, with_preamble, with_string};
     ghost use Rattle.btx_bib.specs.Sites.{database};
     ghost use Rattle.btx_bib.specs.Told.{names_told};
     ghost use Rattle.btx_bib.specs.Grammar.FieldViews.{field_view};
+    ghost use Rattle.btx_bib.specs.Grammar.EventViews.{event_view};
+    ghost use Rattle.btx_bib.specs.Known.{goes_on};
+    ghost use Rattle.btx_bib.specs.declared.grammar.commands.Wanted.TheVariants as next;
     ghost use Rattle.btx_bib.specs.Requests.{wanted};
 
     /// The entry that was being read is at its end.
@@ -107,17 +112,16 @@ impl<'a> Gathering<'a> {
         self.draft.store(alloc, request, &key, body)
     }
 
-    /// An entry begins that is stored.
-    pub fn begin(
+    // An entry begins that is stored.
+    fn begin(
         &mut self,
         alloc: Global,
         request: &Request<'a>,
-        kind: &[u8],
+        kind: Option<u32>,
         key: &'a [u8],
     ) -> Result<(), AllocError>
-        ensures { OnOk result (self.new ≡ begun_by (wanted request.now) self.old kind.now key.entry.now standing.Wanted) }
+        ensures { OnOk result (self.new ≡ begun (wanted request.now) self.old kind key.entry.now) }
     {
-        let kind = request.kind(alloc, kind)?;
         let values = Values::missing(alloc, request.style.fields())?;
         self.current = Some(Pending {
             key: Word::new(key),
@@ -126,8 +130,50 @@ impl<'a> Gathering<'a> {
         Ok(())
     }
 
-    /// A field of the entry that is being read, or of none.
-    pub fn field(
+    // An entry begins that is stored. A type that the style doesn't have is told of.
+    fn begin_told(
+        &mut self,
+        alloc: Global,
+        request: &Request<'a>,
+        kind: &[u8],
+        key: &'a [u8],
+        rest: &[u8],
+        site: &mut Site<'a>,
+        messages: &mut Messages<'a>,
+    ) -> Result<(), AllocError>
+        ensures state { OnOk result (self.new ≡ begun_by (wanted request.now) self.old kind.now key.entry.now standing.Wanted) }
+        ensures told { OnOk result (messages.new ≡ messages.old ++ told_of_standing (wanted request.now) (database site.old) kind.now key.entry.now rest.now standing.Wanted) }
+        ensures same { OnOk result (site.new ≡ site.old) }
+    {
+        let kind = request.kind(alloc, kind)?;
+        tell_kind(kind, key, rest, site, messages)?;
+        self.begin(alloc, request, kind, key)
+    }
+
+    // An entry's type and key: the one that was being read is at its end.
+    fn enter(
+        &mut self,
+        alloc: Global,
+        request: &Request<'a>,
+        kind: &[u8],
+        key: &'a [u8],
+        rest: &[u8],
+        site: &mut Site<'a>,
+        messages: &mut Messages<'a>,
+    ) -> Result<(), AllocError>
+        ensures state { OnOk result (self.new ≡ entered (wanted request.now) self.old kind.now key.entry.now) }
+        ensures told { OnOk result (messages.new ≡ messages.old ++ told_of_entry (wanted request.now) (database site.old) self.old kind.now key.entry.now rest.now) }
+        ensures same { OnOk result (site.new ≡ site.old) }
+    {
+        self.close(alloc, request)?;
+        match self.draft.standing(alloc, request, key)? {
+            Standing::Unwanted | Standing::Repeated => Ok(()),
+            Standing::Wanted => self.begin_told(alloc, request, kind, key, rest, site, messages),
+        }
+    }
+
+    // A field of the entry that is being read, or of none.
+    fn field(
         &mut self,
         alloc: Global,
         request: &Request<'a>,
@@ -160,8 +206,8 @@ impl<'a> Gathering<'a> {
         Ok(())
     }
 
-    /// A `@string`.
-    pub fn define(
+    // A `@string`.
+    fn define(
         &mut self,
         alloc: Global,
         name: &'a [u8],
@@ -192,8 +238,8 @@ impl<'a> Gathering<'a> {
         }
     }
 
-    /// A `@preamble`.
-    pub fn preamble(
+    // A `@preamble`.
+    fn preamble(
         &mut self,
         alloc: Global,
         value: &Value<'a>,
@@ -217,5 +263,91 @@ impl<'a> Gathering<'a> {
             }
             Err(fault) => Err(fault),
         }
+    }
+
+    // Something that was read, with the text behind it.
+    fn take(
+        &mut self,
+        alloc: Global,
+        request: &Request<'a>,
+        event: &Event<'a>,
+        rest: &[u8],
+        site: &mut Site<'a>,
+        messages: &mut Messages<'a>,
+    ) -> Result<(), Fault>
+        ensures state { OnOk result (self.new ≡ kept_after (wanted request.now) self.old (event_view event.now)) }
+        ensures told { OnOk result (messages.new ≡ messages.old ++ told_of (wanted request.now) (database site.old) self.old (event_view event.now) rest.now) }
+        ensures same { OnOk result (site.new ≡ site.old) }
+    {
+        match event {
+            Event::Comment | Event::End => Ok(()),
+            Event::Preamble(value) => self.preamble(alloc, value, site, messages),
+            Event::Definition(name, value) => self.define(alloc, name, value, site, messages),
+            Event::Entry(kind, key) => {
+                Ok(self.enter(alloc, request, kind, key, rest, site, messages)?)
+            }
+            Event::Field(field) => self.field(alloc, request, field, rest, site, messages),
+            Event::Wrong(slip) => {
+                let spot = site.spot_at(rest);
+                Ok(messages.push(Message::Wrong(*slip, spot))?)
+            }
+        }
+    }
+
+    /// Whether the reading has ended at a limit.
+    pub fn has_ended(&self) -> bool
+        ensures { result ≡ not (goes_on self.now.ending) }
+    {
+        self.ending != End::Whole
+    }
+
+    /// The events of a database.
+    pub fn read_events(
+        &mut self,
+        alloc: Global,
+        request: &Request<'a>,
+        text: &'a [u8],
+        site: &mut Site<'a>,
+        messages: &mut Messages<'a>,
+    ) -> Result<(), Fault>
+        requires { goes_on self.old.ending ≡ true }
+        ensures state { OnOk result (self.new ≡ kept_along (wanted request.now) self.old (events_with (wanted request.now) self.old next.Item text.entry.now)) }
+        ensures told { OnOk result (messages.new ≡ messages.old ++ kept_told (wanted request.now) (database site.old) self.old (events_with (wanted request.now) self.old next.Item text.entry.now)) }
+        ensures same { OnOk result (site.new ≡ site.old) }
+    {
+        let mut reader = Reader::of(text);
+        while let Some(placed) = reader.read(alloc, self)? {
+            self.take(alloc, request, &placed.event, placed.rest, site, messages)?;
+            if self.has_ended() {
+                return Ok(());
+            }
+        }
+        Ok(())
+    }
+}
+
+impl<'a> StoredKeys for Gathering<'a> {
+    ghost use Rattle.btx_bib.specs.Gatherings.{is_kept};
+
+    ghost is_stored = { is_kept };
+
+    fn is_stored(&self, alloc: Global, key: &[u8]) -> Result<bool, AllocError> {
+        if is_pending(&self.current, key) {
+            return Ok(true);
+        }
+        self.draft.has_entry(alloc, key)
+    }
+}
+
+ghost use Rattle.std.specs.Prelude.{◌≡◌};
+ghost use Rattle.btx_bib.specs.Gatherings.{is_pending};
+
+// Whether the key is that of the entry that is being read.
+fn is_pending(current: &Option<Pending<'_>>, key: &[u8]) -> bool
+    ensures { result ≡ is_pending current.now key.now }
+{
+    match current {
+        Some(pending) => same_key(pending.key.as_bytes(), key),
+        None => false,
     }
 }

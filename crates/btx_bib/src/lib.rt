@@ -1,6 +1,7 @@
 //! What databases give to a job: its entries with their values and cross-references, the preamble, and what is told.
 #![tactic(auto)]
 
+pub mod databases;
 mod draft;
 pub mod end;
 pub mod entry;
@@ -19,6 +20,7 @@ pub mod spelling;
 mod strings;
 pub mod values;
 
+pub use databases::{Source, read_databases};
 pub use end::End;
 pub use entry::Entry;
 pub use library::Library;

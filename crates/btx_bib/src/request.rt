@@ -1,5 +1,6 @@
 //! What is asked of the databases.
 use crate::lowering::in_lower_case;
+use btx_aux::AuxJob;
 use btx_bst::Style;
 use btx_text::same_key;
 use std::alloc::{AllocError, Global};
@@ -20,9 +21,49 @@ pub struct Request<'a> {
 impl<'a> Request<'a> {
     ghost use Rattle.std.specs.Prelude.{◌≡◌, IfOk, option_copied};
     ghost use Rattle.btx_text.specs.Keys.{folded};
-    ghost use Rattle.btx_bib.specs.Requests.{wanted};
+    ghost use Rattle.btx_bib.specs.Requests.{asked, wanted};
+    ghost use Rattle.btx_bib.specs.Listing.{first_cited, last_cited};
     ghost use Rattle.btx_aux.specs.Entries.{texts_of};
     ghost use Rattle.btx_aux.specs.Names.{listed_as};
+
+    /// What a job and its style ask, where an entry that isn't cited takes so many references to stay. With `*` it takes none.
+    pub fn of(style: &'a Style<'a>, job: &'a AuxJob, min_crossrefs: u32) -> Request<'a>
+        ensures { wanted result ≡ asked style.entry.now job.entry.now min_crossrefs }
+    {
+        let all = job.all();
+        let fewest = match all {
+            Some(_) => 0,
+            None => min_crossrefs as usize,
+        };
+        Request {
+            cited: job.keys(),
+            all,
+            style,
+            fewest,
+        }
+    }
+
+    /// The cited keys with which the list begins: those before `*`, if it was cited.
+    #[tactic(auto, using(crate::proofs::RequestLemmas::cited_parts))]
+    pub fn first_cited(&self) -> &'a [Vec<u8>]
+        ensures { texts_of result.now ≡ first_cited self.now.all (texts_of self.now.cited.now) }
+    {
+        match self.all {
+            Some(place) if place < self.cited.len() => self.cited.split_at(place).0,
+            Some(_) | None => self.cited,
+        }
+    }
+
+    /// The keys that were cited after `*`.
+    #[tactic(auto, using(crate::proofs::RequestLemmas::cited_parts))]
+    pub fn last_cited(&self) -> &'a [Vec<u8>]
+        ensures { texts_of result.now ≡ last_cited self.now.all (texts_of self.now.cited.now) }
+    {
+        match self.all {
+            Some(place) if place < self.cited.len() => self.cited.split_at(place).1,
+            Some(_) | None => &[],
+        }
+    }
 
     /// The number of a declared field by its name.
     pub fn field(&self, alloc: Global, name: &[u8]) -> Result<Option<usize>, AllocError>

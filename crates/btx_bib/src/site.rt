@@ -107,3 +107,23 @@ pub fn tell_names<'a>(
     }
     Ok(())
 }
+
+/// Tells of the type of the entry of a key, if the style doesn't have it.
+pub fn tell_kind<'a>(
+    kind: Option<u32>,
+    key: &'a [u8],
+    rest: &[u8],
+    site: &mut Site<'a>,
+    messages: &mut Messages<'a>,
+) -> Result<(), AllocError>
+    ensures told { OnOk result (messages.new ≡ messages.old ++ spec.kind_told key.entry.now kind (spec.spot_at (database site.old) rest.now)) }
+    ensures same { OnOk result (site.new ≡ site.old) }
+{
+    match kind {
+        Some(_) => Ok(()),
+        None => {
+            let spot = site.spot_at(rest);
+            messages.push(Message::UnknownKind(Word::new(key), spot))
+        }
+    }
+}

@@ -52,6 +52,8 @@ squeezed_after-all white s i h = rw (drop_all i s h) refl
 pub white_after-all : (white : Bool) (s : List ℕ) (i : ℕ) → length s ≤ i → white_after white (drop i s) ≡ white
 white_after-all white s i h = rw (drop_all i s h) refl
 
+pub ruleset squeezed_whole = (squeezed-from)
+
 pub ruleset squeeze_steps = (squeezed_after-next, white_after-next, squeezed_after-all, white_after-all)
 
 -- ---- part by part

@@ -255,3 +255,19 @@ pub fn value_text<'a, S: Strings<'a>>(
         Ends::Trimmed => made_trimmed(alloc, value, strings),
     }
 }
+
+/// The text of a macro of a style, squeezed. Where it stands in the style's file as it is, it isn't copied.
+#[tactic(auto, using(crate::proofs::GrammarLemmas::SqueezeLemmas::squeezed_whole))]
+pub fn squeezed_text(alloc: Global, text: &[u8]) -> Result<Text<'_>, Fault>
+    ensures { spec.Makes result (spec.shaped Ends.Kept text.now) }
+{
+    if let Some(bytes) = lent(Ends::Kept, text) {
+        return Ok(Text::borrowed(bytes));
+    }
+    let mut made = Vec::new(alloc);
+    push_squeezed(&mut made, false, text)?;
+    if made.len() > GREATEST_STRING {
+        return Err(Fault::StringLimit);
+    }
+    Ok(Text::owned(made))
+}

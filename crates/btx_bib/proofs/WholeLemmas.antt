@@ -1,0 +1,110 @@
+-- What is kept before the first database and behind the last one, and the library of it.
+use Rattle.std.proofs.Common.{◌≡◌, ℕ, zero, suc, ◌+◌, ◌≤◌, arith, Bool, true, false, if◌then◌else◌, List, [], ◌∷◌, ◌++◌, drop, fold, length, Option, None, Some, refl, sym, ap, subst, ◌∙◌}
+use Rattle.std.specs.Prelude.{nat_lt, slice_get}
+use Rattle.btx_text.specs.Limits.{greatest_string}
+use Rattle.btx_bib.specs.declared.draft.Draft.{Draft}
+use Rattle.btx_bib.specs.declared.end.End.{End}
+use Rattle.btx_bib.specs.declared.end.End.TheVariants as end
+use Rattle.btx_bib.specs.declared.gathering.Gathering.{Gathering}
+use Rattle.btx_bib.specs.declared.message.Message.{Message}
+use Rattle.btx_bib.specs.declared.slots.Slot.{Slot}
+use Rattle.btx_bib.specs.Databases.{library_by, library_of, nothing, read_all, told_all, with_macro, with_macros}
+use Rattle.btx_bib.specs.Grammar.ValueTexts.{squeezed}
+use Rattle.btx_bib.specs.Known.{Known, goes_on}
+use Rattle.btx_bib.specs.Library.{Library}
+use Rattle.btx_bib.specs.Listing.{keys_of}
+use Rattle.btx_bib.specs.Passes.{entries_of, references_told}
+use Rattle.btx_bib.specs.Strings.{defined}
+use Rattle.btx_bib.specs.Told.{Database}
+use Rattle.btx_bib.specs.Wanted.{Wanted}
+use Rattle.btx_bib.specs.Readings.{IsListed, beginning, kept_by_all, kept_macro, kept_macros, library_kept, listed_draft, told_by_all}
+use Rattle.btx_bib.proofs.AlongLemmas.{all-kept, all-sound, all-told}
+use Rattle.btx_bib.proofs.KeptLemmas.{Sound, kept_of}
+use Rattle.btx_bib.proofs.StoringLemmas.{Covered, covered-none, draft, first-draft, last-draft, listing, names-listing, slots-listing}
+
+-- the macro at an index, and the others
+
+drop-at : (macros : List (List ℕ × List ℕ)) (i : ℕ) (macro : List ℕ × List ℕ) → slice_get macros i ≡ Some macro → drop i macros ≡ macro ∷ drop (suc i) macros
+drop-at [] i macro e = cc
+drop-at (m ∷ ms) zero macro e = let same : m ≡ macro = cc in ap (λ (x : List ℕ × List ℕ). x ∷ ms) same
+drop-at (m ∷ ms) (suc i) macro e = drop-at ms i macro e
+
+drop-none : (macros : List (List ℕ × List ℕ)) (i : ℕ) → slice_get macros i ≡ None → drop i macros ≡ drop (suc i) macros
+drop-none [] zero e = refl
+drop-none [] (suc i) e = refl
+drop-none (m ∷ ms) zero e = cc
+drop-none (m ∷ ms) (suc i) e = drop-none ms i e
+
+pub macro-next : (macros : List (List ℕ × List ℕ)) (i next : ℕ) (macro : List ℕ × List ℕ) (before after : Gathering) → next ≡ suc i → slice_get macros i ≡ Some macro → after ≡ kept_macro before macro → kept_macros after (drop next macros) ≡ kept_macros before (drop i macros)
+macro-next macros i next macro before after is at e =
+    ap (λ (n : ℕ). kept_macros after (drop n macros)) is
+    ∙ ap (λ (k : Gathering). kept_macros k (drop (suc i) macros)) e
+    ∙ ap (kept_macros before) (sym (drop-at macros i macro at))
+
+pub macro-none : (macros : List (List ℕ × List ℕ)) (i next : ℕ) (before : Gathering) → next ≡ suc i → slice_get macros i ≡ None → kept_macros before (drop next macros) ≡ kept_macros before (drop i macros)
+macro-none macros i next before is at = ap (λ (n : ℕ). kept_macros before (drop n macros)) is ∙ ap (kept_macros before) (sym (drop-none macros i at))
+
+module _ (wanted : Wanted) where
+  start-kept : beginning wanted ≡ kept_of wanted nothing
+  start-kept = ap (λ (d : Draft). record { draft = d; strings = []; current = None; preamble = []; ending = end.Whole }) (first-draft wanted)
+
+  macro-kept : (known : Known) (macro : List ℕ × List ℕ) → kept_macro (kept_of wanted known) macro ≡ kept_of wanted (with_macro known macro)
+  macro-kept known macro = at (goes_on known.ending) (nat_lt greatest_string (length (squeezed macro.1))) where
+    at : (b long : Bool) → (if b then (if long then record (kept_of wanted known) { ending = end.StringLimit } else record (kept_of wanted known) { strings = defined known.strings macro.0 (squeezed macro.1) }) else kept_of wanted known)
+        ≡ kept_of wanted (if b then (if long then record known { ending = end.StringLimit } else record known { strings = defined known.strings macro.0 (squeezed macro.1) }) else known)
+    at false long = refl
+    at true true = refl
+    at true false = refl
+
+  macro-sound : (known : Known) (macro : List ℕ × List ℕ) → Sound wanted known → Sound wanted (with_macro known macro)
+  macro-sound known macro sound = at (goes_on known.ending) (nat_lt greatest_string (length (squeezed macro.1))) where
+    at : (b long : Bool) → Sound wanted (if b then (if long then record known { ending = end.StringLimit } else record known { strings = defined known.strings macro.0 (squeezed macro.1) }) else known)
+    at false long = sound
+    at true true = sound
+    at true false = sound
+
+  macros-kept : (macros : List (List ℕ × List ℕ)) (known : Known) → kept_macros (kept_of wanted known) macros ≡ kept_of wanted (fold with_macro known macros)
+  macros-kept [] known = refl
+  macros-kept (m ∷ ms) known = ap (λ (k : Gathering). kept_macros k ms) (macro-kept known m) ∙ macros-kept ms (with_macro known m)
+
+  macros-sound : (macros : List (List ℕ × List ℕ)) (known : Known) → Sound wanted known → Sound wanted (fold with_macro known macros)
+  macros-sound [] known sound = sound
+  macros-sound (m ∷ ms) known sound = macros-sound ms (with_macro known m) (macro-sound known m sound)
+
+  -- ---- the library
+
+  library-same : (known : Known) (messages : List Message) → Sound wanted known → (ending : End) → library_kept ending wanted (kept_of wanted known) messages ≡ library_by ending wanted known messages
+  library-same known messages sound end.Whole =
+      ap (λ (slots : List Slot). record { entries = entries_of slots; preamble = known.preamble; messages = messages ++ references_told slots; ending = end.Whole })
+      (ap (λ (d : Draft). d.slots) (last-draft wanted known.stored sound.0) ∙ slots-listing wanted known.stored)
+  library-same known messages sound end.FileLimit = refl
+  library-same known messages sound end.StringLimit = refl
+
+  module _ (macros : List (List ℕ × List ℕ)) (databases : List Database) (kept : Gathering) (is : kept ≡ kept_by_all wanted (kept_macros (beginning wanted) macros) databases) where
+    abbrev known : Known
+    known = read_all wanted (with_macros macros) databases
+
+    before : kept_macros (beginning wanted) macros ≡ kept_of wanted (with_macros macros)
+    before = ap (λ (k : Gathering). kept_macros k macros) start-kept ∙ macros-kept macros nothing
+
+    sound-before : Sound wanted (with_macros macros)
+    sound-before = macros-sound macros nothing (covered-none wanted, tt)
+
+    sound : Sound wanted known
+    sound = all-sound wanted databases (with_macros macros) sound-before
+
+    kept-known : kept ≡ kept_of wanted known
+    kept-known = is ∙ ap (λ (k : Gathering). kept_by_all wanted k databases) before ∙ all-kept wanted databases (with_macros macros) sound-before
+
+    -- the names that are kept are those of the places
+    pub is-listed : IsListed (listed_draft wanted kept.draft)
+    is-listed =
+        subst (λ (k : Gathering). IsListed (listed_draft wanted k.draft)) (sym kept-known)
+        (subst IsListed (sym (last-draft wanted known.stored sound.0)) (names-listing wanted known.stored (keys_of wanted known.stored)))
+
+    pub library-is : (messages : List Message) → messages ≡ told_by_all wanted (kept_macros (beginning wanted) macros) databases → library_kept kept.ending wanted kept messages ≡ library_of wanted macros databases
+    unfolding library_of
+    library-is messages tells =
+        ap (λ (k : Gathering). library_kept k.ending wanted k messages) kept-known
+        ∙ library-same known messages sound known.ending
+        ∙ ap (library_by known.ending wanted known) (tells ∙ ap (λ (k : Gathering). told_by_all wanted k databases) before ∙ all-told wanted databases (with_macros macros) sound-before)

@@ -1,0 +1,32 @@
+use Rattle.std.proofs.Common.{rules, ◌≡◌, ◌∙◌, ◌++◌, ap, sym, length, drop, get_or, [], ◌∷◌, List, append-nil}
+use Rattle.std.proofs.lemmas.List.{drop_all}
+use Rattle.btx_bib.specs.declared.databases.Source.{Source}
+use Rattle.btx_bib.specs.declared.message.Message.{Message}
+use Rattle.btx_bib.specs.Readings.{database_of, databases_of, kept_by_all, kept_one, told_by_all, told_by_one}
+use Rattle.btx_bib.specs.Requests.{wanted}
+use Rattle.btx_bib.proofs.AlongLemmas.{all-next, all-told-next}
+use Rattle.btx_bib.proofs.gathering.Gathering.read_all.Goals as goal
+
+pub loop-source-preserved : goal.loop-source-preserved
+loop-source-preserved c =
+    let asked = wanted c.args.request.now in
+    let sources = c.args.sources.now in
+    let place = c.loop-source.source-index in
+    record {
+      state = all-next asked sources place _ c.loop-source.self c.read_one.new.self c.loop-source-test.true c.in_ok-read_one.ensures.state ∙ c.loop-source.invariant.state;
+      told = all-told-next asked sources place _ c.loop-source.self c.read_one.new.self c.loop-source-test.true c.in_ok-read_one.ensures.state c.loop-source.messages c.read_one.new.messages c.in_ok-read_one.ensures.told ∙ c.loop-source.invariant.told;
+    }
+
+pub returns-clause-state : goal.returns-clause-state
+returns-clause-state c =
+    let asked = wanted c.args.request.now in
+    let none : drop c.loop-source.source-index c.args.sources.now ≡ [] = drop_all c.loop-source.source-index c.args.sources.now c.loop-source-test.false in
+    ap (λ (ss : List Source). kept_by_all asked c.loop-source.self (databases_of ss)) (sym none) ∙ c.loop-source.invariant.state
+
+pub returns-clause-told : goal.returns-clause-told
+returns-clause-told c =
+    let asked = wanted c.args.request.now in
+    let none : drop c.loop-source.source-index c.args.sources.now ≡ [] = drop_all c.loop-source.source-index c.args.sources.now c.loop-source-test.false in
+    sym (append-nil c.loop-source.messages)
+    ∙ ap (λ (ss : List Source). c.loop-source.messages ++ told_by_all asked c.loop-source.self (databases_of ss)) (sym none)
+    ∙ c.loop-source.invariant.told

@@ -1,0 +1,77 @@
+use Rattle.std.proofs.Common.{rules, ◌≡◌, ◌∙◌, ◌++◌, [], List, ℕ, ap, sym, true, false, append-nil, None}
+use Rattle.btx_bib.specs.declared.grammar.commands.Wanted.{Wanted as Next}
+use Rattle.btx_bib.specs.declared.message.Message.{Message}
+use Rattle.btx_bib.specs.declared.site.Site.{Site}
+use Rattle.btx_bib.specs.Gatherings.{events_with, is_kept, kept_along, kept_told, told_of}
+use Rattle.btx_bib.specs.Grammar.EventViews.{event_view}
+use Rattle.btx_bib.specs.Grammar.Items.{Step, next_step}
+use Rattle.btx_bib.specs.Known.{goes_on}
+use Rattle.btx_bib.specs.Requests.{wanted}
+use Rattle.btx_bib.specs.Sites.{database}
+use Rattle.btx_bib.proofs.GrammarLemmas.LengthLemmas.{events-less}
+use Rattle.btx_bib.proofs.GatheringLemmas.{ended-along, ended-told, ended-if, goes-if, none-along, none-told, turn-along, turn-messages}
+use Rattle.btx_bib.proofs.gathering.Gathering.read_events.Goals as goal
+
+pub loop-placed-preserved : goal.loop-placed-preserved
+loop-placed-preserved c =
+    let asked = wanted c.args.request.now in
+    let inv = c.loop-placed.invariant in
+    let read = rw c.in-Some.is at c.in_ok-placed.ensures.ok in
+    let step : Step = record { event = event_view c.in-Some.placed.event; wanted = c.read.new.self.0; rest = c.read.new.self.1 } in
+    let tells = c.in_ok-take.ensures.told ∙ ap (λ (s : Site). c.loop-placed.messages ++ told_of asked (database s) c.loop-placed.self step.event c.in-Some.placed.rest.now) inv.same in
+    record {
+      whole = goes-if (goes_on c.take.new.self.ending) (sym c.has_ended.ensures ∙ c.if-has_ended.false);
+      state = turn-along asked c.loop-placed.self c.loop-placed.reader.0 c.loop-placed.reader.1 step c.take.new.self inv.whole read.0 c.in_ok-take.ensures.state ∙ inv.state;
+      told = turn-messages asked c.loop-placed.self c.loop-placed.reader.0 c.loop-placed.reader.1 step c.take.new.self inv.whole read.0 c.in_ok-take.ensures.state (database c.args.site.now) c.loop-placed.messages c.take.new.messages c.in-Some.placed.rest.now read.1 tells ∙ inv.told;
+      same = c.in_ok-take.ensures.same ∙ inv.same;
+    }
+
+pub loop-placed-smaller : goal.loop-placed-smaller
+loop-placed-smaller c =
+    let read = rw c.in-Some.is at c.in_ok-placed.ensures.ok in
+    events-less (is_kept c.loop-placed.self) c.loop-placed.reader.0 c.loop-placed.reader.1 (record { event = event_view c.in-Some.placed.event; wanted = c.read.new.self.0; rest = c.read.new.self.1 }) read.0
+
+pub returns-then-has_ended-clause-state : goal.returns-then-has_ended-clause-state
+returns-then-has_ended-clause-state c =
+    let asked = wanted c.args.request.now in
+    let inv = c.loop-placed.invariant in
+    let read = rw c.in-Some.is at c.in_ok-placed.ensures.ok in
+    let step : Step = record { event = event_view c.in-Some.placed.event; wanted = c.read.new.self.0; rest = c.read.new.self.1 } in
+    let ended = ended-if (goes_on c.take.new.self.ending) (sym c.has_ended.ensures ∙ c.if-has_ended.true) in
+    sym (ended-along asked c.take.new.self (events_with asked c.take.new.self step.wanted step.rest) ended)
+    ∙ turn-along asked c.loop-placed.self c.loop-placed.reader.0 c.loop-placed.reader.1 step c.take.new.self inv.whole read.0 c.in_ok-take.ensures.state
+    ∙ inv.state
+    ∙ ap (λ (r : Next × List ℕ). kept_along asked c.args.self.now (events_with asked c.args.self.now r.0 r.1)) c.of-reader.ensures
+
+pub returns-then-has_ended-clause-told : goal.returns-then-has_ended-clause-told
+returns-then-has_ended-clause-told c =
+    let asked = wanted c.args.request.now in
+    let inv = c.loop-placed.invariant in
+    let read = rw c.in-Some.is at c.in_ok-placed.ensures.ok in
+    let step : Step = record { event = event_view c.in-Some.placed.event; wanted = c.read.new.self.0; rest = c.read.new.self.1 } in
+    let ended = ended-if (goes_on c.take.new.self.ending) (sym c.has_ended.ensures ∙ c.if-has_ended.true) in
+    let tells = c.in_ok-take.ensures.told ∙ ap (λ (s : Site). c.loop-placed.messages ++ told_of asked (database s) c.loop-placed.self step.event c.in-Some.placed.rest.now) inv.same in
+    sym (append-nil c.take.new.messages)
+    ∙ ap (λ (ms : List Message). c.take.new.messages ++ ms) (sym (ended-told asked (database c.args.site.now) c.take.new.self (events_with asked c.take.new.self step.wanted step.rest) ended))
+    ∙ turn-messages asked c.loop-placed.self c.loop-placed.reader.0 c.loop-placed.reader.1 step c.take.new.self inv.whole read.0 c.in_ok-take.ensures.state (database c.args.site.now) c.loop-placed.messages c.take.new.messages c.in-Some.placed.rest.now read.1 tells
+    ∙ inv.told
+    ∙ ap (λ (r : Next × List ℕ). c.args.messages.now ++ kept_told asked (database c.args.site.now) c.args.self.now (events_with asked c.args.self.now r.0 r.1)) c.of-reader.ensures
+
+pub returns-clause-state : goal.returns-clause-state
+returns-clause-state c =
+    let asked = wanted c.args.request.now in
+    let inv = c.loop-placed.invariant in
+    let read = rw c.in_default.is at c.in_ok-placed.ensures.ok in
+    sym (none-along asked c.loop-placed.self c.loop-placed.reader.0 c.loop-placed.reader.1 read.0)
+    ∙ inv.state
+    ∙ ap (λ (r : Next × List ℕ). kept_along asked c.args.self.now (events_with asked c.args.self.now r.0 r.1)) c.of-reader.ensures
+
+pub returns-clause-told : goal.returns-clause-told
+returns-clause-told c =
+    let asked = wanted c.args.request.now in
+    let inv = c.loop-placed.invariant in
+    let read = rw c.in_default.is at c.in_ok-placed.ensures.ok in
+    sym (append-nil c.loop-placed.messages)
+    ∙ ap (λ (ms : List Message). c.loop-placed.messages ++ ms) (sym (none-told asked c.loop-placed.self c.loop-placed.reader.0 c.loop-placed.reader.1 (database c.args.site.now) read.0))
+    ∙ inv.told
+    ∙ ap (λ (r : Next × List ℕ). c.args.messages.now ++ kept_told asked (database c.args.site.now) c.args.self.now (events_with asked c.args.self.now r.0 r.1)) c.of-reader.ensures

@@ -1,0 +1,23 @@
+use Rattle.std.proofs.Common.{◌≡◌, ◌++◌, true, length}
+use Rattle.btx_bib.specs.Gatherings.{events_with, kept_along, kept_told}
+use Rattle.btx_bib.specs.Known.{goes_on}
+use Rattle.btx_bib.specs.Requests.{wanted}
+use Rattle.btx_bib.specs.Sites.{database}
+use Rattle.btx_bib.proofs.GrammarLemmas.LengthLemmas.{left}
+use Rattle.btx_bib.proofs.gathering.Gathering.read_events.Given as goal
+
+-- the events that are left do the rest
+abbrev pub invariant-loop-placed : goal.invariant-loop-placed
+invariant-loop-placed l =
+    let asked = wanted l.request in
+    let others = events_with asked l.self l.reader.0 l.reader.1 in
+    let first = events_with asked l.initial.self l.initial.reader.0 l.initial.reader.1 in
+    record {
+      whole : goes_on l.self.ending ≡ true;
+      state : kept_along asked l.self others ≡ kept_along asked l.initial.self first;
+      told : l.messages ++ kept_told asked (database l.initial.site) l.self others ≡ l.initial.messages ++ kept_told asked (database l.initial.site) l.initial.self first;
+      same : l.site ≡ l.initial.site;
+    }
+
+abbrev pub decreases-loop-placed : goal.decreases-loop-placed
+decreases-loop-placed l = left l.reader.0 (length l.reader.1)

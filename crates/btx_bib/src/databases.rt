@@ -1,0 +1,214 @@
+//! The reading of databases.
+use crate::draft::Draft;
+use crate::end::End;
+use crate::gathering::Gathering;
+use crate::grammar::line_counter::LineCounter;
+use crate::grammar::value_texts::squeezed_text;
+use crate::library::Library;
+use crate::message::Messages;
+use crate::passes::entries_of;
+use crate::request::Request;
+use crate::site::Site;
+use crate::spelling::Word;
+use crate::strings::StringTable;
+use btx_aux::AuxJob;
+use btx_bst::{Macros, Style};
+use btx_text::{Fault, GREATEST_FILE, Text};
+use std::alloc::{AllocError, Global};
+
+/// A database: the name of its file, and its bytes.
+#[derive(Drop)]
+pub struct Source<'a> {
+    /// The name of the file.
+    pub name: &'a [u8],
+    /// The bytes.
+    pub bytes: &'a [u8],
+}
+
+impl<'a> Gathering<'a> {
+    ghost use Rattle.std.specs.Prelude.{◌≡◌, ◌++◌, true, IfOk, OnOk};
+    ghost use Rattle.btx_bib.specs.declared.end.End.TheVariants as end;
+    ghost use Rattle.btx_bib.specs.declared.grammar.commands.Wanted.TheVariants as next;
+    ghost use Rattle.btx_bib.specs.Gatherings.{closed, events_with, kept_along, kept_told};
+    ghost use Rattle.btx_bib.specs.Known.{goes_on};
+    ghost use Rattle.btx_bib.specs.Readings.{IsListed, kept_macro, kept_macros, beginning, library_kept, listed_draft, database_of, databases_of, kept_by_all, kept_one, told_by_all, told_by_one};
+    ghost use Rattle.btx_bib.specs.Requests.{wanted};
+
+    // A database that isn't too long.
+    fn read_short(
+        &mut self,
+        alloc: Global,
+        request: &Request<'a>,
+        source: &Source<'a>,
+        messages: &mut Messages<'a>,
+    ) -> Result<(), Fault>
+        requires { goes_on self.old.ending ≡ true }
+        ensures state { OnOk result (self.new ≡ closed (wanted request.now) (kept_along (wanted request.now) self.old (events_with (wanted request.now) self.old next.Item source.now.bytes.now))) }
+        ensures told { OnOk result (messages.new ≡ messages.old ++ kept_told (wanted request.now) (database_of source.now) self.old (events_with (wanted request.now) self.old next.Item source.now.bytes.now)) }
+    {
+        let mut site = Site {
+            file: Word::new(source.name),
+            lines: LineCounter::of(source.bytes),
+        };
+        self.read_events(alloc, request, source.bytes, &mut site, messages)?;
+        Ok(self.close(alloc, request)?)
+    }
+
+    // A database. One that is too long ends the reading.
+    fn read_one(
+        &mut self,
+        alloc: Global,
+        request: &Request<'a>,
+        source: &Source<'a>,
+        messages: &mut Messages<'a>,
+    ) -> Result<(), Fault>
+        ensures state { OnOk result (self.new ≡ kept_one (wanted request.now) self.old (database_of source.now)) }
+        ensures told { OnOk result (messages.new ≡ messages.old ++ told_by_one (wanted request.now) self.old (database_of source.now)) }
+    {
+        if self.has_ended() {
+            return Ok(());
+        }
+        if source.bytes.len() > GREATEST_FILE {
+            self.ending = End::FileLimit;
+            return Ok(());
+        }
+        self.read_short(alloc, request, source, messages)
+    }
+
+    /// All databases, one after the other.
+    pub fn read_all(
+        &mut self,
+        alloc: Global,
+        request: &Request<'a>,
+        sources: &[Source<'a>],
+        messages: &mut Messages<'a>,
+    ) -> Result<(), Fault>
+        ensures state { OnOk result (self.new ≡ kept_by_all (wanted request.now) self.old (databases_of sources.now)) }
+        ensures told { OnOk result (messages.new ≡ messages.old ++ told_by_all (wanted request.now) self.old (databases_of sources.now)) }
+    {
+        for source in sources {
+            self.read_one(alloc, request, source, messages)?;
+        }
+        Ok(())
+    }
+
+    /// What is kept where nothing was read.
+    pub fn new(alloc: Global, request: &Request<'a>) -> Result<Gathering<'a>, AllocError>
+        ensures { IfOk result (λ kept. kept ≡ beginning (wanted request.now)) }
+    {
+        let mut draft = Draft::new(alloc);
+        draft.cite_all(alloc, request, request.first_cited())?;
+        Ok(Gathering {
+            draft,
+            strings: StringTable::new(alloc),
+            current: None,
+            preamble: Text::empty(),
+            ending: End::Whole,
+        })
+    }
+
+    // A macro of the style.
+    fn define_macro(&mut self, alloc: Global, name: &[u8], text: &'a [u8]) -> Result<(), Fault>
+        ensures { OnOk result (self.new ≡ kept_macro self.old (name.now, text.entry.now)) }
+    {
+        if self.has_ended() {
+            return Ok(());
+        }
+        match squeezed_text(alloc, text) {
+            Ok(text) => {
+                let text = text.share()?;
+                Ok(self.strings.define(alloc, name, text)?)
+            }
+            Err(Fault::StringLimit) => {
+                self.ending = End::StringLimit;
+                Ok(())
+            }
+            Err(fault) => Err(fault),
+        }
+    }
+
+    /// The macros of the style.
+    pub fn define_macros(&mut self, alloc: Global, macros: &Macros<'a>) -> Result<(), Fault>
+        ensures { OnOk result (self.new ≡ kept_macros self.old macros.now) }
+    {
+        for index in 0..macros.len() {
+            if let Some((name, text)) = macros.get(index) {
+                self.define_macro(alloc, name, text)?;
+            }
+        }
+        Ok(())
+    }
+
+    // The library of what is kept and told, where all databases were read.
+    fn whole_library(
+        self,
+        alloc: Global,
+        request: &Request<'a>,
+        mut messages: Messages<'a>,
+    ) -> Result<Library<'a>, AllocError>
+        requires { IsListed (listed_draft (wanted request.now) self.draft) }
+        ensures { IfOk result (λ library. library ≡ library_kept end.Whole (wanted request.now) self.entry messages.entry) }
+    {
+        let Gathering {
+            mut draft,
+            strings: _,
+            current: _,
+            preamble,
+            ending: _,
+        } = self;
+        draft.cite_all(alloc, request, request.last_cited())?;
+        let Draft { names, slots } = draft;
+        let entries = entries_of(slots, alloc, &names, &mut messages)?;
+        Ok(Library {
+            entries,
+            preamble,
+            messages,
+            ending: End::Whole,
+        })
+    }
+
+    /// The library of what is kept and told.
+    pub fn library(
+        self,
+        alloc: Global,
+        request: &Request<'a>,
+        messages: Messages<'a>,
+    ) -> Result<Library<'a>, AllocError>
+        requires { IsListed (listed_draft (wanted request.now) self.draft) }
+        ensures { IfOk result (λ library. library ≡ library_kept self.entry.ending (wanted request.now) self.entry messages.entry) }
+    {
+        let ending = self.ending;
+        match ending {
+            End::Whole => self.whole_library(alloc, request, messages),
+            End::FileLimit | End::StringLimit => Ok(Library {
+                entries: Vec::new(alloc),
+                preamble: Text::empty(),
+                messages,
+                ending,
+            }),
+        }
+    }
+}
+
+ghost use Rattle.std.specs.Prelude.{◌≡◌, IfOk};
+ghost use Rattle.btx_bib.specs.Databases.{library_of};
+ghost use Rattle.btx_bib.specs.Readings.{databases_of};
+ghost use Rattle.btx_bib.specs.Requests.{asked};
+
+/// Reads the databases of a job: what they give to it and its style, where an entry that isn't cited takes so many references to stay.
+pub fn read_databases<'a>(
+    alloc: Global,
+    style: &'a Style<'a>,
+    job: &'a AuxJob,
+    sources: &'a [Source<'a>],
+    min_crossrefs: u32,
+) -> Result<Library<'a>, Fault>
+    ensures { IfOk result (λ library. library ≡ library_of (asked style.entry.now job.entry.now min_crossrefs) style.entry.now.macros (databases_of sources.entry.now)) }
+{
+    let request = Request::of(style, job, min_crossrefs);
+    let mut messages = Messages::new(alloc);
+    let mut gathering = Gathering::new(alloc, &request)?;
+    gathering.define_macros(alloc, style.macros())?;
+    gathering.read_all(alloc, &request, sources, &mut messages)?;
+    Ok(gathering.library(alloc, &request, messages)?)
+}
