@@ -6,6 +6,7 @@ pub mod Lettered
 pub mod NameTokens
 pub mod TokenLists
 pub mod VonTokens
+pub mod VonGlyphs
 pub mod NameParts
 pub mod Commas
 pub mod SectionViews
