@@ -80,3 +80,20 @@ length-tokens_of s = length-tokens_from 0 s
 pub ruleset token_lengths = (length-tokens_of)
 
 pub ruleset token_steps = (tokens_of-nil, tokens_of-cons)
+
+-- ---- how many there are
+
+tokens_from_le : (skip : ℕ) (s : List ℕ) → length (tokens_from skip s) ≤ length s
+unfolding tokens_from
+tokens_from_le zero [] = omega arith
+tokens_from_le (suc skip) [] = omega arith
+tokens_from_le (suc skip) (b ∷ bs) = let more = tokens_from_le skip bs in omega (arith, more)
+tokens_from_le zero (b ∷ bs) = at (is_break b) (tokens_from_le zero bs) (tokens_from_le (run_len Break 0 (b ∷ bs) - 1) bs) where
+  at : (t : Bool) → length (tokens_from zero bs) ≤ length bs → length (tokens_from (run_len Break 0 (b ∷ bs) - 1) bs) ≤ length bs →
+      length (cond t (tokens_from zero bs) (token_at (b ∷ bs) ∷ tokens_from (run_len Break 0 (b ∷ bs) - 1) bs)) ≤ suc (length bs)
+  at true h k = omega (arith, h)
+  at false h k = omega (arith, k)
+
+pub tokens_of_le : (s : List ℕ) → length (tokens_of s) ≤ length s
+unfolding tokens_of
+tokens_of_le s = tokens_from_le 0 s

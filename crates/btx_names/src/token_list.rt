@@ -31,7 +31,11 @@ impl<'a> TokenList<'a> {
         ensures { IfOk result (λ list. IsListOf list (sections_view sections.entry)) }
     {
         let (surname, jr, first) = sections.texts();
-        let mut tokens = Vec::new(alloc);
+        let before_first = token_count(surname).saturating_add(token_count(jr));
+        let mut tokens = Vec::with_capacity(
+            alloc,
+            before_first.saturating_add(token_count(first)),
+        )?;
         let surname = push_tokens(&mut tokens, surname)?;
         let jr = push_tokens(&mut tokens, jr)?;
         push_tokens(&mut tokens, first)?;
@@ -42,6 +46,14 @@ impl<'a> TokenList<'a> {
             jr,
         })
     }
+}
+
+// How many tokens a section has.
+#[tactic(auto, using(crate::proofs::TokenLemmas::tokens_of_le))]
+fn token_count(section: &[u8]) -> usize
+    ensures { result ≡ length (tokens_of section.now) }
+{
+    Tokens::of(section).count()
 }
 
 // Adds the tokens of a section, and tells how many they are.
