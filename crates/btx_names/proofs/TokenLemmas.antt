@@ -3,8 +3,9 @@ use Rattle.std.proofs.Common.{◌≡◌, ℕ, zero, suc, ◌+◌, ◌-◌, ◌<�
 use Rattle.std.proofs.lemmas.List.{drop_all, drop_more, take_rest}
 use Rattle.btx_text.specs.Elements.{depth_after}
 use Rattle.btx_names.specs.declared.runs.Stop.TheVariants.{Break}
+use Rattle.btx_names.specs.Steps.{skip_breaks}
 use Rattle.btx_names.specs.Runs.{is_break, run_len}
-use Rattle.btx_names.specs.Tokens.{Token, token_at, tokens_from, tokens_of, skip_breaks}
+use Rattle.btx_names.specs.Tokens.{Token, token_at, tokens_from, tokens_of}
 
 -- ---- what stands before the first token
 

@@ -8,6 +8,7 @@ pub mod TokenLists
 pub mod VonTokens
 pub mod VonGlyphs
 pub mod NameParts
+pub mod Steps
 pub mod Commas
 pub mod SectionViews
 pub mod PartViews
