@@ -3,9 +3,10 @@ use Rattle.std.proofs.Common.{◌≡◌, ℕ, suc, ◌+◌, ◌-◌, ◌<◌, �
 use Rattle.std.proofs.lemmas.Bool.{lt-ltb}
 use Rattle.std.proofs.lemmas.List.{drop_all, drop_more, take_more, take-map, length-map, take_rest, length-take-le}
 use Rattle.btx_names.specs.Tokens.{Token}
+use Rattle.btx_names.specs.Steps.{passes}
 use Rattle.btx_names.specs.declared.name_token.NameToken.{NameToken}
 use Rattle.btx_names.specs.declared.token_counts.TokenTest.{TokenTest}
-use Rattle.btx_names.specs.NameParts.{passes, before_final, up_to_last, before_first}
+use Rattle.btx_names.specs.NameParts.{before_final, up_to_last, before_first}
 use Rattle.btx_names.specs.NameTokens.{token_of, tokens_in}
 
 -- ---- the first, of a list whose first tokens were seen

@@ -4,10 +4,11 @@ use Rattle.std.specs.Prelude.{slice_get, nat_lt}
 use Rattle.std.proofs.lemmas.Bool.{true≢false, cases_lt}
 use Rattle.std.proofs.lemmas.List.{take-append-drop, drop_all, drop-drop, length-drop}
 use Rattle.btx_names.specs.declared.runs.Stop.TheVariants.{Comma}
+use Rattle.btx_names.specs.Steps.{passes}
 use Rattle.btx_names.specs.declared.token_counts.TokenTest.TheVariants.{Von, Apart}
 use Rattle.btx_names.specs.Runs.{run_len}
 use Rattle.btx_names.specs.Tokens.{Token, tokens_of}
-use Rattle.btx_names.specs.NameParts.{Sections, One, Two, Three, split_at_comma, is_all_breaks, cut_first, cut_again, sections_of, unsplit, parts_by, parts_of, in_order, HasJrByForm, surname_of, before_last, final_of, von_end, von_start, last_start, passes, up_to_last, before_final}
+use Rattle.btx_names.specs.NameParts.{Sections, One, Two, Three, split_at_comma, is_all_breaks, cut_first, cut_again, sections_of, unsplit, parts_by, parts_of, in_order, HasJrByForm, surname_of, before_last, final_of, von_end, von_start, last_start, up_to_last, before_final}
 use Rattle.btx_names.proofs.SplitLemmas.{tokens_of-comma}
 use Rattle.btx_names.proofs.RangeLemmas.{up_to_last-lt, von_start-le}
 

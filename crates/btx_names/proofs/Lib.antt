@@ -23,3 +23,4 @@ pub mod JoinLemmas
 pub mod ItemLemmas
 pub mod WrittenLemmas
 pub mod VonLawLemmas
+pub mod VonGlyphLemmas

@@ -4,7 +4,8 @@ use Rattle.std.proofs.lemmas.List.{drop_all, drop_more, take_rest, drop-drop, le
 use Rattle.std.proofs.lemmas.Bool.{and_parts, leb-true, ne_eqb}
 use Rattle.btx_text.specs.Elements.{depth_after}
 use Rattle.btx_text.specs.Lines.{in_front}
-use Rattle.btx_names.specs.NameLists.{is_separator, pieces_from, names_of, name_len}
+use Rattle.btx_names.specs.NameLists.{is_separator, pieces_from, names_of}
+use Rattle.btx_names.specs.Steps.{name_len}
 
 -- ---- the length of the first name
 

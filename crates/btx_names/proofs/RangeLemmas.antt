@@ -2,9 +2,10 @@
 use Rattle.std.proofs.Common.{◌≡◌, ℕ, zero, suc, ◌<◌, ◌≤◌, Bool, true, false, cond, ltb, List, [], ◌∷◌, length, refl, arith}
 use Rattle.std.proofs.lemmas.Bool.{ltb-true, lt-ltb}
 use Rattle.btx_names.specs.Tokens.{Token, tokens_of, tokens_from}
+use Rattle.btx_names.specs.Steps.{passes}
 use Rattle.btx_names.specs.declared.token_counts.TokenTest.{TokenTest}
 use Rattle.btx_names.specs.declared.token_counts.TokenTest.TheVariants.{Von, Apart}
-use Rattle.btx_names.specs.NameParts.{passes, before_final, up_to_last, before_first, von_end, last_start, von_start}
+use Rattle.btx_names.specs.NameParts.{before_final, up_to_last, before_first, von_end, last_start, von_start}
 
 -- up to the last before the final token: fewer than all
 pub up_to_last-lt : (test : TokenTest) (token : Token) (tokens : List Token) → up_to_last (passes test) (before_final (token ∷ tokens)) < length (token ∷ tokens)

@@ -3,8 +3,9 @@ use Rattle.std.proofs.Common.{◌≡◌, ℕ, zero, suc, ◌+◌, ◌-◌, ◌<�
 use Rattle.std.proofs.lemmas.List.{drop_all, drop_more, take_rest}
 use Rattle.btx_text.specs.Elements.{depth_after}
 use Rattle.btx_names.specs.declared.runs.Stop.TheVariants.{Break}
+use Rattle.btx_names.specs.Steps.{skip_breaks}
 use Rattle.btx_names.specs.Runs.{is_break, run_len}
-use Rattle.btx_names.specs.Tokens.{Token, token_at, tokens_from, tokens_of, skip_breaks}
+use Rattle.btx_names.specs.Tokens.{Token, token_at, tokens_from, tokens_of}
 
 -- ---- what stands before the first token
 
@@ -80,3 +81,20 @@ length-tokens_of s = length-tokens_from 0 s
 pub ruleset token_lengths = (length-tokens_of)
 
 pub ruleset token_steps = (tokens_of-nil, tokens_of-cons)
+
+-- ---- how many there are
+
+tokens_from_le : (skip : ℕ) (s : List ℕ) → length (tokens_from skip s) ≤ length s
+unfolding tokens_from
+tokens_from_le zero [] = omega arith
+tokens_from_le (suc skip) [] = omega arith
+tokens_from_le (suc skip) (b ∷ bs) = let more = tokens_from_le skip bs in omega (arith, more)
+tokens_from_le zero (b ∷ bs) = at (is_break b) (tokens_from_le zero bs) (tokens_from_le (run_len Break 0 (b ∷ bs) - 1) bs) where
+  at : (t : Bool) → length (tokens_from zero bs) ≤ length bs → length (tokens_from (run_len Break 0 (b ∷ bs) - 1) bs) ≤ length bs →
+      length (cond t (tokens_from zero bs) (token_at (b ∷ bs) ∷ tokens_from (run_len Break 0 (b ∷ bs) - 1) bs)) ≤ suc (length bs)
+  at true h k = omega (arith, h)
+  at false h k = omega (arith, k)
+
+pub tokens_of_le : (s : List ℕ) → length (tokens_of s) ≤ length s
+unfolding tokens_of
+tokens_of_le s = tokens_from_le 0 s

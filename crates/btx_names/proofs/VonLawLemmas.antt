@@ -4,10 +4,11 @@ use Rattle.std.specs.List.{list_all}
 use Rattle.std.proofs.lemmas.Bool.{ltb-true, ltb-false, lt-ltb, false≢true}
 use Rattle.std.proofs.lemmas.List.{take-append-drop, length-take-le, length-drop, take-take, drop-take}
 use Rattle.btx_names.specs.Tokens.{Token, tokens_of}
+use Rattle.btx_names.specs.Steps.{passes}
 use Rattle.btx_names.specs.VonTokens.{is_von}
 use Rattle.btx_names.specs.declared.token_counts.TokenTest.{TokenTest}
 use Rattle.btx_names.specs.declared.token_counts.TokenTest.TheVariants.{Von, Apart}
-use Rattle.btx_names.specs.NameParts.{Sections, One, Two, Three, unsplit, sections_of, parts_of, parts_by, is_hyphen, passes, before_final, up_to_last, before_first, von_end}
+use Rattle.btx_names.specs.NameParts.{Sections, One, Two, Three, unsplit, sections_of, parts_of, parts_by, is_hyphen, before_final, up_to_last, before_first, von_end}
 use Rattle.btx_names.proofs.CountLemmas.{before_final_front}
 use Rattle.btx_names.proofs.RangeLemmas.{before_first-le}
 

@@ -6,7 +6,9 @@ pub mod Lettered
 pub mod NameTokens
 pub mod TokenLists
 pub mod VonTokens
+pub mod VonGlyphs
 pub mod NameParts
+pub mod Steps
 pub mod Commas
 pub mod SectionViews
 pub mod PartViews

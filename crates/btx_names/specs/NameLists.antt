@@ -43,8 +43,3 @@ pieces_from zero depth (b ∷ bs) =
 unfoldable pub names_of : List ℕ → List (List ℕ)
 names_of [] = []
 names_of (b ∷ bs) = pieces_from 0 0 (b ∷ bs)
-
--- how long the first piece of a text is
-unfoldable pub name_len : ℕ → List ℕ → ℕ
-name_len depth [] = 0
-name_len depth (b ∷ bs) = if depth == 0 && is_separator (b ∷ bs) then 1 else suc (name_len (depth_after depth b) bs)

@@ -7,8 +7,6 @@ use Rattle.btx_text.specs.Elements.{depth_of}
 use Rattle.btx_names.specs.declared.name_tokens.Joint.{Joint}
 use Rattle.btx_names.specs.declared.name_tokens.Joint.TheVariants.{Hyphen}
 use Rattle.btx_names.specs.declared.runs.Stop.TheVariants.{Comma}
-use Rattle.btx_names.specs.declared.token_counts.TokenTest.{TokenTest}
-use Rattle.btx_names.specs.declared.token_counts.TokenTest.TheVariants.{Von, Apart}
 use Rattle.btx_names.specs.Runs.{is_break, comma, run_len}
 use Rattle.btx_names.specs.Tokens.{Token, tokens_of}
 use Rattle.btx_names.specs.VonTokens.{is_von}
@@ -85,22 +83,25 @@ abbrev pub is_hyphen : Joint → Bool
 is_hyphen Hyphen = true
 is_hyphen _ = false
 
--- what is asked of a token: that it is von, or that no `-` joins it to the next
-abbrev pub passes : TokenTest → Token → Bool
-passes Von token = is_von token.text
-passes Apart token = not (is_hyphen token.joint)
+-- a token is von
+abbrev pub is_von_token : Token → Bool
+is_von_token token = is_von token.text
+
+-- no `-` joins a token to the next
+abbrev pub is_apart : Token → Bool
+is_apart token = not (is_hyphen token.joint)
 
 -- how many tokens there are up to the last von token before the final one: the final token is never von
 abbrev pub von_end : List Token → ℕ
-von_end tokens = up_to_last (passes Von) (before_final tokens)
+von_end tokens = up_to_last (is_von_token) (before_final tokens)
 
 -- where Last begins in a name without commas: behind von, or, without von, with those that are joined to the final token by `-`
 abbrev pub last_start : List Token → ℕ
-last_start tokens = if nat_lt 0 (von_end tokens) then von_end tokens else up_to_last (passes Apart) (before_final tokens)
+last_start tokens = if nat_lt 0 (von_end tokens) then von_end tokens else up_to_last (is_apart) (before_final tokens)
 
 -- where von begins in a name without commas
 abbrev pub von_start : List Token → ℕ
-von_start tokens = if nat_lt 0 (von_end tokens) then before_first (passes Von) tokens else last_start tokens
+von_start tokens = if nat_lt 0 (von_end tokens) then before_first (is_von_token) tokens else last_start tokens
 
 -- ---- the parts
 

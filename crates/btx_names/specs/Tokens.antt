@@ -40,11 +40,6 @@ tokens_from zero (b ∷ bs) =
 unfoldable pub tokens_of : List ℕ → List Token
 tokens_of text = tokens_from 0 text
 
--- a text without what stands before its first token
-unfoldable pub skip_breaks : List ℕ → List ℕ
-skip_breaks [] = []
-skip_breaks (b ∷ bs) = if is_break b then skip_breaks bs else b ∷ bs
-
 -- ---- the places between tokens
 
 -- a byte that stands between tokens stands at this place of a text, at depth 0

@@ -1,8 +1,13 @@
 //! Laws over the definitions. Each function has an empty body, and its contract is the law.
 ghost use Rattle.std.specs.Prelude.{◌≡◌, ℕ, List, [], ◌∷◌, ◌++◌, ◌+◌, ◌==◌, None, Some, length, map, filter, min, nat_lt, false, not, true};
 ghost use Rattle.std.specs.List.{join_by, list_all};
-ghost use Rattle.btx_names.specs.VonTokens.{is_von};
+ghost use Rattle.btx_names.specs.VonTokens.{casing, is_von};
+ghost use Rattle.btx_names.specs.VonGlyphs.{are_lower};
+ghost use Rattle.btx_strings.specs.Controls.{glyphs_of};
+ghost use Rattle.btx_text.specs.Elements.{Part as Element, elements_of};
+ghost use Rattle.btx_text.specs.declared.element_kind.Kind.TheVariants.{Special};
 ghost use Rattle.btx_text.specs.declared.element_kind.TextMode.{TextMode};
+ghost use Rattle.btx_text.specs.declared.element_kind.TextMode.TheVariants.{Bytes};
 ghost use Rattle.btx_names.specs.NameLists.{names_of, separators_of};
 ghost use Rattle.btx_names.specs.Commas.{commas_in, commas_of, final_commas_of};
 ghost use Rattle.btx_names.specs.NameParts.{HasJrByForm, before_last, ends_in_comma, final_of, has_third_comma, in_order, is_hyphen, One, before_final, parts_of, sections_of, surname_of};
@@ -63,6 +68,14 @@ pub fn hyphens_join_to_last()
     ensures apart { (name : List ℕ) (front : List Token) (final : Token) → sections_of name ≡ One name →
         list_all (λ token. not (is_von token.text)) (before_final (tokens_of name)) ≡ true → (parts_of name).first ≡ front ++ final ∷ [] →
         is_hyphen final.joint ≡ false }
+{}
+
+/// What a special character says of von is its first control sequence's, as its glyphs tell it: a foreign letter by its own case, any other by
+/// the first letter behind it.
+#[tactic(auto, using(crate::proofs::VonGlyphLemmas::special_by_glyphs))]
+pub fn first_control_sequence_decides()
+    ensures { (token : List ℕ) (left : List Element) (special : Element) (right : List Element) →
+        elements_of Bytes token ≡ left ++ special ∷ right → special.kind ≡ Special → casing special ≡ Some (are_lower (glyphs_of special.text)) }
 {}
 
 /// How many commas count in a name says its form: without one it is First von Last, with one it is von Last, First, and with two or more it is

@@ -1,6 +1,7 @@
 //! The tokens of a name, one at a time.
 ghost use Rattle.std.specs.Prelude.{◌≡◌};
-ghost use Rattle.btx_names.specs.Tokens.{joint_of, skip_breaks, tokens_of};
+ghost use Rattle.btx_names.specs.Tokens.{joint_of, tokens_of};
+ghost use Rattle.btx_names.specs.Steps.{skip_breaks};
 
 use crate::runs::{Stop, is_break, run_len};
 use std::marker::Model;

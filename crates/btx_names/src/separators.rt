@@ -1,6 +1,7 @@
 //! What stands between two names.
 ghost use Rattle.std.specs.Prelude.{◌≡◌, ◌==◌, ◌&&◌};
 ghost use Rattle.btx_names.specs.NameLists as spec;
+ghost use Rattle.btx_names.specs.Steps as steps;
 
 use btx_text::classify::is_white;
 use btx_text::depths::depth_after;
@@ -22,7 +23,7 @@ fn separates(depth: usize, text: &[u8]) -> bool
 /// How long the first piece of a text is: to the white byte before the first `and` that separates, this byte included, or to the end.
 #[tactic(auto, using(crate::proofs::NameLemmas::name_len_steps))]
 pub(crate) fn name_len(text: &[u8]) -> usize
-    ensures { result ≡ spec.name_len 0 text.now }
+    ensures { result ≡ steps.name_len 0 text.now }
 {
     let mut depth = 0;
     for (place, &byte) in text.iter().enumerate() {

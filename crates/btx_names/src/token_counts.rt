@@ -3,6 +3,7 @@ ghost use Rattle.std.specs.Prelude.{◌≡◌};
 ghost use Rattle.btx_names.specs.NameTokens.{token_of};
 ghost use Rattle.btx_names.specs.PartViews.{part_tokens};
 ghost use Rattle.btx_names.specs.NameParts as spec;
+ghost use Rattle.btx_names.specs.Steps as steps;
 
 use crate::name_token::NameToken;
 use crate::name_tokens::Joint;
@@ -20,7 +21,7 @@ pub enum TokenTest {
 
 // Whether a token passes a test.
 fn passes(test: TokenTest, token: &NameToken<'_>) -> bool
-    ensures { result ≡ spec.passes test (token_of token.now) }
+    ensures { result ≡ steps.passes test (token_of token.now) }
 {
     match test {
         TokenTest::Von => is_von(token.text),
@@ -31,7 +32,7 @@ fn passes(test: TokenTest, token: &NameToken<'_>) -> bool
 /// How many tokens there are up to the last one before the final token that passes a test, 0 where none does.
 #[tactic(auto, using(crate::proofs::CountLemmas::last_steps))]
 pub fn up_to_last_before_final(part: Part<'_, '_>, test: TokenTest) -> usize
-    ensures { result ≡ spec.up_to_last (spec.passes test) (spec.before_final (part_tokens part.entry)) }
+    ensures { result ≡ spec.up_to_last (steps.passes test) (spec.before_final (part_tokens part.entry)) }
 {
     let mut place = part.tokens.len().saturating_sub(1);
     while place > 0 {
@@ -46,7 +47,7 @@ pub fn up_to_last_before_final(part: Part<'_, '_>, test: TokenTest) -> usize
 /// How many tokens stand before the first that passes a test.
 #[tactic(auto, using(crate::proofs::CountLemmas::first_steps))]
 pub fn before_first(part: Part<'_, '_>, test: TokenTest) -> usize
-    ensures { result ≡ spec.before_first (spec.passes test) (part_tokens part.entry) }
+    ensures { result ≡ spec.before_first (steps.passes test) (part_tokens part.entry) }
 {
     for (place, token) in part.tokens.iter().enumerate() {
         if passes(test, token) {

@@ -10,6 +10,10 @@ use crate::name_token::NameToken;
 use crate::name_tokens::Tokens;
 use std::alloc::{AllocError, Global};
 
+/// From how many bytes on the tokens of a section are counted before they are kept. The list grows as it needs for a shorter one: that is
+/// faster than to read it twice.
+const LONG_SECTION: usize = 4_096;
+
 /// The tokens of a name, section by section.
 #[derive(Debug, Drop)]
 pub struct TokenList<'a> {
@@ -31,7 +35,8 @@ impl<'a> TokenList<'a> {
         ensures { IfOk result (λ list. IsListOf list (sections_view sections.entry)) }
     {
         let (surname, jr, first) = sections.texts();
-        let mut tokens = Vec::new(alloc);
+        let before_first = room_for(surname).saturating_add(room_for(jr));
+        let mut tokens = Vec::with_capacity(alloc, before_first.saturating_add(room_for(first)))?;
         let surname = push_tokens(&mut tokens, surname)?;
         let jr = push_tokens(&mut tokens, jr)?;
         push_tokens(&mut tokens, first)?;
@@ -42,6 +47,17 @@ impl<'a> TokenList<'a> {
             jr,
         })
     }
+}
+
+// How many tokens a long section has; 0 for any other.
+#[tactic(auto, using(crate::proofs::TokenLemmas::tokens_of_le))]
+fn room_for(section: &[u8]) -> usize
+    ensures { result ≤ length (tokens_of section.now) }
+{
+    if section.len() < LONG_SECTION {
+        return 0;
+    }
+    Tokens::of(section).count()
 }
 
 // Adds the tokens of a section, and tells how many they are.

@@ -1,5 +1,5 @@
 use Rattle.std.proofs.Common.{◌≡◌, ◌+◌, ◌≤◌, drop}
-use Rattle.btx_names.specs.NameLists.{name_len}
+use Rattle.btx_names.specs.Steps.{name_len}
 use Rattle.btx_names.proofs.separators.name_len.Given as goal
 
 abbrev pub invariant-loop-place : goal.invariant-loop-place

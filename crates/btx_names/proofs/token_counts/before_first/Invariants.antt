@@ -1,5 +1,6 @@
 use Rattle.std.proofs.Common.{◌≡◌, ◌+◌, drop}
-use Rattle.btx_names.specs.NameParts.{passes, before_first}
+use Rattle.btx_names.specs.NameParts.{before_first}
+use Rattle.btx_names.specs.Steps.{passes}
 use Rattle.btx_names.specs.NameTokens.{tokens_in}
 use Rattle.btx_names.proofs.token_counts.before_first.Given as goal
 

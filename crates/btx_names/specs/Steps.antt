@@ -1,0 +1,24 @@
+-- What steps of the code answer: no promise of this crate needs these words.
+use Rattle.std.specs.Prelude.{ℕ, suc, ◌==◌, ◌&&◌, Bool, List, [], ◌∷◌, if◌then◌else◌}
+use Rattle.btx_text.specs.Elements.{depth_after}
+use Rattle.btx_names.specs.declared.token_counts.TokenTest.{TokenTest}
+use Rattle.btx_names.specs.declared.token_counts.TokenTest.TheVariants.{Von, Apart}
+use Rattle.btx_names.specs.Runs.{is_break}
+use Rattle.btx_names.specs.NameLists.{is_separator}
+use Rattle.btx_names.specs.Tokens.{Token}
+use Rattle.btx_names.specs.NameParts.{is_von_token, is_apart}
+
+-- how long the first piece of a text is
+unfoldable pub name_len : ℕ → List ℕ → ℕ
+name_len depth [] = 0
+name_len depth (b ∷ bs) = if depth == 0 && is_separator (b ∷ bs) then 1 else suc (name_len (depth_after depth b) bs)
+
+-- a text without what stands before its first token
+unfoldable pub skip_breaks : List ℕ → List ℕ
+skip_breaks [] = []
+skip_breaks (b ∷ bs) = if is_break b then skip_breaks bs else b ∷ bs
+
+-- what is asked of a token: that it is von, or that no `-` joins it to the next
+abbrev pub passes : TokenTest → Token → Bool
+passes Von token = is_von_token token
+passes Apart token = is_apart token
