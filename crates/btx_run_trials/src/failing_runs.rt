@@ -67,10 +67,12 @@ fn sink(alloc: Global, device: Device) -> Over<FakeWriter> {
 
 /// What a sink has received.
 fn output_of(sink: Over<FakeWriter>) -> Output {
+    let Over { writer, failures } = sink;
+    let FakeWriter { bytes, writes, .. } = writer;
     Output {
-        bytes: sink.writer.bytes,
-        writes: sink.writer.writes,
-        failures: sink.failures,
+        bytes,
+        writes,
+        failures,
     }
 }
 
