@@ -1,4 +1,4 @@
--- How bodies are read (btxhak, section 4). A function's tokens stand up to its `}`; a `{` begins a nameless function, which is defined at
+-- How bodies are read (btxhak, section 5.1). A function's tokens stand up to its `}`; a `{` begins a nameless function, which is defined at
 -- its own `}`, before the function round it, and stands there as a literal. Functions are numbered in the order in which they are defined.
 use Rattle.std.specs.Prelude.{ℕ, suc, List, [], ◌∷◌, ◌++◌, length, Option, None, Some}
 use Rattle.btx_bst.specs.declared.callee.Callee.TheVariants.{User}

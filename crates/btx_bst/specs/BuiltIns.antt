@@ -1,4 +1,4 @@
--- The built-in functions and their words (btxhak, section 4).
+-- The built-in functions and their words (btxhak, section 5.3).
 use Rattle.std.specs.Prelude.{ℕ, List, [], ◌∷◌, Option, codes}
 use Rattle.std.specs.List.{find}
 use Rattle.std.specs.Str.{bytes_eq}

@@ -1,6 +1,5 @@
--- Direct styles: each function literal is one of two that stand side by side directly before an `if$` or a `while$`, and no body runs the
--- function of an entry's type. Where a style is direct, a function runs only functions before it, so that no more bodies are ever open
--- than the style has functions.
+-- Direct styles: each literal of a function of the style, quoted or nameless, is one of two function literals side by side directly before an
+-- executed `if$` or `while$`, and `call.type$` stands in no body, executed or as a literal.
 use Rattle.std.specs.Prelude.{◌≡◌, ℕ, ◌+◌, ◌-◌, ◌&&◌, ◌||◌, not, nat_lt, Bool, true, false, [], Option, Some, slice_get, slice_index_or}
 use Rattle.btx_bst.specs.declared.built_in.BuiltIn.TheVariants.{CallType, If, While}
 use Rattle.btx_bst.specs.declared.callee.Callee.TheVariants as callee
@@ -21,7 +20,7 @@ unfoldable pub is_user_literal : Option Token → Bool
 is_user_literal (Some (Quote (User number))) = true
 is_user_literal _ = false
 
--- a function literal of any kind
+-- a literal of a function, a field or a variable
 unfoldable pub is_literal : Option Token → Bool
 is_literal (Some (Quote callee)) = true
 is_literal _ = false

@@ -1,5 +1,5 @@
 -- The names that are known before a style, beside the built-in functions: the field `crossref`, the entry string `sort.key$` and the two
--- integers `entry.max$` and `global.max$` (btxhak, section 4).
+-- integers `entry.max$` and `global.max$` (btxhak, section 5.2).
 use Rattle.std.specs.Prelude.{[], ◌∷◌, codes}
 use Rattle.btx_bst.specs.Names.{Names}
 

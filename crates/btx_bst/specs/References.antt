@@ -40,6 +40,6 @@ IsKnownItem names functions _ = Unit {0}
 abbrev pub ReferencesLaw : Type 0
 ReferencesLaw = (file text : List ℕ) (number place : ℕ) (token : Token) → slice_get (slice_index_or (style_of file text).bodies number []) place ≡ Some token → Refers (style_of file text).names (length (style_of file text).texts) number token
 
--- Each command names functions of the style or built-in ones.
+-- What each command names is built in, or the style has it.
 abbrev pub ItemsLaw : Type 0
 ItemsLaw = (file text : List ℕ) (place : ℕ) (item : Item) → slice_get (style_of file text).items place ≡ Some item → IsKnownItem (style_of file text).names (length (style_of file text).bodies) item

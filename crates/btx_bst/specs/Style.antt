@@ -41,6 +41,6 @@ as_type (Some count) None = None
 as_type (Some count) (Some (User number)) = if nat_lt number count then Some number else None
 as_type (Some count) (Some _) = None
 
--- the function of an entry's type, given in lower case: a function of the style that stands before READ (btxhak, section 4)
+-- the function of an entry's type, given in lower case: a function of the style that stands before READ (btxhak, section 5.3)
 abbrev pub type_of : Style → List ℕ → Option ℕ
 type_of style name = as_type style.before_read (named_lower style.names name)

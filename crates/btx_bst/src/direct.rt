@@ -7,8 +7,8 @@ use crate::callee::Callee;
 use crate::style::Style;
 use crate::token::Token;
 
-/// Whether a style is direct: each function literal is one of two that stand side by side directly before an `if$` or a `while$`, and no
-/// body runs the function of an entry's type.
+/// Whether a style is direct: each literal of a function of the style is one of two function literals side by side directly before an
+/// executed `if$` or `while$`, and `call.type$` stands in no body.
 #[tactic(auto, using(crate::proofs::DirectLemmas::direct_steps))]
 pub fn is_direct(style: &Style<'_>) -> bool
     ensures { IsTrue result ↔ spec.IsDirect style.now }
@@ -78,7 +78,7 @@ fn is_user_literal(token: Option<Token>) -> bool
     matches!(token, Some(Token::Quote(Callee::User(_))))
 }
 
-/// Whether this is a function literal of any kind.
+/// Whether this is a literal of a function, a field or a variable.
 #[tactic(auto, unfolding(crate::specs::Direct::is_literal))]
 fn is_literal(token: Option<Token>) -> bool
     ensures { result ≡ spec.is_literal token }

@@ -5,8 +5,8 @@ ghost use Rattle.btx_bst.specs.Order.{OnceLaw, OrderLaw};
 ghost use Rattle.btx_bst.specs.References.{ReferencesLaw, ItemsLaw};
 ghost use Rattle.btx_bst.specs.Spelling.{SpelledLaw, BrokenLaw, DividedLaw};
 
-/// Each token refers to strings, fields and variables of the style and to functions before its own alone; each command to functions of the
-/// style or built-in ones.
+/// Each token refers to strings, fields and variables of the style and to functions before its own alone; what each command names is built
+/// in, or the style has it.
 #[tactic(auto, using(crate::proofs::ReferenceLemmas::reference_laws))]
 pub fn references_are_earlier()
     ensures bodies { ReferencesLaw }

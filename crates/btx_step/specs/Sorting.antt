@@ -1,4 +1,4 @@
--- The order of a list of entries (btxhak, section 5.1, at SORT).
+-- The order of a list of entries (btxhak, section 5.2, at SORT).
 use Rattle.std.specs.Prelude.{ℕ, Bool, List, [], ◌∷◌, if◌then◌else◌}
 use Rattle.std.specs.Ordering.{nat_cmp, is_lt}
 use Rattle.std.specs.Cmp.Lexicographic.{slice_cmp}
