@@ -9,13 +9,13 @@ use clap::error::ErrorKind;
 use clap::{Arg, ArgMatches, Command, Error, value_parser};
 use std::alloc::{AllocError, Global};
 
-/// The greatest budget.
+// The greatest budget.
 const MOST_STEPS: i64 = 1_000_000_000_000_000;
 
-/// The budget where none is given.
+// The budget where none is given.
 const USUAL_STEPS: u64 = 1_000_000_000;
 
-/// The option `--dir D`.
+// The option `--dir D`.
 fn directory_option<'a>(alloc: Global) -> Arg<'a>
     ensures rule { rule_of result ≡ directory_rule }
     ensures local { result.global ≡ false }
@@ -27,7 +27,7 @@ fn directory_option<'a>(alloc: Global) -> Arg<'a>
         .help("The folder of the job's files")
 }
 
-/// The option `--budget N`.
+// The option `--budget N`.
 fn budget_option<'a>(alloc: Global) -> Arg<'a>
     ensures rule { rule_of result ≡ budget_rule }
     ensures local { result.global ≡ false }
@@ -40,7 +40,7 @@ fn budget_option<'a>(alloc: Global) -> Arg<'a>
         .help("How many steps the style may take at most")
 }
 
-/// The word JOB.
+// The word JOB.
 fn job_word<'a>(alloc: Global) -> Arg<'a>
     ensures rule { rule_of result ≡ job_rule }
     ensures local { result.global ≡ false }
@@ -50,11 +50,11 @@ fn job_word<'a>(alloc: Global) -> Arg<'a>
     )
 }
 
-/// What the program does.
+// What the program does.
 const ABOUT: &str =
     "Writes the list of references of a LaTeX document: reads its .aux files, its databases and a style, and writes JOB.bbl and the log JOB.blg";
 
-/// The exit statuses.
+// The exit statuses.
 const STATUSES: &str = "Exit status:
   0  the job ran to its end, without error messages
   1  the command line is refused
@@ -65,7 +65,7 @@ const STATUSES: &str = "Exit status:
   6  a file couldn't be read, or an output not be written
   7  the job is outside the part of the language that is covered so far";
 
-/// The command `bibtex [--dir D] [--budget N] JOB`. Its texts change nothing in how words are read.
+// The command `bibtex [--dir D] [--budget N] JOB`. Its texts change nothing in how words are read.
 fn bibtex_command<'a>(alloc: Global) -> Result<Command<'a>, AllocError>
     ensures { IfOk result (λ command. app_of command ≡ bibtex_command) }
 {
@@ -77,7 +77,7 @@ fn bibtex_command<'a>(alloc: Global) -> Result<Command<'a>, AllocError>
         .arg(job_word(alloc))
 }
 
-/// What a list of words gives for the command.
+// What a list of words gives for the command.
 fn matches<'a>(alloc: Global, words: &'a [String]) -> Result<ArgMatches<'a>, Error>
     ensures rows { IfOk result (λ found. rows_of (found_of found) ≡ given (map (λ word. string_bytes word) words.now)) }
     ensures budget { IfOk result (λ found. (text : List ℕ) → one_text (found_of found) (codes "budget") ≡ Some text
@@ -87,14 +87,14 @@ fn matches<'a>(alloc: Global, words: &'a [String]) -> Result<ArgMatches<'a>, Err
     bibtex_command(alloc)?.try_get_matches_from(words)
 }
 
-/// The value of an argument, or what stands in its place.
+// The value of an argument, or what stands in its place.
 fn value_or<'a>(matches: &ArgMatches<'a>, id: &str, other: &'a str) -> &'a str
     ensures { result.now ≡ unwrap_or (first_of id.now (rows_of (found_of matches.now))) other.entry.now }
 {
     matches.get_str(id).unwrap_or(other)
 }
 
-/// The budget.
+// The budget.
 fn budget_of(matches: &ArgMatches<'_>) -> u64
     requires { (text : List ℕ) → one_text (found_of matches.now) (codes "budget") ≡ Some text
         → IsUnsignedIn 0 most_steps text }
@@ -105,14 +105,14 @@ fn budget_of(matches: &ArgMatches<'_>) -> u64
     matches.get_one::<u64>("budget").unwrap_or(USUAL_STEPS)
 }
 
-/// The name of a job, which may be given with a last `.aux`.
+// The name of a job, which may be given with a last `.aux`.
 fn name_of(job: &str) -> &str
     ensures { IsNameOf job.now result.now }
 {
     job.strip_suffix(".aux").unwrap_or(job)
 }
 
-/// What is answered for words that are not run.
+// What is answered for words that are not run.
 fn refusal_of(alloc: Global, error: &Error) -> Refusal
     ensures { (status_of result ≡ 5) ⊎ (status_of result ≡ refusal_status (kind_of error.now)) }
 {
@@ -152,7 +152,7 @@ mod tests {
     use std::process::Abort;
     use std::test::Fail;
 
-    /// What a refusal has: its status, and its text.
+    // What a refusal has: its status, and its text.
     fn parts_of(alloc: Global, refusal: Refusal) -> (u8, String) {
         let status = refusal.status();
         match refusal {
@@ -161,7 +161,7 @@ mod tests {
         }
     }
 
-    /// What is answered, in one text: the folder, the job, the name and the budget, or a refusal's status and text.
+    // What is answered, in one text: the folder, the job, the name and the budget, or a refusal's status and text.
     fn text_of(alloc: Global, answer: Result<Settings<'_>, Refusal>) -> Result<String, AllocError> {
         let text = match answer {
             Ok(settings) => {
@@ -177,7 +177,7 @@ mod tests {
         Ok(text)
     }
 
-    /// What is answered for a line of words, the program's name first.
+    // What is answered for a line of words, the program's name first.
     fn answered(alloc: Global, line: &str) -> Result<String, AllocError> {
         let mut words = Vec::new(alloc);
         for word in line.split(' ') {
@@ -186,7 +186,7 @@ mod tests {
         text_of(alloc, settings(alloc, words.as_slice()))
     }
 
-    /// Asserts what is answered for a line of words.
+    // Asserts what is answered for a line of words.
     fn gives(
         rt: &impl Abort,
         answered: Result<String, AllocError>,
@@ -197,7 +197,7 @@ mod tests {
         Ok(())
     }
 
-    /// Asserts that what is answered is longer than its beginning.
+    // Asserts that what is answered is longer than its beginning.
     fn begins(
         rt: &impl Abort,
         answered: Result<String, AllocError>,
@@ -229,7 +229,7 @@ mod tests {
         Ok(())
     }
 
-    /// Each refusal has a text.
+    // Each refusal has a text.
     #[test]
     fn refuses_words(rt: HostRuntime) -> Result<(), Fail> {
         for (line, front) in [
@@ -246,7 +246,7 @@ mod tests {
         Ok(())
     }
 
-    /// The help says what the program does, and lists the statuses.
+    // The help says what the program does, and lists the statuses.
     #[test]
     fn helps(rt: HostRuntime) -> Result<(), Fail> {
         let help = answered(rt.alloc(), "bibtex --help")?;

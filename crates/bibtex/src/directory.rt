@@ -39,7 +39,7 @@ impl<'a, R: Files> DirectoryFinder<'a, R> {
         }
     }
 
-    /// Appends the bytes of the file of this name. `Ok(false)`: it can't be opened, or its name isn't UTF-8, and nothing was read.
+    // Appends the bytes of the file of this name. `Ok(false)`: it can't be opened, or its name isn't UTF-8, and nothing was read.
     fn read(&self, alloc: Global, name: &[u8], into: &mut Vec<u8>) -> Result<bool, FetchFault>
         ensures { result ≡ Ok false → into.new.items ≡ into.old.items }
     {
@@ -58,7 +58,7 @@ impl<'a, R: Files> DirectoryFinder<'a, R> {
     }
 }
 
-/// The path of a file of a folder.
+// The path of a file of a folder.
 fn path_in(alloc: Global, directory: &str, name: &str) -> Result<String, AllocError>
     ensures { IfOk result (λ path. string_bytes path ≡ path_in directory.now name.now) }
 {
@@ -66,7 +66,7 @@ fn path_in(alloc: Global, directory: &str, name: &str) -> Result<String, AllocEr
     Ok(path)
 }
 
-/// What a file that can't be opened means for a fetch: there is no such file, or memory was refused.
+// What a file that can't be opened means for a fetch: there is no such file, or memory was refused.
 fn unopened(error: &io::Error) -> Result<bool, FetchFault>
     ensures { result ≡ unopened (error_kind error.now) }
 {
@@ -76,7 +76,7 @@ fn unopened(error: &io::Error) -> Result<bool, FetchFault>
     }
 }
 
-/// What a read that failed means for a fetch: the device failed, or memory was refused.
+// What a read that failed means for a fetch: the device failed, or memory was refused.
 fn read_fault(error: &io::Error) -> FetchFault
     ensures { result ≡ read_fault (error_kind error.now) }
 {
@@ -118,10 +118,10 @@ mod tests {
     use std::process::Abort;
     use std::test::Fail;
 
-    /// What a fetch answered, how often the finder failed then, and the bytes.
+    // What a fetch answered, how often the finder failed then, and the bytes.
     type Fetched = (Result<bool, FetchFault>, u64, Vec<u8>);
 
-    /// What a new finder over a folder gives for a name.
+    // What a new finder over a folder gives for a name.
     fn fetched(
         rt: &(impl Files + AllocGlobal),
         directory: &str,
@@ -133,7 +133,7 @@ mod tests {
         Ok((answer, finder.failures, into))
     }
 
-    /// Asserts what a fetch gave.
+    // Asserts what a fetch gave.
     fn gives(
         rt: &impl Abort,
         fetched: Result<Fetched, AllocError>,
@@ -167,7 +167,7 @@ mod tests {
         Ok(())
     }
 
-    /// A text of so many bytes, in which no two blocks of a power of two are the same.
+    // A text of so many bytes, in which no two blocks of a power of two are the same.
     fn long_text(alloc: Global, length: u32) -> Result<Vec<u8>, AllocError> {
         let mut text = Vec::new(alloc);
         for place in 0..length {
@@ -176,7 +176,7 @@ mod tests {
         Ok(text)
     }
 
-    /// A file is read to its last byte, however long it is.
+    // A file is read to its last byte, however long it is.
     #[test]
     fn reads_long_files(rt: HostRuntime) -> Result<(), Fail> {
         let directory = make_folder(&rt, rt.alloc(), "long")?;
@@ -196,7 +196,7 @@ mod tests {
         Ok(())
     }
 
-    /// A name may be longer than any that the system takes: there is no such file.
+    // A name may be longer than any that the system takes: there is no such file.
     #[test]
     fn misses_long_names(rt: HostRuntime) -> Result<(), Fail> {
         for length in [256, 5_000] {

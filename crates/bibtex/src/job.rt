@@ -11,7 +11,7 @@ use std::io::Write;
 use std::rt::Files;
 use std::{fs, io};
 
-/// How often a cross-referenced entry that isn't cited has to be named to be listed.
+// How often a cross-referenced entry that isn't cited has to be named to be listed.
 const MIN_CROSSREFS: u32 = 2;
 
 /// The path of the job's output with this ending. The only fault is want of memory.
@@ -25,7 +25,7 @@ pub fn path_of(alloc: Global, settings: &Settings<'_>, ending: &str) -> Result<S
     Ok(path)
 }
 
-/// Writes the log to `JOB.blg`.
+// Writes the log to `JOB.blg`.
 fn store_log(
     rt: &impl Files,
     alloc: Global,
@@ -36,7 +36,7 @@ fn store_log(
     fs::write(rt, path.as_str(), log).map_err(|error| output_fault(&error))
 }
 
-/// Writes the log to `JOB.blg` and then, also where that failed, to standard output. The first fault is answered.
+// Writes the log to `JOB.blg` and then, also where that failed, to standard output. The first fault is answered.
 fn write_log(
     rt: &(impl Files + Print),
     alloc: Global,
@@ -93,7 +93,7 @@ mod tests {
     const LOG: &str =
         "The top-level auxiliary file: job.aux\nThe style file: s.bst\nDatabase file #1: d.bib\nEnded: finished, warnings 0, errors 0, steps 4\n";
 
-    /// Writes the files of the job.
+    // Writes the files of the job.
     fn write_job(rt: &(impl Files + AllocGlobal), directory: &str) -> io::Result<()> {
         let aux = b"\\citation{k}\n\\bibdata{d}\n\\bibstyle{s}\n";
         write_file(rt, directory, "job.aux", aux)?;
@@ -101,7 +101,7 @@ mod tests {
         write_file(rt, directory, "s.bst", STYLE)
     }
 
-    /// The job in a folder, with a budget that just covers it.
+    // The job in a folder, with a budget that just covers it.
     fn settings_in(directory: &str) -> Settings<'_> {
         Settings {
             directory,
@@ -111,13 +111,13 @@ mod tests {
         }
     }
 
-    /// Runs the job in a folder, and gives its status.
+    // Runs the job in a folder, and gives its status.
     fn status_in(rt: &(impl Files + Print + AllocGlobal), directory: &str) -> Result<u8, RunFault> {
         let report = run_job(rt, rt.alloc(), &settings_in(directory))?;
         Ok(report.status)
     }
 
-    /// Asserts the text of an output of the job.
+    // Asserts the text of an output of the job.
     fn wrote(
         rt: &(impl Files + AllocGlobal + Abort),
         directory: &str,

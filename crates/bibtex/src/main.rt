@@ -24,13 +24,13 @@ use std::process::ExitCode;
 use std::rt::{Env, Files};
 use std::{env, fs, io};
 
-/// The words of the command line, the program's name first.
+// The words of the command line, the program's name first.
 fn words(rt: &(impl Env + AllocGlobal)) -> io::Result<Vec<String>> {
     let words = env::args(rt)?.collect(rt.alloc())?;
     Ok(words)
 }
 
-/// Prints a fault, and gives its exit status.
+// Prints a fault, and gives its exit status.
 fn tell_fault(rt: &impl Eprint, fault: RunFault) -> u8
     ensures { result ≡ exit_status (Err fault) }
 {
@@ -38,7 +38,7 @@ fn tell_fault(rt: &impl Eprint, fault: RunFault) -> u8
     exit_status(&Err(fault))
 }
 
-/// Prints why words are not run, and gives the exit status: the refusal's, unless its help can't be printed.
+// Prints why words are not run, and gives the exit status: the refusal's, unless its help can't be printed.
 fn tell_refusal(rt: &(impl Print + Eprint), refusal: &Refusal) -> u8
     ensures { (result ≡ status_of refusal.now) ⊎ (status_of refusal.now ≡ 0) }
 {
@@ -55,7 +55,7 @@ fn tell_refusal(rt: &(impl Print + Eprint), refusal: &Refusal) -> u8
     }
 }
 
-/// Does what the words ask for, and gives the exit status.
+// Does what the words ask for, and gives the exit status.
 fn answer(rt: &(impl Files + Print + Eprint), alloc: Global, words: &[String]) -> u8 {
     match settings(alloc, words) {
         Ok(settings) => match run_job(rt, alloc, &settings) {
@@ -66,7 +66,7 @@ fn answer(rt: &(impl Files + Print + Eprint), alloc: Global, words: &[String]) -
     }
 }
 
-/// Opens the null device as often as there are standard streams, so that no file of the job takes the place of one that is closed.
+// Opens the null device as often as there are standard streams, so that no file of the job takes the place of one that is closed.
 fn hold_places<R: Files>(rt: &R) -> [Option<R::File>; 3] {
     let hold = || fs::open(rt, "/dev/null").ok();
     [hold(), hold(), hold()]

@@ -1,6 +1,6 @@
 -- The lines of the log that the reading of the `.aux` files gives: the files that were found, and what is wrong. The words follow
 -- those of the original. All that is wrong is an error, none a warning.
-use Rattle.std.specs.Prelude.{ℕ, Bool, true, false, List, ◌++◌, codes, decimal}
+use Rattle.std.specs.Prelude.{ℕ, List, ◌++◌, codes, decimal}
 use Rattle.btx_text.specs.declared.log_line.LineKind.{LineKind}
 use Rattle.btx_text.specs.declared.log_line.LineKind.TheVariants.{Plain, Warning, Error}
 use Rattle.btx_text.specs.LogLines.{Line, message, place_text}
@@ -67,9 +67,3 @@ kind_of NoBibstyle = Error
 -- the line of a note
 abbrev pub line_of : Note → Line
 line_of note = message (kind_of note) (note_text note)
-
--- the line is an error
-abbrev pub is_error : LineKind → Bool
-is_error Plain = false
-is_error Warning = false
-is_error Error = true

@@ -29,7 +29,7 @@ pub fn read_aux<F: Finder>(alloc: Global, finder: &mut F, top: &[u8]) -> Result<
     Ok(job)
 }
 
-/// The top file.
+// The top file.
 fn read_top<F: Finder>(
     alloc: Global,
     finder: &mut F,
@@ -49,7 +49,7 @@ fn read_top<F: Finder>(
     open_file(alloc, finder, draft, top, text.as_slice(), MOST_OPEN)
 }
 
-/// What is known, with what is missing in the whole.
+// What is known, with what is missing in the whole.
 fn close(alloc: Global, draft: Draft) -> Result<AuxJob, AllocError>
     ensures { IfOk result (λ job. job ≡ closed draft) }
 {
@@ -78,7 +78,7 @@ fn close(alloc: Global, draft: Draft) -> Result<AuxJob, AllocError>
     })
 }
 
-/// Tells what is missing: keys and `*`, a `\bibdata` line, a `\bibstyle` line.
+// Tells what is missing: keys and `*`, a `\bibdata` line, a `\bibstyle` line.
 fn tell_missing(alloc: Global, draft: &mut Draft) -> Result<(), AllocError>
     ensures { OnOk result (draft.new ≡ record draft.old { log = draft.old.log ++ map line_of (missing_notes draft.old.keys draft.old.all draft.old.has_bibdata draft.old.has_bibstyle) }) }
 {
@@ -90,7 +90,7 @@ fn tell_missing(alloc: Global, draft: &mut Draft) -> Result<(), AllocError>
     tell_unless(alloc, draft, has_bibstyle, Note::NoBibstyle)
 }
 
-/// Tells that something is missing, unless it is there.
+// Tells that something is missing, unless it is there.
 fn tell_unless(
     alloc: Global,
     draft: &mut Draft,

@@ -76,7 +76,7 @@ impl Draft {
         self.log.push(line)
     }
 
-    /// Adds what is wrong at a place to the log.
+    // Adds what is wrong at a place to the log.
     fn complain(
         &mut self,
         alloc: Global,
@@ -88,7 +88,7 @@ impl Draft {
         self.tell(alloc, Note::Wrong(complaint, place))
     }
 
-    /// A piece of a `\citation`.
+    // A piece of a `\citation`.
     #[tactic(auto, unfolding(crate::specs::Drafts::learned))]
     fn cite(
         &mut self,
@@ -110,7 +110,7 @@ impl Draft {
         }
     }
 
-    /// A `*`.
+    // A `*`.
     #[tactic(auto, unfolding(crate::specs::Drafts::learned))]
     fn cite_all(&mut self, alloc: Global, key: &[u8], place: Place<'_>) -> Result<(), AllocError>
         requires { is_star key.now ≡ true }
@@ -123,7 +123,7 @@ impl Draft {
         Ok(())
     }
 
-    /// A key.
+    // A key.
     #[tactic(auto, unfolding(crate::specs::Drafts::learned))]
     fn cite_key(&mut self, alloc: Global, key: &[u8], place: Place<'_>) -> Result<(), AllocError>
         requires { is_star key.now ≡ false }
@@ -143,7 +143,7 @@ impl Draft {
         }
     }
 
-    /// The pieces of a `\citation`.
+    // The pieces of a `\citation`.
     fn cite_each(
         &mut self,
         alloc: Global,
@@ -158,7 +158,7 @@ impl Draft {
         Ok(())
     }
 
-    /// A `\bibdata` line.
+    // A `\bibdata` line.
     #[tactic(auto, unfolding(crate::specs::Drafts::learned))]
     fn take_bibdata(
         &mut self,
@@ -176,7 +176,7 @@ impl Draft {
         self.take_databases(alloc, argument, place)
     }
 
-    /// The databases of the first `\bibdata` line.
+    // The databases of the first `\bibdata` line.
     fn take_databases(
         &mut self,
         alloc: Global,
@@ -194,7 +194,7 @@ impl Draft {
         Ok(())
     }
 
-    /// A database.
+    // A database.
     fn take_database(
         &mut self,
         alloc: Global,
@@ -211,7 +211,7 @@ impl Draft {
         self.databases.add(database)
     }
 
-    /// A `\bibstyle` line.
+    // A `\bibstyle` line.
     #[tactic(auto, unfolding(crate::specs::Drafts::learned))]
     fn take_bibstyle(
         &mut self,
@@ -234,7 +234,7 @@ impl Draft {
         }
     }
 
-    /// An `\@input` line; gives the name of a file that is to be opened.
+    // An `\@input` line; gives the name of a file that is to be opened.
     #[tactic(auto, unfolding(crate::specs::Drafts::learned))]
     fn include<'l>(
         &mut self,
@@ -252,7 +252,7 @@ impl Draft {
         Ok(None)
     }
 
-    /// An include of a file; gives its name where it is to be opened.
+    // An include of a file; gives its name where it is to be opened.
     #[tactic(auto, unfolding(crate::specs::Drafts::learned))]
     fn include_file<'l>(
         &mut self,

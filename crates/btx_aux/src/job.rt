@@ -3,8 +3,7 @@ ghost use Rattle.std.specs.Prelude.{◌≡◌, count_by, map, option_copied, pos
 ghost use Rattle.std.specs.Str.{bytes_eq};
 ghost use Rattle.btx_text.specs.Keys.{folded};
 ghost use Rattle.btx_aux.specs.Entries.{texts_of};
-ghost use Rattle.btx_text.specs.LogLines.{Line};
-ghost use Rattle.btx_aux.specs.Notes.{is_error};
+ghost use Rattle.btx_text.specs.LogLines.{Line, is_error};
 
 use crate::end::End;
 use crate::keys::Keys;

@@ -13,7 +13,7 @@ const BIBSTYLE: &[u8] = b"\\bibstyle";
 
 const INPUT: &[u8] = b"\\@input";
 
-/// The command of this name.
+// The command of this name.
 #[tactic(auto, unfolding(crate::specs::Grammar::command_named))]
 fn command(name: &[u8]) -> Option<Command>
     ensures { result ≡ command_named name.now }
@@ -43,7 +43,7 @@ pub fn command_line(line: &[u8]) -> Option<(Command, &[u8])>
     Some((command, &line[brace + 1..]))
 }
 
-/// The index of the first `{` of a line.
+// The index of the first `{` of a line.
 fn first_brace(line: &[u8]) -> Option<usize>
     ensures { result ≡ position (λ byte. byte == 123) line.now }
 {

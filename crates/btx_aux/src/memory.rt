@@ -39,7 +39,7 @@ impl MemoryFinder {
     }
 }
 
-/// Puts a file into the table, in place of one of the same name.
+// Puts a file into the table, in place of one of the same name.
 fn put(
     alloc: Global,
     files: &mut IndexMap<Vec<u8>, Vec<u8>>,
@@ -55,7 +55,7 @@ fn put(
     Ok(())
 }
 
-/// Puts these bytes in place of what was there.
+// Puts these bytes in place of what was there.
 fn fill(into: &mut Vec<u8>, bytes: &[u8]) -> Result<(), FetchFault>
     ensures ok { OnOk result (into.new.items ≡ bytes.now) }
     ensures err { OnErr result (into.new.items ≡ []) }

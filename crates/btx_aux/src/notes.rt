@@ -60,7 +60,7 @@ pub fn log_line(alloc: Global, note: Note<'_>) -> Result<LogLine, AllocError>
     Ok(LogLine::new(text, kind))
 }
 
-/// What a note is.
+// What a note is.
 #[tactic(auto, unfolding(crate::specs::Notes::kind_of))]
 fn kind(note: Note<'_>) -> LineKind
     ensures { result ≡ kind_of (note_told note.entry) }
@@ -72,7 +72,7 @@ fn kind(note: Note<'_>) -> LineKind
     }
 }
 
-/// Appends the text of a note.
+// Appends the text of a note.
 #[tactic(auto, unfolding(crate::specs::Notes::note_text))]
 fn push_note(text: &mut Vec<u8>, note: Note<'_>) -> Result<(), AllocError>
     ensures { OnOk result (text.new.items ≡ text.old.items ++ note_text (note_told note.entry)) }
@@ -87,7 +87,7 @@ fn push_note(text: &mut Vec<u8>, note: Note<'_>) -> Result<(), AllocError>
     }
 }
 
-/// Appends that an included file was found.
+// Appends that an included file was found.
 #[tactic(auto, using(btx_text::proofs::JoinLemmas::joins))]
 fn push_level(text: &mut Vec<u8>, level: usize, name: &[u8]) -> Result<(), AllocError>
     ensures { OnOk result (text.new.items ≡ text.old.items ++ (codes "A level-" ++ decimal level ++ codes " auxiliary file: " ++ name.now)) }
@@ -96,7 +96,7 @@ fn push_level(text: &mut Vec<u8>, level: usize, name: &[u8]) -> Result<(), Alloc
     push_two(text, b" auxiliary file: ", name)
 }
 
-/// Appends a complaint with its place.
+// Appends a complaint with its place.
 #[tactic(auto, using(btx_text::proofs::JoinLemmas::joins))]
 fn push_wrong(
     text: &mut Vec<u8>,
@@ -109,7 +109,7 @@ fn push_wrong(
     push_place(text, place)
 }
 
-/// Appends the text of a complaint.
+// Appends the text of a complaint.
 #[tactic(auto, unfolding(crate::specs::Notes::complaint_text))]
 fn push_complaint(text: &mut Vec<u8>, complaint: Complaint<'_>) -> Result<(), AllocError>
     ensures { OnOk result (text.new.items ≡ text.old.items ++ complaint_text (complaint_told complaint.entry)) }
@@ -139,7 +139,7 @@ fn push_complaint(text: &mut Vec<u8>, complaint: Complaint<'_>) -> Result<(), Al
     }
 }
 
-/// The text of a slip.
+// The text of a slip.
 fn slip_text(slip: Slip) -> &'static [u8]
     ensures { result.now ≡ slip_text slip }
 {

@@ -15,7 +15,7 @@ use std::alloc::Global;
 /// How many files may be open at once.
 pub const MOST_OPEN: usize = 20;
 
-/// An include of a file at a place, where so many more files may be opened.
+// An include of a file at a place, where so many more files may be opened.
 #[cycle(reading)]
 fn include<F: Finder>(
     alloc: Global,
@@ -67,14 +67,14 @@ pub fn open_file<F: Finder>(
     read_lines(alloc, finder, draft, name, text, room - 1)
 }
 
-/// Whether a file is too long to be read.
+// Whether a file is too long to be read.
 fn is_too_long(text: &[u8]) -> bool
     ensures { result ≡ is_too_long text.now }
 {
     text.len() > GREATEST_FILE
 }
 
-/// The lines of an open file, where so many more files may be opened.
+// The lines of an open file, where so many more files may be opened.
 #[cycle(reading)]
 fn read_lines<F: Finder>(
     alloc: Global,
@@ -106,7 +106,7 @@ fn read_lines<F: Finder>(
     Ok(())
 }
 
-/// A line of an open file, where so many more files may be opened.
+// A line of an open file, where so many more files may be opened.
 #[cycle(reading)]
 fn read_line<F: Finder>(
     alloc: Global,

@@ -1,8 +1,9 @@
-//! Shows how fast the text functions are: each works on texts of one megabyte. What they answer is printed on standard output, and
-//! the time for one byte on standard error.
+//! Shows how fast the text functions are: each works on texts of one megabyte; how the time of a formatted name grows with its name and
+//! format, and that of a style with its length. What they answer is printed on standard output, and the time on standard error.
 #![tactic(auto)]
 
 mod names;
+mod styles;
 mod work;
 
 use names::{Shape, formatted_len};
@@ -10,12 +11,13 @@ use std::alloc::Global;
 use std::io;
 use std::rt::Clock;
 use std::time::Instant;
+use styles::{StyleShape, read_counts};
 use work::{Work, repeated};
 
-/// How often each function works on each text.
+// How often each function works on each text.
 const TURNS: u32 = 5;
 
-/// Runs a function on a text, and prints what its answers come to and its time.
+// Runs a function on a text, and prints what its answers come to and its time.
 fn measure(
     rt: &(impl Print + Eprint + Clock),
     alloc: Global,
@@ -36,13 +38,13 @@ fn measure(
     )
 }
 
-/// How many bytes a name and its format have, each.
+// How many bytes a name and its format have, each.
 const SIZES: [usize; 3] = [20_000, 40_000, 80_000];
 
-/// How often a usual name is formatted.
+// How often a usual name is formatted.
 const NAMES: u32 = 100_000;
 
-/// Formats a name, and prints the length of the text and the time.
+// Formats a name, and prints the length of the text and the time.
 fn measure_name(
     rt: &(impl Print + Eprint + Clock),
     alloc: Global,
@@ -58,7 +60,7 @@ fn measure_name(
     eprintln!(rt; "{shape}, {size} bytes: {micros} microseconds")
 }
 
-/// Formats a usual name over and over, and prints what its text comes to and the time.
+// Formats a usual name over and over, and prints what its text comes to and the time.
 fn measure_usual_name(rt: &(impl Print + Eprint + Clock), alloc: Global) -> io::Result<()> {
     let start = Instant::now(rt)?;
     let mut length = 0;
@@ -68,6 +70,24 @@ fn measure_usual_name(rt: &(impl Print + Eprint + Clock), alloc: Global) -> io::
     let nanos = start.elapsed(rt)?.as_nanos() / u128::from(NAMES);
     println!(rt; "a usual name: {length}")?;
     eprintln!(rt; "a usual name: {nanos} nanoseconds")
+}
+
+// How many parts of some twenty bytes a style has.
+const PARTS: [usize; 3] = [125_000, 250_000, 500_000];
+
+// Reads a style, and prints what it has and the time.
+fn measure_style(
+    rt: &(impl Print + Eprint + Clock),
+    alloc: Global,
+    shape: StyleShape,
+    parts: usize,
+) -> io::Result<()> {
+    let text = shape.text(alloc, parts)?;
+    let start = Instant::now(rt)?;
+    let (items, functions) = read_counts(alloc, &text)?;
+    let millis = start.elapsed(rt)?.as_millis();
+    println!(rt; "{shape}, {parts} parts: {items} items, {functions} functions")?;
+    eprintln!(rt; "{shape}, {parts} parts: {millis} milliseconds")
 }
 
 fn main(rt: HostRuntime) -> io::Result<()> {
@@ -85,5 +105,11 @@ fn main(rt: HostRuntime) -> io::Result<()> {
             measure_name(&rt, alloc, shape, size)?;
         }
     }
-    measure_usual_name(&rt, alloc)
+    measure_usual_name(&rt, alloc)?;
+    for shape in StyleShape::ALL {
+        for parts in PARTS {
+            measure_style(&rt, alloc, shape, parts)?;
+        }
+    }
+    Ok(())
 }

@@ -5,7 +5,7 @@ use btx_text::{Elements, Fault, TextMode, depth_at};
 use std::alloc::{AllocError, Global};
 use std::fmt;
 
-/// How many bytes each text has, or a few less.
+// How many bytes each text has, or a few less.
 const MEGABYTE: usize = 1_000_000;
 
 /// A function to measure.

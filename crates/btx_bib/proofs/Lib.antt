@@ -8,13 +8,14 @@ pub mod ListedKeyLemmas
 pub mod SlotLemmas
 pub mod PassLemmas
 pub mod DraftLemmas
-pub mod CitedLemmas
 pub mod StoringLemmas
 pub mod GatheringLemmas
 pub mod KeptLemmas
 pub mod AlongLemmas
 pub mod RequestLemmas
+pub mod LineLemmas
 pub mod WholeLemmas
 pub mod StringLemmas
 pub mod ListLemmas
+pub mod StayingLemmas
 pub mod LibraryRows

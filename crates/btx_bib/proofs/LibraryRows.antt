@@ -4,7 +4,7 @@ use Rattle.std.specs.Prelude.{codes}
 use Rattle.std.specs.Str.{bytes_eq}
 use Rattle.btx_bib.specs.declared.end.End.TheVariants as end
 use Rattle.btx_bib.specs.declared.entry.Entry.{Entry}
-use Rattle.btx_bib.specs.declared.grammar.slip.Slip.TheVariants.{Unbalanced, EndOfFile, Repeated}
+use Rattle.btx_bib.specs.declared.grammar.slip.Slip.TheVariants.{NoName, Unbalanced, EndOfFile, Repeated}
 use Rattle.btx_bib.specs.declared.message.Message.TheVariants as message
 use Rattle.btx_bib.specs.declared.message.Spot.{Spot}
 use Rattle.btx_bib.specs.Grammar.ByteSets.{run_len, enclosed_len}
@@ -170,3 +170,64 @@ unknown_type_and_preamble : read (cited (codes "k" ∷ []) None 2) (codes "@prea
 }
 unfolding read line cited field kind library_of entries_of references_told slot_of inherited checked check_told body_of events_from events_within step_of behind_at head_at head_of command_of more_in after_comma field_at value_at value_within part_in name_in open_in sign_in key_in run_len enclosed_len squeezed lines_begun pieces_of
 unknown_type_and_preamble = refl
+
+-- an empty reference names the empty key
+empty_reference : read (cited (codes "k" ∷ []) None 2) (codes "@misc{k,crossref={}}") ≡ record {
+  entries = record { key = codes "k"; kind = Some 0; values = None ∷ None ∷ None ∷ [] } ∷ [];
+  preamble = [];
+  messages = message.BadReference (codes "k") [] ∷ message.NoEntry [] ∷ [];
+  ending = end.Whole;
+}
+unfolding read line cited field kind library_of entries_of references_told slot_of inherited checked check_told body_of events_from events_within step_of behind_at head_at head_of command_of more_in after_comma field_at value_at value_within part_in name_in open_in sign_in key_in run_len enclosed_len squeezed lines_begun pieces_of
+empty_reference = refl
+
+-- an entry that refers to itself: nothing is inherited, and it has a parent with a parent
+own_reference : read (cited (codes "k" ∷ []) None 2) (codes "@misc{k,crossref={K}}") ≡ record {
+  entries = record { key = codes "k"; kind = Some 0; values = Some (codes "k") ∷ None ∷ None ∷ [] } ∷ [];
+  preamble = [];
+  messages = message.NestedReference (codes "k") (codes "k") ∷ [];
+  ending = end.Whole;
+}
+unfolding read line cited field kind library_of entries_of references_told slot_of inherited checked check_told body_of events_from events_within step_of behind_at head_at head_of command_of more_in after_comma field_at value_at value_within part_in name_in open_in sign_in key_in run_len enclosed_len squeezed lines_begun pieces_of
+own_reference = refl
+
+-- a parent that is cited later stands at its own place
+parent_cited_later : read (cited (codes "c" ∷ codes "p" ∷ []) None 2) (codes "@misc{c,crossref={P}}@book{p,title={T}}") ≡ record {
+  entries = record { key = codes "c"; kind = Some 0; values = Some (codes "p") ∷ Some (codes "T") ∷ None ∷ [] } ∷ record { key = codes "p"; kind = Some 1; values = None ∷ Some (codes "T") ∷ None ∷ [] } ∷ [];
+  preamble = [];
+  messages = [];
+  ending = end.Whole;
+}
+unfolding read line cited field kind library_of entries_of references_told slot_of inherited checked check_told body_of events_from events_within step_of behind_at head_at head_of command_of more_in after_comma field_at value_at value_within part_in name_in open_in sign_in key_in run_len enclosed_len squeezed lines_begun pieces_of
+parent_cited_later = refl
+
+-- with `*` a key that was cited after it stands where its entry does, spelled as it was cited
+cited_after_all : read (cited (codes "K" ∷ []) (Some 0) 0) (codes "@misc{a}@misc{k}@misc{b}") ≡ record {
+  entries = record { key = codes "a"; kind = Some 0; values = None ∷ None ∷ None ∷ [] } ∷ record { key = codes "K"; kind = Some 0; values = None ∷ None ∷ None ∷ [] } ∷ record { key = codes "b"; kind = Some 0; values = None ∷ None ∷ None ∷ [] } ∷ [];
+  preamble = [];
+  messages = [];
+  ending = end.Whole;
+}
+unfolding read line cited field kind library_of entries_of references_told slot_of inherited checked check_told body_of events_from events_within step_of behind_at head_at head_of command_of more_in after_comma field_at value_at value_within part_in name_in open_in sign_in key_in run_len enclosed_len squeezed lines_begun pieces_of
+cited_after_all = refl
+
+-- with `*` a reference adds no key
+all_and_reference : read (cited [] (Some 0) 0) (codes "@misc{k,crossref={P}}") ≡ record {
+  entries = record { key = codes "k"; kind = Some 0; values = None ∷ None ∷ None ∷ [] } ∷ [];
+  preamble = [];
+  messages = message.BadReference (codes "k") (codes "P") ∷ [];
+  ending = end.Whole;
+}
+unfolding read line cited field kind library_of entries_of references_told slot_of inherited checked check_told body_of events_from events_within step_of behind_at head_at head_of command_of more_in after_comma field_at value_at value_within part_in name_in open_in sign_in key_in run_len enclosed_len squeezed lines_begun pieces_of
+all_and_reference = refl
+
+-- a macro of the style, a string of the first database in the second one, and lines of the second one
+second_database : library_of (cited (codes "k" ∷ codes "j" ∷ []) None 2) ((codes "jan", codes "January") ∷ [])
+    (record { file = codes "d.bib"; text = codes "@string{s=jan # { 1}}@misc{k" } ∷ record { file = codes "e.bib"; text = codes "\n@misc{j,title=s}@=" } ∷ []) ≡ record {
+      entries = record { key = codes "k"; kind = Some 0; values = None ∷ None ∷ None ∷ [] } ∷ record { key = codes "j"; kind = Some 0; values = None ∷ Some (codes "January 1") ∷ None ∷ [] } ∷ [];
+      preamble = [];
+      messages = message.Wrong EndOfFile (line 1) ∷ message.Wrong NoName (record { file = codes "e.bib"; line = 2 }) ∷ [];
+      ending = end.Whole;
+    }
+unfolding read line cited field kind library_of entries_of references_told slot_of inherited checked check_told body_of events_from events_within step_of behind_at head_at head_of command_of more_in after_comma field_at value_at value_within part_in name_in open_in sign_in key_in run_len enclosed_len squeezed lines_begun pieces_of
+second_database = refl

@@ -20,3 +20,5 @@ pub mod Databases
 pub mod Readings
 pub mod Laws
 pub mod Steps
+pub mod MessageTexts
+pub mod Wordings

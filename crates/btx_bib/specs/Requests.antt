@@ -1,6 +1,5 @@
 -- What a job and its style ask of databases, and what the code's request asks.
 use Rattle.std.specs.Prelude.{ℕ, List, Option, None, Some, length}
-use Rattle.btx_aux.specs.Entries.{texts_of}
 use Rattle.btx_bib.specs.declared.request.Request.{Request}
 use Rattle.btx_aux.specs.Job.{Job}
 use Rattle.btx_bst.specs.Style.{Style, field_of, type_of}
@@ -8,7 +7,7 @@ use Rattle.btx_bib.specs.Wanted.{Wanted}
 
 abbrev pub wanted : Request → Wanted
 wanted request = record {
-  cited = texts_of request.cited.now;
+  cited = request.job.now.keys;
   all = request.all;
   field = field_of request.style.now;
   count = length request.style.now.names.fields;

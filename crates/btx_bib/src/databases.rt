@@ -38,10 +38,10 @@ impl<'a> Gathering<'a> {
     fn read_short(
         &mut self,
         alloc: Global,
-        request: &Request<'a>,
+        request: &Request<'_, 'a>,
         source: &Source<'a>,
         messages: &mut Messages<'a>,
-    ) -> Result<(), Fault>
+    ) -> Result<(), AllocError>
         requires { goes_on self.old.ending ≡ true }
         ensures state { OnOk result (self.new ≡ closed (wanted request.now) (kept_along (wanted request.now) self.old (events_with (wanted request.now) self.old next.Item source.now.bytes.now))) }
         ensures told { OnOk result (messages.new ≡ messages.old ++ kept_told (wanted request.now) (database_of source.now) self.old (events_with (wanted request.now) self.old next.Item source.now.bytes.now)) }
@@ -51,17 +51,17 @@ impl<'a> Gathering<'a> {
             lines: LineCounter::of(source.bytes),
         };
         self.read_events(alloc, request, source.bytes, &mut site, messages)?;
-        Ok(self.close(alloc, request)?)
+        self.close(alloc, request)
     }
 
     // A database. One that is too long ends the reading.
     fn read_one(
         &mut self,
         alloc: Global,
-        request: &Request<'a>,
+        request: &Request<'_, 'a>,
         source: &Source<'a>,
         messages: &mut Messages<'a>,
-    ) -> Result<(), Fault>
+    ) -> Result<(), AllocError>
         ensures state { OnOk result (self.new ≡ kept_one (wanted request.now) self.old (database_of source.now)) }
         ensures told { OnOk result (messages.new ≡ messages.old ++ told_by_one (wanted request.now) self.old (database_of source.now)) }
     {
@@ -79,10 +79,10 @@ impl<'a> Gathering<'a> {
     pub fn read_all(
         &mut self,
         alloc: Global,
-        request: &Request<'a>,
+        request: &Request<'_, 'a>,
         sources: &[Source<'a>],
         messages: &mut Messages<'a>,
-    ) -> Result<(), Fault>
+    ) -> Result<(), AllocError>
         ensures state { OnOk result (self.new ≡ kept_by_all (wanted request.now) self.old (databases_of sources.now)) }
         ensures told { OnOk result (messages.new ≡ messages.old ++ told_by_all (wanted request.now) self.old (databases_of sources.now)) }
     {
@@ -93,7 +93,7 @@ impl<'a> Gathering<'a> {
     }
 
     /// What is kept where nothing was read.
-    pub fn new(alloc: Global, request: &Request<'a>) -> Result<Gathering<'a>, AllocError>
+    pub fn new(alloc: Global, request: &Request<'_, 'a>) -> Result<Gathering<'a>, AllocError>
         ensures { IfOk result (λ kept. kept ≡ beginning (wanted request.now)) }
     {
         let mut draft = Draft::new(alloc);
@@ -108,7 +108,7 @@ impl<'a> Gathering<'a> {
     }
 
     // A macro of the style.
-    fn define_macro(&mut self, alloc: Global, name: &[u8], text: &'a [u8]) -> Result<(), Fault>
+    fn define_macro(&mut self, alloc: Global, name: &[u8], text: &'a [u8]) -> Result<(), AllocError>
         ensures { OnOk result (self.new ≡ kept_macro self.old (name.now, text.entry.now)) }
     {
         if self.has_ended() {
@@ -117,18 +117,19 @@ impl<'a> Gathering<'a> {
         match squeezed_text(alloc, text) {
             Ok(text) => {
                 let text = text.share()?;
-                Ok(self.strings.define(alloc, name, text)?)
+                self.strings.define(alloc, name, text)
             }
             Err(Fault::StringLimit) => {
                 self.ending = End::StringLimit;
                 Ok(())
             }
-            Err(fault) => Err(fault),
+            Err(Fault::Memory) => Err(AllocError),
+            Err(Fault::Device | Fault::FileLimit) => unreachable!(),
         }
     }
 
     /// The macros of the style.
-    pub fn define_macros(&mut self, alloc: Global, macros: &Macros<'a>) -> Result<(), Fault>
+    pub fn define_macros(&mut self, alloc: Global, macros: &Macros<'a>) -> Result<(), AllocError>
         ensures { OnOk result (self.new ≡ kept_macros self.old macros.now) }
     {
         for index in 0..macros.len() {
@@ -143,7 +144,7 @@ impl<'a> Gathering<'a> {
     fn whole_library(
         self,
         alloc: Global,
-        request: &Request<'a>,
+        request: &Request<'_, 'a>,
         mut messages: Messages<'a>,
     ) -> Result<Library<'a>, AllocError>
         requires { IsListed (listed_draft (wanted request.now) self.draft) }
@@ -171,7 +172,7 @@ impl<'a> Gathering<'a> {
     pub fn library(
         self,
         alloc: Global,
-        request: &Request<'a>,
+        request: &Request<'_, 'a>,
         messages: Messages<'a>,
     ) -> Result<Library<'a>, AllocError>
         requires { IsListed (listed_draft (wanted request.now) self.draft) }
@@ -190,25 +191,42 @@ impl<'a> Gathering<'a> {
     }
 }
 
-ghost use Rattle.std.specs.Prelude.{◌≡◌, IfOk};
+ghost use Rattle.std.specs.Prelude.{◌≡◌, IfErr, IfOk};
+ghost use Rattle.btx_text.specs.declared.fault.Fault.TheVariants.{Memory};
 ghost use Rattle.btx_bib.specs.Databases.{library_of};
 ghost use Rattle.btx_bib.specs.Readings.{databases_of};
 ghost use Rattle.btx_bib.specs.Requests.{asked};
 
 /// Reads the databases of a job: what they give to it and its style, where an entry that isn't cited takes so many references to stay.
+/// The library has the bytes of the files and of the cited keys; style and sources are used in the call alone. The only fault is want
+/// of memory.
 pub fn read_databases<'a>(
     alloc: Global,
-    style: &'a Style<'a>,
+    style: &Style<'a>,
     job: &'a AuxJob,
-    sources: &'a [Source<'a>],
+    sources: &[Source<'a>],
     min_crossrefs: u32,
 ) -> Result<Library<'a>, Fault>
-    ensures { IfOk result (λ library. library ≡ library_of (asked style.entry.now job.entry.now min_crossrefs) style.entry.now.macros (databases_of sources.entry.now)) }
+    ensures library { IfOk result (λ library. library ≡ library_of (asked style.now job.now min_crossrefs) style.now.macros (databases_of sources.now)) }
+    ensures fault { IfErr result (λ fault. fault ≡ Memory) }
+{
+    Ok(library_read(alloc, style, job, sources, min_crossrefs)?)
+}
+
+// The library of a job.
+fn library_read<'a>(
+    alloc: Global,
+    style: &Style<'a>,
+    job: &'a AuxJob,
+    sources: &[Source<'a>],
+    min_crossrefs: u32,
+) -> Result<Library<'a>, AllocError>
+    ensures { IfOk result (λ library. library ≡ library_of (asked style.now job.now min_crossrefs) style.now.macros (databases_of sources.now)) }
 {
     let request = Request::of(style, job, min_crossrefs);
     let mut messages = Messages::new(alloc);
     let mut gathering = Gathering::new(alloc, &request)?;
     gathering.define_macros(alloc, style.macros())?;
     gathering.read_all(alloc, &request, sources, &mut messages)?;
-    Ok(gathering.library(alloc, &request, messages)?)
+    gathering.library(alloc, &request, messages)
 }

@@ -45,7 +45,7 @@ impl<'a> Draft<'a> {
     pub fn cite_all(
         &mut self,
         alloc: Global,
-        request: &Request<'_>,
+        request: &Request<'_, '_>,
         keys: &'a [Vec<u8>],
     ) -> Result<(), AllocError>
         ensures { OnOk result (self.new ≡ cited_all (wanted request.now) self.old (texts_of keys.entry.now)) }
@@ -60,7 +60,7 @@ impl<'a> Draft<'a> {
     fn cite(
         &mut self,
         alloc: Global,
-        request: &Request<'_>,
+        request: &Request<'_, '_>,
         key: &'a [u8],
     ) -> Result<(), AllocError>
         ensures { OnOk result (self.new ≡ cited_at (wanted request.now) key.entry.now self.old (place_in self.old key.entry.now)) }
@@ -83,7 +83,7 @@ impl<'a> Draft<'a> {
     pub fn standing(
         &self,
         alloc: Global,
-        request: &Request<'_>,
+        request: &Request<'_, '_>,
         key: &[u8],
     ) -> Result<Standing, AllocError>
         ensures { IfOk result (λ standing. standing ≡ standing_at (wanted request.now) self.now (place_in self.now key.now)) }
@@ -114,7 +114,7 @@ impl<'a> Draft<'a> {
     pub fn store(
         &mut self,
         alloc: Global,
-        request: &Request<'a>,
+        request: &Request<'_, 'a>,
         key: &Word<'a>,
         body: Body<'a>,
     ) -> Result<(), AllocError>
@@ -129,7 +129,7 @@ impl<'a> Draft<'a> {
     fn put(
         &mut self,
         alloc: Global,
-        request: &Request<'a>,
+        request: &Request<'_, 'a>,
         key: &Word<'a>,
         body: Body<'a>,
     ) -> Result<(), AllocError>
@@ -141,7 +141,7 @@ impl<'a> Draft<'a> {
             self.slots.fill(place, key, body);
             return Ok(());
         }
-        let slot = request.late_slot(key, body);
+        let slot = request.late_slot(key, lowered.as_bytes(), body);
         self.names.add(alloc, lowered)?;
         self.slots.push(slot)
     }
@@ -150,7 +150,7 @@ impl<'a> Draft<'a> {
     fn refer(
         &mut self,
         alloc: Global,
-        request: &Request<'_>,
+        request: &Request<'_, '_>,
         parent: Option<Text<'a>>,
     ) -> Result<(), AllocError>
         ensures { OnOk result (self.new ≡ referred (wanted request.now) self.old parent.entry) }
@@ -168,7 +168,7 @@ impl<'a> Draft<'a> {
     fn refer_to(
         &mut self,
         alloc: Global,
-        request: &Request<'_>,
+        request: &Request<'_, '_>,
         key: Text<'a>,
     ) -> Result<(), AllocError>
         ensures { OnOk result (self.new ≡ referred_at (wanted request.now) key.entry self.old (place_in self.old key.entry)) }
@@ -189,9 +189,10 @@ impl<'a> Draft<'a> {
     }
 }
 
-impl<'a> Request<'a> {
+impl<'r, 'a> Request<'r, 'a> {
     ghost use Rattle.std.specs.Prelude.{◌≡◌, option_copied};
     ghost use Rattle.std.specs.Option.{unwrap_or};
+    ghost use Rattle.btx_text.specs.Keys.{folded};
     ghost use Rattle.btx_aux.specs.Names.{listed_as};
     ghost use Rattle.btx_bib.specs.Drafts.{late_slot, new_standing, with_entry};
     ghost use Rattle.btx_bib.specs.Requests.{wanted};
@@ -207,10 +208,11 @@ impl<'a> Request<'a> {
     }
 
     // The place of an entry whose key isn't in the list. It is spelled as it was cited, if it was.
-    fn late_slot(&self, key: &Word<'a>, body: Body<'a>) -> Slot<'a>
+    fn late_slot(&self, key: &Word<'a>, lowered: &[u8], body: Body<'a>) -> Slot<'a>
+        requires { lowered.now ≡ folded key.now }
         ensures { result ≡ with_entry body.entry key.now (late_slot (wanted self.now) key.now (listed_as (wanted self.now).cited key.now)) }
     {
-        let cited = self.cited_as(key.as_bytes());
+        let cited = self.cited_as(lowered);
         let is_cited = cited.is_some();
         let key = Spelling::of_file(cited.unwrap_or(key.as_bytes()));
         Slot {

@@ -56,17 +56,17 @@ impl<'a> Pending<'a> {
         self
     }
 
-    /// Takes a field, if it is declared and the entry has no value for it yet. Answers also whether its value is short enough.
+    // Takes a field, if it is declared and the entry has no value for it yet. Answers also whether its value is short enough.
     fn taken(
         self,
         alloc: Global,
-        request: &Request<'a>,
+        request: &Request<'_, 'a>,
         strings: &StringTable<'a>,
         field: &Field<'a>,
         rest: &[u8],
         site: &mut Site<'a>,
         messages: &mut Messages<'a>,
-    ) -> Result<(Pending<'a>, bool), Fault>
+    ) -> Result<(Pending<'a>, bool), AllocError>
         ensures entry { IfOk result (λ taken. taken ≡ taken_by (wanted request.now) strings.now self.entry (field_view field.now)) }
         ensures told { OnOk result (messages.new ≡ messages.old ++ field_told_of (wanted request.now) (database site.old) strings.now self.entry (field_view field.now) rest.now) }
         ensures same { OnOk result (site.new ≡ site.old) }
@@ -84,7 +84,8 @@ impl<'a> Pending<'a> {
         match value_text(alloc, &field.value, strings, Ends::Trimmed) {
             Ok(text) => Ok((self.with_text(number, text.share()?), true)),
             Err(Fault::StringLimit) => Ok((self, false)),
-            Err(fault) => Err(fault),
+            Err(Fault::Memory) => Err(AllocError),
+            Err(Fault::Device | Fault::FileLimit) => unreachable!(),
         }
     }
 }
@@ -102,7 +103,7 @@ impl<'a> Gathering<'a> {
     ghost use Rattle.btx_bib.specs.Requests.{wanted};
 
     /// The entry that was being read is at its end.
-    pub fn close(&mut self, alloc: Global, request: &Request<'a>) -> Result<(), AllocError>
+    pub fn close(&mut self, alloc: Global, request: &Request<'_, 'a>) -> Result<(), AllocError>
         ensures { OnOk result (self.new ≡ closed (wanted request.now) self.old) }
     {
         let Some(pending) = self.current.take() else {
@@ -116,7 +117,7 @@ impl<'a> Gathering<'a> {
     fn begin(
         &mut self,
         alloc: Global,
-        request: &Request<'a>,
+        request: &Request<'_, 'a>,
         kind: Option<u32>,
         key: &'a [u8],
     ) -> Result<(), AllocError>
@@ -134,7 +135,7 @@ impl<'a> Gathering<'a> {
     fn begin_told(
         &mut self,
         alloc: Global,
-        request: &Request<'a>,
+        request: &Request<'_, 'a>,
         kind: &[u8],
         key: &'a [u8],
         rest: &[u8],
@@ -154,7 +155,7 @@ impl<'a> Gathering<'a> {
     fn enter(
         &mut self,
         alloc: Global,
-        request: &Request<'a>,
+        request: &Request<'_, 'a>,
         kind: &[u8],
         key: &'a [u8],
         rest: &[u8],
@@ -176,12 +177,12 @@ impl<'a> Gathering<'a> {
     fn field(
         &mut self,
         alloc: Global,
-        request: &Request<'a>,
+        request: &Request<'_, 'a>,
         field: &Field<'a>,
         rest: &[u8],
         site: &mut Site<'a>,
         messages: &mut Messages<'a>,
-    ) -> Result<(), Fault>
+    ) -> Result<(), AllocError>
         ensures state { OnOk result (self.new ≡ fielded_by (wanted request.now) self.old (field_view field.now) self.old.current) }
         ensures told { OnOk result (messages.new ≡ messages.old ++ told_of_current (wanted request.now) (database site.old) self.old.strings (field_view field.now) rest.now self.old.current) }
         ensures same { OnOk result (site.new ≡ site.old) }
@@ -214,7 +215,7 @@ impl<'a> Gathering<'a> {
         value: &Value<'a>,
         site: &mut Site<'a>,
         messages: &mut Messages<'a>,
-    ) -> Result<(), Fault>
+    ) -> Result<(), AllocError>
         ensures state { OnOk result (self.new ≡ with_string self.old name.entry.now value.now) }
         ensures told { OnOk result (messages.new ≡ messages.old ++ names_told (database site.old) self.old.strings (Some name.entry.now) value.now) }
         ensures same { OnOk result (site.new ≡ site.old) }
@@ -227,14 +228,14 @@ impl<'a> Gathering<'a> {
         match value_text(alloc, value, &others, Ends::Kept) {
             Ok(text) => {
                 let text = text.share()?;
-                self.strings.define(alloc, name, text)?;
-                Ok(())
+                self.strings.define(alloc, name, text)
             }
             Err(Fault::StringLimit) => {
                 self.ending = End::StringLimit;
                 Ok(())
             }
-            Err(fault) => Err(fault),
+            Err(Fault::Memory) => Err(AllocError),
+            Err(Fault::Device | Fault::FileLimit) => unreachable!(),
         }
     }
 
@@ -245,7 +246,7 @@ impl<'a> Gathering<'a> {
         value: &Value<'a>,
         site: &mut Site<'a>,
         messages: &mut Messages<'a>,
-    ) -> Result<(), Fault>
+    ) -> Result<(), AllocError>
         ensures state { OnOk result (self.new ≡ with_preamble self.old value.now) }
         ensures told { OnOk result (messages.new ≡ messages.old ++ names_told (database site.old) self.old.strings None value.now) }
         ensures same { OnOk result (site.new ≡ site.old) }
@@ -261,7 +262,8 @@ impl<'a> Gathering<'a> {
                 self.ending = End::StringLimit;
                 Ok(())
             }
-            Err(fault) => Err(fault),
+            Err(Fault::Memory) => Err(AllocError),
+            Err(Fault::Device | Fault::FileLimit) => unreachable!(),
         }
     }
 
@@ -269,12 +271,12 @@ impl<'a> Gathering<'a> {
     fn take(
         &mut self,
         alloc: Global,
-        request: &Request<'a>,
+        request: &Request<'_, 'a>,
         event: &Event<'a>,
         rest: &[u8],
         site: &mut Site<'a>,
         messages: &mut Messages<'a>,
-    ) -> Result<(), Fault>
+    ) -> Result<(), AllocError>
         ensures state { OnOk result (self.new ≡ kept_after (wanted request.now) self.old (event_view event.now)) }
         ensures told { OnOk result (messages.new ≡ messages.old ++ told_of (wanted request.now) (database site.old) self.old (event_view event.now) rest.now) }
         ensures same { OnOk result (site.new ≡ site.old) }
@@ -283,13 +285,11 @@ impl<'a> Gathering<'a> {
             Event::Comment | Event::End => Ok(()),
             Event::Preamble(value) => self.preamble(alloc, value, site, messages),
             Event::Definition(name, value) => self.define(alloc, name, value, site, messages),
-            Event::Entry(kind, key) => {
-                Ok(self.enter(alloc, request, kind, key, rest, site, messages)?)
-            }
+            Event::Entry(kind, key) => self.enter(alloc, request, kind, key, rest, site, messages),
             Event::Field(field) => self.field(alloc, request, field, rest, site, messages),
             Event::Wrong(slip) => {
                 let spot = site.spot_at(rest);
-                Ok(messages.push(Message::Wrong(*slip, spot))?)
+                messages.push(Message::Wrong(*slip, spot))
             }
         }
     }
@@ -305,11 +305,11 @@ impl<'a> Gathering<'a> {
     pub fn read_events(
         &mut self,
         alloc: Global,
-        request: &Request<'a>,
+        request: &Request<'_, 'a>,
         text: &'a [u8],
         site: &mut Site<'a>,
         messages: &mut Messages<'a>,
-    ) -> Result<(), Fault>
+    ) -> Result<(), AllocError>
         requires { goes_on self.old.ending ≡ true }
         ensures state { OnOk result (self.new ≡ kept_along (wanted request.now) self.old (events_with (wanted request.now) self.old next.Item text.entry.now)) }
         ensures told { OnOk result (messages.new ≡ messages.old ++ kept_told (wanted request.now) (database site.old) self.old (events_with (wanted request.now) self.old next.Item text.entry.now)) }

@@ -11,8 +11,6 @@ pub mod line_counter;
 pub mod parts;
 pub mod reader;
 pub mod slip;
-#[cfg(test)]
-mod tests;
 mod tokens;
 pub mod value_ends;
 pub mod value_texts;

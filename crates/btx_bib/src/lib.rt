@@ -11,6 +11,7 @@ pub mod laws;
 pub mod library;
 mod lowering;
 pub mod message;
+mod message_texts;
 mod names;
 mod passes;
 mod request;

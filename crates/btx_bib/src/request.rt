@@ -2,32 +2,31 @@
 use crate::lowering::in_lower_case;
 use btx_aux::AuxJob;
 use btx_bst::Style;
-use btx_text::same_key;
 use std::alloc::{AllocError, Global};
 
 /// What a job and its style ask of the databases.
 #[derive(Drop)]
-pub struct Request<'a> {
-    /// The cited keys.
-    pub cited: &'a [Vec<u8>],
+pub struct Request<'r, 'a> {
+    /// The job, which cites the keys.
+    pub job: &'a AuxJob,
     /// The number of keys that were cited before `*`, if it was cited.
     pub all: Option<usize>,
     /// The style, which declares the fields and the types.
-    pub style: &'a Style<'a>,
+    pub style: &'r Style<'a>,
     /// How many references keep an entry that wasn't cited.
     pub fewest: usize,
 }
 
-impl<'a> Request<'a> {
+impl<'r, 'a> Request<'r, 'a> {
     ghost use Rattle.std.specs.Prelude.{◌≡◌, IfOk, option_copied};
     ghost use Rattle.btx_text.specs.Keys.{folded};
     ghost use Rattle.btx_bib.specs.Requests.{asked, wanted};
     ghost use Rattle.btx_bib.specs.Listing.{first_cited, last_cited};
     ghost use Rattle.btx_aux.specs.Entries.{texts_of};
-    ghost use Rattle.btx_aux.specs.Names.{listed_as};
+    ghost use Rattle.btx_aux.specs.KeyTable.{listed_by};
 
     /// What a job and its style ask, where an entry that isn't cited takes so many references to stay. With `*` it takes none.
-    pub fn of(style: &'a Style<'a>, job: &'a AuxJob, min_crossrefs: u32) -> Request<'a>
+    pub fn of(style: &'r Style<'a>, job: &'a AuxJob, min_crossrefs: u32) -> Request<'r, 'a>
         ensures { wanted result ≡ asked style.entry.now job.entry.now min_crossrefs }
     {
         let all = job.all();
@@ -36,7 +35,7 @@ impl<'a> Request<'a> {
             None => min_crossrefs as usize,
         };
         Request {
-            cited: job.keys(),
+            job,
             all,
             style,
             fewest,
@@ -46,21 +45,23 @@ impl<'a> Request<'a> {
     /// The cited keys with which the list begins: those before `*`, if it was cited.
     #[tactic(auto, using(crate::proofs::RequestLemmas::cited_parts))]
     pub fn first_cited(&self) -> &'a [Vec<u8>]
-        ensures { texts_of result.now ≡ first_cited self.now.all (texts_of self.now.cited.now) }
+        ensures { texts_of result.now ≡ first_cited self.now.all self.now.job.now.keys }
     {
+        let cited = self.job.keys();
         match self.all {
-            Some(place) if place < self.cited.len() => self.cited.split_at(place).0,
-            Some(_) | None => self.cited,
+            Some(place) if place < cited.len() => cited.split_at(place).0,
+            Some(_) | None => cited,
         }
     }
 
     /// The keys that were cited after `*`.
     #[tactic(auto, using(crate::proofs::RequestLemmas::cited_parts))]
     pub fn last_cited(&self) -> &'a [Vec<u8>]
-        ensures { texts_of result.now ≡ last_cited self.now.all (texts_of self.now.cited.now) }
+        ensures { texts_of result.now ≡ last_cited self.now.all self.now.job.now.keys }
     {
+        let cited = self.job.keys();
         match self.all {
-            Some(place) if place < self.cited.len() => self.cited.split_at(place).1,
+            Some(place) if place < cited.len() => cited.split_at(place).1,
             Some(_) | None => &[],
         }
     }
@@ -84,15 +85,12 @@ impl<'a> Request<'a> {
         Ok(self.style.type_function(lowered.as_bytes()))
     }
 
-    /// How a key was cited.
-    pub fn cited_as(&self, key: &[u8]) -> Option<&'a [u8]>
-        ensures { option_copied result ≡ listed_as (texts_of self.now.cited.now) key.now }
+    /// How the key was cited whose lowered form this is.
+    pub fn cited_as(&self, lowered: &[u8]) -> Option<&'a [u8]>
+        ensures { option_copied result ≡ listed_by self.now.job.now.keys lowered.now }
     {
-        for other in self.cited {
-            if same_key(key, other.as_slice()) {
-                return Some(other.as_slice());
-            }
-        }
-        None
+        let place = self.job.position(lowered)?;
+        let key = self.job.keys().get(place)?;
+        Some(key.as_slice())
     }
 }

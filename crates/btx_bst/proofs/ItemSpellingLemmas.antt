@@ -22,7 +22,7 @@ end_turn : (s : State) → IsEnd s.place → item_turn s ≡ Ends s.style
 unfolding item_turn
 end_turn s e = end_in s.style (ink s.place) (ink s.place).line e
 
-more_turn : (s : State) (o : Outcome) → (IsEnd s.place → ⊥) → command_outcome s.style (ink s.place) ≡ o → item_turn s ≡ Again (resumed_after o)
+pub more_turn : (s : State) (o : Outcome) → (IsEnd s.place → ⊥) → command_outcome s.style (ink s.place) ≡ o → item_turn s ≡ Again (resumed_after o)
 unfolding item_turn
 more_turn s o h e = more_in s.style (ink s.place) (ink s.place).line h ∙ ap (λ (x : Outcome). Again (resumed_after x)) e
 

@@ -42,7 +42,7 @@ pub record Keeps (P : Style → Type 0) : Type 0 where
   pub on_sort : (s : Style) → has_read s ≡ true → P s → P (with_item item.Sort s)
   pub on_integers : OnItem P item.Integers
   pub on_strings : OnItem P item.Strings
-  pub on_macro : (s : Style) (name text : List ℕ) → P s → P (with_item item.Macro (record s { macros = s.macros ++ (folded name, text) ∷ [] }))
+  pub on_macro : (s : Style) (name text : List ℕ) → has_read s ≡ false → macro_lower s.macros (folded name) ≡ None → P s → P (with_item item.Macro (record s { macros = s.macros ++ (folded name, text) ∷ [] }))
 
 after : {A : Type 0} (P : Style → Type 0) (s : Style) (r : Read A) (go : A → Place → Outcome) → P s → ((x : A) (p : Place) → P (go x p).style) → P (after_read s r go).style
 after P s (Took x p) go h k = k x p
@@ -114,22 +114,22 @@ kept_declare : (P : Style → Type 0) → Keeps P → (kind : Kind) (i : Item) �
 unfolding declare
 kept_declare P keeps kind i each s p h = list_after P keeps s kind p _ h (λ t q e f. each t f)
 
-kept_macro_of : (P : Style → Type 0) → Keeps P → (s : Style) (name : List ℕ) (p : Place) (o : Option (List ℕ)) → P s → P (macro_of s name p o).style
-kept_macro_of P keeps s name p (Some other) h = h
-kept_macro_of P keeps s name p None h =
+kept_macro_of : (P : Style → Type 0) → Keeps P → (s : Style) (name : List ℕ) (p : Place) (o : Option (List ℕ)) → has_read s ≡ false → macro_lower s.macros (folded name) ≡ o → P s → P (macro_of s name p o).style
+kept_macro_of P keeps s name p (Some other) unread e h = h
+kept_macro_of P keeps s name p None unread e h =
     after P s (closing p) _ h (λ x q.
     after P s (opening q) _ h (λ x r.
     after P s (quoted_at r) _ h (λ text t.
-    after P s (closing t) _ h (λ x u. keeps.on_macro s name text h))))
+    after P s (closing t) _ h (λ x u. keeps.on_macro s name text unread e h))))
 
 kept_macro : (P : Style → Type 0) → Keeps P → (s : Style) (p : Place) → P s → P (macro_command s p).style
 unfolding macro_command
-kept_macro P keeps s p h = at (has_read s) where
-  at : (t : Bool) → P (cond t (outcome (Some AfterRead) s p) (macro_name s p)).style
-  at true = h
-  at false =
+kept_macro P keeps s p h = at (has_read s) refl where
+  at : (t : Bool) → has_read s ≡ t → P (cond t (outcome (Some AfterRead) s p) (macro_name s p)).style
+  at true e = h
+  at false e =
       after P s (opening p) _ h (λ x q.
-      after P s (name_at q) _ h (λ name r. kept_macro_of P keeps s name r (macro_lower s.macros (folded name)) h))
+      after P s (name_at q) _ h (λ name r. kept_macro_of P keeps s name r (macro_lower s.macros (folded name)) e refl h))
 
 kept_command : (P : Style → Type 0) → Keeps P → (c : Command) (s : Style) (p : Place) → P s → P (command_at c s p).style
 kept_command P keeps command.Entry s p h = kept_entry P keeps s p h

@@ -20,7 +20,14 @@ pub mod DirectLemmas
 pub mod KeepLemmas
 pub mod ReferenceLemmas
 pub mod ItemLemmas
+pub mod BodyItemLemmas
 pub mod MeaningLemmas
 pub mod OrderLemmas
+pub mod ExecutedLemmas
+pub mod CountLemmas
+pub mod MacroLemmas
+pub mod NextLemmas
+pub mod WrittenLemmas
+pub mod PassageLemmas
 pub mod SpellingLemmas
 pub mod ItemSpellingLemmas

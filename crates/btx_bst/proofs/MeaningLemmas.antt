@@ -71,7 +71,7 @@ functions_push a b xs name n l g none t k m e = at (push_cases xs (Some name) k 
   at (inl h) = functions_keep a b xs name (User n) g t k m h
   at (inr h) = new_look a b name m (User n) (User k) g none (same_Some name m h.1) (ap User (l ∙ sym h.0))
 
-pad_cases : (xs : List (Option (List ℕ))) (c k : ℕ) (m : List ℕ) → slice_get (xs ++ replicate c None) k ≡ Some (Some m) → slice_get xs k ≡ Some (Some m)
+pub pad_cases : (xs : List (Option (List ℕ))) (c k : ℕ) (m : List ℕ) → slice_get (xs ++ replicate c None) k ≡ Some (Some m) → slice_get xs k ≡ Some (Some m)
 pad_cases [] zero k m e = e
 pad_cases [] (suc c) zero m e = absurd (cc)
 pad_cases [] (suc c) (suc k) m e = pad_cases [] c k m e
@@ -177,7 +177,7 @@ clear_keeps = record {
   on_sort = λ s r h. (fine_keeps.on_sort s r h.0, h.1);
   on_integers = λ s h. (fine_keeps.on_integers s h.0, h.1);
   on_strings = λ s h. (fine_keeps.on_strings s h.0, h.1);
-  on_macro = λ s name text h. (fine_keeps.on_macro s name text h.0, h.1);
+  on_macro = λ s name text r e h. (fine_keeps.on_macro s name text r e h.0, h.1);
 }
 
 -- the names before a style

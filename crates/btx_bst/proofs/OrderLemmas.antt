@@ -1,33 +1,21 @@
 -- The order of a style's commands.
-use Rattle.std.proofs.Common.{◌≡◌, ℕ, suc, ◌<◌, ◌⊎◌, inl, inr, Bool, true, false, List, [], ◌∷◌, ◌++◌, length, refl, sym, ap, ◌∙◌, arith, Option, None, Some}
+use Rattle.std.proofs.Common.{◌≡◌, ℕ, ◌<◌, ◌⊎◌, inl, inr, Bool, true, false, List, [], ◌∷◌, ◌++◌, length, refl, sym, ap, ◌∙◌, arith, None, Some}
 use Rattle.std.specs.Prelude.{slice_get}
 use Rattle.std.proofs.lemmas.Option.{slice_get_within}
 use Rattle.btx_text.specs.Keys.{folded}
-use Rattle.btx_bst.specs.declared.callee.Callee.{Callee}
-use Rattle.btx_bst.specs.declared.token.Token.{Token}
-use Rattle.btx_bst.specs.declared.token.Token.TheVariants.{Quote, Run}
-use Rattle.btx_bst.specs.Places.{size}
-use Rattle.btx_bst.specs.Complaints.{Complaint, EndOfFile}
+use Rattle.btx_bst.specs.Complaints.{Complaint}
 use Rattle.btx_bst.specs.Items.{Item}
 use Rattle.btx_bst.specs.Items as item
-use Rattle.btx_bst.specs.Bodies.{Body}
-use Rattle.btx_bst.specs.Names.{Names, named}
 use Rattle.btx_bst.specs.Style.{Style}
-use Rattle.btx_bst.specs.Turns.{Turn}
-use Rattle.btx_bst.specs.Words.{Word, Open, Close, String, Integer, Quoted, Name, Faulty, Unended, Ended, met_at}
-use Rattle.btx_bst.specs.BodyText.{Inside, End, Whole, Broken, with_named, closed_inside, word_turn, body_turn, body_end}
+use Rattle.btx_bst.specs.BodyText.{End, Whole, Broken, body_end}
 use Rattle.btx_bst.specs.Outcomes.{with_item}
 use Rattle.btx_bst.specs.Commands.{function_ended, inside_at, has_read}
 use Rattle.btx_bst.specs.Predefined.{predefined}
 use Rattle.btx_bst.specs.StyleText.{style_of, start}
 use Rattle.btx_bst.specs.Order.{IsOnce, needs, OnceLaw, OrderLaw}
-use Rattle.btx_bst.proofs.TurnLemmas.{OnTurn, turns-keep}
-use Rattle.btx_bst.proofs.ItemLemmas.{push_cases, push_left, push_last}
+use Rattle.btx_bst.proofs.BodyItemLemmas.{OnEnd, body_items}
+use Rattle.btx_bst.proofs.ItemLemmas.{There, there_more, there_last, there_cases, push_cases, push_left}
 use Rattle.btx_bst.proofs.KeepLemmas.{Keeps, kept-style}
-
--- an item stands somewhere
-abbrev There : Item → List Item → Type 0
-There i is = (j : ℕ) × (slice_get is j ≡ Some i)
 
 record Ordered (entered taken : Bool) (is : List Item) : Type 0 where
   entry_in : entered ≡ true → There item.Entry is
@@ -36,18 +24,6 @@ record Ordered (entered taken : Bool) (is : List Item) : Type 0 where
   read_out : There item.Read is → taken ≡ true
   once : (i : Item) (j k : ℕ) → IsOnce i → slice_get is j ≡ Some i → slice_get is k ≡ Some i → j ≡ k
   order : (i first : Item) (k : ℕ) → slice_get is k ≡ Some i → needs i ≡ Some first → (j : ℕ) × (j < k) × (slice_get is j ≡ Some first)
-
-there_more : (i x : Item) (is : List Item) → There i is → There i (is ++ x ∷ [])
-there_more i x is h = (h.0, push_left is x h.0 i h.1)
-
-there_last : (x : Item) (is : List Item) → There x (is ++ x ∷ [])
-there_last x is = (length is, push_last is x)
-
-there_cases : (i x : Item) (is : List Item) → There i (is ++ x ∷ []) → There i is ⊎ (x ≡ i)
-there_cases i x is h = at (push_cases is x h.0 i h.1) where
-  at : (slice_get is h.0 ≡ Some i) ⊎ ((h.0 ≡ length is) × (x ≡ i)) → There i is ⊎ (x ≡ i)
-  at (inl e) = inl (h.0, e)
-  at (inr e) = inr e.1
 
 -- one more item, which is new if it takes effect once
 once_push : (is : List Item) (x : Item) → (IsOnce x → There x is → ⊥) → ((i : Item) (j k : ℕ) → IsOnce i → slice_get is j ≡ Some i → slice_get is k ≡ Some i → j ≡ k) → (i : Item) (j k : ℕ) → IsOnce i → slice_get (is ++ x ∷ []) j ≡ Some i → slice_get (is ++ x ∷ []) k ≡ Some i → j ≡ k
@@ -89,47 +65,12 @@ ordered_push e t is x no_entry no_read no_once need h = record {
 ordered_message : (e t : Bool) (is : List Item) (c : Complaint) (line : ℕ) → Ordered e t is → Ordered e t (is ++ item.Message c line ∷ [])
 ordered_message e t is c line h = ordered_push e t is (item.Message c line) (λ k. absurd (cc)) (λ k. absurd (cc)) (λ o. o) (λ first k. absurd (cc)) h
 
--- ---- bodies
-
-abbrev OrderedEnd : Bool → Bool → End → Type 0
-OrderedEnd e t (Whole inside) = Ordered e t inside.items
-OrderedEnd e t (Broken complaint inside) = Ordered e t inside.items
-
-abbrev OrderedTurn : Bool → Bool → Turn Inside End → Type 0
-OrderedTurn e t turn = OnTurn (λ s. Ordered e t s.items) (OrderedEnd e t) turn
-
-ordered_named : (e t : Bool) (token : Callee → Token) (name : List ℕ) (s : Inside) (o : Option Callee) → Ordered e t s.items → Ordered e t (with_named token name s o).items
-ordered_named e t token name s None h = ordered_message e t s.items _ _ h
-ordered_named e t token name s (Some c) h = h
-
-ordered_closed : (e t : Bool) (s : Inside) (around : List Body) → Ordered e t s.items → OrderedTurn e t (closed_inside s around)
-ordered_closed e t s [] h = h
-ordered_closed e t s (outer ∷ around) h = h
-
-ordered_word : (e t : Bool) (names : Names) (s : Inside) (w : Word) → Ordered e t s.items → OrderedTurn e t (word_turn names s w)
-ordered_word e t names s Open h = h
-ordered_word e t names s Close h = ordered_closed e t s s.around h
-ordered_word e t names s (String text) h = h
-ordered_word e t names s (Integer value) h = h
-ordered_word e t names s (Quoted name) h = ordered_named e t Quote name s (named names name) h
-ordered_word e t names s (Name name) h = ordered_named e t Run name s (named names name) h
-ordered_word e t names s (Faulty c) h = ordered_message e t s.items c _ h
-ordered_word e t names s Unended h = h
-ordered_word e t names s Ended h = h
-
-ordered_body : (e t : Bool) (names : Names) (s : Inside) → Ordered e t s.items → OrderedEnd e t (body_end names s)
-unfolding body_end body_turn
-ordered_body e t names s h =
-    turns-keep (λ u. Ordered e t u.items) (OrderedEnd e t) (body_turn names) (Broken EndOfFile)
-    (λ u k. ordered_word e t names (record u { place = (met_at u.place).place }) (met_at u.place).word k)
-    (λ u k. k) (suc (size s.place)) s h
-
 -- ---- styles
 
 abbrev InOrder : Style → Type 0
 InOrder s = Ordered s.has_entry (has_read s) s.items
 
-order_ended : (s : Style) (name : List ℕ) (r : End) → OrderedEnd s.has_entry (has_read s) r → InOrder (function_ended s name r).style
+order_ended : (s : Style) (name : List ℕ) (r : End) → OnEnd (Ordered s.has_entry (has_read s)) r → InOrder (function_ended s name r).style
 order_ended s name (Broken c i) h = h
 order_ended s name (Whole i) h = ordered_push s.has_entry (has_read s) i.items (item.Function (length i.bodies)) (λ k. absurd (cc)) (λ k. absurd (cc)) (λ o. o) (λ first k. absurd (cc)) h
 
@@ -172,14 +113,14 @@ order_keeps = record {
   on_names = λ s k p h. h;
   on_entry = order_entry;
   on_read = order_read;
-  on_function = λ s name p e h. order_ended s (folded name) (body_end s.names (inside_at s p)) (ordered_body s.has_entry (has_read s) s.names (inside_at s p) h);
+  on_function = λ s name p e h. order_ended s (folded name) (body_end s.names (inside_at s p)) (body_items (Ordered s.has_entry (has_read s)) (λ c line is k. ordered_message s.has_entry (has_read s) is c line k) s.names (inside_at s p) h);
   on_execute = λ s name c r e h. ordered_push s.has_entry (has_read s) s.items (item.Execute c) (λ k. absurd (cc)) (λ k. absurd (cc)) (λ o. o) (needs_read (item.Execute c) s refl r h) h;
   on_iterate = λ s name c r e h. ordered_push s.has_entry (has_read s) s.items (item.Iterate c) (λ k. absurd (cc)) (λ k. absurd (cc)) (λ o. o) (needs_read (item.Iterate c) s refl r h) h;
   on_reverse = λ s name c r e h. ordered_push s.has_entry (has_read s) s.items (item.Reverse c) (λ k. absurd (cc)) (λ k. absurd (cc)) (λ o. o) (needs_read (item.Reverse c) s refl r h) h;
   on_sort = λ s r h. ordered_push s.has_entry (has_read s) s.items item.Sort (λ k. absurd (cc)) (λ k. absurd (cc)) (λ o. o) (needs_read item.Sort s refl r h) h;
   on_integers = λ s h. order_plain item.Integers s (λ k. absurd (cc)) (λ k. absurd (cc)) (λ o. o) refl h;
   on_strings = λ s h. order_plain item.Strings s (λ k. absurd (cc)) (λ k. absurd (cc)) (λ o. o) refl h;
-  on_macro = λ s name text h. order_plain item.Macro (record s { macros = s.macros ++ (folded name, text) ∷ [] }) (λ k. absurd (cc)) (λ k. absurd (cc)) (λ o. o) refl h;
+  on_macro = λ s name text r e h. order_plain item.Macro (record s { macros = s.macros ++ (folded name, text) ∷ [] }) (λ k. absurd (cc)) (λ k. absurd (cc)) (λ o. o) refl h;
 }
 
 order_start : (file : List ℕ) → InOrder (start file predefined)

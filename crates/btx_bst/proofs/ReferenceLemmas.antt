@@ -1,6 +1,6 @@
 -- Bodies and commands refer to what is defined before.
-use Rattle.std.proofs.Common.{◌≡◌, ℕ, zero, suc, ◌+◌, ◌-◌, ◌<◌, ◌≤◌, true, List, [], ◌∷◌, ◌++◌, length, refl, sym, arith, Option, None, Some}
-use Rattle.std.specs.Prelude.{slice_get, slice_index_or, position, replicate}
+use Rattle.std.proofs.Common.{◌≡◌, ℕ, zero, suc, ◌+◌, ◌-◌, ◌<◌, ◌≤◌, Bool, true, false, cond, List, [], ◌∷◌, ◌++◌, length, refl, sym, arith, Option, None, Some}
+use Rattle.std.specs.Prelude.{slice_get, slice_index_or, position, replicate, nat_lt}
 use Rattle.std.specs.Option.{option_map, option_or}
 use Rattle.std.specs.Str.{bytes_eq}
 use Rattle.std.proofs.lemmas.List.{length-append, length-replicate}
@@ -22,7 +22,7 @@ use Rattle.btx_bst.specs.Items as item
 use Rattle.btx_bst.specs.Bodies.{Body}
 use Rattle.btx_bst.specs.BuiltIns.{built_in_of}
 use Rattle.btx_bst.specs.Names.{Names, named, named_lower, has_name, number_in, with_name, with_function, padded}
-use Rattle.btx_bst.specs.Style.{Style}
+use Rattle.btx_bst.specs.Style.{Style, as_type}
 use Rattle.btx_bst.specs.Turns.{Turn}
 use Rattle.btx_bst.specs.Words.{Word, Open, Close, String, Integer, Quoted, Name, Faulty, Unended, Ended, met_at}
 use Rattle.btx_bst.specs.Lists.{opening, closing, name_at, Listing, listing, Listed, with_new, name_turn, list_turn_in, list_turn, list_end, list_read, list_at, unlisted}
@@ -31,7 +31,7 @@ use Rattle.btx_bst.specs.Outcomes.{with_item}
 use Rattle.btx_bst.specs.Commands.{function_ended, function_in, inside_at}
 use Rattle.btx_bst.specs.Predefined.{predefined}
 use Rattle.btx_bst.specs.StyleText.{style_of, start}
-use Rattle.btx_bst.specs.References.{IsKnown, Refers, IsKnownItem, ReferencesLaw, ItemsLaw}
+use Rattle.btx_bst.specs.References.{IsKnown, IsFunction, Refers, IsKnownItem, RefersWithin, ReferencesLaw, ItemsLaw}
 use Rattle.btx_bst.proofs.TurnLemmas.{OnTurn, turns-keep}
 use Rattle.btx_bst.proofs.KeepLemmas.{Keeps, kept-style}
 
@@ -99,30 +99,39 @@ around_more a t u n m [] g h k = tt
 around_more a t u n m (body ∷ bodies) g h k = (all_more a a t u n m body (same-width a) g h k.0, around_more a t u n m bodies g h k.1)
 
 -- all items
-abbrev pub AllItems : Names → ℕ → List Item → Type 0
-AllItems names n [] = Unit {0}
-AllItems names n (i ∷ is) = IsKnownItem names n i × AllItems names n is
+abbrev pub AllItems : ℕ → List Item → Type 0
+AllItems n [] = Unit {0}
+AllItems n (i ∷ is) = IsKnownItem n i × AllItems n is
 
-item_more : (a b : Names) (n m : ℕ) (i : Item) → Wider a b → n ≤ m → IsKnownItem a n i → IsKnownItem b m i
-item_more a b n m (item.Message c line) w h k = tt
-item_more a b n m item.Entry w h k = tt
-item_more a b n m (item.Function x) w h k = omega arith
-item_more a b n m item.Read w h k = tt
-item_more a b n m (item.Execute c) w h k = known_more a b n m c w h k
-item_more a b n m (item.Iterate c) w h k = known_more a b n m c w h k
-item_more a b n m (item.Reverse c) w h k = known_more a b n m c w h k
-item_more a b n m item.Sort w h k = tt
-item_more a b n m item.Integers w h k = tt
-item_more a b n m item.Strings w h k = tt
-item_more a b n m item.Macro w h k = tt
+function_more : (n m : ℕ) (c : Callee) → n ≤ m → IsFunction n c → IsFunction m c
+function_more n m (callee.BuiltIn x) h k = tt
+function_more n m (User x) h k = omega arith
+function_more n m (Field x) h k = k
+function_more n m (EntryInteger x) h k = k
+function_more n m (EntryString x) h k = k
+function_more n m (GlobalInteger x) h k = k
+function_more n m (GlobalString x) h k = k
 
-items_more : (a b : Names) (n m : ℕ) (is : List Item) → Wider a b → n ≤ m → AllItems a n is → AllItems b m is
-items_more a b n m [] w h k = tt
-items_more a b n m (i ∷ is) w h k = (item_more a b n m i w h k.0, items_more a b n m is w h k.1)
+item_more : (n m : ℕ) (i : Item) → n ≤ m → IsKnownItem n i → IsKnownItem m i
+item_more n m (item.Message c line) h k = tt
+item_more n m item.Entry h k = tt
+item_more n m (item.Function x) h k = omega arith
+item_more n m item.Read h k = tt
+item_more n m (item.Execute c) h k = function_more n m c h k
+item_more n m (item.Iterate c) h k = function_more n m c h k
+item_more n m (item.Reverse c) h k = function_more n m c h k
+item_more n m item.Sort h k = tt
+item_more n m item.Integers h k = tt
+item_more n m item.Strings h k = tt
+item_more n m item.Macro h k = tt
 
-items_push : (a : Names) (n : ℕ) (is : List Item) (i : Item) → AllItems a n is → IsKnownItem a n i → AllItems a n (is ++ i ∷ [])
-items_push a n [] i h k = (k, tt)
-items_push a n (j ∷ is) i h k = (h.0, items_push a n is i h.1 k)
+items_more : (n m : ℕ) (is : List Item) → n ≤ m → AllItems n is → AllItems m is
+items_more n m [] h k = tt
+items_more n m (i ∷ is) h k = (item_more n m i h k.0, items_more n m is h k.1)
+
+items_push : (n : ℕ) (is : List Item) (i : Item) → AllItems n is → IsKnownItem n i → AllItems n (is ++ i ∷ [])
+items_push n [] i h k = (k, tt)
+items_push n (j ∷ is) i h k = (h.0, items_push n is i h.1 k)
 
 -- ---- what a name names
 
@@ -160,7 +169,7 @@ pub record Fine (names : Names) (before : ℕ) (inside : Inside) : Type 0 where
   pub tokens_known : AllRefer names (length inside.texts) (length inside.bodies) inside.tokens
   pub around_known : AroundRefer names (length inside.texts) (length inside.bodies) inside.around
   pub earlier : AreEarlier names (length inside.texts) 0 inside.bodies
-  pub items_known : AllItems names before inside.items
+  pub items_known : AllItems before inside.items
 
 abbrev pub FineEnd : Names → ℕ → End → Type 0
 FineEnd names before (Whole inside) = Fine names before inside
@@ -173,7 +182,7 @@ fine_token : (a : Names) (b : ℕ) (s : Inside) (x : Token) → Refers a (length
 fine_token a b s x k f = record { grown = f.grown; tokens_known = all_push a (length s.texts) (length s.bodies) s.tokens x f.tokens_known k; around_known = f.around_known; earlier = f.earlier; items_known = f.items_known }
 
 fine_message : (a : Names) (b : ℕ) (s : Inside) (c : Complaint) (line : ℕ) → Fine a b s → Fine a b (record s { items = s.items ++ item.Message c line ∷ [] })
-fine_message a b s c line f = record { grown = f.grown; tokens_known = f.tokens_known; around_known = f.around_known; earlier = f.earlier; items_known = items_push a b s.items (item.Message c line) f.items_known tt }
+fine_message a b s c line f = record { grown = f.grown; tokens_known = f.tokens_known; around_known = f.around_known; earlier = f.earlier; items_known = items_push b s.items (item.Message c line) f.items_known tt }
 
 fine_named : (a : Names) (b : ℕ) (token : Callee → Token) (name : List ℕ) (s : Inside) (o : Option Callee) → ((t n : ℕ) (c : Callee) → IsKnown a n c → Refers a t n (token c)) → Fine a b s → FoundKnown a (length s.bodies) o → Fine a b (with_named token name s o)
 fine_named a b token name s None h f k = fine_message a b s _ _ f
@@ -283,10 +292,10 @@ further_read a k (Took x p) = further_end a k (listing a p) (same-width a, omega
 pub record FineStyle (s : Style) : Type 0 where
   pub no_later : length s.names.functions ≤ length s.bodies
   pub earlier : AreEarlier s.names (length s.texts) 0 s.bodies
-  pub items_known : AllItems s.names (length s.bodies) s.items
+  pub items_known : AllItems (length s.bodies) s.items
 
-fine_item : (i : Item) (s : Style) → IsKnownItem s.names (length s.bodies) i → FineStyle s → FineStyle (with_item i s)
-fine_item i s k f = record { no_later = f.no_later; earlier = f.earlier; items_known = items_push s.names (length s.bodies) s.items i f.items_known k }
+fine_item : (i : Item) (s : Style) → IsKnownItem (length s.bodies) i → FineStyle s → FineStyle (with_item i s)
+fine_item i s k f = record { no_later = f.no_later; earlier = f.earlier; items_known = items_push (length s.bodies) s.items i f.items_known k }
 
 fine_names : (s : Style) (k : Kind) (p : Place) → FineStyle s → FineStyle (record s { names = (list_at k s.names p).listing.names })
 fine_names s k p f =
@@ -296,7 +305,7 @@ fine_names s k p f =
     record {
       no_later = omega arith;
       earlier = earlier_more s.names _ (length s.texts) (length s.texts) 0 s.bodies h.0 (omega arith) f.earlier;
-      items_known = items_more s.names _ (length s.bodies) (length s.bodies) s.items h.0 (omega arith) f.items_known;
+      items_known = f.items_known;
     }
 
 padded-len : (n : ℕ) (functions : List (Option (List ℕ))) (name : List ℕ) → length functions ≤ n → length (padded n functions ++ Some name ∷ []) ≡ suc n
@@ -317,7 +326,7 @@ fine_ended s name (Whole i) h f =
     record {
       no_later = omega (arith, padded-len n s.names.functions name (omega arith));
       earlier = earlier_push names t 0 n i.bodies i.tokens (omega arith) (earlier_more s.names names t t 0 i.bodies w (omega arith) f.earlier) (all_more s.names names t t n n i.tokens w (omega arith) (omega arith) f.tokens_known);
-      items_known = items_push names m i.items (item.Function n) (items_more s.names names (length s.bodies) m i.items w (omega arith) f.items_known) (omega arith);
+      items_known = items_push m i.items (item.Function n) (items_more (length s.bodies) m i.items (omega arith) f.items_known) (omega arith);
     }
 
 pub fine_function_body : (s : Style) (p : Place) → FineStyle s → FineEnd s.names (length s.bodies) (body_end s.names (inside_at s p))
@@ -327,7 +336,7 @@ fine_function_body s p h =
 fine_function : (s : Style) (name : List ℕ) (p : Place) → FineStyle s → FineStyle (function_ended s (folded name) (body_end s.names (inside_at s p))).style
 fine_function s name p h = fine_ended s (folded name) (body_end s.names (inside_at s p)) h (fine_function_body s p h)
 
-found_function : (a : Names) (n : ℕ) (o : Option Callee) (c : Callee) → function_in o ≡ Some c → FoundKnown a n o → IsKnown a n c
+found_function : (a : Names) (n : ℕ) (o : Option Callee) (c : Callee) → function_in o ≡ Some c → FoundKnown a n o → IsFunction n c
 found_function a n None c e h = absurd (cc)
 found_function a n (Some (User k)) c e h = let d : User k ≡ c = cc in rw (sym d) h
 found_function a n (Some (callee.BuiltIn b)) c e h = let d : callee.BuiltIn b ≡ c = cc in rw (sym d) tt
@@ -337,7 +346,7 @@ found_function a n (Some (EntryString k)) c e h = absurd (cc)
 found_function a n (Some (GlobalInteger k)) c e h = absurd (cc)
 found_function a n (Some (GlobalString k)) c e h = absurd (cc)
 
-fine_run : (s : Style) (name : List ℕ) (c : Callee) → function_in (named s.names name) ≡ Some c → FineStyle s → IsKnown s.names (length s.bodies) c
+fine_run : (s : Style) (name : List ℕ) (c : Callee) → function_in (named s.names name) ≡ Some c → FineStyle s → IsFunction (length s.bodies) c
 fine_run s name c e f = found_function s.names (length s.bodies) (named s.names name) c e (found_known s.names (length s.bodies) (folded name) f.no_later)
 
 pub fine_keeps : Keeps FineStyle
@@ -353,7 +362,7 @@ fine_keeps = record {
   on_sort = λ s r f. fine_item item.Sort s tt f;
   on_integers = λ s f. fine_item item.Integers s tt f;
   on_strings = λ s f. fine_item item.Strings s tt f;
-  on_macro = λ s name text f. fine_item item.Macro (record s { macros = s.macros ++ (folded name, text) ∷ [] }) tt (record { no_later = f.no_later; earlier = f.earlier; items_known = f.items_known });
+  on_macro = λ s name text r e f. fine_item item.Macro (record s { macros = s.macros ++ (folded name, text) ∷ [] }) tt (record { no_later = f.no_later; earlier = f.earlier; items_known = f.items_known });
 }
 
 pub fine_start : (file : List ℕ) → FineStyle (start file predefined)
@@ -374,19 +383,48 @@ body_at a t n m [] k e h = tt
 body_at a t n m (body ∷ bodies) zero e h = all_more a a t t n m body (same-width a) (omega arith) (omega arith) h.0
 body_at a t n m (body ∷ bodies) (suc k) e h = body_at a t (suc n) m bodies k (omega arith) h.1
 
-item_at : (a : Names) (n : ℕ) (is : List Item) (k : ℕ) (x : Item) → AllItems a n is → slice_get is k ≡ Some x → IsKnownItem a n x
-item_at a n [] k x h e = absurd (cc)
-item_at a n (y ∷ is) zero x h e = let d : y ≡ x = cc in rw (sym d) h.0
-item_at a n (y ∷ is) (suc k) x h e = item_at a n is k x h.1 e
+item_at : (n : ℕ) (is : List Item) (k : ℕ) (x : Item) → AllItems n is → slice_get is k ≡ Some x → IsKnownItem n x
+item_at n [] k x h e = absurd (cc)
+item_at n (y ∷ is) zero x h e = let d : y ≡ x = cc in rw (sym d) h.0
+item_at n (y ∷ is) (suc k) x h e = item_at n is k x h.1 e
+
+known_found : (a : Names) (n : ℕ) (o : Option Callee) (c : Callee) → o ≡ Some c → FoundKnown a n o → IsKnown a n c
+known_found a n None c e h = absurd (cc)
+known_found a n (Some d) c e h = let g : d ≡ c = cc in rw (sym g) h
+
+-- the function of a type is known
+type_known : (a : Names) (n : ℕ) (before : Option ℕ) (o : Option Callee) (number : ℕ) → as_type before o ≡ Some number → FoundKnown a n o → number < n
+type_known a n None o number e h = absurd (cc)
+type_known a n (Some count) None number e h = absurd (cc)
+type_known a n (Some count) (Some (User k)) number e h = at (nat_lt k count) e where
+  at : (t : Bool) → cond t (Some k) None ≡ Some number → number < n
+  at true g = let d : k ≡ number = cc in rw (sym d) h
+  at false g = absurd (cc)
+type_known a n (Some count) (Some (callee.BuiltIn b)) number e h = absurd (cc)
+type_known a n (Some count) (Some (Field k)) number e h = absurd (cc)
+type_known a n (Some count) (Some (EntryInteger k)) number e h = absurd (cc)
+type_known a n (Some count) (Some (EntryString k)) number e h = absurd (cc)
+type_known a n (Some count) (Some (GlobalInteger k)) number e h = absurd (cc)
+type_known a n (Some count) (Some (GlobalString k)) number e h = absurd (cc)
+
+pub refers_within : (s : Style) → FineStyle s → RefersWithin s
+refers_within s f = record {
+  bodies = λ number place token e. token_at s.names (length s.texts) number (slice_index_or s.bodies number []) place token (body_at s.names (length s.texts) 0 number s.bodies number (omega arith) f.earlier) e;
+  commands = λ place item e. item_at (length s.bodies) s.items place item f.items_known e;
+  names = λ name c e. known_found s.names (length s.bodies) (named_lower s.names name) c e (found_known s.names (length s.bodies) name f.no_later);
+  types = λ name number e. type_known s.names (length s.bodies) s.before_read (named_lower s.names name) number e (found_known s.names (length s.bodies) name f.no_later);
+}
+
+pub style-refers_within : (file text : List ℕ) → RefersWithin (style_of file text)
+style-refers_within file text = refers_within (style_of file text) (fine_style file text)
+
+pub read-refers_within : (file text : List ℕ) (s : Style) → s ≡ style_of file text → RefersWithin s
+read-refers_within file text s e = rw e (style-refers_within file text)
 
 pub references-earlier : ReferencesLaw
-references-earlier file text number place token e =
-    let s = style_of file text in
-    token_at s.names (length s.texts) number (slice_index_or s.bodies number []) place token (body_at s.names (length s.texts) 0 number s.bodies number (omega arith) (fine_style file text).earlier) e
+references-earlier file text = (style-refers_within file text).bodies
 
 pub items-known : ItemsLaw
-items-known file text place item e =
-    let s = style_of file text in
-    item_at s.names (length s.bodies) s.items place item (fine_style file text).items_known e
+items-known file text = (style-refers_within file text).commands
 
 pub ruleset reference_laws = (references-earlier, items-known)

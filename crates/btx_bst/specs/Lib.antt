@@ -32,3 +32,8 @@ pub mod Meanings
 pub mod Order
 pub mod Spelling
 pub mod ItemSpelling
+pub mod Counts
+pub mod Macros
+pub mod Nexts
+pub mod Written
+pub mod Passages

@@ -71,7 +71,7 @@ pub record Listed : Type 0 where
 abbrev pub listed : Option Complaint → Names → Place → Listed
 listed complaint names place = record { complaint = complaint; listing = listing names place }
 
--- a name of a list, which is of this kind, if it names nokind yet
+-- a name of a list, which is of this kind, if it names nothing yet
 abbrev pub with_new : Kind → Names → List ℕ → Place → Option Callee → Turn Listing Listed
 with_new kind names name place None = Again (listing (with_name kind (folded name) names) place)
 with_new kind names name place (Some other) = Ends (listed (Some (Defined name)) names place)

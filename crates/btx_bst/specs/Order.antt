@@ -1,6 +1,6 @@
 -- The order of a style's commands.
 use Rattle.std.specs.Prelude.{◌≡◌, ℕ, ◌<◌, List, Option, None, Some, slice_get}
-use Rattle.btx_bst.specs.Items.{Item, Entry, Read, Execute, Iterate, Reverse, Sort}
+use Rattle.btx_bst.specs.Items.{Item, Entry, Read, Execute, Iterate, Reverse, Sort, Macro}
 use Rattle.btx_bst.specs.StyleText.{style_of}
 
 -- what takes effect once
@@ -25,3 +25,7 @@ OnceLaw = (file text : List ℕ) (item : Item) (j k : ℕ) → IsOnce item → s
 -- READ takes effect only after ENTRY, and what is executed only after READ.
 abbrev pub OrderLaw : Type 0
 OrderLaw = (file text : List ℕ) (item first : Item) (k : ℕ) → slice_get (style_of file text).items k ≡ Some item → needs item ≡ Some first → (j : ℕ) × (j < k) × (slice_get (style_of file text).items j ≡ Some first)
+
+-- MACRO takes effect only before READ.
+abbrev pub MacroLaw : Type 0
+MacroLaw = (file text : List ℕ) (j k : ℕ) → slice_get (style_of file text).items j ≡ Some Macro → slice_get (style_of file text).items k ≡ Some Read → j < k

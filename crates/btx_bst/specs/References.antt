@@ -1,5 +1,5 @@
 -- What bodies and commands of a style refer to.
-use Rattle.std.specs.Prelude.{◌≡◌, ℕ, ◌<◌, List, [], length, Some, slice_get, slice_index_or}
+use Rattle.std.specs.Prelude.{◌≡◌, ℕ, ◌<◌, List, [], length, Option, None, Some, slice_get, slice_index_or}
 use Rattle.btx_bst.specs.declared.callee.Callee.{Callee}
 use Rattle.btx_bst.specs.declared.callee.Callee.TheVariants.{User, Field, EntryInteger, EntryString, GlobalInteger, GlobalString}
 use Rattle.btx_bst.specs.declared.callee.Callee.TheVariants as callee
@@ -7,7 +7,8 @@ use Rattle.btx_bst.specs.declared.token.Token.{Token}
 use Rattle.btx_bst.specs.declared.token.Token.TheVariants.{Text, Quote, Run}
 use Rattle.btx_bst.specs.declared.token.Token.TheVariants as token
 use Rattle.btx_bst.specs.Items.{Item, Function, Execute, Iterate, Reverse}
-use Rattle.btx_bst.specs.Names.{Names}
+use Rattle.btx_bst.specs.Names.{Names, named_lower}
+use Rattle.btx_bst.specs.Style.{Style, type_of}
 use Rattle.btx_bst.specs.StyleText.{style_of}
 
 -- a built-in function, one of the style's first functions, so many, or a field or a variable that is declared
@@ -27,19 +28,58 @@ Refers names texts functions (token.Integer value) = Unit {0}
 Refers names texts functions (Quote callee) = IsKnown names functions callee
 Refers names texts functions (Run callee) = IsKnown names functions callee
 
--- a command defines or executes what is known where so many functions are defined
-abbrev pub IsKnownItem : Names → ℕ → Item → Type 0
-IsKnownItem names functions (Function number) = number < functions
-IsKnownItem names functions (Execute callee) = IsKnown names functions callee
-IsKnownItem names functions (Iterate callee) = IsKnown names functions callee
-IsKnownItem names functions (Reverse callee) = IsKnown names functions callee
-IsKnownItem names functions _ = Unit {0}
+-- a built-in function, or one of the style's first functions, so many
+abbrev pub IsFunction : ℕ → Callee → Type 0
+IsFunction functions (callee.BuiltIn built_in) = Unit {0}
+IsFunction functions (User number) = number < functions
+IsFunction functions _ = ⊥
 
--- Each token of the function of a number refers to strings, fields and variables of the style, and to functions of smaller numbers alone.
--- So a nameless function comes before the function round it, and a function never runs itself.
+-- a command defines or executes a function that is known where so many functions are defined
+abbrev pub IsKnownItem : ℕ → Item → Type 0
+IsKnownItem functions (Function number) = number < functions
+IsKnownItem functions (Execute callee) = IsFunction functions callee
+IsKnownItem functions (Iterate callee) = IsFunction functions callee
+IsKnownItem functions (Reverse callee) = IsFunction functions callee
+IsKnownItem functions _ = Unit {0}
+
+-- each token of the function of a number refers to strings, fields and variables of the style, and to functions of smaller numbers alone
+abbrev pub BodiesRefer : Style → Type 0
+BodiesRefer style = (number place : ℕ) (token : Token) → slice_get (slice_index_or style.bodies number []) place ≡ Some token → Refers style.names (length style.texts) number token
+
+-- each command defines or executes a function of the style, or executes a built-in one
+abbrev pub ItemsRefer : Style → Type 0
+ItemsRefer style = (place : ℕ) (item : Item) → slice_get style.items place ≡ Some item → IsKnownItem (length style.bodies) item
+
+-- each name names what is built in or what the style has
+abbrev pub NamesRefer : Style → Type 0
+NamesRefer style = (name : List ℕ) (callee : Callee) → named_lower style.names name ≡ Some callee → IsKnown style.names (length style.bodies) callee
+
+-- the function of an entry's type is one of the style
+abbrev pub TypesRefer : Style → Type 0
+TypesRefer style = (name : List ℕ) (number : ℕ) → type_of style name ≡ Some number → number < length style.bodies
+
+-- a style refers to nothing outside itself
+pub record RefersWithin (style : Style) : Type 0 where
+  pub bodies : BodiesRefer style
+  pub commands : ItemsRefer style
+  pub names : NamesRefer style
+  pub types : TypesRefer style
+
+-- Bodies refer to what is defined before. So a nameless function comes before the function round it, and a function never runs itself.
 abbrev pub ReferencesLaw : Type 0
-ReferencesLaw = (file text : List ℕ) (number place : ℕ) (token : Token) → slice_get (slice_index_or (style_of file text).bodies number []) place ≡ Some token → Refers (style_of file text).names (length (style_of file text).texts) number token
+ReferencesLaw = (file text : List ℕ) → BodiesRefer (style_of file text)
 
--- What each command names is built in, or the style has it.
+-- What each command defines or executes is a function that is built in, or that the style has.
 abbrev pub ItemsLaw : Type 0
-ItemsLaw = (file text : List ℕ) (place : ℕ) (item : Item) → slice_get (style_of file text).items place ≡ Some item → IsKnownItem (style_of file text).names (length (style_of file text).bodies) item
+ItemsLaw = (file text : List ℕ) → ItemsRefer (style_of file text)
+
+-- what a command executes
+abbrev pub executed_by : Item → Option Callee
+executed_by (Execute callee) = Some callee
+executed_by (Iterate callee) = Some callee
+executed_by (Reverse callee) = Some callee
+executed_by _ = None
+
+-- A function of the style is executed only behind the FUNCTION that defines it.
+abbrev pub ExecutedLaw : Type 0
+ExecutedLaw = (file text : List ℕ) (item : Item) (number k : ℕ) → slice_get (style_of file text).items k ≡ Some item → executed_by item ≡ Some (User number) → (j : ℕ) × (j < k) × (slice_get (style_of file text).items j ≡ Some (Function number))

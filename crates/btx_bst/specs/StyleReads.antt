@@ -6,10 +6,10 @@ use Rattle.btx_text.specs.Limits.{greatest_file}
 use Rattle.btx_bst.specs.Style.{Style}
 use Rattle.btx_bst.specs.StyleText.{style_of}
 
--- the style of the file, where its text is no longer than a file may be, or that it is longer, or that memory was refused
+-- the style of the file, or that memory was refused, where its text is no longer than a file may be; or that it is longer
 abbrev pub Reads : Result Style Fault → List ℕ → List ℕ → Type 0
 Reads (Ok style) file text = (style ≡ style_of file text) × (length text ≤ greatest_file)
-Reads (Err Memory) file text = Unit {0}
+Reads (Err Memory) file text = length text ≤ greatest_file
 Reads (Err FileLimit) file text = greatest_file < length text
 Reads (Err Device) file text = ⊥
 Reads (Err StringLimit) file text = ⊥

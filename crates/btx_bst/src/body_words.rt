@@ -52,7 +52,7 @@ pub fn find(alloc: Global, names: &Names<'_>, name: &[u8]) -> Result<Option<Call
     Ok(names.find(lowered.as_bytes()))
 }
 
-/// Takes a word.
+// Takes a word.
 #[tactic(auto, unfolding(crate::specs::BodyText::body_turn))]
 fn turn<'a>(
     alloc: Global,
@@ -111,7 +111,7 @@ fn turn<'a>(
     }
 }
 
-/// Takes a `}`: the innermost function is defined, if it is a nameless one.
+// Takes a `}`: the innermost function is defined, if it is a nameless one.
 fn close<'a>(current: &mut Open, bodies: &mut Bodies) -> Result<Turn<'a>, AllocError>
     requires { length bodies.old < 2 ^ 32 }
     ensures { IfOk result (λ turn. (place : Place) → (texts : List (List ℕ)) → (items : List spec.Item) → body_turn_view turn (inside_at place current.new bodies.new texts items) ≡ closed_inside (inside_at place current.old bodies.old texts items) current.old.around) }

@@ -100,7 +100,7 @@ impl<'a> Cursor<'a> {
         }
     }
 
-    /// Takes a brace.
+    // Takes a brace.
     fn brace(&mut self, brace: u8, complaint: Complaint<'a>) -> Result<(), Complaint<'a>>
         ensures { read_unit result self.new ≡ brace_in brace (complaint_view complaint.entry) (ink self.old) (ink self.old).line }
     {

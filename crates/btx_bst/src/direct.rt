@@ -21,7 +21,7 @@ pub fn is_direct(style: &Style<'_>) -> bool
     true
 }
 
-/// Whether a body is direct.
+// Whether a body is direct.
 #[tactic(auto, using(crate::proofs::DirectLemmas::direct_steps))]
 fn is_direct_body(body: &[Token]) -> bool
     ensures { IsTrue result ↔ spec.IsDirectBody body.now }
@@ -34,7 +34,7 @@ fn is_direct_body(body: &[Token]) -> bool
     true
 }
 
-/// Whether what stands at a place of a body is direct.
+// Whether what stands at a place of a body is direct.
 #[tactic(auto, unfolding(crate::specs::Direct::is_direct_at))]
 fn is_direct_at(body: &[Token], i: usize) -> bool
     requires { i < length body.now }
@@ -45,7 +45,7 @@ fn is_direct_at(body: &[Token], i: usize) -> bool
         && (!is_user_literal(token) || begins_pair(body, i) || (i > 0 && begins_pair(body, i - 1)))
 }
 
-/// Whether two function literals begin at a place, directly before an `if$` or a `while$`.
+// Whether two function literals begin at a place, directly before an `if$` or a `while$`.
 #[tactic(auto, unfolding(crate::specs::Direct::begins_pair))]
 fn begins_pair(body: &[Token], i: usize) -> bool
     requires { i < length body.now }
@@ -56,7 +56,7 @@ fn begins_pair(body: &[Token], i: usize) -> bool
         && is_choice(body.get(i + 2).copied())
 }
 
-/// Whether this is `call.type$`, executed or as a literal.
+// Whether this is `call.type$`, executed or as a literal.
 #[tactic(auto, unfolding(crate::specs::Direct::is_call_type))]
 fn is_call_type(token: Option<Token>) -> bool
     ensures { result ≡ spec.is_call_type token }
@@ -70,7 +70,7 @@ fn is_call_type(token: Option<Token>) -> bool
     )
 }
 
-/// Whether this is a literal of a function of the style.
+// Whether this is a literal of a function of the style.
 #[tactic(auto, unfolding(crate::specs::Direct::is_user_literal))]
 fn is_user_literal(token: Option<Token>) -> bool
     ensures { result ≡ spec.is_user_literal token }
@@ -78,7 +78,7 @@ fn is_user_literal(token: Option<Token>) -> bool
     matches!(token, Some(Token::Quote(Callee::User(_))))
 }
 
-/// Whether this is a literal of a function, a field or a variable.
+// Whether this is a literal of a function, a field or a variable.
 #[tactic(auto, unfolding(crate::specs::Direct::is_literal))]
 fn is_literal(token: Option<Token>) -> bool
     ensures { result ≡ spec.is_literal token }
@@ -86,7 +86,7 @@ fn is_literal(token: Option<Token>) -> bool
     matches!(token, Some(Token::Quote(_)))
 }
 
-/// Whether this is an `if$` or a `while$` that is executed.
+// Whether this is an `if$` or a `while$` that is executed.
 #[tactic(auto, unfolding(crate::specs::Direct::is_choice))]
 fn is_choice(token: Option<Token>) -> bool
     ensures { result ≡ spec.is_choice token }

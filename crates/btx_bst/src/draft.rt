@@ -87,7 +87,7 @@ impl<'a> Draft<'a> {
         }
     }
 
-    /// Takes the rest of an ENTRY.
+    // Takes the rest of an ENTRY.
     #[tactic(auto, unfolding(crate::specs::Commands::entry))]
     fn entry(
         &mut self,
@@ -114,7 +114,7 @@ impl<'a> Draft<'a> {
         Ok(None)
     }
 
-    /// Takes a READ.
+    // Takes a READ.
     #[tactic(auto, unfolding(crate::specs::Commands::read))]
     fn read(&mut self) -> Result<Option<Complaint<'a>>, AllocError>
         ensures { IfOk result (λ complaint. (place : Place) → outcome_view complaint (draft_view self.new) place ≡ read (draft_view self.old) place) }
@@ -130,7 +130,7 @@ impl<'a> Draft<'a> {
         Ok(None)
     }
 
-    /// Takes the rest of an EXECUTE, ITERATE or REVERSE.
+    // Takes the rest of an EXECUTE, ITERATE or REVERSE.
     #[tactic(auto, unfolding(crate::specs::Commands::run))]
     fn run(
         &mut self,
@@ -160,7 +160,7 @@ impl<'a> Draft<'a> {
         Ok(None)
     }
 
-    /// Takes a SORT.
+    // Takes a SORT.
     #[tactic(auto, unfolding(crate::specs::Commands::sort))]
     fn sort(&mut self) -> Result<Option<Complaint<'a>>, AllocError>
         ensures { IfOk result (λ complaint. (place : Place) → outcome_view complaint (draft_view self.new) place ≡ sort (draft_view self.old) place) }
@@ -172,7 +172,7 @@ impl<'a> Draft<'a> {
         Ok(None)
     }
 
-    /// Takes the rest of an INTEGERS.
+    // Takes the rest of an INTEGERS.
     #[tactic(auto, unfolding(crate::specs::Commands::declare))]
     fn integers(
         &mut self,
@@ -189,7 +189,7 @@ impl<'a> Draft<'a> {
         Ok(None)
     }
 
-    /// Takes the rest of a STRINGS.
+    // Takes the rest of a STRINGS.
     #[tactic(auto, unfolding(crate::specs::Commands::declare))]
     fn strings(
         &mut self,
@@ -206,7 +206,7 @@ impl<'a> Draft<'a> {
         Ok(None)
     }
 
-    /// Takes the rest of a MACRO.
+    // Takes the rest of a MACRO.
     #[tactic(auto, unfolding(crate::specs::Commands::macro_command))]
     fn take_macro(
         &mut self,
@@ -247,7 +247,7 @@ impl<'a> Draft<'a> {
         Ok(None)
     }
 
-    /// Takes the rest of a FUNCTION.
+    // Takes the rest of a FUNCTION.
     #[tactic(auto, unfolding(crate::specs::Commands::function))]
     fn function(
         &mut self,
@@ -277,7 +277,7 @@ impl<'a> Draft<'a> {
         self.define(alloc, cursor, lowered)
     }
 
-    /// Takes a body, and defines its function.
+    // Takes a body, and defines its function.
     fn define(
         &mut self,
         alloc: Global,
@@ -312,7 +312,7 @@ impl<'a> Draft<'a> {
     }
 }
 
-/// The item of a command that executes a function.
+// The item of a command that executes a function.
 fn run_item<'a>(command: Command, callee: Callee) -> Item<'a>
     ensures { item_view result ≡ run_item command callee }
 {
@@ -323,7 +323,7 @@ fn run_item<'a>(command: Command, callee: Callee) -> Item<'a>
     }
 }
 
-/// What is a function.
+// What is a function.
 fn function_in(callee: Option<Callee>) -> Option<Callee>
     ensures { result ≡ function_in callee }
 {

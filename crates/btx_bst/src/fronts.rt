@@ -41,7 +41,7 @@ pub fn letters_len(line: &[u8]) -> usize
     line.len()
 }
 
-/// Whether a name ends before this byte.
+// Whether a name ends before this byte.
 fn ends_name(byte: u8) -> bool
     ensures { result ≡ spec.ends_name byte }
 {
@@ -52,14 +52,14 @@ fn ends_name(byte: u8) -> bool
         )
 }
 
-/// Whether a word of a body ends before this byte.
+// Whether a word of a body ends before this byte.
 fn ends_word(byte: u8) -> bool
     ensures { result ≡ spec.ends_word byte }
 {
     is_white(byte) || matches!(byte, b'}' | b'%')
 }
 
-/// How many bytes stand before the end of a name.
+// How many bytes stand before the end of a name.
 #[tactic(auto, using(crate::proofs::FrontLemmas::len_steps))]
 fn run_len(line: &[u8]) -> usize
     ensures value { result ≡ spec.len_till spec.ends_name line.now }
@@ -128,7 +128,7 @@ pub fn is_word_end(line: &[u8]) -> bool
     }
 }
 
-/// The string that begins behind a quote, and what is left behind it.
+// The string that begins behind a quote, and what is left behind it.
 fn string_at(line: &[u8]) -> (Word<'_>, &[u8])
     ensures word { word_view result.0 ≡ (words.string_at line.now).word }
     ensures rest { result.1.now ≡ (words.string_at line.now).rest }

@@ -8,7 +8,7 @@ use crate::complaint::Complaint;
 use crate::fronts::{is_word_end, word_len};
 use crate::word::Word;
 
-/// How many digits a line begins with.
+// How many digits a line begins with.
 #[tactic(auto, using(crate::proofs::FrontLemmas::len_steps))]
 fn digits_len(line: &[u8]) -> usize
     ensures value { result ≡ fronts.digits_len line.now }
@@ -22,7 +22,7 @@ fn digits_len(line: &[u8]) -> usize
     line.len()
 }
 
-/// What digits come to, or 4,294,967,296 where they come to more.
+// What digits come to, or 4,294,967,296 where they come to more.
 #[tactic(auto, using(crate::proofs::IntegerLemmas::value_steps))]
 fn value_of(digits: &[u8]) -> u64
     ensures { result ≡ min (spec.value_of digits.now) 4294967296 }
@@ -34,7 +34,7 @@ fn value_of(digits: &[u8]) -> u64
     value
 }
 
-/// A number with or without a minus, if it is one of 32 bits.
+// A number with or without a minus, if it is one of 32 bits.
 #[tactic(auto, unfolding(crate::specs::Words::signed))]
 fn signed(minus: bool, value: u64) -> Option<i32>
     ensures { result ≡ spec.signed minus value }
@@ -61,14 +61,14 @@ pub fn integer_at(line: &[u8]) -> (Word<'_>, &[u8])
     }
 }
 
-/// A line behind the word that it begins with.
+// A line behind the word that it begins with.
 fn behind_word(line: &[u8]) -> &[u8]
     ensures { result.now ≡ drop (fronts.word_len line.now) line.now }
 {
     &line[word_len(line)..]
 }
 
-/// An integer, and what stands behind its digits.
+// An integer, and what stands behind its digits.
 fn integer_before<'a>(line: &'a [u8], rest: &'a [u8], value: Option<i32>) -> (Word<'a>, &'a [u8])
     ensures word { word_view result.0 ≡ (spec.integer_before line.now rest.now value).word }
     ensures rest { result.1.now ≡ (spec.integer_before line.now rest.now value).rest }
@@ -85,7 +85,7 @@ fn integer_before<'a>(line: &'a [u8], rest: &'a [u8], value: Option<i32>) -> (Wo
     }
 }
 
-/// The integer of the digits that this text begins with.
+// The integer of the digits that this text begins with.
 #[tactic(auto, using(crate::proofs::IntegerLemmas::signed_capped))]
 fn integer_of<'a>(line: &'a [u8], minus: bool, rest: &'a [u8]) -> (Word<'a>, &'a [u8])
     ensures word { word_view result.0 ≡ (spec.integer_of line.now minus rest.now (fronts.digits_len rest.now)).word }

@@ -1,16 +1,22 @@
 //! Laws over the definition of a style, each the contract of a function that does nothing.
+ghost use Rattle.btx_bst.specs.Counts.{BeforeReadLaw, CountLaw};
 ghost use Rattle.btx_bst.specs.ItemSpelling.{GivenLaw, GivingLaw, SkippedLaw, SkippedToEndLaw};
+ghost use Rattle.btx_bst.specs.Macros.{MacroTextsLaw, OneMacroLaw};
 ghost use Rattle.btx_bst.specs.Meanings.{MeaningsLaw, OneMeaningLaw};
-ghost use Rattle.btx_bst.specs.Order.{OnceLaw, OrderLaw};
-ghost use Rattle.btx_bst.specs.References.{ReferencesLaw, ItemsLaw};
+ghost use Rattle.btx_bst.specs.Nexts.{BodyNextLaw, ListNextLaw, StyleNextLaw};
+ghost use Rattle.btx_bst.specs.Order.{MacroLaw, OnceLaw, OrderLaw};
+ghost use Rattle.btx_bst.specs.Passages.{CommandLaw, InkLaw, SkipLaw};
+ghost use Rattle.btx_bst.specs.References.{ReferencesLaw, ItemsLaw, ExecutedLaw};
 ghost use Rattle.btx_bst.specs.Spelling.{SpelledLaw, BrokenLaw, DividedLaw};
+ghost use Rattle.btx_bst.specs.Written.{FaultlessLaw, WrittenLaw};
 
-/// Each token refers to strings, fields and variables of the style and to functions before its own alone; what each command names is built
-/// in, or the style has it.
-#[tactic(auto, using(crate::proofs::ReferenceLemmas::reference_laws))]
+/// Each token refers to strings, fields and variables of the style and to functions before its own alone; what each command defines or
+/// executes is a function, built in or of the style; and a function of the style is executed only behind the FUNCTION that defines it.
+#[tactic(auto, using(crate::proofs::ReferenceLemmas::reference_laws, crate::proofs::ExecutedLemmas::executed_laws))]
 pub fn references_are_earlier()
     ensures bodies { ReferencesLaw }
     ensures commands { ItemsLaw }
+    ensures executed { ExecutedLaw }
 {}
 
 /// No name has two meanings: the name of anything names it, and two things of one name are one.
@@ -20,11 +26,35 @@ pub fn no_name_has_two_meanings()
     ensures one { OneMeaningLaw }
 {}
 
-/// ENTRY and READ take effect at most once, READ only after ENTRY, and what is executed only after READ.
-#[tactic(auto, using(crate::proofs::OrderLemmas::order_laws))]
+/// No macro has two meanings: the name of each means its text, and two macros of one name are one.
+#[tactic(auto, using(crate::proofs::MacroLemmas::macro_laws))]
+pub fn no_macro_has_two_meanings()
+    ensures texts { MacroTextsLaw }
+    ensures one { OneMacroLaw }
+{}
+
+/// ENTRY and READ take effect at most once, READ only after ENTRY, what is executed only after READ, and MACRO only before it.
+#[tactic(auto, using(crate::proofs::OrderLemmas::order_laws, crate::proofs::MacroLemmas::macro_order))]
 pub fn commands_are_in_order()
     ensures once { OnceLaw }
     ensures order { OrderLaw }
+    ensures macros { MacroLaw }
+{}
+
+/// How many functions a style has, and how many of them stand before READ, so that an entry may have their names as types: by the numbers that
+/// its FUNCTION commands define.
+#[tactic(auto, using(crate::proofs::CountLemmas::count_laws))]
+pub fn functions_are_counted()
+    ensures all { CountLaw }
+    ensures before_read { BeforeReadLaw }
+{}
+
+/// A list of names, a body and a style are each what stands next, and then the rest.
+#[tactic(auto, using(crate::proofs::NextLemmas::next_laws))]
+pub fn one_follows_another()
+    ensures list { ListNextLaw }
+    ensures body { BodyNextLaw }
+    ensures style { StyleNextLaw }
 {}
 
 /// A body is read as it is spelled: parts up to its `}` as what they come to, and parts that break off with the complaint of the word that
@@ -43,4 +73,20 @@ pub fn styles_are_spelled()
     ensures giving { GivingLaw }
     ensures skipped { SkippedLaw }
     ensures skipped_to_end { SkippedToEndLaw }
+{}
+
+/// A style that is written without a fault is read as what its commands do: it gives each of them, in order, and no message.
+#[tactic(auto, using(crate::proofs::WrittenLemmas::written_laws))]
+pub fn styles_are_read_as_written()
+    ensures written { WrittenLaw }
+    ensures faultless { FaultlessLaw }
+{}
+
+/// Nothing of a text is read twice, and nothing is left out: the text at a place is the white before a command, the command's own, what is
+/// skipped behind its fault, and the text at the place behind it; and the number of a line counts the lines before.
+#[tactic(auto, using(crate::proofs::PassageLemmas::passage_laws))]
+pub fn all_of_a_text_is_read()
+    ensures white { InkLaw }
+    ensures command { CommandLaw }
+    ensures skipped { SkipLaw }
 {}

@@ -22,8 +22,6 @@ mod name_table;
 mod names;
 mod open;
 mod reader;
-#[cfg(test)]
-mod rows;
 pub mod style;
 pub mod token;
 mod turn;

@@ -29,7 +29,7 @@ pub fn list<'a>(
     }
 }
 
-/// Takes names up to a `}`.
+// Takes names up to a `}`.
 #[tactic(auto, using(crate::proofs::ListLemmas::list_steps))]
 fn rest<'a>(
     alloc: Global,
@@ -49,7 +49,7 @@ fn rest<'a>(
     }
 }
 
-/// Takes a name, or the `}`.
+// Takes a name, or the `}`.
 #[tactic(auto, unfolding(crate::specs::Lists::list_turn))]
 fn turn<'a>(
     alloc: Global,

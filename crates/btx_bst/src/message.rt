@@ -46,7 +46,7 @@ pub fn told(complaint: Complaint<'_>, line: usize) -> Item<'_>
     Item::Message(Message { complaint, line })
 }
 
-/// Appends what is wrong.
+// Appends what is wrong.
 #[tactic(auto, using(crate::proofs::LineLemmas::line_steps))]
 fn push_complaint(text: &mut Vec<u8>, complaint: Complaint<'_>) -> Result<(), AllocError>
     ensures { OnOk result (text.new.items ≡ text.old.items ++ text_of (complaint_view complaint.entry)) }
@@ -55,7 +55,7 @@ fn push_complaint(text: &mut Vec<u8>, complaint: Complaint<'_>) -> Result<(), Al
     push_two(text, shown(complaint), after(complaint))
 }
 
-/// What stands before the name or the command that is shown, or the whole text.
+// What stands before the name or the command that is shown, or the whole text.
 #[tactic(auto, unfolding(crate::specs::MessageTexts::before_of))]
 fn before(complaint: Complaint<'_>) -> &'static [u8]
     ensures { result.now ≡ before_of (complaint_view complaint.entry) }
@@ -78,7 +78,7 @@ fn before(complaint: Complaint<'_>) -> &'static [u8]
     }
 }
 
-/// The name or the command that is shown.
+// The name or the command that is shown.
 #[tactic(auto, unfolding(crate::specs::MessageTexts::shown_of))]
 fn shown<'a>(complaint: Complaint<'a>) -> &'a [u8]
     ensures { result.now ≡ shown_of (complaint_view complaint.entry) }
@@ -93,7 +93,7 @@ fn shown<'a>(complaint: Complaint<'a>) -> &'a [u8]
     }
 }
 
-/// What stands after it.
+// What stands after it.
 #[tactic(auto, unfolding(crate::specs::MessageTexts::after_of))]
 fn after(complaint: Complaint<'_>) -> &'static [u8]
     ensures { result.now ≡ after_of (complaint_view complaint.entry) }

@@ -61,7 +61,7 @@ impl<'a> Name<'a> {
     }
 }
 
-/// Whether a name has a capital letter.
+// Whether a name has a capital letter.
 fn has_capital(name: &[u8]) -> bool
     ensures { result ≡ has_capital name.now }
 {

@@ -20,7 +20,7 @@ pub fn built_in_table(alloc: Global) -> Result<IndexMap<Vec<u8>, Callee>, AllocE
     Ok(table)
 }
 
-/// Adds built-in functions by their words.
+// Adds built-in functions by their words.
 fn add_words(
     alloc: Global,
     table: &mut IndexMap<Vec<u8>, Callee>,
@@ -34,7 +34,7 @@ fn add_words(
     Ok(())
 }
 
-/// Adds a built-in function by its word.
+// Adds a built-in function by its word.
 #[tactic(auto, using(crate::proofs::TableLemmas::word_steps))]
 fn add_word(
     alloc: Global,

@@ -145,7 +145,7 @@ impl<'a> Names<'a> {
     }
 }
 
-/// The name of a number.
+// The name of a number.
 fn name_at<'n>(names: &'n [Name<'_>], number: u32) -> &'n [u8]
     ensures { result.now ≡ slice_index_or names.now number [] }
 {
@@ -155,7 +155,7 @@ fn name_at<'n>(names: &'n [Name<'_>], number: u32) -> &'n [u8]
     }
 }
 
-/// The name that is shown of the function of a number.
+// The name that is shown of the function of a number.
 fn shown_name<'n>(functions: &'n [Option<Name<'_>>], number: u32) -> &'n [u8]
     ensures { result.now ≡ shown_name (slice_index_or functions.now number None) }
 {

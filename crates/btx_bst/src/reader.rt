@@ -30,7 +30,7 @@ pub fn items<'a>(
     Ok(())
 }
 
-/// Takes an item, if there is one.
+// Takes an item, if there is one.
 #[tactic(auto, unfolding(crate::specs::StyleText::item_turn))]
 fn item<'a>(
     alloc: Global,
@@ -51,7 +51,7 @@ fn item<'a>(
     Ok(true)
 }
 
-/// Takes a command.
+// Takes a command.
 fn command<'a>(
     alloc: Global,
     cursor: &mut Cursor<'a>,
@@ -71,7 +71,7 @@ fn command<'a>(
     }
 }
 
-/// The command of a name in lower case.
+// The command of a name in lower case.
 #[tactic(auto, unfolding(crate::specs::Commands::command_named))]
 fn command_named(name: &[u8]) -> Option<Command>
     ensures { result ≡ command_named name.now }

@@ -3,6 +3,7 @@ ghost use Rattle.std.specs.Prelude.{◌≡◌, ◌<◌, ◌≤◌, length, slice
 ghost use Rattle.btx_bst.specs.Predefined.{predefined};
 ghost use Rattle.btx_bst.specs.StyleText.{style_of};
 ghost use Rattle.btx_bst.specs.StyleReads.{Reads};
+ghost use Rattle.btx_bst.specs.References.{RefersWithin};
 ghost use Rattle.btx_bst.specs.Names.{named_lower, name_of, macro_lower};
 ghost use Rattle.btx_bst.specs.Style.{field_of, type_of};
 ghost use Rattle.btx_bst.specs.Views.{items_view};
@@ -34,8 +35,11 @@ impl<'a> Model for Style<'a> {
     ghost Value = { Known };
 
     ghost use Rattle.btx_bst.specs.DraftViews.{draft_view};
+    ghost use Rattle.btx_bst.specs.References.{RefersWithin};
 
     ghost view = { λ style. draft_view style.draft };
+
+    ghost invariant = { λ style. RefersWithin (draft_view style.draft) };
 }
 
 /// Reads a style, whose text is no longer than a file may be. Want of memory is the fault Memory, a longer text FileLimit.
@@ -52,7 +56,7 @@ pub fn read_style<'a>(
     Ok(read_text(alloc, file_name, text)?)
 }
 
-/// Reads a style.
+// Reads a style.
 #[tactic(auto, unfolding(crate::specs::StyleText::style_of))]
 fn read_text<'a>(
     alloc: Global,
@@ -68,7 +72,7 @@ fn read_text<'a>(
     Ok(Style { draft })
 }
 
-/// The names that are known before a style.
+// The names that are known before a style.
 #[tactic(auto, using(crate::proofs::PredefinedLemmas::new_names))]
 fn predefined<'a>(alloc: Global) -> Result<Names<'a>, AllocError>
     ensures { IfOk result (λ names. names ≡ predefined) }
@@ -82,6 +86,14 @@ fn predefined<'a>(alloc: Global) -> Result<Names<'a>, AllocError>
 }
 
 impl<'a> Style<'a> {
+    /// A style refers to nothing outside itself: each token to strings, fields and variables of the style and to functions before its own
+    /// alone, each command to a function, built in or of the style; and so do its names and its types.
+    pub fn refers_within(&self)
+        ensures { RefersWithin self.now }
+    {
+        let _ = &self.draft;
+    }
+
     /// The name of the file.
     pub fn file_name(&self) -> &'a [u8]
         ensures { result.now ≡ self.now.file }

@@ -10,8 +10,8 @@ use crate::name_token::NameToken;
 use crate::name_tokens::Tokens;
 use std::alloc::{AllocError, Global};
 
-/// From how many bytes on the tokens of a section are counted before they are kept. The list grows as it needs for a shorter one: that is
-/// faster than to read it twice.
+// From how many bytes on the tokens of a section are counted before they are kept. The list grows as it needs for a shorter one: that is
+// faster than to read it twice.
 const LONG_SECTION: usize = 4_096;
 
 /// The tokens of a name, section by section.

@@ -1,13 +1,14 @@
 -- Lemmas on the bytes that a breaker keeps.
-use Rattle.std.proofs.Common.{◌≡◌, ℕ, zero, suc, ◌+◌, ◌-◌, ◌<◌, ◌≤◌, cond, List, [], ◌∷◌, ◌++◌, length, take, drop, set, get_or, ◌⊎◌, ⊎_elim, Some, None, refl, sym, subst, ◌∙◌, ap, arith, append_assoc, Bool, true, false}
+use Rattle.std.proofs.Common.{◌≡◌, ℕ, zero, suc, ◌+◌, ◌-◌, ◌<◌, ◌≤◌, cond, not, if◌then◌else◌, List, [], ◌∷◌, ◌++◌, length, take, drop, set, get_or, ◌⊎◌, ⊎_elim, Some, None, refl, sym, subst, ◌∙◌, ap, arith, append_assoc, Bool, true, false}
 use Rattle.std.proofs.lemmas.Bool.{le-leb}
 use Rattle.std.proofs.lemmas.List.{append-nil, take_more, take_more_set, drop_all, drop-set-lt, drop-set, drop-set-add, take_all, take-take, length-take-le, length-set, length-drop}
+use Rattle.std.proofs.lemmas.List.Sums.{take_while-cons}
 use Rattle.std.proofs.lemmas.List.Edits.{take-paste}
 use Rattle.std.proofs.Math.Seq.{drop-cons}
-use Rattle.std.specs.List.{copy_within}
+use Rattle.std.specs.List.{copy_within, take_while}
 use Rattle.btx_text.specs.Class.{is_white}
 use Rattle.btx_text.specs.Lines.{trimmed, white_before}
-use Rattle.btx_out.specs.Breaking.{line, ended, last_white, indented, skip_white, till_white, from_white}
+use Rattle.btx_out.specs.Breaking.{line, ended, last_white, indented, is_ink, skip_white, till_white, from_white}
 
 -- ---- the last white
 
@@ -129,71 +130,61 @@ carried text moved at some inside is len = carried_from (at - 1) (omega arith) (
 
 -- ---- the first white
 
--- how far a search for the first white has come
-pub record IsInk (bytes : List ℕ) (at : ℕ) : Type 0 where
-  pub before : till_white bytes ≡ take at bytes ++ till_white (drop at bytes)
-  pub from : from_white bytes ≡ from_white (drop at bytes)
+-- the front without white is what stands before the first white, and the rest what stands from it on
+ink_within : (bytes : List ℕ) → length (take_while is_ink bytes) ≤ length bytes
+ink_within [] = omega arith
+ink_within (b ∷ bs) = rw (take_while-cons is_ink b bs) (at (is_white b) (ink_within bs)) where
+  at : (white : Bool) → length (take_while is_ink bs) ≤ length bs → length (cond (not white) (b ∷ take_while is_ink bs) []) ≤ suc (length bs)
+  at true h = omega arith
+  at false h = omega (arith, h)
 
-pub IsInk-none : (bytes : List ℕ) → IsInk bytes 0
-IsInk-none bytes = record { before = refl; from = refl }
+ink_front : (bytes : List ℕ) → take (length (take_while is_ink bytes)) bytes ≡ till_white bytes
+unfolding till_white
+ink_front [] = refl
+ink_front (b ∷ bs) = rw (take_while-cons is_ink b bs) (at (is_white b) (ink_front bs)) where
+  at : (white : Bool) → take (length (take_while is_ink bs)) bs ≡ till_white bs →
+      take (length (cond (not white) (b ∷ take_while is_ink bs) [])) (b ∷ bs) ≡ (if white then [] else b ∷ till_white bs)
+  at true h = refl
+  at false h = ap (λ xs. b ∷ xs) h
 
-ink_step : (b : ℕ) (bs : List ℕ) → is_white b ≡ false → (till_white (b ∷ bs) ≡ b ∷ till_white bs) × (from_white (b ∷ bs) ≡ from_white bs)
-unfolding till_white from_white
-ink_step b bs ink = rw ink (refl, refl)
+ink_rest : (bytes : List ℕ) → drop (length (take_while is_ink bytes)) bytes ≡ from_white bytes
+unfolding from_white
+ink_rest [] = refl
+ink_rest (b ∷ bs) = rw (take_while-cons is_ink b bs) (at (is_white b) (ink_rest bs)) where
+  at : (white : Bool) → drop (length (take_while is_ink bs)) bs ≡ from_white bs →
+      drop (length (cond (not white) (b ∷ take_while is_ink bs) [])) (b ∷ bs) ≡ (if white then b ∷ bs else from_white bs)
+  at true h = refl
+  at false h = h
 
-white_step : (b : ℕ) (bs : List ℕ) → is_white b ≡ true → (till_white (b ∷ bs) ≡ []) × (from_white (b ∷ bs) ≡ b ∷ bs)
-unfolding till_white from_white
-white_step b bs white = rw white (refl, refl)
+pub split_within : (bytes : List ℕ) (n : ℕ) → n ≡ length (take_while is_ink bytes) → n ≤ length bytes
+split_within bytes n is = rw is (ink_within bytes)
 
-pub IsInk-more : (bytes : List ℕ) (at : ℕ) → at < length bytes → is_white (get_or bytes at 0) ≡ false → IsInk bytes at → IsInk bytes (at + 1)
-IsInk-more bytes at inside ink far =
-    let cut = drop-cons bytes at 0 inside in
-    let next : at + 1 ≡ suc at = omega arith in
-    let step = ink_step (get_or bytes at 0) (drop (suc at) bytes) ink in
-    record {
-      before = far.before ∙ rw (cut, step.0, take_more bytes at 0 inside, next) (sym (append_assoc (take at bytes) (get_or bytes at 0 ∷ []) (till_white (drop (suc at) bytes))));
-      from = far.from ∙ rw (cut, step.1, next) refl;
-    }
+pub split_front : (bytes : List ℕ) (n : ℕ) → n ≡ length (take_while is_ink bytes) → take n bytes ≡ till_white bytes
+split_front bytes n is = rw is (ink_front bytes)
 
-IsInk-here : (bytes : List ℕ) (at : ℕ) → at < length bytes → is_white (get_or bytes at 0) ≡ true → IsInk bytes at → (take at bytes ≡ till_white bytes) × (drop at bytes ≡ from_white bytes)
-IsInk-here bytes at inside white far =
-    let cut = drop-cons bytes at 0 inside in
-    let step = rw (← cut) at (white_step (get_or bytes at 0) (drop (suc at) bytes) white) in
-    (sym (far.before ∙ rw step.0 (append-nil (take at bytes))), sym (far.from ∙ step.1))
-
-pub till_white-here : (bytes : List ℕ) (at : ℕ) → at < length bytes → is_white (get_or bytes at 0) ≡ true → IsInk bytes at → take at bytes ≡ till_white bytes
-till_white-here bytes at inside white far = (IsInk-here bytes at inside white far).0
-
-pub from_white-here : (bytes : List ℕ) (at : ℕ) → at < length bytes → is_white (get_or bytes at 0) ≡ true → IsInk bytes at → drop at bytes ≡ from_white bytes
-from_white-here bytes at inside white far = (IsInk-here bytes at inside white far).1
-
-IsInk-all : (bytes : List ℕ) (at : ℕ) → length bytes ≤ at → IsInk bytes at → (bytes ≡ till_white bytes) × ([] ≡ from_white bytes)
-unfolding till_white from_white
-IsInk-all bytes at all far =
-    let none = drop_all at bytes all in
-    (sym (far.before ∙ rw (none, take_all at bytes all) (append-nil bytes)), sym (far.from ∙ rw none refl))
-
-pub till_white-all : (bytes : List ℕ) (at : ℕ) → length bytes ≤ at → IsInk bytes at → bytes ≡ till_white bytes
-till_white-all bytes at all far = (IsInk-all bytes at all far).0
-
-pub from_white-all : (bytes : List ℕ) (at : ℕ) → length bytes ≤ at → IsInk bytes at → [] ≡ from_white bytes
-from_white-all bytes at all far = (IsInk-all bytes at all far).1
-
-pub ruleset first_whites = (IsInk-none, IsInk-more, till_white-here, from_white-here, till_white-all, from_white-all)
+pub split_rest : (bytes : List ℕ) (n : ℕ) → n ≡ length (take_while is_ink bytes) → drop n bytes ≡ from_white bytes
+split_rest bytes n is = rw is (ink_rest bytes)
 
 -- ---- the white at the front
 
-pub skip_white-more : (bytes : List ℕ) (b : ℕ) (bs : List ℕ) → bytes ≡ b ∷ bs → is_white b ≡ true → skip_white bs ≡ skip_white bytes
-unfolding skip_white
-skip_white-more bytes b bs is white = rw (is, white) refl
+white_within : (bytes : List ℕ) → length (take_while is_white bytes) ≤ length bytes
+white_within [] = omega arith
+white_within (b ∷ bs) = rw (take_while-cons is_white b bs) (at (is_white b) (white_within bs)) where
+  at : (white : Bool) → length (take_while is_white bs) ≤ length bs → length (cond white (b ∷ take_while is_white bs) []) ≤ suc (length bs)
+  at true h = omega (arith, h)
+  at false h = omega arith
 
-pub skip_white-here : (bytes : List ℕ) (b : ℕ) (bs : List ℕ) → bytes ≡ b ∷ bs → is_white b ≡ false → bytes ≡ skip_white bytes
+white_rest : (bytes : List ℕ) → drop (length (take_while is_white bytes)) bytes ≡ skip_white bytes
 unfolding skip_white
-skip_white-here bytes b bs is ink = rw (is, ink) refl
+white_rest [] = refl
+white_rest (b ∷ bs) = rw (take_while-cons is_white b bs) (at (is_white b) (white_rest bs)) where
+  at : (white : Bool) → drop (length (take_while is_white bs)) bs ≡ skip_white bs →
+      drop (length (cond white (b ∷ take_while is_white bs) [])) (b ∷ bs) ≡ (if white then skip_white bs else b ∷ bs)
+  at true h = h
+  at false h = refl
 
-pub skip_white-none : (bytes : List ℕ) → length bytes ≡ 0 → bytes ≡ skip_white bytes
-unfolding skip_white
-skip_white-none [] none = refl
-skip_white-none (b ∷ bs) none = absurd (omega arith)
+pub skip_within : (bytes : List ℕ) (n : ℕ) → n ≡ length (take_while is_white bytes) → n ≤ length bytes
+skip_within bytes n is = rw is (white_within bytes)
 
-pub ruleset white_fronts = (skip_white-more, skip_white-here, skip_white-none)
+pub skip_rest : (bytes : List ℕ) (n : ℕ) → n ≡ length (take_while is_white bytes) → drop n bytes ≡ skip_white bytes
+skip_rest bytes n is = rw is (white_rest bytes)

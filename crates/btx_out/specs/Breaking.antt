@@ -1,6 +1,6 @@
 -- How a logical line, the text between two `newline$`, is broken into lines. The output of `write$` is broken reasonably (btxhak,
 -- section 5.3, at `newline$` and `write$`); where exactly is this project's own rule. `limit` is the greatest length of a line.
-use Rattle.std.specs.Prelude.{ℕ, zero, suc, ◌+◌, ◌&&◌, nat_le, Bool, true, false, List, [], ◌∷◌, ◌++◌, length, take, drop, Option, None, Some, slice_index, if◌then◌else◌}
+use Rattle.std.specs.Prelude.{ℕ, zero, suc, ◌+◌, ◌&&◌, nat_le, Bool, true, false, not, List, [], ◌∷◌, ◌++◌, length, take, drop, Option, None, Some, slice_index, if◌then◌else◌}
 use Rattle.std.specs.List.{flat_map}
 use Rattle.btx_text.specs.Class.{is_white}
 use Rattle.btx_text.specs.Lines.{trimmed}
@@ -18,6 +18,10 @@ line [] = 10 ∷ []
 line (b ∷ bs) = ended (trimmed (b ∷ bs))
 
 -- ---- where a text is broken
+
+-- no white
+abbrev pub is_ink : ℕ → Bool
+is_ink b = not (is_white b)
 
 -- a text without the white at its front
 unfoldable pub skip_white : List ℕ → List ℕ

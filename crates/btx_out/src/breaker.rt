@@ -1,10 +1,11 @@
 //! The breaker of long lines.
-ghost use Rattle.std.specs.Prelude.{◌≡◌, ◌+◌, ◌<◌, ◌≤◌, [], ℕ, List, Option, length, drop, take, Some, None, IfOk, IfErr, IfSome, IsSome, OnOk, OnErr, Err, is_err};
+ghost use Rattle.std.specs.Prelude.{◌≡◌, ◌+◌, ◌<◌, ◌≤◌, [], ℕ, List, Option, length, drop, take, Some, None, IfOk, IfErr, IfSome, IsSome, OnOk, OnErr, Err, is_err, take_while};
 ghost use Rattle.std.specs.Io.KnownBytes.{Appends};
 ghost use Rattle.arrayvec.specs.ArrayVec.{array_vec_len};
+ghost use Rattle.btx_text.specs.Class.{is_white};
 ghost use Rattle.btx_text.specs.Counts.{count_after};
 ghost use Rattle.btx_out.specs.Breakers.{Ends, EndsPart, Finishes, FinishesPart, Puts, PutsPart, failed, holding, is_fresh};
-ghost use Rattle.btx_out.specs.Breaking.{Collecting, Passing, Swallowing, from_white, indented, last_white, line as line_of, skip_white, till_white};
+ghost use Rattle.btx_out.specs.Breaking.{Collecting, Passing, Swallowing, from_white, indented, last_white, line as line_of, is_ink, skip_white, till_white};
 ghost use Rattle.btx_out.specs.Lengths.{IsLineLength};
 ghost use Rattle.btx_out.specs.Parts.{GoesOn, left_of};
 ghost use Rattle.btx_out.specs.Pieces.{AppendsBeginning};
@@ -25,14 +26,14 @@ type Kept = ArrayVec<u8, 1001>;
 // The first index at which a line is broken: a shorter head isn't worth a line, and a line is never broken at the two spaces before it.
 const FIRST_BREAK: usize = 3;
 
-/// What is done with the bytes that come.
+// What is done with the bytes that come.
 #[derive(Clone, Copy, Debug, PartialEq, Eq)]
 enum State {
-    /// They are kept: the line may still be broken at its last white.
+    // They are kept: the line may still be broken at its last white.
     Collecting,
-    /// They are passed on up to the next white, which ends the line: it had no white where it could be broken.
+    // They are passed on up to the next white, which ends the line: it had no white where it could be broken.
     Passing,
-    /// White is dropped: it follows a break past the line.
+    // White is dropped: it follows a break past the line.
     Swallowing,
 }
 
@@ -117,33 +118,33 @@ fn break_full<W: Sink>(line: &mut Kept, sink: &mut W) -> Result<State, Fault>
     }
 }
 
+// How many bytes stand before the first white.
+fn ink_len(bytes: &[u8]) -> usize
+    ensures { result ≡ length (take_while is_ink bytes.now) }
+{
+    bytes.iter().take_while(|byte| !is_white(**byte)).count()
+}
+
 // What stands before the first white, and what stands from it on.
-#[tactic(auto, using(crate::proofs::KeptLemmas::first_whites))]
 fn split_at_white(bytes: &[u8]) -> (&[u8], &[u8])
     ensures before { result.0.now ≡ till_white bytes.now }
     ensures from { result.1.now ≡ from_white bytes.now }
 {
-    for (at, byte) in bytes.iter().enumerate() {
-        if is_white(*byte) {
-            return bytes.split_at(at);
-        }
-    }
-    (bytes, &[])
+    bytes.split_at(ink_len(bytes))
+}
+
+// How many white bytes stand at the front.
+fn white_len(bytes: &[u8]) -> usize
+    ensures { result ≡ length (take_while is_white bytes.now) }
+{
+    bytes.iter().take_while(|byte| is_white(**byte)).count()
 }
 
 // What stands behind the white at the front.
-#[tactic(auto, using(crate::proofs::KeptLemmas::white_fronts))]
 fn after_white(bytes: &[u8]) -> &[u8]
     ensures { result.now ≡ skip_white bytes.now }
 {
-    let mut rest = bytes;
-    while let Some((first, others)) = rest.split_first() {
-        if !is_white(*first) {
-            return rest;
-        }
-        rest = others;
-    }
-    rest
+    bytes.split_at(white_len(bytes)).1
 }
 
 // Keeps bytes up to one more than fits a line, where the line is broken. Answers what is done with the bytes that are left.
@@ -333,7 +334,8 @@ impl Model for Breaker {
 impl Breaker {
     /// A breaker with nothing pending.
     pub fn new(limit: LineLength) -> Self
-        ensures { result ≡ holding limit (Collecting []) }
+        ensures held { result ≡ holding limit (Collecting []) }
+        ensures range { IsLineLength limit }
     {
         Breaker {
             limit: limit.get() as usize,
@@ -346,6 +348,7 @@ impl Breaker {
     /// written, and nothing after the write that failed.
     pub fn put<W: Sink>(&mut self, bytes: &[u8], sink: &mut W) -> Result<(), Fault>
         ensures ok { OnOk result (Puts self.old self.new bytes.now (W.received sink.old) (W.received sink.new)) }
+        ensures holds { OnOk result (IsSome self.new.pending) }
 
         ensures err { OnErr result (self.new ≡ failed self.old.limit) }
         ensures part { OnErr result (PutsPart self.old bytes.now (W.received sink.old) (W.received sink.new)) }

@@ -16,3 +16,9 @@ pub mod ProgressLemmas
 pub mod RunLemmas
 pub mod StageLemmas
 pub mod RunRows
+pub mod TellingLemmas
+pub mod ReadingLemmas
+pub mod FileLawLemmas
+pub mod FileRows
+pub mod PlanLemmas
+pub mod WholeLemmas

@@ -21,3 +21,5 @@ pub mod KeepingStep
 pub mod ToldLines
 pub mod Runs
 pub mod Budgets
+pub mod Files
+pub mod Planning

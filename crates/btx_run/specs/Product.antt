@@ -1,12 +1,11 @@
 -- The product of a job: what a run writes and answers. It composes what the reading of the files gives, and what executing the style
 -- then does; the readings of the single files stand in modules of their own.
-use Rattle.std.specs.Prelude.{ℕ, ◌-◌, ◌^◌, Bool, true, false, nat_lt, min, count_by, List, [], ◌∷◌, ◌++◌, Option, None, Some, is_some, if◌then◌else◌, length, nat_eq, codes}
+use Rattle.std.specs.Prelude.{ℕ, ◌-◌, ◌^◌, Bool, nat_lt, min, count_by, List, [], ◌∷◌, ◌++◌, Option, None, Some, is_some, if◌then◌else◌, length, nat_eq, codes}
 use Rattle.std.specs.List.{flat_map, ends_with}
 use Rattle.std.specs.Option.{option_and_then, option_map}
 use Rattle.btx_aux.specs.Files.{Files}
 use Rattle.btx_text.specs.Limits.{greatest_file}
-use Rattle.btx_text.specs.LogLines.{Line}
-use Rattle.btx_aux.specs.Notes.{is_error}
+use Rattle.btx_text.specs.LogLines.{Line, is_error}
 use Rattle.btx_aux.specs.Job.{Job, job_of_files}
 use Rattle.btx_aux.specs.declared.end.End.{End as AuxEnd}
 use Rattle.btx_aux.specs.declared.end.End.TheVariants as aux

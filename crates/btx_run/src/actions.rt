@@ -91,7 +91,7 @@ impl<'a> Iterator for Actions<'a> {
     }
 }
 
-/// The parts of the function at an index.
+// The parts of the function at an index.
 fn body_at<'a>(functions: &'a [Function<'a>], index: usize) -> &'a [Part<'a>]
     requires { index < length functions.now }
     ensures { parts_view result.now ≡ body_at functions.now index }

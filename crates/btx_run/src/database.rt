@@ -24,7 +24,7 @@ pub fn is_database(types: &[Function<'_>], key: &[u8], text: &[u8]) -> bool
     }
 }
 
-/// Whether a line is `@T{K, F = {V}}`.
+// Whether a line is `@T{K, F = {V}}`.
 fn is_entry(types: &[Function<'_>], key: &[u8], line: &[u8]) -> bool
     ensures { result ≡ is_entry (names_in types.now) key.now line.now }
 {
@@ -35,14 +35,14 @@ fn is_entry(types: &[Function<'_>], key: &[u8], line: &[u8]) -> bool
     is_type(types, word) && is_body(key, rest)
 }
 
-/// Whether a word names one of these functions, and begins no other item.
+// Whether a word names one of these functions, and begins no other item.
 fn is_type(types: &[Function<'_>], word: &[u8]) -> bool
     ensures { result ≡ is_type (names_in types.now) word.now }
 {
     is_known(types, word) && !is_reserved(word)
 }
 
-/// Whether a word names one of these functions.
+// Whether a word names one of these functions.
 fn is_known(types: &[Function<'_>], word: &[u8]) -> bool
     ensures { result ≡ list_any (λ known. bytes_eq known word.now) (names_in types.now) }
 {
@@ -54,14 +54,14 @@ fn is_known(types: &[Function<'_>], word: &[u8]) -> bool
     false
 }
 
-/// Whether a word begins another item than an entry.
+// Whether a word begins another item than an entry.
 fn is_reserved(word: &[u8]) -> bool
     ensures { result ≡ is_reserved word.now }
 {
     word == b"comment".as_slice() || word == b"string".as_slice() || word == b"preamble".as_slice()
 }
 
-/// Whether a text is `{K, F = {V}}`.
+// Whether a text is `{K, F = {V}}`.
 fn is_body(key: &[u8], text: &[u8]) -> bool
     ensures { result ≡ is_body key.now text.now }
 {
@@ -78,14 +78,14 @@ fn is_body(key: &[u8], text: &[u8]) -> bool
     is_field(field) && is_assigned(rest)
 }
 
-/// Whether a word names a field other than `crossref`.
+// Whether a word names a field other than `crossref`.
 fn is_field(word: &[u8]) -> bool
     ensures { result ≡ is_field word.now }
 {
     !word.is_empty() && word != b"crossref".as_slice()
 }
 
-/// Whether a text is ` = {V}}`, where V is of letters and digits.
+// Whether a text is ` = {V}}`, where V is of letters and digits.
 fn is_assigned(text: &[u8]) -> bool
     ensures { result ≡ is_assigned text.now }
 {
@@ -95,7 +95,7 @@ fn is_assigned(text: &[u8]) -> bool
     }
 }
 
-/// Whether a text is letters and digits, not too many, and then the braces that end the value and the entry.
+// Whether a text is letters and digits, not too many, and then the braces that end the value and the entry.
 fn is_value(text: &[u8]) -> bool
     ensures { result ≡ is_value text.now }
 {
@@ -104,7 +104,7 @@ fn is_value(text: &[u8]) -> bool
     count <= GREATEST_STRING && rest == b"}}".as_slice()
 }
 
-/// How many letters and digits a text begins with.
+// How many letters and digits a text begins with.
 fn alphanumeric_count(text: &[u8]) -> usize
     ensures value { result ≡ prefix_len is_ascii_alphanumeric text.now }
     ensures within { result ≤ length text.now }

@@ -32,7 +32,7 @@ pub struct Progress {
     deepest: u32,
 }
 
-/// Whether an action pushes a string that is too long.
+// Whether an action pushes a string that is too long.
 fn is_past_limit(action: Action<'_>) -> bool
     ensures { result ≡ is_past_limit (action_view action.entry) }
 {
@@ -43,7 +43,7 @@ fn is_past_limit(action: Action<'_>) -> bool
 }
 
 impl Progress {
-    /// Nothing was done yet.
+    // Nothing was done yet.
     fn new() -> Self
         ensures { StandsFor result no_work }
     {
@@ -53,7 +53,7 @@ impl Progress {
         }
     }
 
-    /// Does one action. The only fault is the device's: a beginning of what the action writes was then written.
+    // Does one action. The only fault is the device's: a beginning of what the action writes was then written.
     fn take<W: Sink>(&mut self, action: Action<'_>, bbl: &mut W) -> Result<(), Fault>
         ensures ok { OnOk result (Takes self.old self.new (action_view action.entry) (W.received bbl.old) (W.received bbl.new)) }
         ensures err { OnErr result (TakesPart self.old (action_view action.entry) (W.received bbl.old) (W.received bbl.new)) }
@@ -71,7 +71,7 @@ impl Progress {
         }
     }
 
-    /// How the execution ended.
+    // How the execution ended.
     fn outcome(&self, end: End, left: u64) -> Outcome
         ensures { result ≡ record { end = end; left = left; deepest = self.now.deepest } }
     {

@@ -21,7 +21,7 @@ pub fn cut_letters(text: &[u8]) -> (&[u8], &[u8])
     text.split_at(letter_count(text))
 }
 
-/// How many letters `a-z` a text begins with.
+// How many letters `a-z` a text begins with.
 fn letter_count(text: &[u8]) -> usize
     ensures value { result ≡ prefix_len is_ascii_lowercase text.now }
     ensures within { result ≤ length text.now }

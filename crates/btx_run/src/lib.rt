@@ -5,15 +5,18 @@ mod actions;
 mod database;
 mod execution;
 mod file_names;
+pub mod files;
 mod fronts;
 pub mod law;
 mod log_lines;
 pub mod options;
+pub mod planning;
 pub mod report;
 pub mod run_fault;
 pub mod runner;
 mod style_text;
 mod told;
+pub mod whole;
 mod writing;
 
 pub use btx_aux::{FetchFault, Finder, MemoryFinder};

@@ -2,6 +2,7 @@
 ghost use Rattle.std.specs.Prelude.{◌≡◌, ◌++◌, IfOk, OnOk, codes, decimal};
 ghost use Rattle.btx_text.specs.LogLines.{message};
 ghost use Rattle.btx_run.specs.LogLines.{database_line, last_line, no_style_line, style_line};
+ghost use Rattle.btx_run.specs.Files.Lines.{no_database_line};
 
 use crate::report::Report;
 use btx_text::log_texts::{push_mark, push_number, push_two};
@@ -24,7 +25,7 @@ pub fn no_style_line(alloc: Global, name: &[u8]) -> Result<LogLine, AllocError>
     line_of_two(alloc, LineKind::Error, b"I couldn't open style file ", name)
 }
 
-/// A line of this kind with two pieces of text.
+// A line of this kind with two pieces of text.
 fn line_of_two(
     alloc: Global,
     kind: LineKind,
@@ -50,7 +51,20 @@ pub fn database_line(alloc: Global, number: u64, name: &[u8]) -> Result<LogLine,
     Ok(LogLine::new(text, LineKind::Plain))
 }
 
-/// Appends that a database was found.
+/// A database was not found.
+#[tactic(auto, unfolding(crate::specs::Files::Lines::no_database_line))]
+pub fn no_database_line(alloc: Global, name: &[u8]) -> Result<LogLine, AllocError>
+    ensures { IfOk result (λ line. line ≡ no_database_line name.now) }
+{
+    line_of_two(
+        alloc,
+        LineKind::Error,
+        b"I couldn't open database file ",
+        name,
+    )
+}
+
+// Appends that a database was found.
 #[tactic(auto, using(btx_text::proofs::JoinLemmas::joins))]
 fn push_database(text: &mut Vec<u8>, number: u64, name: &[u8]) -> Result<(), AllocError>
     ensures { OnOk result (text.new.items ≡ text.old.items ++ (codes "Database file #" ++ decimal number ++ codes ": " ++ name.now)) }

@@ -27,14 +27,14 @@ use btx_out::Sink;
 use btx_text::Fault;
 use std::alloc::Global;
 
-/// A style that was found.
+// A style that was found.
 #[derive(Clone, Copy, Debug)]
 struct FoundStyle<'a> {
     name: &'a [u8],
     text: &'a [u8],
 }
 
-/// A database that was found, and the one key that is cited.
+// A database that was found, and the one key that is cited.
 #[derive(Clone, Copy, Debug)]
 struct FoundDatabase<'a> {
     name: &'a [u8],
@@ -42,7 +42,7 @@ struct FoundDatabase<'a> {
     key: &'a [u8],
 }
 
-/// Goes on from the database, once it is found.
+// Goes on from the database, once it is found.
 #[tactic(auto, using(crate::proofs::StageLemmas::nothing_written))]
 fn with_database<W: Sink, L: Sink>(
     alloc: Global,
@@ -71,7 +71,7 @@ fn with_database<W: Sink, L: Sink>(
     execute_style(alloc, &told, style, budget, bbl, log)
 }
 
-/// Goes on from the style, once it is read: the database is fetched, if one key and one database are named.
+// Goes on from the style, once it is read: the database is fetched, if one key and one database are named.
 #[tactic(auto, using(crate::proofs::StageLemmas::nothing_written))]
 fn find_database<F: Finder, W: Sink, L: Sink>(
     alloc: Global,
@@ -105,7 +105,7 @@ fn find_database<F: Finder, W: Sink, L: Sink>(
     with_database(alloc, told, style, database, budget, bbl, log)
 }
 
-/// The database and the key of a job, where there is one of each, and no `*`.
+// The database and the key of a job, where there is one of each, and no `*`.
 fn named_once(job: &AuxJob) -> Option<(&[u8], &[u8])>
     ensures { option_map (λ both. (both.0.now, both.1.now)) result ≡ named_once job.now }
 {
@@ -117,7 +117,7 @@ fn named_once(job: &AuxJob) -> Option<(&[u8], &[u8])>
     Some((name, key))
 }
 
-/// The only one of some names.
+// The only one of some names.
 fn single(names: &[Vec<u8>]) -> Option<&[u8]>
     ensures { option_copied result ≡ single (texts_of names.now) }
 {
@@ -127,7 +127,7 @@ fn single(names: &[Vec<u8>]) -> Option<&[u8]>
     }
 }
 
-/// Goes on from the style, once it is found.
+// Goes on from the style, once it is found.
 #[tactic(auto, using(crate::proofs::StageLemmas::nothing_written))]
 fn with_style<F: Finder, W: Sink, L: Sink>(
     alloc: Global,
@@ -157,7 +157,7 @@ fn with_style<F: Finder, W: Sink, L: Sink>(
     }
 }
 
-/// Ends the run where the style wasn't found.
+// Ends the run where the style wasn't found.
 fn without_style<L: Sink>(
     alloc: Global,
     mut told: Told<'_>,
@@ -175,7 +175,7 @@ fn without_style<L: Sink>(
     end_at_once(alloc, &told, End::Finished, log)
 }
 
-/// Goes on from the `.aux` files, where they name a style: it is fetched.
+// Goes on from the `.aux` files, where they name a style: it is fetched.
 #[tactic(auto, using(crate::proofs::StageLemmas::nothing_written))]
 fn find_style<F: Finder, W: Sink, L: Sink>(
     alloc: Global,
@@ -205,7 +205,7 @@ fn find_style<F: Finder, W: Sink, L: Sink>(
     with_style(alloc, finder, told, style, budget, bbl, log)
 }
 
-/// Goes on from the `.aux` files, where all of them were read.
+// Goes on from the `.aux` files, where all of them were read.
 #[tactic(auto, using(crate::proofs::StageLemmas::nothing_written))]
 fn with_job<F: Finder, W: Sink, L: Sink>(
     alloc: Global,
@@ -232,7 +232,7 @@ fn with_job<F: Finder, W: Sink, L: Sink>(
     }
 }
 
-/// Goes on from the `.aux` files, by how their reading ended.
+// Goes on from the `.aux` files, by how their reading ended.
 #[tactic(auto, using(crate::proofs::StageLemmas::nothing_written))]
 fn after_job<F: Finder, W: Sink, L: Sink>(
     alloc: Global,
@@ -258,7 +258,7 @@ fn after_job<F: Finder, W: Sink, L: Sink>(
     }
 }
 
-/// Ends the run after the `.aux` files.
+// Ends the run after the `.aux` files.
 fn end_job<L: Sink>(alloc: Global, job: &AuxJob, end: End, log: &mut L) -> Result<Report, RunFault>
     ensures runs { (bbl : Option (List ℕ)) (budget : ℕ) → RunsAs result (bbl, bbl) (L.received log.old, L.received log.new)
         (Some (reading job.now.log (Ends end))) budget }
@@ -270,7 +270,7 @@ fn end_job<L: Sink>(alloc: Global, job: &AuxJob, end: End, log: &mut L) -> Resul
     end_at_once(alloc, &told, end, log)
 }
 
-/// Reads the `.aux` files, and goes on from them.
+// Reads the `.aux` files, and goes on from them.
 #[tactic(auto, using(crate::proofs::StageLemmas::nothing_written))]
 fn run_job<F: Finder, W: Sink, L: Sink>(
     alloc: Global,
@@ -292,7 +292,7 @@ fn run_job<F: Finder, W: Sink, L: Sink>(
     after_job(alloc, finder, &read, budget, bbl, log)
 }
 
-/// What the `.aux` files say, with a fault of their reading as one of the run.
+// What the `.aux` files say, with a fault of their reading as one of the run.
 fn citations<F: Finder>(alloc: Global, finder: &mut F, top: &[u8]) -> Result<AuxJob, RunFault>
     ensures job { IfOk result (λ job. IfSome (F.content finder.old) (λ files. job ≡ job_of_files files top.now)) }
     ensures covered { result ≢ Err RunFault.NotYet }

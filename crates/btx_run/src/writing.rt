@@ -20,7 +20,7 @@ use btx_out::{Log, Sink};
 use btx_text::{Fault, LogLine};
 use std::alloc::Global;
 
-/// The report of a run with so many error messages, and without a warning.
+// The report of a run with so many error messages, and without a warning.
 fn report_of(end: End, steps: u64, deepest: u32, errors: u64) -> Report
     ensures { result ≡ report_of end steps deepest errors }
 {
@@ -34,7 +34,7 @@ fn report_of(end: End, steps: u64, deepest: u32, errors: u64) -> Report
     }
 }
 
-/// Writes lines to the log. The only fault is the device's.
+// Writes lines to the log. The only fault is the device's.
 fn tell_lines<L: Sink>(lines: &[LogLine], log: &mut L) -> Result<(), Fault>
     ensures ok { OnOk result (Appends (L.received log.old) (L.received log.new) (bytes_of_lines lines.now)) }
     ensures err { OnErr result (AppendsBeginning (L.received log.old) (L.received log.new) (bytes_of_lines lines.now)) }
@@ -47,7 +47,7 @@ fn tell_lines<L: Sink>(lines: &[LogLine], log: &mut L) -> Result<(), Fault>
     Ok(())
 }
 
-/// Writes all lines before the last. The only fault is the device's.
+// Writes all lines before the last. The only fault is the device's.
 fn tell<L: Sink>(told: &Told<'_>, log: &mut L) -> Result<(), Fault>
     ensures ok { OnOk result (Appends (L.received log.old) (L.received log.new) (bytes_of_lines (told_view told.now))) }
     ensures err { OnErr result (AppendsBeginning (L.received log.old) (L.received log.new) (bytes_of_lines (told_view told.now))) }
@@ -58,7 +58,7 @@ fn tell<L: Sink>(told: &Told<'_>, log: &mut L) -> Result<(), Fault>
     tell_lines(told.others.as_slice(), log)
 }
 
-/// Writes the log's last line, and answers the report.
+// Writes the log's last line, and answers the report.
 fn conclude<L: Sink>(alloc: Global, report: Report, log: &mut L) -> Result<Report, RunFault>
     ensures report { IfOk result (λ answer. answer ≡ report) }
     ensures ok { OnOk result (Appends (L.received log.old) (L.received log.new) (ended_line (last_line report))) }

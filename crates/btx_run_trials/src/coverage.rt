@@ -7,7 +7,7 @@ use std::alloc::Global;
 use std::process::Abort;
 use std::test::Fail;
 
-/// Asserts that a job is outside, and that nothing was written.
+// Asserts that a job is outside, and that nothing was written.
 fn is_outside(rt: &impl Abort, ran: Result<Outputs, Fault>, input: &[u8]) -> Result<(), Fail> {
     let ran = ran?;
     assert!(rt; ran.answer == Err(RunFault::NotYet), "of {input:?}");
@@ -15,7 +15,7 @@ fn is_outside(rt: &impl Abort, ran: Result<Outputs, Fault>, input: &[u8]) -> Res
     Ok(())
 }
 
-/// Asserts that a job is inside: its `.bbl` and how many errors it has.
+// Asserts that a job is inside: its `.bbl` and how many errors it has.
 fn is_inside(
     rt: &impl Abort,
     ran: Result<Outputs, Fault>,
@@ -29,12 +29,12 @@ fn is_inside(
     Ok(())
 }
 
-/// Runs a job of these files.
+// Runs a job of these files.
 fn run_files(alloc: Global, aux: &[u8], style: &[u8], database: &[u8]) -> Result<Outputs, Fault> {
     run_over(alloc, &job_of(aux, style, database), 99)
 }
 
-/// Styles that are outside.
+// Styles that are outside.
 const STYLES_OUTSIDE: [&'static [u8]; 42] = [
     // No command.
     b"",
@@ -130,7 +130,7 @@ fn refuses_styles(rt: HostRuntime) -> Result<(), Fail> {
     Ok(())
 }
 
-/// Styles that are inside, each with the `.bbl`. The type of the entry is `misc`.
+// Styles that are inside, each with the `.bbl`. The type of the entry is `misc`.
 const STYLES_INSIDE: [(&'static [u8], &'static [u8]); 13] = [
     (
         b"ENTRY {title}{}{} FUNCTION {misc}{} READ FUNCTION {f} {\"a\" write$ newline$} EXECUTE {f}",
@@ -191,11 +191,11 @@ fn takes_styles(rt: HostRuntime) -> Result<(), Fail> {
     Ok(())
 }
 
-/// A style with types that begin other items, and a function behind its READ.
+// A style with types that begin other items, and a function behind its READ.
 const TYPES: &[u8] =
     b"ENTRY {title}{count}{label} FUNCTION {b}{} FUNCTION {comment}{} FUNCTION {string}{} FUNCTION {preamble}{} FUNCTION {misc}{} READ FUNCTION {late}{}";
 
-/// Databases that are outside. The key is `k`.
+// Databases that are outside. The key is `k`.
 const DATABASES_OUTSIDE: [&'static [u8]; 48] = [
     // No line.
     b"",
@@ -269,7 +269,7 @@ fn refuses_databases(rt: HostRuntime) -> Result<(), Fail> {
     Ok(())
 }
 
-/// Keys, and databases that are inside.
+// Keys, and databases that are inside.
 const DATABASES_INSIDE: [(&'static [u8], &'static [u8]); 12] = [
     (b"k", b"@misc{k, title = {T}}"),
     (b"k", b"@misc{k, title = {T}} \t\r\n"),
@@ -285,7 +285,7 @@ const DATABASES_INSIDE: [(&'static [u8], &'static [u8]); 12] = [
     (b"\xe9", b"@misc{\xe9, title = {T}}"),
 ];
 
-/// Runs a job that cites a key.
+// Runs a job that cites a key.
 fn run_citing(alloc: Global, key: &[u8], database: &[u8]) -> Result<Outputs, Fault> {
     let front = b"\\bibdata{d}\n\\bibstyle{s}\n\\citation{".as_slice();
     let aux = joined(alloc, &[front, key, b"}"])?;
@@ -300,7 +300,7 @@ fn takes_databases(rt: HostRuntime) -> Result<(), Fail> {
     Ok(())
 }
 
-/// Top files that are outside.
+// Top files that are outside.
 const JOBS_OUTSIDE: [&'static [u8]; 19] = [
     // Two keys.
     b"\\citation{k,j}\n\\bibdata{d}\n\\bibstyle{s}",
@@ -339,7 +339,7 @@ fn refuses_jobs(rt: HostRuntime) -> Result<(), Fail> {
     is_outside(&rt, run_over(rt.alloc(), &files, 99), AUX)
 }
 
-/// Top files that are inside, and how many errors they have.
+// Top files that are inside, and how many errors they have.
 const JOBS_INSIDE: [(&'static [u8], u64); 15] = [
     (b"\\citation{k}\n\\bibdata{d}\n\\bibstyle{s}", 0),
     (b"\\bibstyle{s}\n\\bibdata{d}\n\\citation{k}\n", 0),

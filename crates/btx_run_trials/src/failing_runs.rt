@@ -7,7 +7,7 @@ use std::alloc::Global;
 use std::process::Abort;
 use std::test::Fail;
 
-/// A style that writes several lines, one of them long.
+// A style that writes several lines, one of them long.
 const LINES: &[u8] =
     b"ENTRY {title}{}{} FUNCTION {misc}{} READ FUNCTION {f} {\"one\" write$ newline$ newline$ \"aaaaaaaaaaaaaaaaaaaaaaaaaaaaaaaaaaaaaaaa aaaaaaaaaaaaaaaaaaaaaaaaaaaaaaaaaaaaaaaaaaaaaaa\" write$ \" b\" write$} EXECUTE {f}";
 
@@ -20,12 +20,12 @@ const TOLD: &[u8] =
 const LOG: &[u8] =
     b"The top-level auxiliary file: job.aux\nThe style file: s.bst\nDatabase file #1: d.bib\nEnded: finished, warnings 0, errors 0, steps 9\n";
 
-/// The job of several lines.
+// The job of several lines.
 fn lines_job() -> [File<'static>; 3] {
     job_of(AUX, LINES, DATABASE)
 }
 
-/// How an output takes what it is given: the most bytes at a time, how it fails and at which write, and how often it failed before.
+// How an output takes what it is given: the most bytes at a time, how it fails and at which write, and how often it failed before.
 #[derive(Clone, Copy)]
 struct Device {
     most: usize,
@@ -34,12 +34,12 @@ struct Device {
     before: u64,
 }
 
-/// A device that takes so many bytes at a time, and fails at no write.
+// A device that takes so many bytes at a time, and fails at no write.
 fn sound(most: usize) -> Device {
     failing(most, Failing::Never, 0)
 }
 
-/// A device that takes so many bytes at a time, and fails at one write.
+// A device that takes so many bytes at a time, and fails at one write.
 fn failing(most: usize, how: Failing, at: u64) -> Device {
     Device {
         most,
@@ -49,7 +49,7 @@ fn failing(most: usize, how: Failing, at: u64) -> Device {
     }
 }
 
-/// What an output has received, how often it was written to, and how often it failed.
+// What an output has received, how often it was written to, and how often it failed.
 #[derive(Drop)]
 struct Output {
     bytes: Vec<u8>,
@@ -57,7 +57,7 @@ struct Output {
     failures: u64,
 }
 
-/// A sink over a device.
+// A sink over a device.
 fn sink(alloc: Global, device: Device) -> Over<FakeWriter> {
     Over {
         writer: FakeWriter::new(alloc, device.most, device.how, device.at),
@@ -65,7 +65,7 @@ fn sink(alloc: Global, device: Device) -> Over<FakeWriter> {
     }
 }
 
-/// What a sink has received.
+// What a sink has received.
 fn output_of(sink: Over<FakeWriter>) -> Output {
     let Over { writer, failures } = sink;
     let FakeWriter { bytes, writes, .. } = writer;
@@ -76,18 +76,18 @@ fn output_of(sink: Over<FakeWriter>) -> Output {
     }
 }
 
-/// What a run has done whose devices may fail: its status, and its outputs. A test that holds the devices themselves takes long to
-/// prove, since each `?` is a way out on which all of them is dropped.
+// What a run has done whose devices may fail: its status, and its outputs. A test that holds the devices themselves takes long to
+// prove, since each `?` is a way out on which all of them is dropped.
 #[derive(Drop)]
 struct Tried {
     answer: Result<u8, RunFault>,
     bbl: Output,
     log: Output,
-    /// How often the finder was asked, and how often it failed.
+    // How often the finder was asked, and how often it failed.
     fetches: (u64, u64),
 }
 
-/// Runs a job whose finder fails at one fetch, over two devices.
+// Runs a job whose finder fails at one fetch, over two devices.
 fn try_job(
     alloc: Global,
     files: &[File<'_>],
@@ -112,19 +112,19 @@ fn try_job(
     })
 }
 
-/// Runs the job of several lines over two devices.
+// Runs the job of several lines over two devices.
 fn try_lines(alloc: Global, bbl: Device, log: Device) -> Result<Tried, FetchFault> {
     try_job(alloc, &lines_job(), u64::MAX, bbl, log)
 }
 
-/// Asserts that an output failed once, was not written to again, and holds a beginning of a text.
+// Asserts that an output failed once, was not written to again, and holds a beginning of a text.
 fn failed(rt: &impl Abort, output: &Output, at: u64, whole: &[u8]) {
     assert!(rt; output.failures == 1 && output.writes == at.saturating_add(1));
     assert!(rt; whole.starts_with(&output.bytes));
     assert!(rt; output.bytes.len() < whole.len());
 }
 
-/// Whether a run was past the write at which its `.bbl` fails. If it wasn't, the log lacks its last line alone.
+// Whether a run was past the write at which its `.bbl` fails. If it wasn't, the log lacks its last line alone.
 fn is_past_bbl(
     rt: &impl Abort,
     tried: Result<Tried, FetchFault>,
@@ -142,8 +142,8 @@ fn is_past_bbl(
     Ok(false)
 }
 
-/// Whether a run was past the write at which its log fails. If it wasn't, the `.bbl` is empty before the log's last line, and whole at
-/// it.
+// Whether a run was past the write at which its log fails. If it wasn't, the `.bbl` is empty before the log's last line, and whole at
+// it.
 fn is_past_log(
     rt: &impl Abort,
     tried: Result<Tried, FetchFault>,
@@ -162,7 +162,7 @@ fn is_past_log(
     Ok(false)
 }
 
-/// Fails the `.bbl` at one write after another, until the run is past them all.
+// Fails the `.bbl` at one write after another, until the run is past them all.
 fn fail_bbl(rt: &(impl Abort + AllocGlobal), most: usize, how: Failing) -> Result<(), Fail> {
     for at in 0..1000u64 {
         let tried = try_lines(rt.alloc(), failing(most, how, at), sound(most));
@@ -174,7 +174,7 @@ fn fail_bbl(rt: &(impl Abort + AllocGlobal), most: usize, how: Failing) -> Resul
     Ok(())
 }
 
-/// Fails the log at one write after another, until the run is past them all.
+// Fails the log at one write after another, until the run is past them all.
 fn fail_log(rt: &(impl Abort + AllocGlobal), most: usize, how: Failing) -> Result<(), Fail> {
     for at in 0..1000u64 {
         let tried = try_lines(rt.alloc(), sound(most), failing(most, how, at));
@@ -197,7 +197,7 @@ fn keeps_step(rt: HostRuntime) -> Result<(), Fail> {
     Ok(())
 }
 
-/// Asserts that a run was whole.
+// Asserts that a run was whole.
 fn is_whole(rt: &impl Abort, tried: Result<Tried, FetchFault>) -> Result<(), Fail> {
     let tried = tried?;
     assert!(rt; tried.answer == Ok(0) && tried.bbl.failures == 0 && tried.log.failures == 0);
@@ -213,7 +213,7 @@ fn writes_in_pieces(rt: HostRuntime) -> Result<(), Fail> {
     Ok(())
 }
 
-/// What a run answered, and how often its outputs have failed.
+// What a run answered, and how often its outputs have failed.
 fn failures_of(
     tried: Result<Tried, FetchFault>,
 ) -> Result<(Result<u8, RunFault>, u64, u64), FetchFault> {
@@ -221,7 +221,7 @@ fn failures_of(
     Ok((tried.answer, tried.bbl.failures, tried.log.failures))
 }
 
-/// A count of failures goes from its greatest value to 0.
+// A count of failures goes from its greatest value to 0.
 #[test]
 fn counts_round(rt: HostRuntime) -> Result<(), Fail> {
     let bbl = Device {
@@ -237,7 +237,7 @@ fn counts_round(rt: HostRuntime) -> Result<(), Fail> {
     Ok(())
 }
 
-/// Asserts how a run ended of which one fetch may have failed, and how often it fetched: nothing is written after a failure.
+// Asserts how a run ended of which one fetch may have failed, and how often it fetched: nothing is written after a failure.
 fn fetched(
     rt: &impl Abort,
     tried: Result<Tried, FetchFault>,
@@ -251,7 +251,7 @@ fn fetched(
     Ok(())
 }
 
-/// Fails each fetch of a job in turn, of which there are so many.
+// Fails each fetch of a job in turn, of which there are so many.
 fn fail_fetches(
     rt: &(impl Abort + AllocGlobal),
     files: &[File<'_>],

@@ -88,7 +88,7 @@ pub enum Ending {
 }
 
 impl Ending {
-    /// The log's word for it.
+    // The log's word for it.
     fn word(self) -> &'static str {
         match self {
             Ending::Finished(..) => "finished",
@@ -99,7 +99,7 @@ impl Ending {
         }
     }
 
-    /// The report.
+    // The report.
     fn report(self) -> Report {
         let (status, end, errors, steps, deepest) = match self {
             Ending::Finished(0, steps, deepest) => (0, End::Finished, 0, steps, deepest),
@@ -120,7 +120,7 @@ impl Ending {
     }
 }
 
-/// A log of these lines and its last.
+// A log of these lines and its last.
 fn log_of(
     alloc: Global,
     lines: &[&[u8]],

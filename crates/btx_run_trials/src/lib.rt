@@ -9,3 +9,5 @@ mod failing_runs;
 mod jobs;
 #[cfg(test)]
 mod runs;
+#[cfg(test)]
+mod whole;

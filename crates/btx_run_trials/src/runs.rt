@@ -10,26 +10,26 @@ use std::alloc::{AllocError, Global};
 use std::process::Abort;
 use std::test::Fail;
 
-/// A style that executes a function of this body.
+// A style that executes a function of this body.
 fn style_of(alloc: Global, body: &[u8]) -> Result<Vec<u8>, AllocError> {
     let front = b"ENTRY {title}{}{} FUNCTION {misc}{} READ FUNCTION {f} {".as_slice();
     joined(alloc, &[front, body, b"} EXECUTE {f}"])
 }
 
-/// Runs a style that executes a function of this body.
+// Runs a style that executes a function of this body.
 fn run_body(alloc: Global, body: &[u8], budget: u64) -> Result<Outputs, Fault> {
     let style = style_of(alloc, body)?;
     run_over(alloc, &job_of(AUX, &style, DATABASE), budget)
 }
 
-/// A body, a budget, the `.bbl`, and how the run ends.
+// A body, a budget, the `.bbl`, and how the run ends.
 type Body = (&'static [u8], u64, &'static [u8], Ending);
 
 const ONE: &[u8] = b"\"a\" write$ newline$";
 
 const THREE: &[u8] = b"\"abc\" write$ newline$";
 
-/// Short bodies, with budgets that cover them and that don't.
+// Short bodies, with budgets that cover them and that don't.
 const BODIES: [Body; 14] = [
     (ONE, 0, b"", Ending::Stopped(0, 0)),
     (ONE, 1, b"", Ending::Stopped(1, 1)),
@@ -73,12 +73,12 @@ fn takes_steps(rt: HostRuntime) -> Result<(), Fail> {
     Ok(())
 }
 
-/// A body that writes a string, and ends the line.
+// A body that writes a string, and ends the line.
 fn writing(alloc: Global, front: &[u8], string: &[u8]) -> Result<Vec<u8>, AllocError> {
     joined(alloc, &[front, b"\"", string, b"\" write$ newline$"])
 }
 
-/// A row's line is written whole where the budget covers it, and what is sure where it covers all but the end of the line.
+// A row's line is written whole where the budget covers it, and what is sure where it covers all but the end of the line.
 fn is_broken(rt: &(impl Abort + AllocGlobal), row: &Row<'_>) -> Result<(), Fail> {
     let alloc = rt.alloc();
     let literal = text_of(alloc, row.literal)?;
@@ -104,7 +104,7 @@ fn breaks_lines(rt: HostRuntime) -> Result<(), Fail> {
     Ok(())
 }
 
-/// A line is broken in the same way where it is written in two pieces.
+// A line is broken in the same way where it is written in two pieces.
 #[test]
 fn breaks_lines_in_pieces(rt: HostRuntime) -> Result<(), Fail> {
     let alloc = rt.alloc();
@@ -115,7 +115,7 @@ fn breaks_lines_in_pieces(rt: HostRuntime) -> Result<(), Fail> {
     ends_as(&rt, ran, &lines, &[FOUND], Ending::Finished(0, 6, 1))
 }
 
-/// A string may have 1,000,000 bytes.
+// A string may have 1,000,000 bytes.
 #[test]
 fn writes_the_longest_string(rt: HostRuntime) -> Result<(), Fail> {
     let alloc = rt.alloc();
@@ -126,7 +126,7 @@ fn writes_the_longest_string(rt: HostRuntime) -> Result<(), Fail> {
     ends_as(&rt, ran, &lines, &[FOUND], Ending::Finished(0, 4, 1))
 }
 
-/// What stands before a string that is too long, a budget, the `.bbl`, and how the run ends.
+// What stands before a string that is too long, a budget, the `.bbl`, and how the run ends.
 const BEFORE_TOO_LONG: [Body; 4] = [
     (b"", 9, b"", Ending::PastString(2)),
     (b"", 2, b"", Ending::PastString(2)),
@@ -134,14 +134,14 @@ const BEFORE_TOO_LONG: [Body; 4] = [
     (b"newline$ \"b\" write$ ", 9, b"\n", Ending::PastString(5)),
 ];
 
-/// Runs a body with a string of 1,000,001 bytes behind a front.
+// Runs a body with a string of 1,000,001 bytes behind a front.
 fn run_too_long(alloc: Global, front: &[u8], budget: u64) -> Result<Outputs, Fault> {
     let text = text_of(alloc, &[(b'a', 1_000_001)])?;
     let body = writing(alloc, front, &text)?;
     run_body(alloc, &body, budget)
 }
 
-/// The push of a string that is too long is the last step, and the pending line isn't written.
+// The push of a string that is too long is the last step, and the pending line isn't written.
 #[test]
 fn bounds_strings(rt: HostRuntime) -> Result<(), Fail> {
     for (front, budget, bbl, ending) in &BEFORE_TOO_LONG {
@@ -154,7 +154,7 @@ fn bounds_strings(rt: HostRuntime) -> Result<(), Fail> {
 const SHARED: &[u8] =
     b"ENTRY {title}{count}{label} FUNCTION {misc} {\"x\" write$} READ FUNCTION {g} {\"y\" write$ newline$} EXECUTE {g} EXECUTE {misc} EXECUTE {g}";
 
-/// Functions that are executed one after another share the pending line and the budget.
+// Functions that are executed one after another share the pending line and the budget.
 #[test]
 fn executes_in_order(rt: HostRuntime) -> Result<(), Fail> {
     let files = job_of(AUX, SHARED, DATABASE);
@@ -171,13 +171,13 @@ fn needs_a_top_file(rt: HostRuntime) -> Result<(), Fail> {
     ends_as(&rt, ran, b"", &[], Ending::NoTopFile)
 }
 
-/// The status of a run.
+// The status of a run.
 fn status_of(ran: Result<Outputs, Fault>) -> Result<u8, Fail> {
     let ran = ran?;
     Ok(ran.answer?.status)
 }
 
-/// A job's name may have its ending, which is then not put on again; its case counts.
+// A job's name may have its ending, which is then not put on again; its case counts.
 #[test]
 fn takes_the_ending_of_a_job(rt: HostRuntime) -> Result<(), Fail> {
     let files = job_of(AUX, STYLE, DATABASE);
@@ -195,7 +195,7 @@ fn takes_the_ending_of_a_job(rt: HostRuntime) -> Result<(), Fail> {
     Ok(())
 }
 
-/// The first lines of a top file, the log's lines for them, and how many of these are errors. The lines for the base job follow.
+// The first lines of a top file, the log's lines for them, and how many of these are errors. The lines for the base job follow.
 type First = (&'static [u8], &'static [u8], u64);
 
 const FIRSTS: [First; 7] = [
@@ -240,7 +240,7 @@ const TOP: &[u8] = b"The top-level auxiliary file: job.aux\n";
 
 const FILES: &[u8] = b"The style file: s.bst\nDatabase file #1: d.bib\n";
 
-/// Runs the job with a line before those of its top file.
+// Runs the job with a line before those of its top file.
 fn run_behind(alloc: Global, first: &[u8]) -> Result<Outputs, Fault> {
     let aux = joined(alloc, &[first, b"\n", AUX])?;
     run_over(alloc, &job_of(&aux, STYLE, DATABASE), 9)
@@ -256,7 +256,7 @@ fn runs_past_errors(rt: HostRuntime) -> Result<(), Fail> {
     Ok(())
 }
 
-/// Top files of jobs that end without a style, the log's lines behind the first, and how many of these are errors.
+// Top files of jobs that end without a style, the log's lines behind the first, and how many of these are errors.
 const WITHOUT_STYLE: [First; 6] = [
     (
         b"\\citation{k}\n\\bibdata{d}\n\\bibstyle{t}",
@@ -290,7 +290,7 @@ const WITHOUT_STYLE: [First; 6] = [
     ),
 ];
 
-/// A run without a style finishes: its databases aren't looked for.
+// A run without a style finishes: its databases aren't looked for.
 #[test]
 fn ends_without_a_style(rt: HostRuntime) -> Result<(), Fail> {
     for (aux, told, errors) in &WITHOUT_STYLE {
@@ -301,7 +301,7 @@ fn ends_without_a_style(rt: HostRuntime) -> Result<(), Fail> {
     Ok(())
 }
 
-/// A chain of files, each of which inputs the next.
+// A chain of files, each of which inputs the next.
 const CHAIN: [File<'static>; 20] = [
     (b"f1.aux", b"\\@input{f2.aux}\n"),
     (b"f2.aux", b"\\@input{f3.aux}\n"),
@@ -325,10 +325,10 @@ const CHAIN: [File<'static>; 20] = [
     (b"f20.aux", b"\\@input{f21.aux}\n"),
 ];
 
-/// A file that inputs the top file.
+// A file that inputs the top file.
 const LOOP: [File<'static>; 1] = [(b"a.aux", b"\\citation{k}\n\\@input{job.aux}\n")];
 
-/// Runs the base job, whose top file inputs another first, over more files.
+// Runs the base job, whose top file inputs another first, over more files.
 fn run_inputting(alloc: Global, input: &[u8], others: &[File<'_>]) -> Result<Outputs, Fault> {
     let top = joined(alloc, &[input, AUX])?;
     let mut files: Vec<File<'_>> = Vec::new(alloc);
@@ -341,7 +341,7 @@ fn run_inputting(alloc: Global, input: &[u8], others: &[File<'_>]) -> Result<Out
     run_over(alloc, &files, 9)
 }
 
-/// The log's lines of the base job, whose top file inputs another that inputs the top file.
+// The log's lines of the base job, whose top file inputs another that inputs the top file.
 const LOOP_FOUND: &[u8] =
     b"The top-level auxiliary file: job.aux\nA level-1 auxiliary file: a.aux\nError--Already encountered file job.aux--line 2 of file a.aux\nThe style file: s.bst\nDatabase file #1: d.bib\n";
 
@@ -351,7 +351,7 @@ fn reads_through_a_loop(rt: HostRuntime) -> Result<(), Fail> {
     ends_as(&rt, ran, b"a\n", &[LOOP_FOUND], Ending::Finished(1, 4, 1))
 }
 
-/// The log's lines for the top file and the nineteen files behind it.
+// The log's lines for the top file and the nineteen files behind it.
 const TWENTY_FOUND: &[u8] = b"The top-level auxiliary file: job.aux\n\
 A level-1 auxiliary file: f1.aux\n\
 A level-2 auxiliary file: f2.aux\n\
@@ -376,7 +376,7 @@ A level-19 auxiliary file: f19.aux\n";
 const LAST_MISSING: &[u8] =
     b"Error--I couldn't open auxiliary file f20.aux--line 1 of file f19.aux\n";
 
-/// Twenty files may be open at once.
+// Twenty files may be open at once.
 #[test]
 fn opens_twenty_files(rt: HostRuntime) -> Result<(), Fail> {
     let ran = run_inputting(rt.alloc(), b"\\@input{f1.aux}\n", &CHAIN);

@@ -53,29 +53,35 @@ module _ {X : Type 0} (lt : X → X → Bool) (o : IsStrictWeakOrder lt) where
       (λ f. f)
       (cases_Bool (ties lt z y))
 
-  placed_ties : (z x : X) (ys : List X) → filter (ties lt z) (placed lt x ys) ≡ filter (ties lt z) (x ∷ ys)
-  placed_ties z x [] = refl
-  placed_ties z x (y ∷ ys) =
-      let p = ties lt z in
-      let more = placed_ties z x ys in
+  -- a test that tells what is less than x from x
+  abbrev pub Tells : (X → Bool) → Type 0
+  Tells p = (x y : X) → lt y x ≡ true → p x ≡ true → p y ≡ false
+
+  placed_passes : (p : X → Bool) → Tells p → (x : X) (ys : List X) → filter p (placed lt x ys) ≡ filter p (x ∷ ys)
+  placed_passes p tells x [] = refl
+  placed_passes p tells x (y ∷ ys) =
+      let more = placed_passes p tells x ys in
       ⊎_elim
       (λ below. ap (filter p) (later x y ys below) ∙
       ⊎_elim
-      (λ t. failed p y (placed lt x ys) (apart x y z below t) ∙ more ∙ passed p x ys t ∙ ap (λ l. x ∷ l) (sym (failed p y ys (apart x y z below t))) ∙ sym (passed p x (y ∷ ys) t))
+      (λ t. failed p y (placed lt x ys) (tells x y below t) ∙ more ∙ passed p x ys t ∙ ap (λ l. x ∷ l) (sym (failed p y ys (tells x y below t))) ∙ sym (passed p x (y ∷ ys) t))
       (λ f. ap (λ l. cond (p y) (y ∷ l) l) (more ∙ failed p x ys f) ∙ sym (failed p x (y ∷ ys) f))
       (cases_Bool (p x)))
       (λ f. ap (filter p) (here x y ys f))
       (cases_Bool (lt y x))
 
-  sorted_ascends : (xs : List X) → Ascends lt (sorted_by lt xs)
+  pub sorted_ascends : (xs : List X) → Ascends lt (sorted_by lt xs)
   unfolding sorted_by
   sorted_ascends [] = tt
   sorted_ascends (x ∷ xs) = placed_ascends x (sorted_by lt xs) (sorted_ascends xs)
 
-  sorted_ties : (z : X) (xs : List X) → filter (ties lt z) (sorted_by lt xs) ≡ filter (ties lt z) xs
+  pub sorted_passes : (p : X → Bool) → Tells p → (xs : List X) → filter p (sorted_by lt xs) ≡ filter p xs
   unfolding sorted_by
-  sorted_ties z [] = refl
-  sorted_ties z (x ∷ xs) = placed_ties z x (sorted_by lt xs) ∙ ap (λ l. cond (ties lt z x) (x ∷ l) l) (sorted_ties z xs)
+  sorted_passes p tells [] = refl
+  sorted_passes p tells (x ∷ xs) = placed_passes p tells x (sorted_by lt xs) ∙ ap (λ l. cond (p x) (x ∷ l) l) (sorted_passes p tells xs)
+
+  sorted_ties : (z : X) (xs : List X) → filter (ties lt z) (sorted_by lt xs) ≡ filter (ties lt z) xs
+  sorted_ties z xs = sorted_passes (ties lt z) (λ x y below t. apart x y z below t) xs
 
   -- a stable sort gives the one list
   pub stable_sort_is : (xs ys : List X) → IsSortedBy lt ys → IsStableBy lt xs ys → ys ≡ sorted_by lt xs

@@ -5,13 +5,7 @@ use Rattle.std.specs.Cmp.Lexicographic.{slice_cmp}
 use Rattle.std.specs.Ordering.{ordering_then}
 use Rattle.std.proofs.lemmas.Bool.{cases_Bool}
 use Rattle.btx_step.specs.Sorting.{precedes}
-
--- by the first byte that differs, or a proper beginning first
-abbrev pub comes_first : List ℕ → List ℕ → Bool
-comes_first [] [] = false
-comes_first [] (c ∷ cs) = true
-comes_first (b ∷ bs) [] = false
-comes_first (b ∷ bs) (c ∷ cs) = if nat_lt b c then true else if nat_lt c b then false else comes_first bs cs
+use Rattle.btx_step.specs.Orders.{comes_first}
 
 pub precedes_reads : (b c : List ℕ) → precedes b c ≡ comes_first b c
 precedes_reads [] [] = refl

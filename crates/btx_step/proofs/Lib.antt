@@ -3,4 +3,8 @@ pub mod Replicas
 pub mod Order
 pub mod Ascent
 pub mod Bytes
+pub mod Orders
 pub mod RowLemmas
+pub mod KeepLemmas
+pub mod AssignLemmas
+pub mod LeaveLemmas

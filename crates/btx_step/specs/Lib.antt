@@ -14,5 +14,7 @@ pub mod Entries
 pub mod Steps
 pub mod Notes
 pub mod Sorting
+pub mod Orders
 pub mod Starts
+pub mod Leaves
 pub mod Laws

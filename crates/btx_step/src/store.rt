@@ -30,7 +30,7 @@ use btx_text::{GREATEST_STRING, Text};
 use std::alloc::{AllocError, Global};
 use std::marker::Model;
 
-/// The greatest number of literals.
+// The greatest number of literals.
 const GREATEST_STACK: usize = 1000;
 
 /// The literals, the variables, the current entry if there is one, and the greatest number of bodies that were open at once.

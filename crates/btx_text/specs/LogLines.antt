@@ -1,6 +1,6 @@
 -- The lines of a log. A warning and an error begin with their word, and where they are met in a file their place follows; the form of
 -- both is this project's own but for `Warning--`, which is the original's.
-use Rattle.std.specs.Prelude.{ℕ, List, [], ◌++◌, codes, decimal}
+use Rattle.std.specs.Prelude.{ℕ, Bool, true, false, List, [], ◌++◌, codes, decimal}
 use Rattle.btx_text.specs.declared.log_line.LineKind.{LineKind}
 use Rattle.btx_text.specs.declared.log_line.LineKind.TheVariants.{Plain, Warning, Error}
 
@@ -8,6 +8,18 @@ use Rattle.btx_text.specs.declared.log_line.LineKind.TheVariants.{Plain, Warning
 pub record Line : Type 0 where
   pub text : List ℕ
   pub kind : LineKind
+
+-- the line is a warning
+abbrev pub is_warning : LineKind → Bool
+is_warning Plain = false
+is_warning Warning = true
+is_warning Error = false
+
+-- the line is an error
+abbrev pub is_error : LineKind → Bool
+is_error Plain = false
+is_error Warning = false
+is_error Error = true
 
 -- how a line of this kind begins
 unfoldable pub mark_of : LineKind → List ℕ

@@ -8,12 +8,12 @@ use std::alloc::{AllocError, Global};
 use std::process::Abort;
 use std::test::Fail;
 
-/// Whether a byte is white.
+// Whether a byte is white.
 fn is_white(byte: u8) -> bool {
     matches!(byte, b' ' | b'\t' | b'\r')
 }
 
-/// A text without the white at its end.
+// A text without the white at its end.
 fn trimmed(text: &[u8]) -> &[u8] {
     let mut rest = text;
     for _turn in 0..text.len() {
@@ -30,7 +30,7 @@ fn trimmed(text: &[u8]) -> &[u8] {
     rest
 }
 
-/// Where a text that is longer than a line is broken: how long the head is, and where the rest begins.
+// Where a text that is longer than a line is broken: how long the head is, and where the rest begins.
 fn place(limit: usize, text: &[u8]) -> Option<(usize, usize)> {
     let mut inside = None;
     let mut past = None;
@@ -55,7 +55,7 @@ fn place(limit: usize, text: &[u8]) -> Option<(usize, usize)> {
     Some((head, text.len()))
 }
 
-/// Adds a line, unless it is white alone.
+// Adds a line, unless it is white alone.
 fn add_line(output: &mut Vec<u8>, line: &[u8]) -> Result<(), AllocError> {
     let kept = trimmed(line);
     if kept.is_empty() && !line.is_empty() {
@@ -66,14 +66,14 @@ fn add_line(output: &mut Vec<u8>, line: &[u8]) -> Result<(), AllocError> {
     Ok(())
 }
 
-/// What of a logical line is sure while it is pending, and what comes of it when it ends.
+// What of a logical line is sure while it is pending, and what comes of it when it ends.
 #[derive(Drop)]
 struct Pieces {
     sure: Vec<u8>,
     lines: Vec<u8>,
 }
 
-/// A whole logical line, taken apart at one break after another.
+// A whole logical line, taken apart at one break after another.
 fn taken_apart(alloc: Global, limit: usize, text: &[u8]) -> Result<Pieces, AllocError> {
     let mut sure = Vec::new(alloc);
     let mut line = text.to_vec(alloc)?;
@@ -102,7 +102,7 @@ fn taken_apart(alloc: Global, limit: usize, text: &[u8]) -> Result<Pieces, Alloc
     Ok(Pieces { sure, lines })
 }
 
-/// What a breaker wrote of a logical line: all of it, and how much of that stood there behind each piece.
+// What a breaker wrote of a logical line: all of it, and how much of that stood there behind each piece.
 #[derive(Drop)]
 struct Written {
     bytes: Vec<u8>,
@@ -111,7 +111,7 @@ struct Written {
     failures: u64,
 }
 
-/// Puts a logical line in pieces of a size, and ends it.
+// Puts a logical line in pieces of a size, and ends it.
 fn put_pieces(
     breaker: &mut Breaker,
     literal: &[u8],
@@ -130,8 +130,8 @@ fn breaker_of(rt: &impl Abort, limit: u32) -> Breaker {
     Breaker::new(LineLength::new(limit).expect(rt, "a length from 20 to 1,000"))
 }
 
-/// What a breaker writes of a logical line in pieces of a size, into a sink that takes so many bytes at a time. A test that holds both
-/// takes long to prove, since each `?` is a way out on which all of them is dropped.
+// What a breaker writes of a logical line in pieces of a size, into a sink that takes so many bytes at a time. A test that holds both
+// takes long to prove, since each `?` is a way out on which all of them is dropped.
 fn write_line(
     rt: &(impl Abort + AllocGlobal),
     limit: u32,
@@ -151,13 +151,13 @@ fn write_line(
     }
 }
 
-/// Asserts what was written of a logical line when it had ended.
+// Asserts what was written of a logical line when it had ended.
 fn gives(rt: &impl Abort, written: &Written, lines: &[u8]) {
     assert!(rt; written.answer.is_ok() && written.failures == 0);
     assert_eq!(rt; written.bytes.as_slice(), lines);
 }
 
-/// A row is written so, put in one piece: what is sure of it, and its lines.
+// A row is written so, put in one piece: what is sure of it, and its lines.
 fn is_written(rt: &(impl Abort + AllocGlobal), row: &Row<'_>) -> Result<(), AllocError> {
     let literal = text_of(rt.alloc(), row.literal)?;
     let sure = text_of(rt.alloc(), row.sure)?;
@@ -179,7 +179,7 @@ fn rows(rt: HostRuntime) -> Result<(), Fail> {
     Ok(())
 }
 
-/// What is sure of the first bytes of a text is what stood there behind them.
+// What is sure of the first bytes of a text is what stood there behind them.
 fn is_sure(
     rt: &(impl Abort + AllocGlobal),
     limit: usize,
@@ -191,7 +191,7 @@ fn is_sure(
     Ok(())
 }
 
-/// A row is written so in pieces of a size: what is sure behind each of them, and its lines.
+// A row is written so in pieces of a size: what is sure behind each of them, and its lines.
 fn is_cut(rt: &(impl Abort + AllocGlobal), row: &Row<'_>, size: usize) -> Result<(), AllocError> {
     let literal = text_of(rt.alloc(), row.literal)?;
     let lines = text_of(rt.alloc(), row.lines)?;
@@ -224,8 +224,8 @@ fn cuts(rt: HostRuntime) -> Result<(), Fail> {
     Ok(())
 }
 
-/// Lines of several pieces, and one that is finished: how much was written at the first `finish`, at the one that ends a line, at the
-/// one behind it, and at one behind white alone.
+// Lines of several pieces, and one that is finished: how much was written at the first `finish`, at the one that ends a line, at the
+// one behind it, and at one behind white alone.
 fn write_several(breaker: &mut Breaker, sink: &mut Over<FakeWriter>) -> Result<[usize; 4], Fault> {
     breaker.finish(sink)?;
     let nothing = sink.writer.bytes.len();
@@ -252,8 +252,8 @@ fn several_lines(rt: HostRuntime) {
     assert_eq!(rt; sink.writer.bytes.as_slice(), b"one\n\ntwo\n".as_slice());
 }
 
-/// How often a breaker of lines of 20 bytes wrote: behind three lines, behind two pieces of a line that can't be broken, and behind
-/// that line's end.
+// How often a breaker of lines of 20 bytes wrote: behind three lines, behind two pieces of a line that can't be broken, and behind
+// that line's end.
 fn count_writes(
     breaker: &mut Breaker,
     long: &[u8],
@@ -269,7 +269,7 @@ fn count_writes(
     Ok([lines, pieces, sink.writer.writes])
 }
 
-/// A write for each line, a long line in pieces, and its last piece and its end.
+// A write for each line, a long line in pieces, and its last piece and its end.
 #[test]
 fn whole_lines(rt: HostRuntime) -> Result<(), Fail> {
     let long = text_of(rt.alloc(), &[(b'a', 500)])?;
@@ -298,7 +298,7 @@ fn short_writes(rt: HostRuntime) -> Result<(), Fail> {
     Ok(())
 }
 
-/// What a breaker has done whose sink fails at one write.
+// What a breaker has done whose sink fails at one write.
 #[derive(Drop)]
 struct Tried {
     answer: Result<(), Fault>,
@@ -307,7 +307,7 @@ struct Tried {
     failures: u64,
 }
 
-/// Whether each call answers the device's fault.
+// Whether each call answers the device's fault.
 fn stays_failed(breaker: &mut Breaker, sink: &mut Over<FakeWriter>) -> bool {
     let device = Err(Fault::Device);
     breaker.put(b"more", sink) == device
@@ -315,7 +315,7 @@ fn stays_failed(breaker: &mut Breaker, sink: &mut Over<FakeWriter>) -> bool {
         && breaker.finish(sink) == device
 }
 
-/// A logical line in two pieces, and its end.
+// A logical line in two pieces, and its end.
 fn broken(breaker: &mut Breaker, literal: &[u8], sink: &mut Over<FakeWriter>) -> Result<(), Fault> {
     let (first, second) = literal.split_at(literal.len() / 2);
     breaker.put(first, sink)?;
@@ -323,7 +323,7 @@ fn broken(breaker: &mut Breaker, literal: &[u8], sink: &mut Over<FakeWriter>) ->
     breaker.newline(sink)
 }
 
-/// Breaks a logical line into a sink that fails at one write, and tries each call twice after that.
+// Breaks a logical line into a sink that fails at one write, and tries each call twice after that.
 fn try_failing(
     rt: &(impl Abort + AllocGlobal),
     limit: u32,
@@ -346,7 +346,7 @@ fn try_failing(
     }
 }
 
-/// Whether a write failed: a beginning of the lines stands there then, and nothing followed it.
+// Whether a write failed: a beginning of the lines stands there then, and nothing followed it.
 fn fails(rt: &impl Abort, tried: &Tried, at: u64, lines: &[u8]) -> bool {
     if tried.answer.is_ok() {
         return false;

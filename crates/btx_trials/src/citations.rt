@@ -8,10 +8,10 @@ use std::ops::Range;
 use std::process::Abort;
 use std::test::Fail;
 
-/// How many lines, errors and keys a job has, and how its reading ended.
+// How many lines, errors and keys a job has, and how its reading ended.
 type Counts = (usize, usize, usize, End);
 
-/// A top file's first lines, before one for a database and one for a style; its keys, its log and its counts, in the form of `Told`.
+// A top file's first lines, before one for a database and one for a style; its keys, its log and its counts, in the form of `Told`.
 #[derive(Clone, Copy)]
 struct Row {
     lines: &'static [u8],
@@ -20,7 +20,7 @@ struct Row {
     counts: Counts,
 }
 
-/// The worked rows.
+// The worked rows.
 const ROWS: [Row; 13] = [
     Row {
         lines: b"\\citation{k,K}",
@@ -104,9 +104,9 @@ const ROWS: [Row; 13] = [
 
 const FOUND_TOP: &[u8] = b"The top-level auxiliary file: job.aux\n";
 
-/// What a job says, as plain texts: the log's lines, each with its end and an error behind a `!`; the keys, each with a semicolon;
-/// and the databases, each with a semicolon, with the style behind a colon. A test that holds a job or a finder itself takes long to
-/// prove, since each `?` is a way out on which all of it is dropped.
+// What a job says, as plain texts: the log's lines, each with its end and an error behind a `!`; the keys, each with a semicolon;
+// and the databases, each with a semicolon, with the style behind a colon. A test that holds a job or a finder itself takes long to
+// prove, since each `?` is a way out on which all of it is dropped.
 #[derive(Drop)]
 struct Told {
     log: Vec<u8>,
@@ -116,7 +116,7 @@ struct Told {
     counts: Counts,
 }
 
-/// Lines of a log, each with its end, and an error behind a `!`.
+// Lines of a log, each with its end, and an error behind a `!`.
 fn log_of(alloc: Global, lines: &[LogLine]) -> Result<Vec<u8>, AllocError> {
     let mut text = Vec::new(alloc);
     for line in lines {
@@ -129,7 +129,7 @@ fn log_of(alloc: Global, lines: &[LogLine]) -> Result<Vec<u8>, AllocError> {
     Ok(text)
 }
 
-/// Names or keys, each with a semicolon.
+// Names or keys, each with a semicolon.
 fn listed(alloc: Global, names: &[Vec<u8>]) -> Result<Vec<u8>, AllocError> {
     let mut text = Vec::new(alloc);
     for name in names {
@@ -139,7 +139,7 @@ fn listed(alloc: Global, names: &[Vec<u8>]) -> Result<Vec<u8>, AllocError> {
     Ok(text)
 }
 
-/// The databases of a job, each with a semicolon, and its style behind a colon.
+// The databases of a job, each with a semicolon, and its style behind a colon.
 fn files_of(alloc: Global, job: &AuxJob) -> Result<Vec<u8>, AllocError> {
     let mut text = listed(alloc, job.databases())?;
     if let Some(style) = job.style() {
@@ -149,12 +149,12 @@ fn files_of(alloc: Global, job: &AuxJob) -> Result<Vec<u8>, AllocError> {
     Ok(text)
 }
 
-/// How many lines, errors and keys a job has, and how its reading ended.
+// How many lines, errors and keys a job has, and how its reading ended.
 fn counts_of(job: &AuxJob) -> Counts {
     (job.log().len(), job.errors(), job.keys().len(), job.end())
 }
 
-/// What a job says.
+// What a job says.
 fn tell(alloc: Global, job: &AuxJob) -> Result<Told, AllocError> {
     Ok(Told {
         log: log_of(alloc, job.log())?,
@@ -165,45 +165,45 @@ fn tell(alloc: Global, job: &AuxJob) -> Result<Told, AllocError> {
     })
 }
 
-/// What the job of a name says, over a finder.
+// What the job of a name says, over a finder.
 fn read_from<F: Finder>(alloc: Global, finder: &mut F, name: &[u8]) -> Result<Told, Fault> {
     let job = read_aux(alloc, finder, name)?;
     tell(alloc, &job).map_err(Fault::from)
 }
 
-/// A file's name and bytes.
+// A file's name and bytes.
 type File<'a> = (&'a [u8], &'a [u8]);
 
-/// What the job of a name says, over files in memory.
+// What the job of a name says, over files in memory.
 fn read_named(alloc: Global, files: &[File<'_>], name: &[u8]) -> Result<Told, Fault> {
     let mut finder = MemoryFinder::new(alloc, files)?;
     read_from(alloc, &mut finder, name)
 }
 
-/// What the job `job.aux` says, over files in memory.
+// What the job `job.aux` says, over files in memory.
 fn read(alloc: Global, files: &[File<'_>]) -> Result<Told, Fault> {
     read_named(alloc, files, b"job.aux")
 }
 
-/// What a job says whose top file ends in one line for a database and one for a style.
+// What a job says whose top file ends in one line for a database and one for a style.
 fn read_lines(alloc: Global, lines: &[u8]) -> Result<Told, Fault> {
     let top = joined(alloc, &[lines, b"\n\\bibdata{d}\n\\bibstyle{s}\n"])?;
     read(alloc, &[(b"job.aux", &top)])
 }
 
-/// The place of a key, given by its lowered form, in the job of these lines.
+// The place of a key, given by its lowered form, in the job of these lines.
 fn place_of(alloc: Global, lines: &[u8], lowered: &[u8]) -> Result<Option<usize>, Fault> {
     let mut finder = MemoryFinder::new(alloc, &[(b"job.aux", lines)])?;
     let job = read_aux(alloc, &mut finder, b"job.aux")?;
     Ok(job.position(lowered))
 }
 
-/// Asserts that two texts are the same.
+// Asserts that two texts are the same.
 fn same(rt: &impl Abort, found: &[u8], wanted: &[u8]) {
     assert_eq!(rt; found, wanted);
 }
 
-/// Asserts a job's keys, its log and its counts.
+// Asserts a job's keys, its log and its counts.
 fn says(
     rt: &impl Abort,
     told: Result<Told, Fault>,
@@ -218,7 +218,7 @@ fn says(
     Ok(())
 }
 
-/// Asserts a job's files, and the place of `*`.
+// Asserts a job's files, and the place of `*`.
 fn uses(
     rt: &impl Abort,
     told: Result<Told, Fault>,
@@ -231,7 +231,7 @@ fn uses(
     Ok(())
 }
 
-/// Asserts at which place a key stands.
+// Asserts at which place a key stands.
 fn stands(
     rt: &impl Abort,
     place: Result<Option<usize>, Fault>,
@@ -242,7 +242,7 @@ fn stands(
     Ok(())
 }
 
-/// Asserts how long the text of a job's keys is and how it ends, and the job's counts.
+// Asserts how long the text of a job's keys is and how it ends, and the job's counts.
 fn ends(
     rt: &impl Abort,
     told: Result<Told, Fault>,
@@ -256,7 +256,7 @@ fn ends(
     Ok(())
 }
 
-/// Files that input one another, one of them given twice.
+// Files that input one another, one of them given twice.
 fn through() -> [File<'static>; 3] {
     [
         (b"a.aux", b"an older file of this name"),
@@ -268,7 +268,7 @@ fn through() -> [File<'static>; 3] {
     ]
 }
 
-/// A chain of files, each of which inputs the next.
+// A chain of files, each of which inputs the next.
 const CHAIN: [File<'static>; 21] = [
     (b"job.aux", b"\\@input{f1.aux}\n\\citation{k0}"),
     (b"f1.aux", b"\\@input{f2.aux}\n\\citation{k1}"),
@@ -304,7 +304,7 @@ fn tells_what_is_wrong(rt: HostRuntime) -> Result<(), Fail> {
 
 const PARTS: &[u8] = b"\\citation{a,B}\n\\citation{*,c}\n\\bibdata{x,y.bib}";
 
-/// The log of these lines: a second one for databases follows.
+// The log of these lines: a second one for databases follows.
 fn two_bibdata() -> &'static [u8] {
     b"The top-level auxiliary file: job.aux\n!Error--Illegal, another \\bibdata command--line 4 of file job.aux\n"
 }
@@ -324,12 +324,12 @@ fn finds_keys_by_their_lowered_forms(rt: HostRuntime) -> Result<(), Fail> {
     stands(&rt, place_of(rt.alloc(), PARTS, b"B"), None)
 }
 
-/// The log of an empty top file.
+// The log of an empty top file.
 fn all_missing() -> &'static [u8] {
     b"The top-level auxiliary file: job.aux\n!Error--I found no \\citation commands\n!Error--I found no \\bibdata command\n!Error--I found no \\bibstyle command\n"
 }
 
-/// An empty top file.
+// An empty top file.
 const EMPTY: [File<'static>; 1] = [(b"job.aux", b"")];
 
 #[test]
@@ -342,7 +342,7 @@ fn tells_what_is_missing(rt: HostRuntime) -> Result<(), Fail> {
     uses(&rt, told, b"", None)
 }
 
-/// The log of files that input one another.
+// The log of files that input one another.
 fn through_log() -> &'static [u8] {
     b"The top-level auxiliary file: job.aux\nA level-1 auxiliary file: a.aux\n!Error--Already encountered file job.aux--line 2 of file a.aux\n"
 }
@@ -353,7 +353,7 @@ fn reads_no_file_twice(rt: HostRuntime) -> Result<(), Fail> {
     says(&rt, told, b"k;", through_log(), (3, 1, 1, End::Whole))
 }
 
-/// A text once for each of these numbers, which stands there in the place of each `#`.
+// A text once for each of these numbers, which stands there in the place of each `#`.
 fn numbered(alloc: Global, numbers: Range<u32>, text: &[u8]) -> Result<Vec<u8>, Fail> {
     let mut whole = Vec::new(alloc);
     for number in numbers {
@@ -369,7 +369,7 @@ fn numbered(alloc: Global, numbers: Range<u32>, text: &[u8]) -> Result<Vec<u8>, 
     Ok(whole)
 }
 
-/// A log of the top file, the nineteen files behind it, and these lines.
+// A log of the top file, the nineteen files behind it, and these lines.
 fn chain_log(alloc: Global, lines: &[u8]) -> Result<Vec<u8>, Fail> {
     let found = numbered(alloc, 1..20, b"A level-# auxiliary file: f#.aux\n")?;
     Ok(joined(alloc, &[FOUND_TOP, &found, lines])?)
@@ -382,12 +382,12 @@ fn opens_twenty_files(rt: HostRuntime) -> Result<(), Fail> {
     says(&rt, told, b"", &log, (20, 0, 0, End::TooManyOpen))
 }
 
-/// The log's last lines for a chain of twenty files, the last of which inputs one that isn't there.
+// The log's last lines for a chain of twenty files, the last of which inputs one that isn't there.
 fn missing_file() -> &'static [u8] {
     b"!Error--I couldn't open auxiliary file f20.aux--line 1 of file f19.aux\n!Error--I found no \\bibdata command\n!Error--I found no \\bibstyle command\n"
 }
 
-/// The keys of the twenty files.
+// The keys of the twenty files.
 fn twenty_keys() -> &'static [u8] {
     b"k19;k18;k17;k16;k15;k14;k13;k12;k11;k10;k9;k8;k7;k6;k5;k4;k3;k2;k1;k0;"
 }
@@ -399,10 +399,10 @@ fn goes_on_behind_the_twentieth(rt: HostRuntime) -> Result<(), Fail> {
     says(&rt, told, twenty_keys(), &log, (23, 3, 20, End::Whole))
 }
 
-/// How a read ended whose finder fails: its fault, and how often the finder was asked and failed.
+// How a read ended whose finder fails: its fault, and how often the finder was asked and failed.
 type Tried = (Option<Fault>, u64, u64);
 
-/// Reads the files that input one another, where the device fails at one fetch.
+// Reads the files that input one another, where the device fails at one fetch.
 fn try_failing(alloc: Global, fails_at: u64) -> Result<Tried, FetchFault> {
     let mut finder = FailingFinder {
         inner: MemoryFinder::new(alloc, &through())?,
@@ -414,7 +414,7 @@ fn try_failing(alloc: Global, fails_at: u64) -> Result<Tried, FetchFault> {
     Ok((fault, finder.fetches, finder.failures))
 }
 
-/// Reads the files that input one another, where one fetch is refused memory.
+// Reads the files that input one another, where one fetch is refused memory.
 fn try_refused(alloc: Global, refused_at: u64) -> Result<Tried, FetchFault> {
     let mut finder = RefusedFinder {
         inner: MemoryFinder::new(alloc, &through())?,
@@ -425,12 +425,12 @@ fn try_refused(alloc: Global, refused_at: u64) -> Result<Tried, FetchFault> {
     Ok((fault, finder.fetches, 0))
 }
 
-/// Asserts how a read ended.
+// Asserts how a read ended.
 fn ended(rt: &impl Abort, tried: Tried, wanted: Tried) {
     assert_eq!(rt; tried, wanted);
 }
 
-/// Two files are fetched: a fault at a third fetch is never met.
+// Two files are fetched: a fault at a third fetch is never met.
 #[test]
 fn stops_at_a_failing_fetch(rt: HostRuntime) -> Result<(), Fail> {
     let device = Some(Fault::Device);
@@ -449,7 +449,7 @@ fn stops_at_a_refused_fetch(rt: HostRuntime) -> Result<(), Fail> {
     Ok(())
 }
 
-/// Each line cites a key, the same in another case, and the first again.
+// Each line cites a key, the same in another case, and the first again.
 #[test]
 fn reads_many_citations(rt: HostRuntime) -> Result<(), Fail> {
     let top = numbered(rt.alloc(), 0..100_000, b"\\citation{Key#,key#,Key#}\n")?;
@@ -458,7 +458,7 @@ fn reads_many_citations(rt: HostRuntime) -> Result<(), Fail> {
     ends(&rt, told, 888_890, b";Key99999;", counts)
 }
 
-/// Each line inputs a file of its own.
+// Each line inputs a file of its own.
 #[test]
 fn reads_many_files(rt: HostRuntime) -> Result<(), Fail> {
     let top = numbered(rt.alloc(), 0..5_000, b"\\@input{i#.aux}\n")?;
@@ -471,7 +471,7 @@ fn reads_many_files(rt: HostRuntime) -> Result<(), Fail> {
     ends(&rt, told, 2, b"k;", (5_003, 2, 1, End::Whole))
 }
 
-/// A line that cites a key of 10,000,000 bytes.
+// A line that cites a key of 10,000,000 bytes.
 fn long_line(alloc: Global) -> Result<Vec<u8>, AllocError> {
     let mut top = Vec::from_slice(alloc, b"\\citation{")?;
     for _ in 0..10_000_000u32 {
@@ -481,7 +481,7 @@ fn long_line(alloc: Global) -> Result<Vec<u8>, AllocError> {
     Ok(top)
 }
 
-/// The text of the keys has a semicolon more than the key.
+// The text of the keys has a semicolon more than the key.
 #[test]
 fn reads_a_long_line(rt: HostRuntime) -> Result<(), Fail> {
     let top = long_line(rt.alloc())?;
@@ -489,7 +489,7 @@ fn reads_a_long_line(rt: HostRuntime) -> Result<(), Fail> {
     ends(&rt, told, 10_000_001, b"K;", (3, 2, 1, End::Whole))
 }
 
-/// Fetches one of the files that input one another.
+// Fetches one of the files that input one another.
 fn fetch(alloc: Global, name: &[u8], into: &mut Vec<u8>) -> Result<bool, FetchFault> {
     let mut finder = MemoryFinder::new(alloc, &through())?;
     finder.fetch(alloc, name, into)

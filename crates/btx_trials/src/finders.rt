@@ -76,7 +76,7 @@ pub struct EveryFinder<'a> {
     pub others: &'a [u8],
 }
 
-/// Puts these bytes in place of what was there.
+// Puts these bytes in place of what was there.
 fn fill(into: &mut Vec<u8>, bytes: &[u8]) -> Result<(), FetchFault>
     ensures err { OnErr result (into.new.items ≡ []) }
     ensures fault { IfErr result (λ fault. fault ≡ FetchFault.Memory) }

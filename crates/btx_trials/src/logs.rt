@@ -7,7 +7,7 @@ use std::alloc::Global;
 use std::process::Abort;
 use std::test::Fail;
 
-/// What the lines of a log have written: an answer, the bytes, and how often the sink was written to and failed.
+// What the lines of a log have written: an answer, the bytes, and how often the sink was written to and failed.
 #[derive(Drop)]
 struct Written {
     answer: Result<(), Fault>,
@@ -16,7 +16,7 @@ struct Written {
     failures: u64,
 }
 
-/// Writes lines to a log.
+// Writes lines to a log.
 fn tell(lines: &[&[u8]], sink: &mut Over<FakeWriter>) -> Result<(), Fault> {
     let mut log = Log::new();
     for line in lines {
@@ -25,7 +25,7 @@ fn tell(lines: &[&[u8]], sink: &mut Over<FakeWriter>) -> Result<(), Fault> {
     Ok(())
 }
 
-/// Writes lines to a sink that takes so many bytes at a time, and fails at one write.
+// Writes lines to a sink that takes so many bytes at a time, and fails at one write.
 fn write_lines(alloc: Global, lines: &[&[u8]], most: usize, how: Failing, at: u64) -> Written {
     let mut sink = Over::new(FakeWriter::new(alloc, most, how, at));
     let answer = tell(lines, &mut sink);
@@ -37,7 +37,7 @@ fn write_lines(alloc: Global, lines: &[&[u8]], most: usize, how: Failing, at: u6
     }
 }
 
-/// Asserts that these bytes were written without a failure.
+// Asserts that these bytes were written without a failure.
 fn gives(rt: &impl Abort, written: &Written, bytes: &[u8]) {
     assert!(rt; written.answer.is_ok() && written.failures == 0);
     assert_eq!(rt; written.bytes.as_slice(), bytes);
@@ -50,7 +50,7 @@ fn lines(rt: HostRuntime) {
     gives(&rt, &written, b"The style file: s.bst\n\nwhite stays \t\n");
 }
 
-/// A long line isn't broken.
+// A long line isn't broken.
 #[test]
 fn long_lines(rt: HostRuntime) -> Result<(), Fail> {
     let long = joined(rt.alloc(), &[b"word ".as_slice(); 100])?;
@@ -60,14 +60,14 @@ fn long_lines(rt: HostRuntime) -> Result<(), Fail> {
     Ok(())
 }
 
-/// Asserts that a sink failed at one write, behind these bytes, and that nothing followed it.
+// Asserts that a sink failed at one write, behind these bytes, and that nothing followed it.
 fn fails(rt: &impl Abort, written: &Written, at: u64, bytes: &[u8]) {
     assert!(rt; written.answer == Err(Fault::Device) && written.failures == 1);
     assert!(rt; written.writes == at.saturating_add(1), "write {at}");
     assert_eq!(rt; written.bytes.as_slice(), bytes);
 }
 
-/// In pieces of 7 bytes: two of the line, and one of its end.
+// In pieces of 7 bytes: two of the line, and one of its end.
 #[test]
 fn failed_writes(rt: HostRuntime) {
     for how in [Failing::Error, Failing::Zero, Failing::Interrupted] {

@@ -8,13 +8,13 @@ use std::test::Fail;
 
 const LIMIT: usize = 1_000_000;
 
-/// As in the list of references: names in full.
+// As in the list of references: names in full.
 const PLAIN: &str = "{ff~}{vv~}{ll}{, jj}";
-/// Last names first.
+// Last names first.
 const LAST_FIRST: &str = "{vv~}{ll}{, jj}{, f.}";
-/// Abbreviated first names.
+// Abbreviated first names.
 const ABBREVIATED: &str = "{f.~}{vv~}{ll}{, jj}";
-/// Last names without anything between them.
+// Last names without anything between them.
 const RUN_TOGETHER: &str = "{ll{}}";
 
 // The text of a name in a format, and the complaints.

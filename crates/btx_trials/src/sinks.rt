@@ -3,21 +3,21 @@ use crate::fakes::{Failing, FakeWriter};
 use btx_out::{Over, Sink, SinkFault};
 use std::process::Abort;
 
-/// What a write answered, and how often the sink has failed.
+// What a write answered, and how often the sink has failed.
 type Step = (Result<usize, SinkFault>, u64);
 
-/// Writes once.
+// Writes once.
 fn step(sink: &mut Over<FakeWriter>, bytes: &[u8]) -> Step {
     let answer = sink.write(bytes);
     (answer, sink.failures)
 }
 
-/// Asserts what writes answered.
+// Asserts what writes answered.
 fn same(rt: &impl Abort, steps: [Step; 3], wanted: [Step; 3]) {
     assert!(rt; steps == wanted);
 }
 
-/// A write that takes few bytes, one that fails, and one after it: one write of the writer for each.
+// A write that takes few bytes, one that fails, and one after it: one write of the writer for each.
 #[test]
 fn answers(rt: HostRuntime) {
     for (how, answer) in [
@@ -38,7 +38,7 @@ fn answers(rt: HostRuntime) {
     }
 }
 
-/// Nothing was to be taken.
+// Nothing was to be taken.
 #[test]
 fn empty_pieces(rt: HostRuntime) {
     let mut sink = Over::new(FakeWriter::new(rt.alloc(), 3, Failing::Never, 0));

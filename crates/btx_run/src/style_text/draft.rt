@@ -58,7 +58,7 @@ impl<'a> Draft<'a> {
         }
     }
 
-    /// Adds an ENTRY.
+    // Adds an ENTRY.
     fn enter(
         &mut self,
         fields: &[&'a [u8]],
@@ -77,7 +77,7 @@ impl<'a> Draft<'a> {
         Ok(true)
     }
 
-    /// Adds a FUNCTION.
+    // Adds a FUNCTION.
     fn define(&mut self, function: Function<'a>) -> Result<bool, AllocError>
         ensures { IfOk result (λ taken. drafted (draft_view self.old) (Defines function.entry.name.now (parts_view function.entry.body.items)) ≡ (if taken then Some (draft_view self.new) else None)) }
     {
@@ -92,7 +92,7 @@ impl<'a> Draft<'a> {
         Ok(true)
     }
 
-    /// Adds a READ.
+    // Adds a READ.
     fn read(&mut self) -> bool
         ensures { drafted (draft_view self.old) Read ≡ (if result then Some (draft_view self.new) else None) }
     {
@@ -104,7 +104,7 @@ impl<'a> Draft<'a> {
         true
     }
 
-    /// Adds an EXECUTE.
+    // Adds an EXECUTE.
     fn execute(&mut self, name: &[u8]) -> Result<bool, AllocError>
         ensures { IfOk result (λ taken. drafted (draft_view self.old) (Execute name.now) ≡ (if taken then Some (draft_view self.new) else None)) }
     {
@@ -138,7 +138,7 @@ impl<'a> Draft<'a> {
     }
 }
 
-/// Whether a name is one of these.
+// Whether a name is one of these.
 fn is_among(name: &[u8], names: &[&[u8]]) -> bool
     ensures { result ≡ list_any (bytes_eq name.now) (texts_of names.now) }
 {
@@ -150,7 +150,7 @@ fn is_among(name: &[u8], names: &[&[u8]]) -> bool
     false
 }
 
-/// Adds a name, unless it is taken.
+// Adds a name, unless it is taken.
 fn add_name<'a>(names: &mut Vec<&'a [u8]>, name: &'a [u8]) -> Result<bool, AllocError>
     ensures { IfOk result (λ added. with_new (texts_of names.old.items) (name.now ∷ []) ≡ (if added then Some (texts_of names.new.items) else None)) }
 {
@@ -161,7 +161,7 @@ fn add_name<'a>(names: &mut Vec<&'a [u8]>, name: &'a [u8]) -> Result<bool, Alloc
     Ok(true)
 }
 
-/// Adds names, unless one of them is taken.
+// Adds names, unless one of them is taken.
 fn add_names<'a>(names: &mut Vec<&'a [u8]>, more: &[&'a [u8]]) -> Result<bool, AllocError>
     ensures { IfOk result (λ added. with_new (texts_of names.old.items) (texts_of more.now) ≡ (if added then Some (texts_of names.new.items) else None)) }
 {
@@ -173,7 +173,7 @@ fn add_names<'a>(names: &mut Vec<&'a [u8]>, more: &[&'a [u8]]) -> Result<bool, A
     Ok(true)
 }
 
-/// Adds the names of an ENTRY, unless one of them is taken.
+// Adds the names of an ENTRY, unless one of them is taken.
 #[tactic(auto, using(crate::proofs::DraftLemmas::new_steps))]
 fn add_entry<'a>(
     names: &mut Vec<&'a [u8]>,
@@ -193,7 +193,7 @@ fn add_entry<'a>(
     add_names(names, strings)
 }
 
-/// The index of the function of a name.
+// The index of the function of a name.
 fn index_of(name: &[u8], functions: &[Function]) -> Option<usize>
     ensures value { result ≡ position_from (is_named name.now) 0 (functions_view functions.now) }
     ensures bound { IfSome result (λ i. i < length functions.now) }

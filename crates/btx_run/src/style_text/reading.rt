@@ -12,7 +12,7 @@ use crate::style_text::token::Token;
 use crate::style_text::tokens::Tokens;
 use std::alloc::{AllocError, Global};
 
-/// Takes a `{`.
+// Takes a `{`.
 fn open(tokens: &mut Tokens) -> Option<()>
     ensures { after_open tokens.old ≡ option_map (λ _. tokens.new) result }
 {
@@ -22,7 +22,7 @@ fn open(tokens: &mut Tokens) -> Option<()>
     }
 }
 
-/// Takes a `}`.
+// Takes a `}`.
 fn close(tokens: &mut Tokens) -> Option<()>
     ensures { after_close tokens.old ≡ option_map (λ _. tokens.new) result }
 {
@@ -32,7 +32,7 @@ fn close(tokens: &mut Tokens) -> Option<()>
     }
 }
 
-/// Takes a word.
+// Takes a word.
 fn word<'a>(tokens: &mut Tokens<'a>) -> Option<&'a [u8]>
     ensures { word_of tokens.old ≡ option_map (λ word. (word.now, tokens.new)) result }
 {
@@ -42,21 +42,21 @@ fn word<'a>(tokens: &mut Tokens<'a>) -> Option<&'a [u8]>
     }
 }
 
-/// Whether all bytes of a word are `a-z`.
+// Whether all bytes of a word are `a-z`.
 fn are_lower(word: &[u8]) -> bool
     ensures { result ≡ list_all is_lower word.now }
 {
     word.iter().all(|byte| matches!(byte, b'a'..=b'z'))
 }
 
-/// Whether a word is a name, a run of `a-z`.
+// Whether a word is a name, a run of `a-z`.
 fn is_name(word: &[u8]) -> bool
     ensures { result ≡ is_name word.now }
 {
     !word.is_empty() && are_lower(word)
 }
 
-/// Takes a name.
+// Takes a name.
 fn name<'a>(tokens: &mut Tokens<'a>) -> Option<&'a [u8]>
     ensures { name_of tokens.old ≡ option_map (λ name. (name.now, tokens.new)) result }
 {
@@ -64,7 +64,7 @@ fn name<'a>(tokens: &mut Tokens<'a>) -> Option<&'a [u8]>
     if is_name(name) { Some(name) } else { None }
 }
 
-/// Takes the word `write$`.
+// Takes the word `write$`.
 fn write(tokens: &mut Tokens) -> Option<()>
     ensures { after_write tokens.old ≡ option_map (λ _. tokens.new) result }
 {
@@ -74,7 +74,7 @@ fn write(tokens: &mut Tokens) -> Option<()>
     }
 }
 
-/// Whether a word is `newline$`.
+// Whether a word is `newline$`.
 fn is_newline(word: &[u8]) -> bool
     ensures { result ≡ is_newline word.now }
 {
@@ -104,7 +104,7 @@ pub fn names_group<'a>(
     }
 }
 
-/// Takes names up to a `}`.
+// Takes names up to a `}`.
 #[tactic(auto, using(crate::proofs::CommandLemmas::name_steps))]
 fn names<'a>(alloc: Global, tokens: &mut Tokens<'a>) -> Result<Option<Vec<&'a [u8]>>, AllocError>
     ensures { IfOk result (λ names. names_of tokens.old ≡ option_map (λ found. (texts_of found.items, tokens.new)) names) }
@@ -138,7 +138,7 @@ pub fn body_group<'a>(
     }
 }
 
-/// Takes the parts of a body, up to its `}`.
+// Takes the parts of a body, up to its `}`.
 #[tactic(auto, using(crate::proofs::CommandLemmas::part_steps))]
 fn parts<'a>(alloc: Global, tokens: &mut Tokens<'a>) -> Result<Option<Vec<Part<'a>>>, AllocError>
     ensures { IfOk result (λ parts. parts_of tokens.old ≡ option_map (λ found. (parts_view found.items, tokens.new)) parts) }
@@ -189,7 +189,7 @@ pub fn command<'a>(
     Ok(None)
 }
 
-/// Takes the three groups of names of an ENTRY.
+// Takes the three groups of names of an ENTRY.
 fn entry<'a>(alloc: Global, tokens: &mut Tokens<'a>) -> Result<Option<Command<'a>>, AllocError>
     ensures { IfOk result (λ command. entry_from tokens.old ≡ option_map (λ found. (command_view found, tokens.new)) command) }
 {
@@ -205,7 +205,7 @@ fn entry<'a>(alloc: Global, tokens: &mut Tokens<'a>) -> Result<Option<Command<'a
     Ok(Some(Command::Entry(fields, integers, strings)))
 }
 
-/// Takes the name and the body of a FUNCTION.
+// Takes the name and the body of a FUNCTION.
 fn function<'a>(alloc: Global, tokens: &mut Tokens<'a>) -> Result<Option<Command<'a>>, AllocError>
     ensures { IfOk result (λ command. function_from tokens.old ≡ option_map (λ found. (command_view found, tokens.new)) command) }
 {

@@ -57,7 +57,7 @@ impl<'a> Iterator for Tokens<'a> {
     }
 }
 
-/// The token that begins a text, and the text after it.
+// The token that begins a text, and the text after it.
 #[tactic(auto, unfolding(crate::specs::StyleTokens::first_token))]
 fn token_at<'a>(first: u8, after: &'a [u8], text: &'a [u8]) -> (Token<'a>, &'a [u8])
     requires text { text.now ≡ first ∷ after.now }
@@ -75,7 +75,7 @@ fn token_at<'a>(first: u8, after: &'a [u8], text: &'a [u8]) -> (Token<'a>, &'a [
     }
 }
 
-/// The string of which this text begins behind the first quote, and the text after it.
+// The string of which this text begins behind the first quote, and the text after it.
 #[tactic(auto, using(crate::proofs::TokenLemmas::string_steps))]
 fn string_at(text: &[u8]) -> (Token<'_>, &[u8])
     ensures token { token_view result.0 ≡ (string_at text.now).token }
@@ -88,7 +88,7 @@ fn string_at(text: &[u8]) -> (Token<'_>, &[u8])
     }
 }
 
-/// How many white bytes and line ends a text begins with.
+// How many white bytes and line ends a text begins with.
 #[tactic(auto, using(crate::proofs::TokenLemmas::len_steps))]
 fn space_len(text: &[u8]) -> usize
     ensures value { result ≡ space_len text.now }
@@ -102,7 +102,7 @@ fn space_len(text: &[u8]) -> usize
     text.len()
 }
 
-/// How many bytes of a text stand before the end of a word.
+// How many bytes of a text stand before the end of a word.
 #[tactic(auto, using(crate::proofs::TokenLemmas::len_steps))]
 fn word_len(text: &[u8]) -> usize
     ensures value { result ≡ word_len text.now }
@@ -116,7 +116,7 @@ fn word_len(text: &[u8]) -> usize
     text.len()
 }
 
-/// How many bytes of a text stand before the next quote or line end.
+// How many bytes of a text stand before the next quote or line end.
 #[tactic(auto, using(crate::proofs::TokenLemmas::len_steps))]
 fn string_len(text: &[u8]) -> usize
     ensures value { result ≡ string_len text.now }
@@ -130,21 +130,21 @@ fn string_len(text: &[u8]) -> usize
     text.len()
 }
 
-/// Whether a byte is white or a line end.
+// Whether a byte is white or a line end.
 fn is_space(byte: u8) -> bool
     ensures { result ≡ is_space byte }
 {
     matches!(byte, b' ' | b'\t' | b'\r' | b'\n')
 }
 
-/// Whether a word ends before this byte.
+// Whether a word ends before this byte.
 fn ends_word(byte: u8) -> bool
     ensures { result ≡ ends_word byte }
 {
     is_space(byte) || matches!(byte, b'{' | b'}')
 }
 
-/// Whether a string may end before this text.
+// Whether a string may end before this text.
 fn ends_string(text: &[u8]) -> bool
     ensures { result ≡ ends_string text.now }
 {

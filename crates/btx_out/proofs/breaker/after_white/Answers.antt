@@ -1,6 +1,9 @@
-use Rattle.std.proofs.Common.{sym, ◌∙◌}
-use Rattle.btx_out.proofs.KeptLemmas.{skip_white-here}
+use Rattle.std.proofs.Common.{◌∙◌}
+use Rattle.btx_out.proofs.KeptLemmas.{skip_within, skip_rest}
 use Rattle.btx_out.proofs.breaker.after_white.Goals as goal
 
-pub returns-then-not-is_white : goal.returns-then-not-is_white
-returns-then-not-is_white c = skip_white-here _ _ _ c.in-Some.ensures.cases.0 (sym c.if-not-is_white.ensures) ∙ c.loop-first.invariant
+pub split_at-requires : goal.split_at-requires
+split_at-requires c = skip_within c.args.bytes.now c.white_len.result c.white_len.ensures
+
+pub returns : goal.returns
+returns c = c.split_at.ensures.back ∙ skip_rest c.args.bytes.now c.white_len.result c.white_len.ensures

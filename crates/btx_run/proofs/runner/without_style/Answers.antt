@@ -1,4 +1,4 @@
-use Rattle.std.proofs.Common.{◌≡◌, ◌++◌, ◌∷◌, [], ◌∙◌, true, Some, ap, sym}
+use Rattle.std.proofs.Common.{◌≡◌, ◌++◌, ◌∷◌, [], ◌∙◌, Some, ap, sym}
 use Rattle.btx_run.specs.declared.report.End.TheVariants as ended
 use Rattle.btx_run.specs.LogLines.{no_style_line}
 use Rattle.btx_run.specs.Product.{Ends, reading}

@@ -5,4 +5,4 @@ use Rattle.btx_run.proofs.ProgressLemmas.{stands_none}
 use Rattle.btx_run.proofs.execution.Progress.new.Goals as goal
 
 pub returns : goal.returns
-returns c = stands_none _ (c.new.ensures ∙ ap (λ limit. holding limit (Collecting [])) c.default.ensures) refl
+returns c = stands_none _ (c.new.ensures.held ∙ ap (λ limit. holding limit (Collecting [])) c.default.ensures) refl

@@ -1,0 +1,169 @@
+# How jobs, databases and styles may be named, and where they are found.
+
+begin same_folder
+run_search job
+wants_first job
+wants_text job.blg "$first_log"
+end
+
+begin with_its_ending
+run_search job.aux
+wants_first job
+end
+
+begin another_folder
+mkdir 'sub folder'
+mv job.aux 'sub folder'
+run_search 'sub folder/job'
+wants_first 'sub folder/job'
+end
+
+begin absolute_job
+mkdir elsewhere
+mv job.aux elsewhere
+run_search "$PWD/elsewhere/job"
+wants_first elsewhere/job
+end
+
+begin job_above
+mkdir inner
+cp d.bib s.bst inner
+cd inner
+run_search ../job
+wants_first ../job
+end
+
+for name in 'two words' $'two\nlines' '-job' '*' '$HOME' 'a"b' "a'b" '`b`' 'j.aux'; do
+    begin "job_$((passed + failed))"
+    mv -- job.aux "$name.aux"
+    run_search -- "$name.aux"
+    wants_first "./$name"
+    end
+done
+
+begin present_folder_of_any_name
+mkdir -- $'-a b\n$HOME'
+mv job.aux d.bib s.bst ./-a*
+cd ./-a*
+run_search job
+wants_first job
+run_plainly ./job
+wants_first job
+end
+
+begin links_in_a_relative_folder
+mkdir 'in here'
+TMPDIR='in here' run_search job
+wants_first job
+[ -z "$(ls -A 'in here')" ] || complaints+=('links are left over')
+end
+
+begin outputs_through_links
+ln -s kept.bbl job.bbl
+run_search job
+wants_first job
+[ -L job.bbl ] || complaints+=('the link was replaced')
+end
+
+# What `\bibdata` and `\bibstyle` may say, and the command that gets the files there.
+# named DATABASE STYLE: the job names these.
+named() {
+    printf '\\citation{k}\n\\bibdata{%s}\n\\bibstyle{%s}\n' "$1" "$2" >job.aux
+}
+
+begin names_above
+mkdir inner
+named ../d ../s
+mv job.aux inner
+cd inner
+run_search job
+wants_first job
+end
+
+begin absolute_names
+mkdir away
+mv d.bib s.bst away
+named "$PWD/away/d" "$PWD/away/s.bst"
+run_search job
+wants_first job
+end
+
+begin names_in_folders
+mkdir refs
+mv d.bib s.bst refs
+named refs/d ./refs/../refs/s
+run_search job
+wants_first job
+end
+
+for name in '-d' 'a{b' '#d' "a'b" 'a&b;c' '[d]' 'd.bst'; do
+    begin "database_$((passed + failed))"
+    mv -- d.bib "./$name.bib"
+    mv -- s.bst "./$name.bst"
+    named "$name" "$name.bst"
+    run_search job
+    wants_first job
+    run_plainly job
+    wants_first job
+    end
+done
+
+begin climbs_too_far
+named "$(printf '../%.0s' {1..30})d" s
+run_search job
+wants_refusal 'climbs over more than 20 folders'
+end
+
+begin two_files_of_one_place
+mkdir -p there/sub
+ln -s there/sub link
+cp d.bib there/d.bib
+echo '@misc{k, title = {Other}}' >>there/d.bib
+named d,link/../d s
+run_search job
+wants_refusal 'would be one file to the program'
+end
+
+begin includes
+mkdir chapters
+printf '\\@input{chapters/one.aux}\n\\bibstyle{s}\n' >job.aux
+printf '\\citation{k}\n\\@input{chapters/two.aux}\n\\@input{job.aux}\n' >chapters/one.aux
+printf '\\bibdata{d}\n' >chapters/two.aux
+run_search job
+wants_status 2
+wants_text job.bbl $'a\n'
+wants_no_links
+end
+
+begin database_that_is_a_folder
+mkdir folder.bib
+named folder s
+run_search job
+[ "$status" -eq 2 ] || [ "$status" -eq 7 ] || complaints+=("the exit status is $status")
+wants_no_links
+end
+
+begin plain_folders
+mkdir refs styles
+mv d.bib refs
+mv s.bst styles
+BIBINPUTS=nowhere:refs BSTINPUTS=styles: run_plainly job
+wants_first job
+end
+
+begin plain_present_folder
+BIBINPUTS= BSTINPUTS=nowhere: run_plainly job
+wants_first job
+end
+
+if command -v kpsewhich >/dev/null; then
+    begin search_paths
+    mkdir -p refs styles/deep/deeper
+    mv d.bib refs
+    mv s.bst styles/deep/deeper
+    BIBINPUTS=nowhere:refs: BSTINPUTS=styles//: run_search job
+    wants_first job
+    end
+else
+    echo 'left out: search paths of TeX (there is no kpsewhich)'
+fi

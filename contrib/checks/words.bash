@@ -1,0 +1,126 @@
+# The words of the command line, the statuses, and the log's lines for tools.
+
+begin help
+run_search -help
+wants_status 0
+wants_error ''
+grep -q -- '-min-crossrefs=N' "$folder/stdout" || complaints+=('the help has no -min-crossrefs')
+end
+
+for words in '' 'job job' '-nosuch job' '-nosuch=1 job' '-dir . job' '--dir=. job' 'job -budget' '-terse=yes job' '---terse job'; do
+    begin "refused_$((passed + failed))"
+    run_search $words
+    wants_refusal bibtex-search:
+    end
+done
+
+for words in '-budget 3 job' '--budget 3 job' '-budget=3 job' '--budget=3 job' 'job -budget=3' '-budget=9 job -budget 3' '-budget=3 -- job'; do
+    begin "budget_$((passed + failed))"
+    run_search $words
+    wants_status 4
+    wants_text job.bbl ''
+    end
+done
+
+begin environment_is_no_option
+job=x budget=1 line=1 terse=yes run_search job
+wants_first job
+end
+
+begin no_job
+run_search nosuch
+wants_status 3
+wants_text nosuch.bbl ''
+wants_text nosuch.blg $'Ended: no top file, warnings 0, errors 0, steps 0\n'
+end
+
+begin no_folder
+run_search nosuch/job
+wants_status 6
+wants_error_with 'device error'
+wants_no_links
+end
+
+begin no_program
+BIBTEX_PROGRAM=./nosuch run_search job
+wants_refusal 'there is no program ./nosuch'
+end
+
+begin program_is_the_script
+BIBTEX_PROGRAM=$search run_search job
+wants_status 1
+wants_error_with 'is this script itself'
+wants_no_links
+end
+
+# A program that only waits, so that the script can be interrupted.
+begin interrupted
+printf '#!/bin/sh\n: >started\nsleep 5\n' >waits
+chmod +x waits
+BIBTEX_PROGRAM=./waits setsid "$search" job >/dev/null 2>&1 &
+for moment in {1..50}; do
+    [ -f started ] || sleep 0.1
+done
+[ -n "$(ls -A "$TMPDIR")" ] || complaints+=('there was no folder of links')
+kill -TERM -- "-$!"
+wait "$!"
+wants_no_links
+end
+
+begin no_room
+TMPDIR=/nosuch run_search job
+wants_status 6
+end
+
+if takes --terse; then
+    for words in '-terse job' '--terse job' 'job -terse' '-terse -terse job'; do
+        begin "terse_$((passed + failed))"
+        run_search $words
+        wants_status 0
+        wants_output ''
+        wants_text job.bbl $'a\n'
+        wants_text job.blg "$first_log"
+        end
+    done
+else
+    echo 'left out: -terse (the program does not take it)'
+fi
+
+if takes --min-crossrefs 3; then
+    for words in '-min-crossrefs=1 job' '--min-crossrefs=1 job' '-min-crossrefs 1 job' '--min-crossrefs 1 job'; do
+        begin "min_crossrefs_$((passed + failed))"
+        cp "$examples"/cross_reference/*.{aux,bib,bst} .
+        "$program" --min-crossrefs 1 job >/dev/null
+        mv job.bbl wanted
+        run_search $words
+        cmp -s wanted job.bbl || complaints+=('the list is another than with --min-crossrefs 1')
+        end
+    done
+else
+    echo 'left out: -min-crossrefs (the program does not take it)'
+fi
+
+if "$program" --version >"$room/its_version" 2>/dev/null; then
+    begin version
+    run_search -version
+    wants_status 0
+    wants_output "$(cat "$room/its_version")"$'\n'
+    end
+else
+    echo 'left out: -version (the program does not take it)'
+fi
+
+begin lines_for_tools
+printf '\\bibdata{d}\n\\bibstyle{nosuch}\n' >job.aux
+run_search job
+wants_status 2
+wants_text job.blg "The top-level auxiliary file: job.aux
+Error--I found no \\citation commands
+Error--I couldn't open style file nosuch.bst
+Ended: finished, warnings 0, errors 2, steps 0
+The same for tools that read the log of the original:
+I found no \\citation commands---while reading file job.aux
+(There were 2 error messages)
+"
+[ "$(tail -n 1 "$folder/stdout")" = 'Ended: finished, warnings 0, errors 2, steps 0' ] || complaints+=('what was printed is not the log of the program')
+end

@@ -1,0 +1,145 @@
+-- Which keys of the list stay: the passes change neither the key of a place nor whether it has an entry and enough references.
+use Rattle.std.proofs.Common.{◌≡◌, ℕ, ◌-◌, nat_eq, nat_le, arith, Bool, true, false, ◌||◌, ◌&&◌, cond, if◌then◌else◌, List, [], ◌∷◌, ◌++◌, map, Option, None, Some, is_some, refl, sym, ap, ◌∙◌, append_assoc, append-nil}
+use Rattle.std.specs.Prelude.{count_by}
+use Rattle.std.specs.Option.{option_map}
+use Rattle.std.specs.List.{filter, flat_map}
+use Rattle.std.proofs.lemmas.Bool.Decides.{nat_tests}
+use Rattle.btx_aux.specs.Names.{is_same_key, listed_as}
+use Rattle.btx_bib.specs.declared.end.End.{End}
+use Rattle.btx_bib.specs.declared.end.End.TheVariants as end
+use Rattle.btx_bib.specs.declared.entry.Entry.{Entry}
+use Rattle.btx_bib.specs.declared.message.Message.{Message}
+use Rattle.btx_bib.specs.declared.slots.Body.{Body}
+use Rattle.btx_bib.specs.declared.slots.Slot.{Slot}
+use Rattle.btx_bib.specs.Wanted.{Wanted}
+use Rattle.btx_bib.specs.Entries.{Given, body_of}
+use Rattle.btx_bib.specs.Stored.{entry_of, references}
+use Rattle.btx_bib.specs.Listing.{keys_of, slot_of, slots_of, spelled}
+use Rattle.btx_bib.specs.Passes.{passed, inherited, inherited_from, checked, checked_by, cut, is_parent, slot_at, parent_at, parent_slot, with_values, after_first, after_second, entries_of, entry_at, entry_by, has_enough}
+use Rattle.btx_bib.specs.Known.{Known}
+use Rattle.btx_bib.specs.Databases.{library_of, library_by, read_all, told_all, with_macros}
+use Rattle.btx_bib.specs.Laws.{ListIsKept, list_of, is_due, stays}
+
+-- ---- what the passes leave alone
+
+map-append : {A : Type 0} (f : Slot → A) (xs ys : List Slot) → map f (xs ++ ys) ≡ map f xs ++ map f ys
+map-append f [] ys = refl
+map-append f (x ∷ xs) ys = ap (λ (rest : List _). f x ∷ rest) (map-append f xs ys)
+
+view-passed : {A : Type 0} (f : Slot → A) (judge : List Slot → Slot → Slot) → ((slots : List Slot) (slot : Slot) → f (judge slots slot) ≡ f slot) → (slots done : List Slot)
+    → map f (passed judge done slots) ≡ map f (done ++ slots)
+view-passed f judge keeps [] done = ap (map f) (sym (append-nil done))
+view-passed f judge keeps (slot ∷ slots) done =
+    let judged = judge (done ++ slot ∷ slots) slot in
+    view-passed f judge keeps slots (done ++ judged ∷ [])
+    ∙ ap (map f) (append_assoc done (judged ∷ []) slots)
+    ∙ map-append f done (judged ∷ slots)
+    ∙ ap (λ (seen : _). map f done ++ seen ∷ map f slots) (keeps (done ++ slot ∷ slots) slot)
+    ∙ sym (map-append f done (slot ∷ slots))
+
+-- a key, and whether its entry stays
+abbrev seen_as : List ℕ → Bool → Bool → List ℕ × Bool
+seen_as key has_entry enough = (key, has_entry && enough)
+
+abbrev view : Slot → List ℕ × Bool
+view slot = seen_as slot.key (is_some slot.body) (has_enough slot)
+
+same-body : (key : List ℕ) (enough : Bool) (body : Option Body) (values : List (Option (List ℕ))) → seen_as key (is_some (with_values body values)) enough ≡ seen_as key (is_some body) enough
+same-body key enough None values = refl
+same-body key enough (Some body) values = refl
+
+view-from : (parent : Option Slot) (slot : Slot) → view (inherited_from parent slot) ≡ view slot
+view-from None slot = refl
+view-from (Some parent) slot = same-body slot.key (has_enough slot) slot.body _
+
+view-inherited : (slots : List Slot) (slot : Slot) → view (inherited slots slot) ≡ view slot
+unfolding inherited
+view-inherited slots slot = view-from (parent_slot slots (parent_at slot)) slot
+
+view-checked_by : (parent : Option (List ℕ)) (slots : List Slot) (slot : Slot) → view (checked_by parent slots slot) ≡ view slot
+view-checked_by None slots slot = refl
+view-checked_by (Some key) slots slot = by_test (is_parent (slot_at slots key)) where
+  by_test : (b : Bool) → view (if b then slot else cut slot) ≡ view slot
+  by_test true = refl
+  by_test false = same-body slot.key (has_enough slot) slot.body _
+
+view-checked : (slots : List Slot) (slot : Slot) → view (checked slots slot) ≡ view slot
+unfolding checked
+view-checked slots slot = view-checked_by (parent_at slot) slots slot
+
+views-after : (slots : List Slot) → map view (after_second (after_first slots)) ≡ map view slots
+views-after slots = view-passed view checked view-checked (after_first slots) [] ∙ view-passed view inherited view-inherited slots []
+
+-- ---- the entries that stay
+
+-- the keys whose entries stay
+abbrev chosen_by : List ℕ × Bool → List (List ℕ)
+chosen_by seen = if seen.1 then seen.0 ∷ [] else []
+
+abbrev chosen : List (List ℕ × Bool) → List (List ℕ)
+chosen views = flat_map chosen_by views
+
+abbrev kept : List Slot → List (List ℕ)
+kept slots = map (λ (entry : Entry). entry.key) (flat_map entry_at slots)
+
+kept-chosen : (slots : List Slot) → kept slots ≡ chosen (map view slots)
+kept-chosen [] = refl
+kept-chosen (slot ∷ slots) = by_body (has_enough slot) slot.body (kept-chosen slots) where
+  by_body : (enough : Bool) (body : Option Body) → kept slots ≡ chosen (map view slots)
+      → map (λ (entry : Entry). entry.key) (entry_by slot.key enough body ++ flat_map entry_at slots) ≡ chosen_by (seen_as slot.key (is_some body) enough) ++ chosen (map view slots)
+  by_body enough None rest = rest
+  by_body true (Some body) rest = ap (λ (keys : List (List ℕ)). slot.key ∷ keys) rest
+  by_body false (Some body) rest = rest
+
+-- ---- the list's keys
+
+enough-is : (cited : Bool) (fewest count : ℕ) → (cited || nat_eq (fewest - count) 0) ≡ (cited || nat_le fewest count)
+enough-is true fewest count = refl
+enough-is false fewest count = by_tests (nat_eq (fewest - count) 0) (nat_le fewest count) refl refl where
+  by_tests : (a b : Bool) → nat_eq (fewest - count) 0 ≡ a → nat_le fewest count ≡ b → a ≡ b
+  by_tests true true left right = refl
+  by_tests false false left right = refl
+  by_tests true false left right = absurd (grind (arith, nat_tests))
+  by_tests false true left right = absurd (grind (arith, nat_tests))
+
+has-body : (wanted : Wanted) (entry : Option Given) → is_some (option_map (body_of wanted) entry) ≡ is_some entry
+has-body wanted None = refl
+has-body wanted (Some given) = refl
+
+stays-is : (wanted : Wanted) (stored : List Given) (key : List ℕ) → view (slot_of wanted stored key) ≡ seen_as (spelled wanted stored key) (is_some (entry_of stored key)) (is_due wanted stored key)
+unfolding slot_of
+stays-is wanted stored key =
+    let cited = is_some (listed_as wanted.cited key) in
+    let count = count_by (is_same_key key) (references wanted stored) in
+    ap (λ (b : Bool). seen_as (spelled wanted stored key) b (cited || nat_eq (wanted.fewest - count) 0)) (has-body wanted (entry_of stored key))
+    ∙ ap (seen_as (spelled wanted stored key) (is_some (entry_of stored key))) (enough-is cited wanted.fewest count)
+
+slots-chosen : (wanted : Wanted) (stored : List Given) (keys : List (List ℕ)) → chosen (map view (map (slot_of wanted stored) keys)) ≡ map (spelled wanted stored) (filter (stays wanted stored) keys)
+slots-chosen wanted stored [] = refl
+slots-chosen wanted stored (key ∷ keys) =
+    let others = map view (map (slot_of wanted stored) keys) in
+    ap (λ (seen : List ℕ × Bool). chosen_by seen ++ chosen others) (stays-is wanted stored key) ∙ by_test (stays wanted stored key) (slots-chosen wanted stored keys) where
+      by_test : (b : Bool) → chosen (map view (map (slot_of wanted stored) keys)) ≡ map (spelled wanted stored) (filter (stays wanted stored) keys)
+          → (if b then spelled wanted stored key ∷ [] else []) ++ chosen (map view (map (slot_of wanted stored) keys)) ≡ map (spelled wanted stored) (cond b (key ∷ filter (stays wanted stored) keys) (filter (stays wanted stored) keys))
+      by_test true rest = ap (λ (found : List (List ℕ)). spelled wanted stored key ∷ found) rest
+      by_test false rest = rest
+
+-- ---- the library
+
+kept-entries : (wanted : Wanted) (stored : List Given) → map (λ (entry : Entry). entry.key) (entries_of (slots_of wanted stored)) ≡ map (spelled wanted stored) (filter (stays wanted stored) (keys_of wanted stored))
+unfolding entries_of
+kept-entries wanted stored =
+    kept-chosen (after_second (after_first (slots_of wanted stored)))
+    ∙ ap chosen (views-after (slots_of wanted stored))
+    ∙ slots-chosen wanted stored (keys_of wanted stored)
+
+kept-library : (ending : End) (wanted : Wanted) (known : Known) (messages : List Message) → ending ≡ end.Whole
+    → list_of (library_by ending wanted known messages) ≡ map (spelled wanted known.stored) (filter (stays wanted known.stored) (keys_of wanted known.stored))
+kept-library end.Whole wanted known messages whole = kept-entries wanted known.stored
+kept-library end.FileLimit wanted known messages whole = cc
+kept-library end.StringLimit wanted known messages whole = cc
+
+pub list-is-kept : ListIsKept
+unfolding library_of
+list-is-kept wanted macros databases whole =
+    let known = read_all wanted (with_macros macros) databases in kept-library known.ending wanted known (told_all wanted (with_macros macros) databases) whole

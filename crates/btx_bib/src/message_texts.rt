@@ -1,0 +1,180 @@
+//! The lines of the log that tell messages.
+ghost use Rattle.std.specs.Prelude.{◌≡◌, ◌++◌, OnOk, IfOk, option_copied};
+ghost use Rattle.btx_bib.specs.MessageTexts.{kind_of, line_of, slip_text, spot_of, spot_text, text_of};
+ghost use Rattle.btx_bib.specs.Wordings.{joined};
+
+use crate::grammar::byte_sets::Delimiter;
+use crate::grammar::slip::Slip;
+use crate::message::{Message, Spot};
+use btx_text::log_texts::{push_four, push_mark, push_place};
+use btx_text::{LineKind, LogLine, Place};
+use std::alloc::{AllocError, Global};
+
+// The pieces of a text: words, and up to two names between them.
+#[derive(Clone, Copy)]
+struct Wording<'m> {
+    before: &'m [u8],
+    first: &'m [u8],
+    between: &'m [u8],
+    second: &'m [u8],
+    after: &'m [u8],
+}
+
+impl<'a> Message<'a> {
+    /// The line of the log that tells it.
+    #[tactic(auto, using(crate::proofs::LineLemmas::line_steps))]
+    pub fn log_line(&self, alloc: Global) -> Result<LogLine, AllocError>
+        ensures { IfOk result (λ line. line ≡ line_of self.now) }
+    {
+        let kind = self.kind();
+        let mut text = Vec::new(alloc);
+        push_mark(&mut text, kind)?;
+        push_wording(&mut text, self.wording())?;
+        push_spot(&mut text, self.spot())?;
+        Ok(LogLine::new(text, kind))
+    }
+
+    /// Whether it is a warning or an error.
+    pub fn kind(&self) -> LineKind
+        ensures { result ≡ kind_of self.now }
+    {
+        match self {
+            Message::Wrong(_, _) | Message::BadReference(_, _) => LineKind::Error,
+            _ => LineKind::Warning,
+        }
+    }
+
+    /// The line of a database where it is met, if it is met at one.
+    pub fn spot(&self) -> Option<&Spot<'a>>
+        ensures { option_copied result ≡ spot_of self.now }
+    {
+        match self {
+            Message::Wrong(_, spot)
+            | Message::UnknownKind(_, spot)
+            | Message::ExtraField(_, _, spot)
+            | Message::UndefinedString(_, spot)
+            | Message::OwnString(_, spot) => Some(spot),
+            _ => None,
+        }
+    }
+
+    // What it says, in pieces.
+    #[tactic(auto, unfolding(crate::specs::MessageTexts::text_of))]
+    fn wording(&self) -> Wording<'_>
+        ensures { joined result ≡ text_of self.now }
+    {
+        match self {
+            Message::Wrong(slip, _) => words(slip_text(*slip)),
+            Message::UnknownKind(key, _) => about(
+                b"entry type for \"",
+                key.as_bytes(),
+                b"\" isn't style-file defined",
+            ),
+            Message::ExtraField(key, field, _) => Wording {
+                before: b"I'm ignoring ",
+                first: key.as_bytes(),
+                between: b"'s extra \"",
+                second: field.as_bytes(),
+                after: b"\" field",
+            },
+            Message::UndefinedString(name, _) => {
+                about(b"string name \"", name.as_bytes(), b"\" is undefined")
+            }
+            Message::OwnString(name, _) => about(
+                b"string name \"",
+                name.as_bytes(),
+                b"\" is used in its own definition",
+            ),
+            Message::BadReference(child, parent) => Wording {
+                before: b"A bad cross reference--entry \"",
+                first: child.as_bytes(),
+                between: b"\" refers to entry \"",
+                second: parent.as_bytes(),
+                after: b"\", which doesn't exist",
+            },
+            Message::NestedReference(child, parent) => Wording {
+                before: b"you've nested cross references--entry \"",
+                first: child.as_bytes(),
+                between: b"\" refers to entry \"",
+                second: parent.as_bytes(),
+                after: b"\"",
+            },
+            Message::NoEntry(key) => about(
+                b"I didn't find a database entry for \"",
+                key.as_bytes(),
+                b"\"",
+            ),
+        }
+    }
+}
+
+// Words alone.
+fn words<'m>(text: &'m [u8]) -> Wording<'m>
+    ensures { joined result ≡ text.now }
+{
+    about(b"", b"", text)
+}
+
+// Words around one name.
+fn about<'m>(before: &'m [u8], name: &'m [u8], after: &'m [u8]) -> Wording<'m>
+    ensures { joined result ≡ before.now ++ name.now ++ after.now }
+{
+    Wording {
+        before,
+        first: name,
+        between: b"",
+        second: b"",
+        after,
+    }
+}
+
+// What is wrong at a place of a database, in words.
+#[tactic(auto, unfolding(crate::specs::MessageTexts::slip_text))]
+fn slip_text(slip: Slip) -> &'static [u8]
+    ensures { result.now ≡ slip_text slip }
+{
+    match slip {
+        Slip::NoName => b"I was expecting a name",
+        Slip::NoDelimiter => b"I was expecting a { or a (",
+        Slip::NoComma(Delimiter::Braces) => b"I was expecting a , or a }",
+        Slip::NoComma(Delimiter::Parens) => b"I was expecting a , or a )",
+        Slip::NoEquals => b"I was expecting an =",
+        Slip::NoClosing(Delimiter::Braces) => b"I was expecting a }",
+        Slip::NoClosing(Delimiter::Parens) => b"I was expecting a )",
+        Slip::NoValue => b"I was expecting a value",
+        Slip::Unbalanced => b"Unbalanced braces",
+        Slip::EndOfFile => b"Illegal end of database file",
+        Slip::Repeated => b"Repeated entry",
+    }
+}
+
+// Appends the pieces of a text.
+#[tactic(auto, using(crate::proofs::LineLemmas::line_steps))]
+fn push_wording(text: &mut Vec<u8>, wording: Wording<'_>) -> Result<(), AllocError>
+    ensures { OnOk result (text.new.items ≡ text.old.items ++ joined wording.entry) }
+{
+    push_four(
+        text,
+        wording.before,
+        wording.first,
+        wording.between,
+        wording.second,
+    )?;
+    text.extend_from_slice(wording.after)
+}
+
+// Appends the line of a database, if there is one.
+fn push_spot(text: &mut Vec<u8>, spot: Option<&Spot<'_>>) -> Result<(), AllocError>
+    ensures { OnOk result (text.new.items ≡ text.old.items ++ spot_text (option_copied spot.entry)) }
+{
+    match spot {
+        Some(spot) => push_place(
+            text,
+            Place {
+                file: spot.file.as_bytes(),
+                line: spot.line,
+            },
+        ),
+        None => Ok(()),
+    }
+}

@@ -1,0 +1,5 @@
+//! Tests of the reading of databases.
+#![tactic(auto)]
+
+#[cfg(test)]
+mod grammar;

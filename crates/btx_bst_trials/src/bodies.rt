@@ -1,0 +1,49 @@
+//! The bodies that texts come to.
+use crate::showing::{Row, Shown, wrong_rows};
+use btx_text::Fault;
+
+const ROWS: [Row; 12] = [
+    (b"ENTRY {title}{}{} FUNCTION {misc}{} READ", b"0:\n"),
+    (
+        b"ENTRY {title}{}{} FUNCTION {misc}{} READ FUNCTION {f} {#1 {skip$} {} if$}",
+        b"0:\n1: skip$\n2:\n3: #1 '1 '2 if$\n",
+    ),
+    (
+        b"FUNCTION {f} {{#1 {pop$} {}} {skip$}}",
+        b"0: pop$\n1:\n2: #1 '0 '1\n3: skip$\n4: '2 '3\n",
+    ),
+    (b"FUNCTION {f} {f 'f pop$}", b"0: pop$\n"),
+    (b"FUNCTION {f} {} FUNCTION {g} {f 'F}", b"0:\n1: 0 '0\n"),
+    (
+        b"FUNCTION {f} {#2147483648 \"a\" write$ newline$}",
+        b"0: \"a\" write$ newline$\n",
+    ),
+    (
+        b"FUNCTION {f} {#-2147483648 #2147483647 #-0 #007}",
+        b"0: #-2147483648 #2147483647 #0 #7\n",
+    ),
+    (
+        b"FUNCTION {f} {\"% {\t\r\" \"\" \"a\"}",
+        b"0: \"% {\t\r\" \"\" \"a\"\n",
+    ),
+    (
+        b"FUNCTION {f} {{skip$} \"a\" \"b\n\nFUNCTION {f} {\"c\" {}}",
+        b"0:\n1: \"c\" '0\n",
+    ),
+    (
+        b"ENTRY {a}{b}{c} INTEGERS {d} STRINGS {e} FUNCTION {f} {A 'b c 'D e Crossref 'entry.max$ sort.key$}",
+        b"0: a 'b c 'd e crossref 'entry.max$ sort.key$\n",
+    ),
+    (
+        b"INTEGERS {a, b}\n\nFUNCTION {f} {a b pop$}",
+        b"0: a pop$\n",
+    ),
+    (b"FUNCTION {f} {#1{skip$} pop$}", b"0:\n"),
+];
+
+#[test]
+fn bodies(rt: HostRuntime) -> Result<(), Fault> {
+    let wrong = wrong_rows(rt.alloc(), &ROWS, Shown::Bodies)?;
+    assert_eq!(rt; std::str::from_utf8(&wrong), Ok(""));
+    Ok(())
+}

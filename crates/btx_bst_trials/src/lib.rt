@@ -1,0 +1,14 @@
+//! Tests of the reader of styles: what each text comes to, worked by hand; a long style; and texts that were cut or spoilt.
+#![tactic(auto)]
+
+#[cfg(test)]
+mod bodies;
+#[cfg(test)]
+mod calls;
+#[cfg(test)]
+mod hostile;
+#[cfg(test)]
+mod long_style;
+#[cfg(test)]
+mod messages;
+pub mod showing;

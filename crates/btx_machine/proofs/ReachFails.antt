@@ -1,0 +1,63 @@
+-- What a failure leaves, of a run within runs.
+use Rattle.std.proofs.Common.{◌≡◌, ℕ, zero, suc, ◌+◌, ◌-◌, ◌<◌, ◌≤◌, ◌⊎◌, inl, inr, List, sym, ap, subst, ◌∙◌, refl, arith}
+use Rattle.btx_machine.specs.declared.work.Work.{Work}
+use Rattle.btx_machine.specs.States.{Out, State, state, Outcome, Done, Stopped, end_of}
+use Rattle.btx_machine.specs.Meaning.{then_do}
+use Rattle.btx_machine.specs.Commands.{Doing}
+use Rattle.btx_machine.specs.Written.{Received, Stands, Between, Within, FailsWithin, Fails, Leads, Comes, Start}
+use Rattle.btx_machine.proofs.Goings.{starts_self}
+use Rattle.btx_machine.proofs.OutLemmas.{wider}
+use Rattle.btx_machine.proofs.Adds.{Adds, adds_self}
+use Rattle.btx_machine.proofs.Tracks.{then_appends}
+use Rattle.btx_machine.specs.Progress.{Reached, FailsInStep}
+
+-- a step failed
+pub in_step : (old : Work) (budget : ℕ) (a c : Received) (run : Doing) → FailsWithin old budget a c run → FailsInStep old budget a c run
+in_step old budget a c run fails start out h = inr (fails start out h)
+
+-- something failed that takes no step, and that a run without a step does
+pub without_step : (old : Work) (budget : ℕ) (a c : Received) (run : Doing) (f : State → State) → ((s : State) → Adds (f s) (end_of (run 0 s))) → Fails old a c f → FailsInStep old budget a c run
+without_step old budget a c run f adds fails start out h =
+    let s = state old.store out in
+    inl (wider start c out out (f s).out (end_of (run 0 s)).out (starts_self out) (fails start out h) (adds s))
+
+module _ (whole rest next : Doing) (go : ℕ → State → Outcome) (old mid : Work) (a b c : Received) (k left budget : ℕ) (e : left + k ≡ budget)
+    (split : (n : ℕ) (out : Out) → rest n (state mid.store out) ≡ then_do (next n (state mid.store out)) go) (grows : (n : ℕ) (s : State) → Adds s (end_of (go n s))) where
+  -- with n more steps, the whole run begins with what the next does
+  starts_later : (s t : State) (out : Out) (n m : ℕ) → t ≡ state mid.store out → m ≡ n + k → Reached whole rest k s t → Adds (end_of (next n t)) (end_of (whole m s))
+  starts_later s t out n m is f r =
+      subst (λ o. Adds (end_of (next n t)) (end_of o)) (sym (subst (λ t. rest n t ≡ then_do (next n t) go) (sym is) (split n out)) ∙ r.goes_on n ∙ ap (λ b. whole b s) (sym f))
+      (then_appends (end_of (next n t)) (next n t) go (adds_self (end_of (next n t))) grows)
+
+  at_once : (start : Start) (s t : State) (out : Out) (m : ℕ) → m ≡ k → t ≡ state mid.store out → Reached whole rest k s t → Between start c t.out (end_of (next 0 t)).out → m ≤ budget
+      → Between start c s.out (end_of (whole 0 s)).out ⊎ Within start c budget (λ n. whole n s)
+  at_once start s t out zero z is r between le =
+      inl (wider start c s.out t.out (end_of (next 0 t)).out (end_of (whole 0 s)).out r.adds between (starts_later s t out 0 0 is (omega (arith, z)) r))
+  at_once start s t out (suc m) z is r between le =
+      let old = r.before m (sym z) in
+      inr (record {
+        taken = m;
+        fewer = omega (arith, le);
+        least = old.least;
+        stopped = old.stopped;
+        between = wider start c old.least.out t.out (end_of (next 0 t)).out (end_of (whole (m + 1) s)).out old.starts between (starts_later s t out 0 (m + 1) is (omega (arith, z)) r);
+      })
+
+  later : (start : Start) (s t : State) (out : Out) → t ≡ state mid.store out → Reached whole rest k s t → Between start c t.out (end_of (next 0 t)).out ⊎ Within start c left (λ n. next n t)
+      → Between start c s.out (end_of (whole 0 s)).out ⊎ Within start c budget (λ n. whole n s)
+  later start s t out is r (inl between) = at_once start s t out k refl is r between (omega (arith, e))
+  later start s t out is r (inr w) =
+      let o : w.taken + k + 1 ≡ w.taken + 1 + k = omega arith in
+      inr (record {
+        taken = w.taken + k;
+        fewer = omega (arith, w.fewer, e);
+        least = w.least;
+        stopped = sym (r.goes_on w.taken) ∙ subst (λ t. rest w.taken t ≡ then_do (next w.taken t) go) (sym is) (split w.taken out) ∙ ap (λ o. then_do o go) w.stopped;
+        between = wider start c w.least.out w.least.out (end_of (next (w.taken + 1) t)).out (end_of (whole (w.taken + k + 1) s)).out (starts_self w.least.out) w.between (starts_later s t out (w.taken + 1) (w.taken + k + 1) is o r);
+      })
+
+  -- the next piece of work failed
+  pub reached_fails : Comes old a mid b (Reached whole rest k) → FailsInStep mid left b c next → FailsInStep old budget a c whole
+  reached_fails first fails start out h =
+      let l = first start out h in
+      later start (state old.store out) (state mid.store l.out) l.out refl l.is (fails start l.out l.stands)

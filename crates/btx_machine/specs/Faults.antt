@@ -1,0 +1,27 @@
+-- What a fault says of the two sinks: want of memory changes no count of failures, and the device's fault is told exactly where one of
+-- their two counts rose, by one. No other fault is told.
+use Rattle.std.specs.Prelude.{Result, Ok, Err, IsSome}
+use Rattle.btx_text.specs.Counts.{Change, Stays, Rises, OneOfTwoRises}
+use Rattle.btx_text.specs.declared.fault.Fault.{Fault}
+use Rattle.btx_text.specs.declared.fault.Fault.TheVariants.{Memory, Device, FileLimit, StringLimit}
+use Rattle.btx_machine.specs.declared.outputs.Outputs.{Outputs}
+
+-- the counts of a call that writes to the log alone
+abbrev pub CountsOfLog : {T : Type 0} → Result T Fault → Change → Type 0
+CountsOfLog (Ok value) log = Stays log
+CountsOfLog (Err Memory) log = Stays log
+CountsOfLog (Err Device) log = Rises log
+CountsOfLog (Err FileLimit) log = ⊥
+CountsOfLog (Err StringLimit) log = ⊥
+
+-- the counts of a call that writes to both outputs
+abbrev pub CountsOfOutputs : {T : Type 0} → Result T Fault → Change → Change → Type 0
+CountsOfOutputs (Ok value) bbl log = Stays bbl × Stays log
+CountsOfOutputs (Err Memory) bbl log = Stays bbl × Stays log
+CountsOfOutputs (Err Device) bbl log = OneOfTwoRises bbl log
+CountsOfOutputs (Err FileLimit) bbl log = ⊥
+CountsOfOutputs (Err StringLimit) bbl log = ⊥
+
+-- no write to the list of references has failed
+abbrev pub Writes : Outputs → Type 0
+Writes outputs = IsSome outputs.breaker.pending

@@ -1,0 +1,40 @@
+-- What a run has written where a write or a request for memory failed.
+use Rattle.std.specs.Prelude.{◌≡◌, ℕ, ◌+◌, ◌<◌, ◌⊎◌, List, Option}
+use Rattle.std.specs.Io.KnownBytes.{Appends}
+use Rattle.btx_out.specs.Pieces.{AppendsBeginning, AppendsAtLeast}
+use Rattle.btx_machine.specs.Written.{Received}
+use Rattle.btx_machine.specs.declared.report.Report.{Report}
+use Rattle.btx_machine.specs.Product.{Product, log_of}
+
+-- the report is the product's, and both outputs received its bytes
+pub record Completes (report : Report) (before after : Received) (product : Product) : Type 0 where
+  pub report_is : report ≡ product.report
+  pub bbl_whole : Appends before.0 after.0 product.bbl
+  pub log_whole : Appends before.1 after.1 (log_of product)
+
+-- both outputs are beginnings of a product's
+pub record BothBegin (before after : Received) (product : Product) : Type 0 where
+  pub bbl_begins : AppendsBeginning before.0 after.0 product.bbl
+  pub log_begins : AppendsBeginning before.1 after.1 (log_of product)
+
+-- both outputs begin with a product's, the log's last line aside
+pub record BothExtend (before after : Received) (product : Product) : Type 0 where
+  pub bbl_extends : AppendsAtLeast before.0 after.0 product.bbl
+  pub log_extends : AppendsAtLeast before.1 after.1 product.told
+
+-- there is a number of steps below the budget, the same for both outputs, such that each begins with what a run of so many steps
+-- writes, and is a beginning of what a run of one step more writes
+pub record WithinOneStep (before after : Received) (make : ℕ → Product) (budget : ℕ) : Type 0 where
+  pub steps : ℕ
+  pub within : steps < budget
+  pub extends : BothExtend before after (make steps)
+  pub begins : BothBegin before after (make (steps + 1))
+
+-- the two outputs keep step: both are beginnings of what a run without a step writes, or both stand within the same step
+abbrev pub KeepsStep : Received → Received → (ℕ → Product) → ℕ → Type 0
+KeepsStep before after make budget = BothBegin before after (make 0) ⊎ WithinOneStep before after make budget
+
+-- after a fault both outputs are beginnings of the product's, and keep step
+pub record AtFault (before after : Received) (make : ℕ → Product) (budget : ℕ) : Type 0 where
+  pub beginnings : BothBegin before after (make budget)
+  pub step : KeepsStep before after make budget

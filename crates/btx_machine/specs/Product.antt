@@ -1,0 +1,68 @@
+-- The product of a run whose files are read: what it writes from there on, and what it answers.
+use Rattle.std.specs.Prelude.{ℕ, ◌-◌, List, [], ◌∷◌, ◌++◌}
+use Rattle.std.specs.List.{flat_map}
+use Rattle.btx_out.specs.Breaking.{wrap, written_of}
+use Rattle.btx_out.specs.Breakers.{finished}
+use Rattle.btx_step.specs.Stores.{Store}
+use Rattle.btx_step.specs.Starts.{first_store}
+use Rattle.btx_machine.specs.declared.ending.Ending.{Ending}
+use Rattle.btx_machine.specs.declared.ending.Ending.TheVariants as ending
+use Rattle.btx_machine.specs.declared.report.Report.{Report}
+use Rattle.btx_machine.specs.declared.report.Told.{Told}
+use Rattle.btx_machine.specs.States.{Out, State, state, Outcome, Done, Stopped, Limit, end_of}
+use Rattle.btx_machine.specs.Saying.{ended_line}
+use Rattle.btx_machine.specs.Reports.{end_as, told_so, report_of, last_line}
+use Rattle.btx_machine.specs.Items.{Given, items_of}
+
+-- the list of references, what is told before the log's last line, and the report, which that line tells
+pub record Product : Type 0 where
+  pub bbl : List ℕ
+  pub told : List ℕ
+  pub report : Report
+
+-- the whole log
+abbrev pub log_of : Product → List ℕ
+log_of product = product.told ++ ended_line (last_line product.report)
+
+-- what is sure of the list of references, for lines of at most so many bytes: the lines that ended, and what of the pending one can't change
+abbrev pub so_far : ℕ → Out → List ℕ
+so_far limit out = written_of limit out.lines out.pending
+
+-- the list of references at an end: where the run finished, the pending line is ended if it isn't empty, and else what is sure of it stands
+abbrev pub bbl_at : ℕ → Ending → Out → List ℕ
+bbl_at limit ending.Finished out = flat_map (wrap limit) out.lines ++ finished limit out.pending
+bbl_at limit ending.Stopped out = so_far limit out
+bbl_at limit (ending.Limit kind) out = so_far limit out
+
+-- the report of a run that ended so in a state
+abbrev pub report_at : Ending → ℕ → State → Report
+report_at end steps s = report_of (end_as end) steps s.store.deepest (told_so s.out.warnings s.out.errors)
+
+abbrev pub product_at : ℕ → Ending → ℕ → State → Product
+product_at limit end steps s = record { bbl = bbl_at limit end s.out; told = s.out.log; report = report_at end steps s }
+
+-- the product of an outcome, with a budget; a stopped run took all its steps
+abbrev pub product_of : ℕ → ℕ → Outcome → Product
+product_of limit budget (Done s left) = product_at limit ending.Finished (budget - left) s
+product_of limit budget (Stopped s) = product_at limit ending.Stopped budget s
+product_of limit budget (Limit kind s left) = product_at limit (ending.Limit kind) (budget - left) s
+
+-- nothing was written or told here, but so much was told before
+abbrev pub no_out : Told → Out
+no_out told = record { lines = []; pending = []; log = []; warnings = told.warnings; errors = told.errors }
+
+-- the first state
+abbrev pub first : Given → Told → State
+first g told = state (first_store g.job) (no_out told)
+
+-- what the items of the style come to
+abbrev pub executed : Given → Told → ℕ → Outcome
+executed g told budget = items_of g g.job.style.items [] budget (first g told)
+
+-- the product of the items of the style, for lines of at most so many bytes
+abbrev pub product : Given → Told → ℕ → ℕ → Product
+product g told limit budget = product_of limit budget (executed g told budget)
+
+-- the product of a run that ends before its style is executed
+abbrev pub product_early : Report → Product
+product_early report = record { bbl = []; told = []; report = report }

@@ -1,0 +1,65 @@
+-- What is written and told.
+use Rattle.std.specs.Prelude.{ℕ, Bool, true, false, ◌+◌, ◌-◌, ◌^◌, min, List, [], ◌∷◌, ◌++◌, Option, map, option_map}
+use Rattle.btx_text.specs.LogLines.{Line, is_error, is_warning}
+use Rattle.btx_bib.specs.Library.{key_of}
+use Rattle.btx_step.specs.declared.said.Note.{Note}
+use Rattle.btx_step.specs.declared.said.Said.{Said}
+use Rattle.btx_step.specs.declared.said.Said.TheVariants as said
+use Rattle.btx_step.specs.Jobs.{Job}
+use Rattle.btx_step.specs.Entries.{entry_of}
+use Rattle.btx_step.specs.Notes.{line_of}
+use Rattle.btx_machine.specs.States.{Out, State, state}
+
+-- ---- lines of the log
+
+abbrev pub ended_line : List ℕ → List ℕ
+ended_line line = line ++ 10 ∷ []
+
+-- one more; a count stays at its greatest value
+abbrev pub counted : ℕ → ℕ
+counted n = min (n + 1) (2 ^ 64 - 1)
+
+abbrev pub counted_if : Bool → ℕ → ℕ
+counted_if true n = counted n
+counted_if false n = n
+
+-- a line is told: it is the log's next one, and counts as a warning, as an error or not at all
+abbrev pub line_told : Line → Out → Out
+line_told line out = record out {
+  log = out.log ++ ended_line line.text;
+  warnings = counted_if (is_warning line.kind) out.warnings;
+  errors = counted_if (is_error line.kind) out.errors;
+}
+
+-- lines are told one after another
+unfoldable pub lines_told : List Line → Out → Out
+lines_told [] out = out
+lines_told (line ∷ lines) out = lines_told lines (line_told line out)
+
+abbrev pub telling : List Line → State → State
+telling lines s = state s.store (lines_told lines s.out)
+
+-- ---- what a function says
+
+-- the key of the current entry, if there is one
+abbrev pub key_at : Job → Option ℕ → Option (List ℕ)
+key_at job current = option_map (λ entry. key_of (entry_of job entry)) current
+
+-- the lines of what is noted while a function of this name is executed
+abbrev pub lines_of : Job → List ℕ → Option ℕ → List Note → List Line
+lines_of job executed current notes = map (line_of job.style executed (key_at job current)) notes
+
+-- `write$` adds to the pending line
+abbrev pub wrote : List ℕ → Out → Out
+wrote text out = record out { pending = out.pending ++ text }
+
+-- `newline$` ends it
+abbrev pub ended : Out → Out
+ended out = record out { lines = out.lines ++ out.pending ∷ []; pending = [] }
+
+-- what a function of this name says is written and told
+unfoldable pub said_on : Job → List ℕ → Option ℕ → Said → Out → Out
+said_on job executed current said.Nothing out = out
+said_on job executed current (said.Wrote text) out = wrote text out
+said_on job executed current said.EndedLine out = ended out
+said_on job executed current (said.Noted notes) out = lines_told (lines_of job executed current notes) out

@@ -1,0 +1,25 @@
+//! The commands that execute a function.
+ghost use Rattle.std.specs.Prelude.{◌≡◌};
+ghost use Rattle.btx_machine.specs.Commands.{command_word};
+
+/// A command that executes a function.
+#[derive(Clone, Copy, Debug, PartialEq, Eq)]
+pub enum Command {
+    Execute,
+    Iterate,
+    Reverse,
+}
+
+impl Command {
+    /// The command's name, as messages show it.
+    #[tactic(auto, unfolding(crate::specs::Commands::command_word))]
+    pub fn word(self) -> &'static [u8]
+        ensures { result.now ≡ command_word self }
+    {
+        match self {
+            Command::Execute => b"EXECUTE",
+            Command::Iterate => b"ITERATE",
+            Command::Reverse => b"REVERSE",
+        }
+    }
+}

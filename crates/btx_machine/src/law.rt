@@ -1,0 +1,21 @@
+//! Laws over the meaning of styles, each the contract of a function that does nothing.
+ghost use Rattle.btx_machine.specs.Budgets.{BudgetLaw};
+ghost use Rattle.btx_machine.specs.Equations.{MeaningLaw, Turning};
+ghost use Rattle.btx_machine.specs.ProductLaws.{DepthLaw, RunLaw};
+
+/// What the meaning of a token is, as equations in the language's own words, and what the turns of a loop are.
+pub fn meaning_law()
+    ensures tokens { MeaningLaw }
+    ensures turns { Turning }
+{}
+
+/// With a larger budget a token, and a run, ends alike or, where it was stopped, goes on from what it wrote.
+pub fn budget_law()
+    ensures tokens { BudgetLaw }
+    ensures runs { RunLaw }
+{}
+
+/// No run ever has more than 4,096 bodies open at once.
+pub fn depth_law()
+    ensures { DepthLaw }
+{}

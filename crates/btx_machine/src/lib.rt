@@ -1,0 +1,23 @@
+//! The machine that executes a style, once the files of a job are read: what a style means, both outputs, and the run's report.
+#![tactic(auto)]
+
+pub mod command;
+pub mod ending;
+pub mod frames;
+pub mod items;
+pub mod last;
+pub mod law;
+pub mod machine;
+pub mod outputs;
+pub mod report;
+pub mod rest;
+pub mod run;
+pub mod visits;
+pub mod work;
+
+pub use command::Command;
+pub use ending::{Ending, Kind};
+pub use last::tell_end;
+pub use law::{budget_law, depth_law, meaning_law};
+pub use report::{End, Report, Told};
+pub use run::execute_style;

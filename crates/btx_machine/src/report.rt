@@ -1,0 +1,98 @@
+//! What a run answers.
+ghost use Rattle.std.specs.Prelude.{◌≡◌};
+ghost use Rattle.btx_machine.specs.Reports.{end_as, report_of, status_of, word_of};
+
+use crate::ending::{Ending, Kind};
+
+/// How a run ends.
+#[derive(Clone, Copy, Debug, PartialEq, Eq)]
+pub enum End {
+    /// All of the style was executed.
+    Finished,
+    /// The budget did not cover the next step.
+    Stopped,
+    /// A limit was met.
+    Limit(Kind),
+    /// There is no top-level `.aux` file.
+    NoTopFile,
+}
+
+/// How many lines of the log are warnings, and how many are errors; the greatest value stands for itself and all above.
+#[derive(Clone, Copy, Debug, PartialEq, Eq)]
+pub struct Told {
+    pub warnings: u64,
+    pub errors: u64,
+}
+
+/// What a run answers.
+#[derive(Clone, Copy, Debug, PartialEq, Eq)]
+pub struct Report {
+    /// 0 finished without error messages, 2 finished with some, 3 a limit or no top file, 4 stopped.
+    pub status: u8,
+    pub end: End,
+    /// The steps taken, at most the budget.
+    pub steps: u64,
+    /// The greatest number of bodies of functions that were open at once.
+    pub deepest: usize,
+    /// The warnings in the log; the greatest value stands for itself and all above.
+    pub warnings: u64,
+    /// The error messages in the log; the greatest value stands for itself and all above.
+    pub errors: u64,
+}
+
+impl End {
+    /// The end of a run whose style was executed.
+    pub fn of(ending: Ending) -> End
+        ensures { result ≡ end_as ending }
+    {
+        match ending {
+            Ending::Finished => End::Finished,
+            Ending::Stopped => End::Stopped,
+            Ending::Limit(kind) => End::Limit(kind),
+        }
+    }
+
+    /// The word of the log for this end.
+    #[tactic(auto, unfolding(crate::specs::Reports::word_of))]
+    pub fn word(self) -> &'static str
+        ensures { result.now ≡ word_of self }
+    {
+        match self {
+            End::Finished => "finished",
+            End::Stopped => "stopped",
+            End::Limit(Kind::Literals) => "limit literals",
+            End::Limit(Kind::Calls) => "limit calls",
+            End::Limit(Kind::Loops) => "limit loops",
+            End::Limit(Kind::String) => "limit string",
+            End::Limit(Kind::File) => "limit file",
+            End::Limit(Kind::Files) => "limit files",
+            End::NoTopFile => "no top file",
+        }
+    }
+
+    /// The status of a run that ended so, with so many error messages.
+    pub fn status(self, errors: u64) -> u8
+        ensures { result ≡ status_of self errors }
+    {
+        match self {
+            End::Finished if errors == 0 => 0,
+            End::Finished => 2,
+            End::Limit(_) | End::NoTopFile => 3,
+            End::Stopped => 4,
+        }
+    }
+}
+
+/// The report of a run that ended so.
+pub fn report_of(end: End, steps: u64, deepest: usize, told: Told) -> Report
+    ensures { result ≡ report_of end steps deepest told }
+{
+    Report {
+        status: end.status(told.errors),
+        end,
+        steps,
+        deepest,
+        warnings: told.warnings,
+        errors: told.errors,
+    }
+}

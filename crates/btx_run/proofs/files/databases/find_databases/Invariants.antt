@@ -1,0 +1,17 @@
+use Rattle.std.proofs.Common.{◌≡◌, IfSome, take}
+use Rattle.btx_aux.specs.Entries.{texts_of}
+use Rattle.btx_run.specs.Files.Readings.{IsRead, databases_read}
+use Rattle.btx_run.proofs.files.databases.find_databases.Given as goal
+
+-- the databases of the names so far were looked for, and no fetch and no write has failed
+abbrev pub invariant-loop-name : goal.invariant-loop-name
+invariant-loop-name g l =
+    let finder = g.F.Finder in
+    let sink = g.L.Sink in
+    record {
+      read : IfSome (finder.content l.initial.finder) (λ files. IsRead l.found (l.initial.journal, l.journal) (sink.received l.initial.log, sink.received l.log)
+          (databases_read files (texts_of (take l.name-index l.names))));
+      stays : finder.content l.finder ≡ finder.content l.initial.finder;
+      fetches : finder.failures l.finder ≡ finder.failures l.initial.finder;
+      writes : sink.failures l.log ≡ sink.failures l.initial.log;
+    }

@@ -1,0 +1,28 @@
+-- How many warnings and errors a log has. A count that would be above the greatest number of 64 bits stays there (this project's own).
+use Rattle.std.specs.Prelude.{ℕ, ◌+◌, ◌-◌, ◌^◌, min, count_by, List}
+use Rattle.btx_text.specs.declared.log_line.LineKind.{LineKind}
+use Rattle.btx_text.specs.declared.log_line.LineKind.TheVariants.{Plain, Warning, Error}
+use Rattle.btx_text.specs.LogLines.{Line, is_error, is_warning}
+
+-- the warnings and the errors of a log
+pub record Counts : Type 0 where
+  pub warnings : ℕ
+  pub errors : ℕ
+
+abbrev pub counts : ℕ → ℕ → Counts
+counts warnings errors = record { warnings = warnings; errors = errors }
+
+-- a number, or the greatest of 64 bits
+abbrev pub at_most_greatest : ℕ → ℕ
+at_most_greatest n = min n (2 ^ 64 - 1)
+
+-- the counts of these lines
+abbrev pub counts_of : List Line → Counts
+counts_of lines =
+    counts (at_most_greatest (count_by (λ line. is_warning line.kind) lines)) (at_most_greatest (count_by (λ line. is_error line.kind) lines))
+
+-- the counts with a further line of this kind
+abbrev pub counted : LineKind → Counts → Counts
+counted Plain before = before
+counted Warning before = counts (at_most_greatest (before.warnings + 1)) before.errors
+counted Error before = counts before.warnings (at_most_greatest (before.errors + 1))

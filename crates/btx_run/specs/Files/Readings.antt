@@ -1,0 +1,118 @@
+-- What the reading of a job's files gives, up to the execution of the style. The `.aux` files come first; then the style is looked for, and
+-- then the databases that they name (btxdoc, section 2), each in turn. A database is judged when the style reads it, not here.
+use Rattle.std.specs.Prelude.{ℕ, ◌+◌, ◌≤◌, List, [], ◌∷◌, ◌++◌, length, Option, None, Some, Result, Ok, Err, ◌≡◌, if◌then◌else◌}
+use Rattle.std.specs.List.{flat_map}
+use Rattle.btx_aux.specs.Files.{Files}
+use Rattle.btx_aux.specs.Job.{Job, job_of_files}
+use Rattle.btx_aux.specs.declared.end.End.{End as AuxEnd}
+use Rattle.btx_aux.specs.declared.end.End.TheVariants as aux
+use Rattle.btx_text.specs.declared.fault.Fault.{Fault}
+use Rattle.btx_text.specs.Limits.{greatest_file}
+use Rattle.btx_text.specs.LogLines.{Line}
+use Rattle.btx_out.specs.Pieces.{AppendsBeginning}
+use Rattle.btx_run.specs.declared.files.found.FilesRead.{FilesRead}
+use Rattle.btx_run.specs.declared.files.found.FilesRead.TheVariants.{Ends, Found}
+use Rattle.btx_machine.specs.declared.ending.Kind.TheVariants as kind
+use Rattle.btx_machine.specs.declared.report.End.TheVariants as ended
+use Rattle.btx_run.specs.KeepingStep.{Received}
+use Rattle.btx_run.specs.LogLines.{database_line, no_style_line, style_line}
+use Rattle.btx_run.specs.Product.{bytes_of_lines, is_too_long, top_name}
+use Rattle.btx_run.specs.Files.Found.{NamedFile, file_at}
+use Rattle.btx_run.specs.Files.Lines.{no_database_line}
+use Rattle.btx_run.specs.Files.Telling.{Counted, Tells}
+
+-- a part of the reading: the lines of the log that it tells, and what it gives
+pub record Reading (T : Type 0) : Type 0 where
+  pub told : List Line
+  pub gives : T
+
+abbrev pub reading : {T : Type 0} → List Line → T → Reading T
+reading told gives = record { told = told; gives = gives }
+
+-- a part of the reading, behind these lines
+abbrev pub behind : {T : Type 0} → List Line → Reading T → Reading T
+behind lines part = reading (lines ++ part.told) part.gives
+
+-- ---- databases
+
+-- the files of these names that are there, in order
+abbrev pub as_list : Option NamedFile → List NamedFile
+as_list None = []
+as_list (Some file) = file ∷ []
+
+abbrev pub files_found : Files → List (List ℕ) → List NamedFile
+files_found files names = flat_map (λ name. as_list (file_at files name)) names
+
+-- what is told of a database, which would be found as the one of this number
+abbrev pub database_told : ℕ → List ℕ → Option NamedFile → Line
+database_told number name None = no_database_line name
+database_told number name (Some file) = database_line number name
+
+-- what is told of databases, each numbered behind those that were found before it
+abbrev pub databases_told : Files → List (List ℕ) → List (List ℕ) → List Line
+databases_told files earlier [] = []
+databases_told files earlier (name ∷ names) =
+    database_told (length (files_found files earlier) + 1) name (file_at files name) ∷ databases_told files (earlier ++ name ∷ []) names
+
+-- the databases of these names: those that are there
+abbrev pub databases_read : Files → List (List ℕ) → Reading (List NamedFile)
+databases_read files names = reading (databases_told files [] names) (files_found files names)
+
+-- ---- the style
+
+-- a style with the databases that were found
+abbrev pub with_style : NamedFile → Reading (List NamedFile) → Reading FilesRead
+with_style style part = reading part.told (Found (record { style = style; databases = part.gives }))
+
+-- what follows a style that was found: one that is too long ends the run, else the databases are looked for
+unfoldable pub after_style : Files → Job → NamedFile → Reading FilesRead
+after_style files job style =
+    if is_too_long style.bytes then reading [] (Ends (ended.Limit kind.File)) else with_style style (databases_read files job.databases)
+
+-- the style of this name, once it is looked for: without it the run ends
+unfoldable pub style_read : Files → Job → List ℕ → Option NamedFile → Reading FilesRead
+style_read files job name None = reading (no_style_line name ∷ []) (Ends ended.Finished)
+style_read files job name (Some style) = behind (style_line name ∷ []) (after_style files job style)
+
+-- the style that the `.aux` files name, if they name one: without one the run ends
+unfoldable pub style_named : Files → Job → Option (List ℕ) → Reading FilesRead
+style_named files job None = reading [] (Ends ended.Finished)
+style_named files job (Some name) = style_read files job name (file_at files name)
+
+-- a style that is executed is no longer than a file may be
+abbrev pub StyleFits : FilesRead → Type 0
+StyleFits (Ends end) = Unit {0}
+StyleFits (Found found) = length found.style.bytes ≤ greatest_file
+
+-- ---- the job
+
+-- what follows the `.aux` files, by how their reading ended
+unfoldable pub after_job : Files → Job → AuxEnd → Reading FilesRead
+after_job files job aux.Whole = style_named files job job.style
+after_job files job aux.TooManyOpen = reading [] (Ends (ended.Limit kind.Files))
+after_job files job aux.TopMissing = reading [] (Ends ended.NoTopFile)
+after_job files job aux.FileLimit = reading [] (Ends (ended.Limit kind.File))
+
+-- what the `.aux` files told, and what follows them
+abbrev pub files_read : Files → Job → Reading FilesRead
+files_read files job = behind job.log (after_job files job job.ending)
+
+-- what the `.aux` files of the job of this name say
+abbrev pub job_named : Files → List ℕ → Job
+job_named files name = job_of_files files (top_name name)
+
+-- the whole reading of the files of the job of this name
+abbrev pub reading_of : Files → List ℕ → Reading FilesRead
+reading_of files name = files_read files (job_named files name)
+
+-- ---- what an answer and the log say of a part of the reading
+
+-- the part was read: the answer is what it gives, and its lines were told
+pub record IsRead {T : Type 0} (value : T) (counted : Counted) (log : Received) (part : Reading T) : Type 0 where
+  pub gives : value ≡ part.gives
+  pub tells : Tells counted log part.told
+
+-- a part that was read, or at a fault a beginning of what it tells
+abbrev pub ReadsAs : {T : Type 0} → Result T Fault → Counted → Received → Reading T → Type 0
+ReadsAs (Ok value) counted log part = IsRead value counted log part
+ReadsAs (Err fault) counted log part = AppendsBeginning log.0 log.1 (bytes_of_lines part.told)

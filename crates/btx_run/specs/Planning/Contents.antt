@@ -1,0 +1,23 @@
+-- What the style and the databases that were found hold.
+use Rattle.std.specs.Prelude.{ℕ, map}
+use Rattle.btx_aux.specs.Job.{Job}
+use Rattle.btx_bst.specs.Style.{Style}
+use Rattle.btx_bst.specs.StyleText.{style_of}
+use Rattle.btx_bib.specs.Databases.{library_of}
+use Rattle.btx_bib.specs.Library.{Library}
+use Rattle.btx_bib.specs.Requests.{asked}
+use Rattle.btx_bib.specs.Told.{Database}
+use Rattle.btx_run.specs.declared.files.found.JobFiles.{JobFiles}
+use Rattle.btx_run.specs.Files.Found.{NamedFile}
+
+-- a file as a database
+abbrev pub database_of : NamedFile → Database
+database_of file = record { file = file.name; text = file.bytes }
+
+-- the style
+abbrev pub style_in : JobFiles → Style
+style_in found = style_of found.style.name found.style.bytes
+
+-- what the databases give to a job, where an entry that isn't cited takes so many references to stay
+abbrev pub library_in : Job → JobFiles → ℕ → Library
+library_in job found least = library_of (asked (style_in found) job least) (style_in found).macros (map database_of found.databases)

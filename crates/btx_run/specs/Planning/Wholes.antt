@@ -1,0 +1,55 @@
+-- The product of a job: what a whole run writes and answers. It composes what the reading of the files gives, what the style's text and the
+-- databases hold, and what executing the style then does; each stands in definitions of its own.
+use Rattle.std.specs.Prelude.{ℕ, List, ◌++◌, map}
+use Rattle.btx_text.specs.LogLines.{Line}
+use Rattle.btx_aux.specs.Files.{Files}
+use Rattle.btx_aux.specs.Job.{Job}
+use Rattle.btx_bst.specs.Style.{Style}
+use Rattle.btx_bib.specs.Library.{Library}
+use Rattle.btx_bib.specs.MessageTexts.{line_of}
+use Rattle.btx_machine.specs.Items.{Given, given}
+use Rattle.btx_machine.specs.Product.{Product, product_early, product as executed}
+use Rattle.btx_machine.specs.Reports.{report_of, told_so}
+use Rattle.btx_machine.specs.declared.report.Told.{Told}
+use Rattle.btx_run.specs.declared.files.found.FilesRead.{FilesRead}
+use Rattle.btx_run.specs.declared.files.found.FilesRead.TheVariants.{Ends, Found}
+use Rattle.btx_run.specs.declared.files.found.JobFiles.{JobFiles}
+use Rattle.btx_run.specs.declared.planning.options.Options.{Options}
+use Rattle.btx_run.specs.Files.Counts.{counts_of}
+use Rattle.btx_run.specs.Files.Readings.{Reading, job_named, reading_of}
+use Rattle.btx_run.specs.Planning.Contents.{library_in, style_in}
+use Rattle.btx_run.specs.Product.{bytes_of_lines}
+
+-- what a style works on: the style itself, the library, and what is told of the databases at READ
+abbrev pub given_by : Style → Library → Options → Given
+given_by style library options =
+    given (record { style = style; library = library; mode = options.text; entry_max = options.entry_max; global_max = options.global_max }) (map line_of library.messages)
+
+-- the same of the style and the databases that were found
+abbrev pub given_in : Job → JobFiles → Options → Given
+given_in job found options = given_by (style_in found) (library_in job found options.min_crossrefs) options
+
+-- the warnings and the errors of these lines
+abbrev pub told_in : List Line → Told
+told_in lines = told_so (counts_of lines).warnings (counts_of lines).errors
+
+-- a product behind these lines
+abbrev pub told_before : List Line → Product → Product
+told_before lines product = record product { told = bytes_of_lines lines ++ product.told }
+
+-- what follows the reading of the files, after so much was told, with a budget: the run ends at once, or the style is executed
+abbrev pub product_of_files : Job → FilesRead → Options → Told → ℕ → Product
+product_of_files job (Ends ending) options told budget = product_early (report_of ending 0 0 told)
+product_of_files job (Found found) options told budget = executed (given_in job found options) told options.line budget
+
+-- the product of a job whose files were read so, with a budget: what was told, and what follows
+abbrev pub product_of_reading : Job → Reading FilesRead → Options → ℕ → Product
+product_of_reading job read options budget = told_before read.told (product_of_files job read.gives options (told_in read.told) budget)
+
+-- the product of the job of this name, with a budget
+abbrev pub product_with : Files → List ℕ → Options → ℕ → Product
+product_with files name options budget = product_of_reading (job_named files name) (reading_of files name) options budget
+
+-- the product of the job of this name
+abbrev pub product : Files → List ℕ → Options → Product
+product files name options = product_with files name options options.budget

@@ -1,0 +1,12 @@
+//! The files of a run: its job's `.aux` files, its style and its databases are found and read, and each line of the log is written when
+//! what it tells happens.
+
+mod databases;
+pub mod found;
+pub mod journal;
+pub mod laws;
+pub mod reading;
+
+pub use found::{FilesRead, FoundFile, FoundFiles, JobFiles};
+pub use journal::Journal;
+pub use reading::{read_files, read_job};

@@ -1,0 +1,131 @@
+//! Files that were found.
+ghost use Rattle.std.specs.Prelude.{◌≡◌, ◌+◌, ◌++◌, ◌∷◌, [], length, IfOk, IfSome, OnOk};
+ghost use Rattle.btx_aux.specs.Faults.{CountsOfOne};
+ghost use Rattle.btx_run.specs.Files.Found.{file_at, named};
+
+use btx_aux::Finder;
+use btx_machine::End;
+use btx_text::Fault;
+use std::alloc::{AllocError, Global};
+use std::marker::Model;
+
+/// A file that was found: its name, which its job lends, and its bytes.
+#[derive(Drop)]
+pub struct FoundFile<'a> {
+    name: &'a [u8],
+    bytes: Vec<u8>,
+}
+
+impl<'a> Model for FoundFile<'a> {
+    ghost use Rattle.btx_run.specs.Files.Found.{NamedFile};
+
+    ghost Value = { NamedFile };
+
+    ghost view = { λ file. record { name = file.name.now; bytes = file.bytes.items } };
+}
+
+impl<'a> FoundFile<'a> {
+    /// A file of this name and these bytes.
+    pub fn new(name: &'a [u8], bytes: Vec<u8>) -> Self
+        ensures { result ≡ named name.now bytes.items }
+    {
+        FoundFile { name, bytes }
+    }
+
+    /// The name.
+    pub fn name(&self) -> &'a [u8]
+        ensures { result.now ≡ self.now.name }
+    {
+        self.name
+    }
+
+    /// The bytes.
+    pub fn bytes(&self) -> &[u8]
+        ensures { result.now ≡ self.now.bytes }
+    {
+        self.bytes.as_slice()
+    }
+}
+
+/// Files that were found, in order.
+#[derive(Drop)]
+pub struct FoundFiles<'a> {
+    files: Vec<FoundFile<'a>>,
+}
+
+impl<'a> Model for FoundFiles<'a> {
+    ghost use Rattle.std.specs.Prelude.{List};
+    ghost use Rattle.btx_run.specs.Files.Found.{NamedFile};
+
+    ghost Value = { List NamedFile };
+
+    ghost view = { λ found. found.files.items };
+}
+
+impl<'a> FoundFiles<'a> {
+    /// No file.
+    pub fn new(alloc: Global) -> Self
+        ensures { result ≡ [] }
+    {
+        FoundFiles {
+            files: Vec::new(alloc),
+        }
+    }
+
+    /// Adds a file.
+    pub fn push(&mut self, file: FoundFile<'a>) -> Result<(), AllocError>
+        ensures { OnOk result (self.new ≡ self.old ++ file.entry ∷ []) }
+    {
+        self.files.push(file)?;
+        Ok(())
+    }
+
+    /// The number of the next file, from 1 up.
+    pub fn next_number(&self) -> u64
+        ensures { result ≡ length self.now + 1 }
+    {
+        self.files.len() as u64 + 1
+    }
+
+    /// All of them.
+    pub fn as_slice(&self) -> &[FoundFile<'a>]
+        ensures { result.now ≡ self.now }
+    {
+        self.files.as_slice()
+    }
+}
+
+/// The files of a job that are there to be executed: its style, and those of its databases that were found, in the order in which they
+/// are named.
+#[derive(Drop)]
+pub struct JobFiles<'a> {
+    pub style: FoundFile<'a>,
+    pub databases: FoundFiles<'a>,
+}
+
+/// What the reading of a job's files comes to.
+#[derive(Drop)]
+pub enum FilesRead<'a> {
+    /// The run ends at once.
+    Ends(End),
+    /// The style is executed.
+    Found(JobFiles<'a>),
+}
+
+/// Fetches the file of a name, if it is there.
+pub fn fetch_file<'a, F: Finder>(
+    alloc: Global,
+    finder: &mut F,
+    name: &'a [u8],
+) -> Result<Option<FoundFile<'a>>, Fault>
+    ensures file { IfSome (F.content finder.old) (λ files. IfOk result (λ found. found ≡ file_at files name.entry.now)) }
+    ensures stays { F.content finder.new ≡ F.content finder.old }
+    ensures counts { CountsOfOne result (F.failures finder.old, F.failures finder.new) }
+{
+    let mut bytes = Vec::new(alloc);
+    if finder.fetch(alloc, name, &mut bytes)? {
+        Ok(Some(FoundFile::new(name, bytes)))
+    } else {
+        Ok(None)
+    }
+}

@@ -1,0 +1,170 @@
+//! The reading of a job's files.
+ghost use Rattle.std.specs.Prelude.{◌≡◌, IfOk, IfSome, None, Some};
+ghost use Rattle.btx_aux.specs.Faults.{CountsOfOne};
+ghost use Rattle.btx_aux.specs.Files.{Files};
+ghost use Rattle.btx_aux.specs.Job.{Job};
+ghost use Rattle.btx_run.specs.Files.Faults.{CountsOfTwo};
+ghost use Rattle.btx_run.specs.Files.Found.{file_at};
+ghost use Rattle.btx_run.specs.Files.Readings.{ReadsAs, StyleFits, after_job, after_style, files_read, job_named, style_named, style_read};
+
+use crate::file_names::{is_too_long, top_name};
+use crate::files::databases::find_databases;
+use crate::files::found::{FilesRead, FoundFile, JobFiles, fetch_file};
+use crate::files::journal::Journal;
+use crate::log_lines::{no_style_line, style_line};
+use btx_aux::{AuxJob, End as AuxEnd, Finder, read_aux};
+use btx_machine::{End, Kind};
+use btx_out::Sink;
+use btx_text::Fault;
+use std::alloc::Global;
+
+/// Reads the `.aux` files of the job of this name, which may end in `.aux`.
+pub fn read_job<F: Finder>(alloc: Global, finder: &mut F, name: &[u8]) -> Result<AuxJob, Fault>
+    ensures job { IfOk result (λ job. IfSome (F.content finder.old) (λ files. job ≡ job_named files name.now)) }
+    ensures stays { F.content finder.new ≡ F.content finder.old }
+    ensures counts { CountsOfOne result (F.failures finder.old, F.failures finder.new) }
+{
+    let top = top_name(alloc, name)?;
+    read_aux(alloc, finder, top.as_slice())
+}
+
+// Goes on from a style that was found and told: the databases are looked for.
+fn with_style<'a, F: Finder, L: Sink>(
+    alloc: Global,
+    finder: &mut F,
+    job: &'a AuxJob,
+    style: FoundFile<'a>,
+    journal: &mut Journal,
+    log: &mut L,
+) -> Result<FilesRead<'a>, Fault>
+    ensures reads { IfSome (F.content finder.old) (λ files. ReadsAs result (journal.old, journal.new) (L.received log.old, L.received log.new)
+        (after_style files job.entry.now style.entry)) }
+    ensures fits { IfOk result (λ read. StyleFits read) }
+    ensures stays { F.content finder.new ≡ F.content finder.old }
+    ensures counts { CountsOfTwo result (F.failures finder.old, F.failures finder.new) (L.failures log.old, L.failures log.new) }
+{
+    if is_too_long(style.bytes()) {
+        return Ok(FilesRead::Ends(End::Limit(Kind::File)));
+    }
+    let databases = find_databases(alloc, finder, job.databases(), journal, log)?;
+    Ok(FilesRead::Found(JobFiles { style, databases }))
+}
+
+// Goes on from a style that was found.
+fn tell_style<'a, F: Finder, L: Sink>(
+    alloc: Global,
+    finder: &mut F,
+    job: &'a AuxJob,
+    style: FoundFile<'a>,
+    journal: &mut Journal,
+    log: &mut L,
+) -> Result<FilesRead<'a>, Fault>
+    ensures reads { IfSome (F.content finder.old) (λ files. ReadsAs result (journal.old, journal.new) (L.received log.old, L.received log.new)
+        (style_read files job.entry.now style.entry.name (Some style.entry))) }
+    ensures fits { IfOk result (λ read. StyleFits read) }
+    ensures stays { F.content finder.new ≡ F.content finder.old }
+    ensures counts { CountsOfTwo result (F.failures finder.old, F.failures finder.new) (L.failures log.old, L.failures log.new) }
+{
+    let line = style_line(alloc, style.name())?;
+    journal.tell(&line, log)?;
+    with_style(alloc, finder, job, style, journal, log)
+}
+
+// Tells that the style of this name wasn't found, which ends the run.
+fn without_style<'a, L: Sink>(
+    alloc: Global,
+    name: &[u8],
+    journal: &mut Journal,
+    log: &mut L,
+) -> Result<FilesRead<'a>, Fault>
+    ensures reads { (files : Files) (job : Job) → ReadsAs result (journal.old, journal.new) (L.received log.old, L.received log.new)
+        (style_read files job name.now None) }
+    ensures fits { IfOk result (λ read. StyleFits read) }
+    ensures counts { CountsOfOne result (L.failures log.old, L.failures log.new) }
+{
+    let line = no_style_line(alloc, name)?;
+    journal.tell(&line, log)?;
+    Ok(FilesRead::Ends(End::Finished))
+}
+
+// Looks for the style of this name, and goes on from it.
+fn find_style<'a, F: Finder, L: Sink>(
+    alloc: Global,
+    finder: &mut F,
+    job: &'a AuxJob,
+    name: &'a [u8],
+    journal: &mut Journal,
+    log: &mut L,
+) -> Result<FilesRead<'a>, Fault>
+    ensures reads { IfSome (F.content finder.old) (λ files. ReadsAs result (journal.old, journal.new) (L.received log.old, L.received log.new)
+        (style_read files job.entry.now name.entry.now (file_at files name.entry.now))) }
+    ensures fits { IfOk result (λ read. StyleFits read) }
+    ensures stays { F.content finder.new ≡ F.content finder.old }
+    ensures counts { CountsOfTwo result (F.failures finder.old, F.failures finder.new) (L.failures log.old, L.failures log.new) }
+{
+    match fetch_file(alloc, finder, name)? {
+        Some(style) => tell_style(alloc, finder, job, style, journal, log),
+        None => without_style(alloc, name, journal, log),
+    }
+}
+
+// Goes on from the `.aux` files, by how their reading ended.
+fn after_job<'a, F: Finder, L: Sink>(
+    alloc: Global,
+    finder: &mut F,
+    job: &'a AuxJob,
+    journal: &mut Journal,
+    log: &mut L,
+) -> Result<FilesRead<'a>, Fault>
+    ensures reads { IfSome (F.content finder.old) (λ files. ReadsAs result (journal.old, journal.new) (L.received log.old, L.received log.new)
+        (after_job files job.entry.now job.entry.now.ending)) }
+    ensures fits { IfOk result (λ read. StyleFits read) }
+    ensures stays { F.content finder.new ≡ F.content finder.old }
+    ensures counts { CountsOfTwo result (F.failures finder.old, F.failures finder.new) (L.failures log.old, L.failures log.new) }
+{
+    match job.end() {
+        AuxEnd::Whole => named_style(alloc, finder, job, journal, log),
+        AuxEnd::TooManyOpen => Ok(FilesRead::Ends(End::Limit(Kind::Files))),
+        AuxEnd::TopMissing => Ok(FilesRead::Ends(End::NoTopFile)),
+        AuxEnd::FileLimit => Ok(FilesRead::Ends(End::Limit(Kind::File))),
+    }
+}
+
+// Looks for the style that a job names, if it names one.
+fn named_style<'a, F: Finder, L: Sink>(
+    alloc: Global,
+    finder: &mut F,
+    job: &'a AuxJob,
+    journal: &mut Journal,
+    log: &mut L,
+) -> Result<FilesRead<'a>, Fault>
+    ensures reads { IfSome (F.content finder.old) (λ files. ReadsAs result (journal.old, journal.new) (L.received log.old, L.received log.new)
+        (style_named files job.entry.now job.entry.now.style)) }
+    ensures fits { IfOk result (λ read. StyleFits read) }
+    ensures stays { F.content finder.new ≡ F.content finder.old }
+    ensures counts { CountsOfTwo result (F.failures finder.old, F.failures finder.new) (L.failures log.old, L.failures log.new) }
+{
+    match job.style() {
+        Some(name) => find_style(alloc, finder, job, name, journal, log),
+        None => Ok(FilesRead::Ends(End::Finished)),
+    }
+}
+
+/// Reads the files that a job names: tells what its `.aux` files told, and looks for its style and its databases. The faults are want of
+/// memory and the device's alone; the log then received a beginning of what would have been told.
+pub fn read_files<'a, F: Finder, L: Sink>(
+    alloc: Global,
+    finder: &mut F,
+    job: &'a AuxJob,
+    journal: &mut Journal,
+    log: &mut L,
+) -> Result<FilesRead<'a>, Fault>
+    ensures reads { IfSome (F.content finder.old) (λ files. ReadsAs result (journal.old, journal.new) (L.received log.old, L.received log.new)
+        (files_read files job.entry.now)) }
+    ensures fits { IfOk result (λ read. StyleFits read) }
+    ensures stays { F.content finder.new ≡ F.content finder.old }
+    ensures counts { CountsOfTwo result (F.failures finder.old, F.failures finder.new) (L.failures log.old, L.failures log.new) }
+{
+    journal.tell_all(job.log(), log)?;
+    after_job(alloc, finder, job, journal, log)
+}

@@ -1,0 +1,197 @@
+//! A whole run: the files of a job are read, then what its style and its databases hold, and then the style is executed.
+ghost use Rattle.std.specs.Prelude.{◌≡◌, ◌≢◌, ◌≤◌, Err, IfOk, IfSome, OnErr, OnOk, length};
+ghost use Rattle.std.specs.Io.KnownBytes.{Appends};
+ghost use Rattle.btx_text.specs.Limits.{greatest_file};
+ghost use Rattle.btx_machine.specs.Faults.{CountsOfOutputs};
+ghost use Rattle.btx_machine.specs.KeepingStep.{AtFault, Completes};
+ghost use Rattle.btx_machine.specs.Product.{log_of, product as executed};
+ghost use Rattle.btx_run.specs.Files.Faults.{CountsOfThree};
+ghost use Rattle.btx_run.specs.Files.Readings.{StyleFits, files_read};
+ghost use Rattle.btx_run.specs.Planning.Wholes.{given_by, given_in, product, product_of_files, product_of_reading, product_with};
+ghost use Rattle.btx_run.specs.RunFaults.{CountsOfRun};
+
+use crate::files::{FilesRead, JobFiles, Journal, read_files, read_job};
+use crate::planning::{Options, library_lines, read_library};
+use crate::run_fault::RunFault;
+use btx_aux::{AuxJob, Finder};
+use btx_bib::Library;
+use btx_bst::{Style, read_style};
+use btx_machine::report::report_of;
+use btx_machine::{Report, Told, execute_style, tell_end};
+use btx_out::Sink;
+use btx_step::Job;
+use btx_text::Fault;
+use std::alloc::Global;
+
+// Executes a style, after so much was told.
+fn execute<'a, W: Sink, L: Sink>(
+    alloc: Global,
+    style: &'a Style<'a>,
+    library: &'a Library<'a>,
+    options: &Options,
+    told: Told,
+    bbl: &mut W,
+    log: &mut L,
+) -> Result<Report, Fault>
+    ensures ok { IfOk result (λ report. Completes report (W.received bbl.old, L.received log.old) (W.received bbl.new, L.received log.new)
+        (executed (given_by style.now library.now options.now) told options.now.line options.now.budget)) }
+    ensures bound { IfOk result (λ report. report.steps ≤ options.now.budget) }
+    ensures err { OnErr result (AtFault (W.received bbl.old, L.received log.old) (W.received bbl.new, L.received log.new)
+        (executed (given_by style.now library.now options.now) told options.now.line) options.now.budget) }
+    ensures counts { CountsOfOutputs result (W.failures bbl.old, W.failures bbl.new) (L.failures log.old, L.failures log.new) }
+{
+    let messages = library_lines(alloc, library)?;
+    let job = Job::new(
+        style,
+        library,
+        options.text,
+        options.entry_max,
+        options.global_max,
+    );
+    execute_style(
+        alloc,
+        &job,
+        messages.as_slice(),
+        told,
+        options.line,
+        options.budget,
+        bbl,
+        log,
+    )
+}
+
+// Executes a style that was found, after so much was told: its text and the databases are read first.
+fn execute_found<'a, W: Sink, L: Sink>(
+    alloc: Global,
+    job: &'a AuxJob,
+    found: &'a JobFiles<'a>,
+    options: &Options,
+    told: Told,
+    bbl: &mut W,
+    log: &mut L,
+) -> Result<Report, Fault>
+    requires { length found.now.style.bytes ≤ greatest_file }
+    ensures ok { IfOk result (λ report. Completes report (W.received bbl.old, L.received log.old) (W.received bbl.new, L.received log.new)
+        (executed (given_in job.now found.now options.now) told options.now.line options.now.budget)) }
+    ensures bound { IfOk result (λ report. report.steps ≤ options.now.budget) }
+    ensures err { OnErr result (AtFault (W.received bbl.old, L.received log.old) (W.received bbl.new, L.received log.new)
+        (executed (given_in job.now found.now options.now) told options.now.line) options.now.budget) }
+    ensures counts { CountsOfOutputs result (W.failures bbl.old, W.failures bbl.new) (L.failures log.old, L.failures log.new) }
+{
+    let style = read_style(alloc, found.style.name(), found.style.bytes())?;
+    let library = read_library(alloc, &style, job, &found.databases, options.min_crossrefs)?;
+    execute(alloc, &style, &library, options, told, bbl, log)
+}
+
+// Goes on from the files of a job, after so much was told: the run ends at once, or the style is executed.
+fn after_files<'a, W: Sink, L: Sink>(
+    alloc: Global,
+    job: &'a AuxJob,
+    read: FilesRead<'a>,
+    options: &Options,
+    told: Told,
+    bbl: &mut W,
+    log: &mut L,
+) -> Result<Report, Fault>
+    requires { StyleFits read }
+    ensures ok { IfOk result (λ report. Completes report (W.received bbl.old, L.received log.old) (W.received bbl.new, L.received log.new)
+        (product_of_files job.now read.entry options.now told options.now.budget)) }
+    ensures bound { IfOk result (λ report. report.steps ≤ options.now.budget) }
+    ensures deep { IfOk result (λ report. report.deepest ≤ 4096) }
+    ensures err { OnErr result (AtFault (W.received bbl.old, L.received log.old) (W.received bbl.new, L.received log.new)
+        (product_of_files job.now read.entry options.now told) options.now.budget) }
+    ensures counts { CountsOfOutputs result (W.failures bbl.old, W.failures bbl.new) (L.failures log.old, L.failures log.new) }
+{
+    match read {
+        FilesRead::Ends(end) => tell_end(alloc, report_of(end, 0, 0, told), log),
+        FilesRead::Found(found) => execute_found(alloc, job, &found, options, told, bbl, log),
+    }
+}
+
+// Runs a job whose `.aux` files are read.
+fn run_job<F: Finder, W: Sink, L: Sink>(
+    alloc: Global,
+    finder: &mut F,
+    job: &AuxJob,
+    options: &Options,
+    bbl: &mut W,
+    log: &mut L,
+) -> Result<Report, Fault>
+    ensures ok { IfOk result (λ report. IfSome (F.content finder.old) (λ files.
+        Completes report (W.received bbl.old, L.received log.old) (W.received bbl.new, L.received log.new)
+        (product_of_reading job.now (files_read files job.now) options.now options.now.budget))) }
+    ensures bound { IfOk result (λ report. report.steps ≤ options.now.budget) }
+    ensures deep { IfOk result (λ report. report.deepest ≤ 4096) }
+    ensures err { OnErr result (IfSome (F.content finder.old) (λ files.
+        AtFault (W.received bbl.old, L.received log.old) (W.received bbl.new, L.received log.new)
+        (product_of_reading job.now (files_read files job.now) options.now) options.now.budget)) }
+    ensures counts { CountsOfThree result (F.failures finder.old, F.failures finder.new) (W.failures bbl.old, W.failures bbl.new) (L.failures log.old, L.failures log.new) }
+    ensures stays { F.content finder.new ≡ F.content finder.old }
+{
+    let mut journal = Journal::new();
+    let read = read_files(alloc, finder, job, &mut journal, log)?;
+    let told = Told {
+        warnings: journal.warnings(),
+        errors: journal.errors(),
+    };
+    after_files(alloc, job, read, options, told, bbl, log)
+}
+
+// Runs the job of this name.
+fn run_named<F: Finder, W: Sink, L: Sink>(
+    alloc: Global,
+    finder: &mut F,
+    name: &[u8],
+    options: &Options,
+    bbl: &mut W,
+    log: &mut L,
+) -> Result<Report, Fault>
+    ensures ok { IfOk result (λ report. IfSome (F.content finder.old) (λ files.
+        Completes report (W.received bbl.old, L.received log.old) (W.received bbl.new, L.received log.new) (product files name.now options.now))) }
+    ensures bound { IfOk result (λ report. report.steps ≤ options.now.budget) }
+    ensures deep { IfOk result (λ report. report.deepest ≤ 4096) }
+    ensures err { OnErr result (IfSome (F.content finder.old) (λ files.
+        AtFault (W.received bbl.old, L.received log.old) (W.received bbl.new, L.received log.new) (product_with files name.now options.now) options.now.budget)) }
+    ensures counts { CountsOfThree result (F.failures finder.old, F.failures finder.new) (W.failures bbl.old, W.failures bbl.new) (L.failures log.old, L.failures log.new) }
+    ensures stays { F.content finder.new ≡ F.content finder.old }
+{
+    let job = read_job(alloc, finder, name)?;
+    run_job(alloc, finder, &job, options, bbl, log)
+}
+
+/// Runs the job of this name, which may end in `.aux`: reads its `.aux` files, its style and its databases, executes the style, and writes the
+/// list of references to `bbl` and the log to `log`. The outputs aren't flushed.
+pub fn run_whole<F: Finder, W: Sink, L: Sink>(
+    alloc: Global,
+    finder: &mut F,
+    name: &[u8],
+    options: &Options,
+    bbl: &mut W,
+    log: &mut L,
+) -> Result<Report, RunFault>
+    // Of a finder that tells its content the product is known; at Ok the report is the product's, and both outputs received its bytes.
+    ensures report { IfOk result (λ report. IfSome (F.content finder.old) (λ files. report ≡ (product files name.now options.now).report)) }
+    ensures bbl { OnOk result (IfSome (F.content finder.old) (λ files.
+        Appends (W.received bbl.old) (W.received bbl.new) (product files name.now options.now).bbl)) }
+    ensures log { OnOk result (IfSome (F.content finder.old) (λ files.
+        Appends (L.received log.old) (L.received log.new) (log_of (product files name.now options.now)))) }
+
+    // After a fault both outputs are beginnings of the product's, and keep step. The device's fault is told exactly where one of the three
+    // counts of failures rose, by one.
+    ensures fault { OnErr result (IfSome (F.content finder.old) (λ files.
+        AtFault (W.received bbl.old, L.received log.old) (W.received bbl.new, L.received log.new) (product_with files name.now options.now) options.now.budget)) }
+    ensures counts { CountsOfRun result (F.failures finder.old, F.failures finder.new) (W.failures bbl.old, W.failures bbl.new) (L.failures log.old, L.failures log.new) }
+    ensures covered { result ≢ Err RunFault.NotYet }
+
+    // Whatever the finder and the sinks are.
+    ensures bound { IfOk result (λ report. report.steps ≤ options.now.budget) }
+    ensures deep { IfOk result (λ report. report.deepest ≤ 4096) }
+    ensures stays { F.content finder.new ≡ F.content finder.old }
+{
+    match run_named(alloc, finder, name, options, bbl, log) {
+        Ok(report) => Ok(report),
+        Err(Fault::Memory) => Err(RunFault::Memory),
+        Err(Fault::Device) => Err(RunFault::Device),
+        Err(Fault::FileLimit | Fault::StringLimit) => unreachable!(),
+    }
+}

@@ -1,0 +1,97 @@
+-- What a step leaves as it was. Fields, keys, types, the preamble and the style belong to the job, which no step answers: none can change them.
+use Rattle.std.specs.Prelude.{◌≡◌, ◌≢◌, ◌≤◌, ℕ, Bool, true, false, List, [], ◌++◌, length, drop, slice_get, Option, None, Some}
+use Rattle.btx_bst.specs.declared.built_in.BuiltIn.{BuiltIn}
+use Rattle.btx_bst.specs.declared.built_in.BuiltIn.TheVariants as built_in
+use Rattle.btx_bst.specs.declared.callee.Callee.TheVariants as callee
+use Rattle.btx_bst.specs.declared.token.Token.{Token}
+use Rattle.btx_bst.specs.declared.token.Token.TheVariants as token
+use Rattle.btx_step.specs.declared.literal.Literal.{Literal}
+use Rattle.btx_step.specs.Jobs.{Job}
+use Rattle.btx_step.specs.Stores.{Store}
+use Rattle.btx_step.specs.Answers.{with_literals}
+use Rattle.btx_step.specs.Steps.{step_of}
+
+-- ---- variables
+
+-- `:=` that is executed
+abbrev pub is_assignment : Token → Bool
+is_assignment (token.Run (callee.BuiltIn built_in.Assign)) = true
+is_assignment t = false
+
+-- a step of any other token changes the literals alone: no variable, and not which entry is the current one
+abbrev pub VariablesStay : Type 0
+VariablesStay = (job : Job) (t : Token) (s : Store) → is_assignment t ≡ false → with_literals [] (step_of job t s).store ≡ with_literals [] s
+
+-- an entry that isn't the current one
+abbrev pub IsOther : Option ℕ → ℕ → Type 0
+IsOther None entry = Unit {0}
+IsOther (Some current) entry = entry ≢ current
+
+-- no step changes the variables of another entry
+abbrev pub OtherEntriesStay : Type 0
+OtherEntriesStay = (job : Job) (t : Token) (s : Store) (entry : ℕ) → IsOther s.current entry
+    → slice_get (step_of job t s).store.entries entry ≡ slice_get s.entries entry
+
+-- no step makes another entry the current one
+abbrev pub CurrentStays : Type 0
+CurrentStays = (job : Job) (t : Token) (s : Store) → (step_of job t s).store.current ≡ s.current
+
+-- ---- literals
+
+-- how many literals a built-in function takes; `stack$`, which takes all, aside
+abbrev pub operands_of : BuiltIn → ℕ
+operands_of built_in.Equals = 2
+operands_of built_in.Greater = 2
+operands_of built_in.Less = 2
+operands_of built_in.Plus = 2
+operands_of built_in.Minus = 2
+operands_of built_in.Concatenate = 2
+operands_of built_in.Assign = 2
+operands_of built_in.AddPeriod = 1
+operands_of built_in.ChangeCase = 2
+operands_of built_in.CharacterToInteger = 1
+operands_of built_in.Duplicate = 1
+operands_of built_in.Empty = 1
+operands_of built_in.FormatName = 3
+operands_of built_in.If = 3
+operands_of built_in.IntegerToCharacter = 1
+operands_of built_in.IntegerToString = 1
+operands_of built_in.Missing = 1
+operands_of built_in.NumNames = 1
+operands_of built_in.Pop = 1
+operands_of built_in.Purify = 1
+operands_of built_in.Substring = 3
+operands_of built_in.Swap = 2
+operands_of built_in.TextLength = 1
+operands_of built_in.TextPrefix = 2
+operands_of built_in.Top = 1
+operands_of built_in.Warning = 1
+operands_of built_in.While = 2
+operands_of built_in.Width = 1
+operands_of built_in.Write = 1
+operands_of f = 0
+
+-- a literal that is pushed takes none, and neither does a field, a variable or a function of the style
+abbrev pub operands_taken : Token → ℕ
+operands_taken (token.Run (callee.BuiltIn f)) = operands_of f
+operands_taken t = 0
+
+-- `stack$` that is executed
+abbrev pub is_listing : Token → Bool
+is_listing (token.Run (callee.BuiltIn built_in.Stack)) = true
+is_listing t = false
+
+-- these literals stand, and above them at most two others
+pub record StandUnder (below : List Literal) (literals : List Literal) : Type 0 where
+  pub results : List Literal
+  pub few : length results ≤ 2
+  pub above : literals ≡ results ++ below
+
+-- below the operands that a step takes all literals stay, but for `stack$`
+abbrev pub LowerLiteralsStay : Type 0
+LowerLiteralsStay = (job : Job) (t : Token) (s : Store) → is_listing t ≡ false
+    → StandUnder (drop (operands_taken t) s.literals) (step_of job t s).store.literals
+
+-- `stack$` leaves none
+abbrev pub ListingEmpties : Type 0
+ListingEmpties = (job : Job) (s : Store) → (step_of job (token.Run (callee.BuiltIn built_in.Stack)) s).store.literals ≡ []

@@ -1,0 +1,52 @@
+# What `make install` puts where, and the man page.
+
+# make_there WORD..: make in the sources, with the check's folder as DESTDIR.
+make_there() {
+    status=0
+    make -C "$here/.." --no-print-directory program="$program" PREFIX=/usr DESTDIR="$folder/root" "$@" </dev/null >"$folder/stdout" 2>"$folder/stderr" || status=$?
+}
+
+# wants_installed NAME..: these files stand below DESTDIR, and no other.
+wants_installed() {
+    local found
+    found=$(cd "$folder/root" 2>/dev/null && find . -type f | sort | tr '\n' ' ') || true
+    [ "$found" = "${*:+$* }" ] || complaints+=("installed are '$found', not '$*'")
+}
+
+if command -v make >/dev/null; then
+    begin installed
+    make_there install
+    wants_status 0
+    wants_error ''
+    wants_installed ./usr/bin/bibtex ./usr/share/man/man1/bibtex.1
+    cmp -s "$folder/root/usr/bin/bibtex" "$program" || complaints+=('the installed program is another')
+    [ -x "$folder/root/usr/bin/bibtex" ] || complaints+=('the installed program may not be run')
+    end
+
+    begin uninstalled
+    make_there install
+    make_there uninstall
+    wants_status 0
+    wants_installed
+    end
+else
+    echo 'left out: make install (there is no make)'
+fi
+
+# The man page names each option and status that the help names, and has no fault.
+begin man_page
+page=$here/../docs/bibtex.1
+"$program" --help >"$folder/help"
+for option in $(grep -o -- '^ *\(-h, \)\?--[a-z-]*' "$folder/help" | grep -o -- '--[a-z-]*'); do
+    grep -qF -- "${option//-/\\-}" "$page" || complaints+=("the man page does not name $option")
+done
+for number in $(grep -o '^  [0-9]  ' "$folder/help"); do
+    grep -qx ".B $number" "$page" || complaints+=("the man page does not list status $number")
+done
+if command -v groff >/dev/null; then
+    groff -ww -man -Tutf8 "$page" >"$folder/page" 2>"$folder/warnings" || complaints+=('groff does not take the man page')
+    wants_text "$folder/warnings" ''
+else
+    echo 'left out: warnings of the man page (there is no groff)'
+fi
+end

@@ -1,0 +1,362 @@
+"""Hostile jobs, and what each must end in by docs/RULES.md.
+
+A job is made for a size: the full one for the program, a small one for the reference in Python, which is slow where a job is large. What is
+expected is a formula in that size, reckoned by hand from the rules and not by a program."""
+
+from typing import Callable, NamedTuple
+
+AUX = b"\\citation{k}\n\\bibdata{d}\n\\bibstyle{s}\n"
+DATABASE = b"@misc{k, title = {T}}\n"
+HEAD = b"ENTRY {title}{}{} INTEGERS {i} FUNCTION {misc}{} READ\n"
+WRITES_A = HEAD + b'FUNCTION {f} {"a" write$ newline$} EXECUTE {f}\n'
+STEPS_OF_WRITING_A = 4
+
+LONGEST_STRING = 1_000_000
+MOST_OPEN_FILES = 20
+MOST_LITERALS = 1_000
+MOST_BODIES = MOST_LOOPS = 4_096
+
+
+OUT_OF_MEMORY = "out of memory"
+
+
+class Expected(NamedTuple):
+    """The end, the counts, the list; `log` has lines that stand in the log, with how often. Where memory is refused the run has
+    no end of its own, and the log no last line."""
+    end: str = "finished"
+    warnings: int = 0
+    errors: int = 0
+    steps: int = STEPS_OF_WRITING_A
+    references: bytes = b"a\n"
+    log: dict = {}
+
+    @property
+    def status(self):
+        if self.end == "finished":
+            return 2 if self.errors else 0
+        return {"stopped": 4, OUT_OF_MEMORY: 5}.get(self.end, 3)
+
+    @property
+    def last_line(self):
+        return b"Ended: %s, warnings %d, errors %d, steps %d" % (self.end.encode(), self.warnings, self.errors, self.steps)
+
+
+class HostileJob(NamedTuple):
+    """`make` gives, for a size, the files that differ from the ordinary ones, and what is expected. `budget` is given for a size too.
+    `memory` is how much the program may have."""
+    name: str
+    make: Callable
+    size: int = 1
+    small: int = 1
+    budget: Callable = None
+    memory: int = 2_000_000_000
+
+
+JOBS = []
+
+
+def hostile(**given):
+    """Adds the function's job to the list, under its name."""
+    def add(make):
+        JOBS.append(HostileJob(make.__name__, make, **given))
+        return make
+    return add
+
+
+def files_of(job, size):
+    """All files of the job by name, and what is expected."""
+    files, expected = job.make(size)
+    return {"job.aux": AUX, "d.bib": DATABASE, "s.bst": WRITES_A, **files}, expected
+
+
+def executes(body):
+    """A style that executes this body once."""
+    return HEAD + b"FUNCTION {f} {" + body + b"} EXECUTE {f}\n"
+
+
+def iterates(body):
+    """A style that runs this body for each entry."""
+    return HEAD + b"FUNCTION {f} {" + body + b"} ITERATE {f}\n"
+
+
+# ---- `.aux` files ----
+
+
+@hostile()
+def an_aux_file_names_itself(size):
+    line = b"Error--Already encountered file job.aux--line 1 of file job.aux"
+    return {"job.aux": b"\\@input{job.aux}\n" + AUX}, Expected(errors=1, log={line: 1})
+
+
+@hostile()
+def aux_files_in_a_circle(size):
+    files = {"job.aux": b"\\@input{a.aux}\n" + AUX, "a.aux": b"\\@input{b.aux}\n",
+             "b.aux": b"\\@input{a.aux}\n\\@input{job.aux}\n"}
+    return files, Expected(errors=2, log={b"Error--Already encountered file a.aux--line 1 of file b.aux": 1,
+                                          b"Error--Already encountered file job.aux--line 2 of file b.aux": 1})
+
+
+def nested_aux_files(depth):
+    """So many files, each of which names the next one; the last has the job's lines."""
+    names = ["job.aux"] + ["level%d.aux" % level for level in range(1, depth)]
+    files = {name: b"\\@input{%s}\n" % after.encode() for name, after in zip(names, names[1:])}
+    return {**files, names[-1]: AUX}
+
+
+@hostile()
+def aux_files_as_deep_as_may_be(size):
+    return nested_aux_files(MOST_OPEN_FILES), Expected(log={b"A level-19 auxiliary file: level19.aux": 1})
+
+
+@hostile()
+def aux_files_too_deep(size):
+    return nested_aux_files(MOST_OPEN_FILES + 1), Expected(
+        "limit files", steps=0, references=b"",
+        log={b"A level-19 auxiliary file: level19.aux": 1, b"A level-20 auxiliary file: level20.aux": 0})
+
+
+@hostile(size=100_000, small=200)
+def one_aux_file_named_again_and_again(size):
+    line = b"Error--Already encountered file a.aux--line %d of file job.aux" % size
+    return ({"job.aux": b"\\@input{a.aux}\n" * size + AUX, "a.aux": b""},
+            Expected(errors=size - 1, log={line: 1, b"A level-1 auxiliary file: a.aux": 1}))
+
+
+@hostile(size=2_000, small=50)
+def many_aux_files(size):
+    names = ["chapter%d.aux" % number for number in range(size)]
+    top = b"".join(b"\\@input{%s}\n" % name.encode() for name in names)
+    return {"job.aux": top + AUX, **{name: b"\\citation{k}\n" for name in names}}, Expected()
+
+
+@hostile(size=100_000, small=200)
+def citations_on_one_line(size):
+    keys = b",".join(b"key%d" % number for number in range(size))
+    line = b"Warning--I didn't find a database entry for \"key%d\"" % (size - 1)
+    return {"job.aux": b"\\citation{" + keys + b"}\n" + AUX}, Expected(warnings=size, log={line: 1})
+
+
+@hostile(size=100_000, small=200)
+def citations_of_entries_that_are_there(size):
+    keys = [b"key%d" % number for number in range(size)]
+    files = {"job.aux": b"".join(b"\\citation{%s}\n" % key for key in keys) + AUX,
+             "d.bib": b"".join(b"@misc{%s}\n" % key for key in reversed(keys)) + DATABASE,
+             "s.bst": iterates(b"cite$ write$ newline$")}
+    return files, Expected(steps=4 * (size + 1), references=b"".join(key + b"\n" for key in keys + [b"k"]))
+
+
+@hostile(size=50_000, small=100)
+def citations_that_differ_in_case(size):
+    lines = b"".join(b"\\citation{key%d,KEY%d}\n" % (number, number) for number in range(size))
+    line = b"Error--Case mismatch error between cite keys key0 and KEY0--line 1 of file job.aux"
+    return {"job.aux": lines + AUX}, Expected(warnings=size, errors=size, log={line: 1})
+
+
+@hostile(size=1_000_000, small=1_000)
+def one_key_cited_again_and_again(size):
+    return {"job.aux": b"\\citation{" + b"k," * (size - 1) + b"k}\n" + AUX}, Expected()
+
+
+# ---- databases ----
+
+
+def database_with_title(text):
+    return b"@misc{k, title = {" + text + b"}}\n"
+
+
+@hostile()
+def a_field_as_long_as_may_be(size):
+    text = b"x" * LONGEST_STRING
+    files = {"d.bib": database_with_title(text), "s.bst": iterates(b"title write$ newline$")}
+    return files, Expected(steps=4, references=text + b"\n")
+
+
+@hostile()
+def a_field_too_long(size):
+    return ({"d.bib": database_with_title(b"x" * (LONGEST_STRING + 1))},
+            Expected("limit string", steps=0, references=b""))
+
+
+@hostile()
+def strings_that_double(size):
+    """Each @string is the one before it, twice: the 21st has 1,048,576 bytes."""
+    doubled = b"".join(b"@string{s%d = s%d # s%d}\n" % (number, number - 1, number - 1) for number in range(1, 61))
+    return ({"d.bib": b'@string{s0 = "x"}\n' + doubled + DATABASE},
+            Expected("limit string", steps=0, references=b""))
+
+
+@hostile(size=100_000, small=200)
+def entries_of_one_key(size):
+    line = b"Error--Repeated entry--line %d of file d.bib" % size
+    return {"d.bib": b"@misc{k}\n" * size}, Expected(errors=size - 1, log={line: 1})
+
+
+@hostile(size=100_000, small=200)
+def fields_of_one_name(size):
+    line = b'Warning--I\'m ignoring k\'s extra "title" field--line 3 of file d.bib'
+    fields = b"".join(b",\n title = {T}" for number in range(size))
+    return {"d.bib": b"@misc{k" + fields + b"}\n"}, Expected(warnings=size - 1, log={line: 1})
+
+
+@hostile(size=100_000, small=200)
+def children_of_one_parent(size):
+    files = {"job.aux": AUX.replace(b"{k}", b"{*}"), "s.bst": iterates(b"title write$ newline$"),
+             "d.bib": b"".join(b"@misc{c%d, crossref = {k}}\n" % number for number in range(size)) + DATABASE}
+    return files, Expected(steps=4 * (size + 1), references=b"T\n" * (size + 1))
+
+
+@hostile(size=100_000, small=200)
+def a_chain_of_parents(size):
+    """Each entry names the next as its parent, and only the first is cited: the others leave again."""
+    entries = b"".join(b"@misc{c%d, crossref = {c%d}}\n" % (number, number + 1) for number in range(size))
+    line = b'Warning--you\'ve nested cross references--entry "c0" refers to entry "c1"'
+    files = {"job.aux": AUX.replace(b"{k}", b"{c0}"), "d.bib": entries + b"@misc{c%d, title = {T}}\n" % size,
+             "s.bst": iterates(b"cite$ write$ newline$")}
+    return files, Expected(warnings=size - 1, steps=4, references=b"c0\n", log={line: 1})
+
+
+@hostile(size=499_999, small=1_000)
+def a_field_of_braces(size):
+    files = {"d.bib": database_with_title(b"{" * size + b"Q" + b"}" * size),
+             "s.bst": iterates(b'title "u" change.case$ purify$ title text.length$ int.to.str$ * write$ newline$')}
+    return files, Expected(steps=11, references=b"Q1\n")
+
+
+@hostile(size=100_000, small=200)
+def an_item_that_is_wrong_on_each_line(size):
+    line = b"Error--I was expecting a name--line %d of file d.bib" % size
+    return {"d.bib": b"@{\n" * size + DATABASE}, Expected(errors=size, log={line: 1})
+
+
+@hostile(size=1_000_000, small=1_000)
+def a_database_of_at_signs(size):
+    line = b"Error--Illegal end of database file--line 2 of file d.bib"
+    return {"d.bib": DATABASE + b"@" * size}, Expected(errors=1, log={line: 1})
+
+
+@hostile(size=160_000, small=500)
+def a_field_of_names(size):
+    names = b" and ".join([b"A"] * (size - 1) + [b"Ann Lee"])
+    body = b'title num.names$ int.to.str$ write$ " " write$ title #%d "{f. }{ll}" format.name$ write$ newline$' % size
+    return ({"d.bib": database_with_title(names), "s.bst": iterates(body)},
+            Expected(steps=13, references=b"%d A. Lee\n" % size))
+
+
+# ---- styles ----
+
+
+def loop(body):
+    """A body of a function that runs this one without end."""
+    return b"{#1} {" + body + b"} while$"
+
+
+STEPS_BEFORE_A_LOOP = 4
+
+
+@hostile(size=1_000_000, small=1_000, budget=lambda size: size)
+def a_style_that_loops(size):
+    return {"s.bst": executes(loop(b""))}, Expected("stopped", steps=size, references=b"")
+
+
+@hostile(size=200_000, small=200, budget=lambda size: 5 * size + STEPS_BEFORE_A_LOOP)
+def a_line_that_does_not_end(size):
+    return ({"s.bst": executes(loop(b'"0123456789" write$'))},
+            Expected("stopped", steps=5 * size + STEPS_BEFORE_A_LOOP, references=b"0123456789" * size))
+
+
+@hostile(size=250_000, small=200, budget=lambda size: 4 * size + STEPS_BEFORE_A_LOOP)
+def a_list_that_does_not_end(size):
+    return ({"s.bst": executes(loop(b"newline$"))},
+            Expected("stopped", steps=4 * size + STEPS_BEFORE_A_LOOP, references=b"\n" * size))
+
+
+@hostile(size=200_000, small=200, budget=lambda size: 5 * size + STEPS_BEFORE_A_LOOP)
+def a_log_that_does_not_end(size):
+    return ({"s.bst": executes(loop(b'"again" warning$'))},
+            Expected("stopped", warnings=size, steps=5 * size + STEPS_BEFORE_A_LOOP, references=b"",
+                     log={b"Warning--again": size}))
+
+
+@hostile(size=50, small=3)
+def a_log_of_long_strings(size):
+    """Seven steps before the first test, twelve a turn, four for the last test."""
+    text = b"x" * LONGEST_STRING
+    style = iterates(b"#0 'i := {i #%d <} {title top$ i #1 + 'i :=} while$" % size)
+    return ({"d.bib": database_with_title(text), "s.bst": style},
+            Expected(steps=7 + 12 * size + 4, references=b"", log={b'"' + text + b'"': size}))
+
+
+@hostile()
+def a_style_that_recurses(size):
+    style = HEAD + b"FUNCTION {h} {duplicate$ #1 swap$ 'skip$ if$} FUNCTION {g} {'h h} EXECUTE {g}\n"
+    return {"s.bst": style}, Expected("limit calls", steps=2 + MOST_BODIES + 5 * (MOST_BODIES - 1), references=b"")
+
+
+@hostile()
+def loops_in_loops(size):
+    """The body of each loop is `while$` itself, which finds its test and its body on the stack."""
+    style = (HEAD + b"FUNCTION {t} {duplicate$ 'while$ #1} FUNCTION {g} {'t duplicate$ 'while$ while$} EXECUTE {g}\n")
+    return {"s.bst": style}, Expected("limit loops", steps=5 + 5 * MOST_LOOPS, references=b"")
+
+
+@hostile()
+def a_string_that_doubles(size):
+    return ({"s.bst": executes(b'"x" ' + loop(b"duplicate$ *"))},
+            Expected("limit string", steps=1 + STEPS_BEFORE_A_LOOP + 5 * 20, references=b""))
+
+
+@hostile()
+def a_stack_that_grows(size):
+    return ({"s.bst": executes(loop(b"#7"))},
+            Expected("limit literals", steps=STEPS_BEFORE_A_LOOP + 4 * MOST_LITERALS + 2, references=b""))
+
+
+@hostile()
+def a_stack_of_long_strings(size):
+    style = iterates(b"title " + loop(b"duplicate$"))
+    return ({"d.bib": database_with_title(b"x" * LONGEST_STRING), "s.bst": style},
+            Expected("limit literals", steps=1 + STEPS_BEFORE_A_LOOP + 4 * (MOST_LITERALS - 1) + 2, references=b""))
+
+
+@hostile(size=1_000_000, small=200)
+def a_style_of_braces(size):
+    return {"s.bst": executes(b"{" * size + b"}" * size + b" pop$")}, Expected(steps=3, references=b"")
+
+
+@hostile(size=100_000, small=500)
+def a_style_of_functions(size):
+    functions = b"".join(b"FUNCTION {f%d} {f%d}\n" % (number + 1, number) if number % 1_000 else
+                         b'FUNCTION {f%d} {"a" write$ newline$}\n' % (number + 1) for number in range(size))
+    return {"s.bst": HEAD + functions + b"EXECUTE {f%d}\n" % size}, Expected(steps=(size - 1) % 1_000 + 1 + 3)
+
+
+@hostile(size=100_000, small=500)
+def a_style_of_mistakes(size):
+    line = b"Error--nonsense isn't a command--line 4 of file s.bst"
+    return {"s.bst": WRITES_A + b"\nnonsense\n" * size}, Expected(errors=size, log={line: 1})
+
+
+@hostile(size=100_000, small=500)
+def a_list_that_is_sorted_backwards(size):
+    keys = [b"key%06d" % number for number in range(size)]
+    style = (HEAD + b"FUNCTION {f} {cite$ 'sort.key$ :=} FUNCTION {g} {cite$ write$ newline$} ITERATE {f} SORT ITERATE {g}\n")
+    files = {"job.aux": AUX.replace(b"{k}", b"{*}"), "s.bst": style,
+             "d.bib": b"".join(b"@misc{%s}\n" % key for key in reversed(keys))}
+    return files, Expected(steps=8 * size, references=b"".join(key + b"\n" for key in keys))
+
+
+# ---- more than memory holds ----
+
+
+@hostile(memory=200_000_000)
+def a_log_that_fills_memory(size):
+    """The log is kept in memory until the run ends."""
+    return ({"d.bib": database_with_title(b"x" * LONGEST_STRING), "s.bst": iterates(loop(b"title top$"))},
+            Expected(OUT_OF_MEMORY, references=b""))
+
+
+@hostile(memory=200_000_000)
+def a_stack_that_fills_memory(size):
+    """Up to 1,000 literals of 1,000,000 bytes each, none of which is another's copy."""
+    return ({"d.bib": database_with_title(b"x" * (LONGEST_STRING - 1)), "s.bst": iterates(loop(b'title "y" *'))},
+            Expected(OUT_OF_MEMORY, references=b""))

@@ -1,0 +1,71 @@
+"""Runs of the proved program beside runs of the reference, over the worked jobs and jobs made from a seed.
+
+    python3 compare_with_program.py [--jobs N] [--seed N] [--plain] PROGRAM
+
+Compares list, log and status byte by byte. With --plain all options but the budget are left out, for a program that has no others."""
+
+import argparse
+import pathlib
+import subprocess
+import tempfile
+
+from product import Options, run
+from random_jobs import random_jobs, worked_jobs
+
+OUTSIDE = 7     # the status of a program that doesn't cover the job
+
+
+def words_of(options):
+    words = []
+    for name, value in options._asdict().items():
+        if value != Options._field_defaults[name]:
+            words += ["--text", "utf8"] if name == "utf8" else ["--" + name.replace("_", "-"), str(value)]
+    return words
+
+
+def by_program(program, files, options):
+    """List, log and status."""
+    with tempfile.TemporaryDirectory() as folder:
+        for name, text in files.items():
+            (pathlib.Path(folder) / name.decode()).write_bytes(text)
+        done = subprocess.run([program, "--dir", folder, *words_of(options), "job"], capture_output=True, timeout=300)
+        read = [pathlib.Path(folder) / name for name in ("job.bbl", "job.blg")]
+        return (*(path.read_bytes() if path.exists() else None for path in read), done.returncode)
+
+
+def compare(program, files, given):
+    """Whether both are the same; None where the program doesn't cover the job."""
+    options = Options(**given)
+    there = by_program(program, files, options)
+    if there[2] == OUTSIDE:
+        return None
+    here = run(files, b"job", options)
+    told = (here.list, here.log, here.report.status)
+    if there != told:
+        print("---- differs", words_of(options))
+        for name, text in files.items():
+            print(name, text[:2000])
+        for what, left, right in zip(("list", "log", "status"), there, told):
+            if left != right:
+                print(what, "\n  program:  ", str(left)[:3000], "\n  reference:", str(right)[:3000])
+    return there == told
+
+
+def main():
+    parser = argparse.ArgumentParser()
+    parser.add_argument("program", type=lambda path: str(pathlib.Path(path).resolve()))
+    parser.add_argument("--jobs", type=int, default=500)
+    parser.add_argument("--seed", type=int, default=1)
+    parser.add_argument("--plain", action="store_true")
+    arguments = parser.parse_args()
+    results = []
+    for files, given in (*worked_jobs(), *random_jobs(arguments.jobs, arguments.seed)):
+        if arguments.plain:
+            given = {name: value for name, value in given.items() if name == "budget"}
+        results.append(compare(arguments.program, files, given))
+    print(f"{results.count(True)} same, {results.count(False)} differ, {results.count(None)} outside")
+    return results.count(False)
+
+
+if __name__ == "__main__":
+    raise SystemExit(main() > 0)

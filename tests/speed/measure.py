@@ -1,0 +1,300 @@
+#!/usr/bin/env python3
+"""How fast the program is, beside the original `bibtex` where that is installed.
+
+    python3 tests/speed/measure.py [--sizes N,..] [--counted N] [--styles NAME,..] [--runs N] [--seed N] [PROGRAM]
+
+PROGRAM is crates/bibtex/out/bibtex if none is given. Instructions are counted by valgrind; without valgrind, or a compiler for
+`once.c`, nothing is measured. Prints a table of jobs, one of loops, and the bars. Its last line is 'N bars met, M not'; the exit
+status is 0 only where M is 0."""
+
+import argparse
+import math
+import pathlib
+import re
+import shutil
+import subprocess
+import sys
+import tempfile
+from typing import NamedTuple, Optional
+
+import jobs
+from jobs import ARTICLE, LONG, PLAIN
+
+HERE = pathlib.Path(__file__).resolve().parent
+PROGRAM = HERE.parents[1] / "crates/bibtex/out/bibtex"
+LONGEST_RUN = 1_800
+# The original's tables are set up for fewer than 100,000 keys; a larger job gets larger ones, and its memory is then no measure.
+MOST_ENTRIES_OF_ORIGINAL = 20_000
+
+MOST_AT_START = 10_000_000
+MOST_GROWTH = 1.05
+# The original on the jobs of seed 1: instructions and MB. The bars where it isn't installed.
+RECORDED = {("article", 10_000): (2_565_800_000, 13.2), ("plain", 10_000): (2_359_200_000, 18.2),
+            ("jurabib", 10_000): (6_698_600_000, 39.0)}
+
+
+class Figures(NamedTuple):
+    """What a run took; `failure` says why there are none. A count of instructions, or of steps, may be left out."""
+    failure: Optional[str] = None
+    instructions: Optional[int] = None
+    wall: float = 0.0
+    cpu: float = 0.0
+    megabytes: float = 0.0
+    steps: Optional[int] = None
+    references: bytes = b""
+
+
+class Tool:
+    """A program that is measured."""
+
+    def __init__(self, name, path, room):
+        self.name, self.path, self.room = name, path, room
+        self.is_original = name == "original"
+
+    def environment(self, entries):
+        larger = {"max_strings": "4000000"} if self.is_original and entries > MOST_ENTRIES_OF_ORIGINAL else {}
+        return {"PATH": "/usr/bin:/bin", **larger}
+
+    def start(self, words, folder, entries):
+        """Runs `words` and the program's own; the exit status and the last line on standard error."""
+        ran = subprocess.run(["timeout", str(LONGEST_RUN), *words, self.path, "job"], cwd=folder, stdin=subprocess.DEVNULL,
+                             stdout=subprocess.DEVNULL, stderr=subprocess.PIPE, env=self.environment(entries))
+        said = ran.stderr.decode("latin1").strip().split("\n")[-1]
+        return ran.returncode, said
+
+    def can_run(self, status):
+        return status in ((0, 1, 2) if self.is_original else (0, 2))
+
+    def measured(self, folder, entries, runs, is_counted):
+        timed = [self.timed(folder, entries) for _ in range(runs)]
+        failed = [figures for figures in timed if figures.failure]
+        if failed:
+            return failed[0]
+        best = min(timed, key=lambda figures: figures.cpu)
+        return best._replace(instructions=self.counted(folder, entries)) if is_counted else best
+
+    def timed(self, folder, entries):
+        note = self.room / "figures"
+        status, said = self.start([self.room / "once", note], folder, entries)
+        if not self.can_run(status):
+            return Figures(failure=f"status {status}" + (f", {said}" if said else ""))
+        wall, cpu, kilobytes = map(float, note.read_text().split())
+        return Figures(None, None, wall, cpu, kilobytes / 1024, self.steps(folder), (folder / "job.bbl").read_bytes())
+
+    def counted(self, folder, entries):
+        note = self.room / "counted"
+        self.start(["valgrind", "--tool=cachegrind", "--cache-sim=no", "--cachegrind-out-file=/dev/null",
+                    f"--log-file={note}"], folder, entries)
+        found = re.search(r"I\s+refs:\s+([\d,]+)", note.read_text())
+        return int(found[1].replace(",", "")) if found else None
+
+    def steps(self, folder):
+        """The steps that the log tells; the original's tells none."""
+        found = re.search(rb"^Ended: finished,.* steps (\d+)$", (folder / "job.blg").read_bytes(), re.MULTILINE)
+        return int(found[1]) if found else None
+
+
+# ---- what is measured ----
+
+
+def measure(tools, job, seed, runs, is_counted, room):
+    """The figures of a job for each tool."""
+    figures = {}
+    for tool in tools:
+        with tempfile.TemporaryDirectory(dir=room) as folder:
+            folder = pathlib.Path(folder)
+            job.write(folder, seed)
+            figures[tool.name] = tool.measured(folder, job.entries, runs, is_counted)
+    return figures
+
+
+def measure_loop(tools, loop, seed, room):
+    """Instructions a step for each tool: those of two lengths of one loop, their difference, by that of their steps."""
+    short, long = (measure(tools, loop.job(turns), seed, 1, True, room) for turns in loop.turns)
+    steps = loop.steps(seed)
+    a_step = {}
+    for name in short:
+        failure = short[name].failure or long[name].failure
+        a_step[name] = failure or (long[name].instructions - short[name].instructions) / steps
+    return a_step
+
+
+# ---- tables ----
+
+
+def millions(count):
+    return "" if count is None else f"{count / 1e6:,.1f} M"
+
+
+def row(cells):
+    print("| " + " | ".join(str(cell) for cell in cells) + " |", flush=True)
+
+
+def print_job(job, figures, seed):
+    steps = next((told.steps for told in figures.values() if told.steps), None) or jobs.few_steps(job, seed)
+    for name, told in figures.items():
+        if told.failure:
+            row([job.name, f"{job.entries:,}", name, f"can't run it: {told.failure}", *[""] * 6])
+            continue
+        a_second = millions(steps / told.cpu) if steps and told.cpu else ""
+        row([job.name, f"{job.entries:,}", name, millions(told.instructions), f"{told.cpu:.3f}", f"{told.wall:.3f}",
+             f"{told.megabytes:.1f}", f"{steps:,}" if steps else "", a_second, same_list(figures, name)])
+
+
+def same_list(figures, name):
+    """Whether this program's list is the original's."""
+    original = figures.get("original")
+    if name == "original" or original is None or original.failure:
+        return ""
+    return "same" if figures[name].references == original.references else "DIFFERS"
+
+
+def print_loop(loop, a_step):
+    for name, told in a_step.items():
+        row([loop.name, name, f"can't run it: {told}" if isinstance(told, str) else f"{told:.1f}"])
+
+
+# ---- bars ----
+
+
+class Bars:
+    def __init__(self):
+        self.met = self.missed = 0
+
+    def judge(self, what, found, most, shown):
+        """`found` is a number, or says why there is none; a bar without a number to compare with is left out."""
+        if most is None:
+            print(f"left out  {what}: there is nothing to compare with")
+            return
+        is_met = not isinstance(found, str) and found <= most
+        self.met, self.missed = self.met + is_met, self.missed + (not is_met)
+        told = f"can't run it: {found}" if isinstance(found, str) else shown(found)
+        print(f"{'met      ' if is_met else 'NOT MET  '} {what}: {told}, at most {shown(most)}")
+
+
+def of_original(measured, job):
+    """The original's instructions and MB on this job."""
+    figures = measured[job].get("original")
+    if figures is None or figures.failure:
+        return RECORDED.get((job.name, job.entries), (None, None))
+    return figures.instructions, figures.megabytes
+
+
+def print_bars(measured, bars):
+    for job in measured:
+        told = measured[job]["program"]
+        if job.name == jobs.START:
+            bars.judge("instructions at the start", told.failure or told.instructions, MOST_AT_START, millions)
+        elif job.entries >= 10_000 and job.name != jobs.READING_ALONE:
+            instructions, megabytes = of_original(measured, job)
+            what = f"{job.name}, {job.entries:,} entries"
+            if told.instructions or told.failure:
+                bars.judge(f"{what}, instructions of the original", told.failure or told.instructions, instructions, millions)
+            if job.entries <= MOST_ENTRIES_OF_ORIGINAL:
+                bars.judge(f"{what}, memory of the original", told.failure or told.megabytes, megabytes,
+                           lambda size: f"{size:.1f} MB")
+
+
+def exponent(smaller, larger, start):
+    """The exponent by which instructions grow from one job to another, without the start's; by seconds where they weren't counted.
+    A text where there is none."""
+    def taken(figures):
+        if smaller[1].instructions and larger[1].instructions:
+            return figures.instructions - start.instructions
+        return figures.cpu - start.cpu
+    few, many = taken(smaller[1]), taken(larger[1])
+    if few <= 0 or many <= 0:
+        return "it takes no more than the start does"
+    return math.log(many / few) / math.log(larger[0].entries / smaller[0].entries)
+
+
+def print_growth(measured, tool, bars):
+    told = [(job, figures[tool.name]) for job, figures in measured.items() if not figures[tool.name].failure]
+    starts = [figures for job, figures in told if job.name == jobs.START]
+    for smaller, larger in zip(told, told[1:]):
+        if not starts or smaller[0].name != larger[0].name:
+            continue
+        found = exponent(smaller, larger, starts[0])
+        what = f"{smaller[0].name}, {tool.name}, growth from {smaller[0].entries:,} to {larger[0].entries:,} entries"
+        if isinstance(found, str):
+            print(f"          {what}: {found}")
+        elif larger[1].instructions is None or tool.is_original:
+            print(f"          {what}: exponent {found:.3f}{'' if larger[1].instructions else ' by seconds'}")
+        else:
+            bars.judge(what, found, MOST_GROWTH, lambda exponent: f"exponent {exponent:.3f}")
+
+
+# ---- the command ----
+
+
+def numbers(text):
+    return [int(word) for word in text.replace("_", "").split(",")]
+
+
+def read_arguments():
+    parser = argparse.ArgumentParser()
+    parser.add_argument("--sizes", type=numbers, default=[1_000, 10_000], help="numbers of entries, rising")
+    parser.add_argument("--counted", type=int, default=10_000, help="instructions are counted up to so many entries")
+    parser.add_argument("--styles", type=lambda text: text.split(","), default=[ARTICLE, PLAIN, LONG])
+    parser.add_argument("--runs", type=int, default=3, help="seconds are the best of so many runs")
+    parser.add_argument("--seed", type=int, default=1)
+    parser.add_argument("program", nargs="?", type=pathlib.Path, default=PROGRAM)
+    return parser.parse_args()
+
+
+def find_tools(arguments, room):
+    tools = []
+    if arguments.program.is_file():
+        tools.append(Tool("program", arguments.program.resolve(), room))
+    else:
+        print(f"there is no program {arguments.program}: build it by make")
+    original = shutil.which("bibtex")
+    if original and b"BibTeX 0.99" in subprocess.run([original, "--version"], capture_output=True).stdout:
+        tools.append(Tool("original", original, room))
+    else:
+        print("the original bibtex isn't installed: left out")
+    return tools
+
+
+def measure_all(tools, arguments, room):
+    styles = [style for style in arguments.styles if jobs.has_style(style)]
+    row(["job", "entries", "", "instructions", "CPU s", "wall s", "peak MB", "steps", "steps a second", "list"])
+    row(["---"] * 10)
+    measured = {}
+    for job in jobs.all_jobs(styles, arguments.sizes):
+        is_counted = job.entries <= arguments.counted
+        measured[job] = measure(tools, job, arguments.seed, arguments.runs, is_counted, room)
+        print_job(job, measured[job], arguments.seed)
+    print()
+    row(["loop", "", "instructions a step"])
+    row(["---"] * 3)
+    for loop in jobs.all_loops(styles):
+        print_loop(loop, measure_loop(tools, loop, arguments.seed, room))
+    print()
+    return measured
+
+
+def main():
+    missing = [name for name in ("valgrind", "gcc", "timeout") if shutil.which(name) is None]
+    if missing:
+        print(f"{' and '.join(missing)} not found: nothing is measured")
+        return 0
+    arguments = read_arguments()
+    with tempfile.TemporaryDirectory() as room:
+        room = pathlib.Path(room)
+        subprocess.run(["gcc", "-O2", "-Wall", "-Werror", "-o", room / "once", HERE / "once.c"], check=True)
+        tools = find_tools(arguments, room)
+        measured = measure_all(tools, arguments, room)
+    bars = Bars()
+    if any(tool.name == "program" for tool in tools):
+        print_bars(measured, bars)
+    else:
+        bars.missed += 1
+    for tool in tools:
+        print_growth(measured, tool, bars)
+    print(f"{bars.met} bars met, {bars.missed} not")
+    return min(bars.missed, 1)
+
+
+if __name__ == "__main__":
+    sys.exit(main())
