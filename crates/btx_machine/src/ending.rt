@@ -2,7 +2,7 @@
 
 /// A limit that ends a run.
 #[derive(Clone, Copy, Debug, PartialEq, Eq)]
-pub enum Kind {
+pub enum Limit {
     /// More than 1,000 literals on the stack.
     Literals,
     /// More than 4,096 open bodies.
@@ -25,5 +25,5 @@ pub enum Ending {
     /// The budget did not cover the next step.
     Stopped,
     /// A limit was met.
-    Limit(Kind),
+    Limit(Limit),
 }

@@ -16,7 +16,7 @@ pub mod visits;
 pub mod work;
 
 pub use command::Command;
-pub use ending::{Ending, Kind};
+pub use ending::{Ending, Limit};
 pub use last::tell_end;
 pub use law::{budget_law, depth_law, meaning_law};
 pub use report::{End, Report, Told};

@@ -2,7 +2,7 @@
 ghost use Rattle.std.specs.Prelude.{◌≡◌};
 ghost use Rattle.btx_machine.specs.Reports.{end_as, report_of, status_of, word_of};
 
-use crate::ending::{Ending, Kind};
+use crate::ending::{Ending, Limit};
 
 /// How a run ends.
 #[derive(Clone, Copy, Debug, PartialEq, Eq)]
@@ -12,7 +12,7 @@ pub enum End {
     /// The budget did not cover the next step.
     Stopped,
     /// A limit was met.
-    Limit(Kind),
+    Limit(Limit),
     /// There is no top-level `.aux` file.
     NoTopFile,
 }
@@ -60,12 +60,12 @@ impl End {
         match self {
             End::Finished => "finished",
             End::Stopped => "stopped",
-            End::Limit(Kind::Literals) => "limit literals",
-            End::Limit(Kind::Calls) => "limit calls",
-            End::Limit(Kind::Loops) => "limit loops",
-            End::Limit(Kind::String) => "limit string",
-            End::Limit(Kind::File) => "limit file",
-            End::Limit(Kind::Files) => "limit files",
+            End::Limit(Limit::Literals) => "limit literals",
+            End::Limit(Limit::Calls) => "limit calls",
+            End::Limit(Limit::Loops) => "limit loops",
+            End::Limit(Limit::String) => "limit string",
+            End::Limit(Limit::File) => "limit file",
+            End::Limit(Limit::Files) => "limit files",
             End::NoTopFile => "no top file",
         }
     }

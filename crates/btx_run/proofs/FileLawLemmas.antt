@@ -6,10 +6,9 @@ use Rattle.std.specs.Prelude.{is_none}
 use Rattle.std.proofs.lemmas.Grind.{flat_map-append}
 use Rattle.btx_text.specs.LogLines.{Line, is_error}
 use Rattle.btx_aux.specs.Files.{Files}
-use Rattle.btx_run.specs.LogLines.{database_line}
+use Rattle.btx_run.specs.Files.Lines.{database_line, no_database_line}
 use Rattle.btx_run.specs.Files.Found.{NamedFile, file_at, named}
 use Rattle.btx_run.specs.Files.Laws.{FoundAreNumbered, MissingAreErrors, OneLineEach, is_plain, numbered}
-use Rattle.btx_run.specs.Files.Lines.{no_database_line}
 use Rattle.btx_run.specs.Files.Readings.{as_list, database_told, databases_told, files_found}
 
 -- ---- the databases that were found are numbered

@@ -10,10 +10,9 @@ use Rattle.btx_aux.specs.Job.{job_of_files}
 use Rattle.btx_run.specs.declared.files.found.FilesRead.{FilesRead}
 use Rattle.btx_run.specs.declared.files.found.FilesRead.TheVariants.{Ends, Found}
 use Rattle.btx_machine.specs.declared.report.End.TheVariants as ended
-use Rattle.btx_run.specs.LogLines.{database_line, no_style_line, style_line}
+use Rattle.btx_run.specs.Files.Lines.{database_line, no_style_line, style_line, no_database_line}
 use Rattle.btx_run.specs.Files.Counts.{counts, counts_of}
 use Rattle.btx_run.specs.Files.Found.{named}
-use Rattle.btx_run.specs.Files.Lines.{no_database_line}
 use Rattle.btx_run.specs.Files.Readings.{Reading, after_job, after_style, reading_of, style_named, style_read}
 
 -- the texts of what is told

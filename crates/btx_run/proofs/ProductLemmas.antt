@@ -1,67 +1,200 @@
--- The law over budgets.
-use Rattle.std.proofs.Common.{◌≡◌, ◌≢◌, ℕ, ◌+◌, ◌-◌, ◌≤◌, List, Option, None, Some, IsSomeAnd, refl, ap, ◌∙◌, subst, arith}
-use Rattle.std.specs.Option.{option_map}
+-- What a whole run writes and answers, by what its parts do.
+use Rattle.std.proofs.Common.{◌≡◌, ℕ, ◌+◌, ◌≤◌, inl, inr, List, [], Option, Result, Ok, Err, IfOk, IfSome, OnErr, OnOk, length, refl, sym, ap, ◌∙◌, subst, append_assoc, map, arith}
+use Rattle.std.specs.Io.KnownBytes.{Appends}
+use Rattle.std.proofs.KnownBytes.{Appends-trans, Appends-nil}
+use Rattle.btx_text.specs.declared.fault.Fault.{Fault}
+use Rattle.btx_text.specs.declared.fault.Fault.TheVariants.{Memory, Device, FileLimit, StringLimit}
+use Rattle.btx_text.specs.Counts.{Change}
+use Rattle.btx_text.specs.Limits.{greatest_file}
 use Rattle.btx_text.specs.LogLines.{Line}
-use Rattle.btx_run.specs.declared.report.End.TheVariants as ended
-use Rattle.btx_run.specs.Budgets.{Begins, BudgetLaw, Foretells}
-use Rattle.btx_run.specs.Execution.{Outcome, actions_of, bbl_of, no_work, outcome_of}
-use Rattle.btx_run.specs.Product.{Ends, Executes, Product, Reading, Then, bytes_of_lines, errors_in, log_of, product_of_reading, product_of_then, reading_of, report_of, report_of_outcome}
-use Rattle.btx_run.proofs.OutcomeLemmas.{bbl_of-more, begins_self, left_within, outcome_of-more, with_more}
+use Rattle.btx_aux.specs.Files.{Files}
+use Rattle.btx_aux.specs.Job.{Job}
+use Rattle.btx_out.specs.Pieces.{AppendsBeginning}
+use Rattle.btx_out.proofs.PieceLemmas.{beginning-after, beginning-longer, beginning-none_same}
+use Rattle.btx_bst.specs.Style.{Style}
+use Rattle.btx_bst.specs.StyleReads.{Reads}
+use Rattle.btx_bib.specs.Databases.{library_of}
+use Rattle.btx_bib.specs.Library.{Library}
+use Rattle.btx_bib.specs.MessageTexts.{line_of}
+use Rattle.btx_bib.specs.Requests.{asked}
+use Rattle.btx_step.specs.Jobs.{Job as Stored}
+use Rattle.btx_machine.specs.Faults.{CountsOfLog, CountsOfOutputs}
+use Rattle.btx_machine.specs.Items.{Given, given}
+use Rattle.btx_machine.specs.KeepingStep.{AtFault, BothBegin, BothExtend, Completes, KeepsStep}
+use Rattle.btx_machine.specs.Product.{Product, product_early, product as executed}
+use Rattle.btx_machine.specs.Reports.{last_line, told_so}
+use Rattle.btx_machine.specs.Saying.{ended_line}
+use Rattle.btx_machine.specs.Written.{Received}
+use Rattle.btx_machine.specs.declared.report.Report.{Report}
+use Rattle.btx_machine.specs.declared.report.Told.{Told}
+use Rattle.btx_machine.proofs.ComesLemmas.{ok_map, err_map}
+use Rattle.btx_machine.proofs.DeepLemmas as depth
+use Rattle.btx_run.specs.declared.files.found.FilesRead.{FilesRead}
+use Rattle.btx_run.specs.declared.files.found.JobFiles.{JobFiles}
+use Rattle.btx_run.specs.declared.options.Options.{Options}
+use Rattle.btx_run.specs.Files.Counts.{Counts, counts_of}
+use Rattle.btx_run.specs.Files.Readings.{IsRead, Reading, files_read, job_named}
+use Rattle.btx_run.specs.Files.Telling.{Tells, bytes_of_lines}
+use Rattle.btx_run.specs.Contents.{database_of, style_in}
+use Rattle.btx_run.specs.Product.{given_by, given_in, product, product_of_files, product_of_reading, product_with, told_before, told_in}
+use Rattle.btx_run.proofs.ReadingLemmas.{of_both}
 
--- steps that aren't taken change nothing
-same_steps : (budget more left : ℕ) → left ≤ budget → budget + more - (left + more) ≡ budget - left
-same_steps budget more left within = omega arith
+-- ---- what the style works on
 
--- what follows a reading writes more with more steps
-then_more : (told : List Line) (follows : Then) (c more : ℕ) → Begins (product_of_then told follows c).bbl (product_of_then told follows (c + more)).bbl
-then_more told (Ends end) c more = begins_self _
-then_more told (Executes bodies) c more = bbl_of-more (actions_of bodies) c more no_work
+pub given_is : (options : Options) (style : Style) (library : Library) (stored : Stored) (lines : List Line)
+    → stored ≡ record { style = style; library = library; mode = options.text; entry_max = options.entry_max; global_max = options.global_max }
+    → lines ≡ map line_of library.messages
+    → given stored lines ≡ given_by style library options
+given_is options style library stored lines is_stored is_lines =
+    ap (λ (stored : Stored). given stored lines) is_stored
+    ∙ ap (given (record { style = style; library = library; mode = options.text; entry_max = options.entry_max; global_max = options.global_max })) is_lines
 
--- the product of an outcome
-abbrev pub product_of_outcome : List Line → ℕ → Outcome → Product
-product_of_outcome told budget outcome = record { bbl = bbl_of outcome; told = bytes_of_lines told; report = report_of_outcome (errors_in told) budget outcome }
+pub found_is : (job : Job) (found : JobFiles) (options : Options) (style : Style) (library : Library)
+    → style ≡ style_in found
+    → library ≡ library_of (asked style job options.min_crossrefs) style.macros (map database_of found.databases)
+    → given_by style library options ≡ given_in job found options
+found_is job found options style library is_style is_library =
+    ap (λ (library : Library). given_by style library options) is_library
+    ∙ ap (λ (style : Style). given_by style (library_of (asked style job options.min_crossrefs) style.macros (map database_of found.databases)) options) is_style
 
--- steps that are left over don't show
-outcome_same : (told : List Line) (budget more : ℕ) (outcome : Outcome) → outcome.left ≤ budget
-    → product_of_outcome told (budget + more) (with_more more outcome) ≡ product_of_outcome told budget outcome
-outcome_same told budget more outcome within =
-    let report : ℕ → Product = λ n. record { bbl = bbl_of outcome; told = bytes_of_lines told; report = report_of outcome.end n outcome.work.deepest (errors_in told) } in
-    ap report (same_steps budget more outcome.left within)
+pub completes_given : (a b : Received) (told : Told) (limit budget : ℕ) (here there : Given) → here ≡ there → (r : Result Report Fault)
+    → IfOk r (λ report. Completes report a b (executed here told limit budget)) → IfOk r (λ report. Completes report a b (executed there told limit budget))
+completes_given a b told limit budget here there is r h = subst (λ g. IfOk r (λ report. Completes report a b (executed g told limit budget))) is h
 
--- and the same where it isn't stopped
-pub then_same : (told : List Line) (follows : Then) (c more : ℕ) → (product_of_then told follows c).report.end ≢ ended.Stopped
-    → product_of_then told follows (c + more) ≡ product_of_then told follows c
-then_same told (Ends end) c more goes = refl
-then_same told (Executes bodies) c more goes =
-    ap (product_of_outcome told (c + more)) (outcome_of-more (actions_of bodies) c more no_work goes)
-    ∙ outcome_same told c more (outcome_of (actions_of bodies) c no_work) (left_within (actions_of bodies) c no_work)
+pub fails_given : (a b : Received) (told : Told) (limit budget : ℕ) (here there : Given) → here ≡ there → (r : Result Report Fault)
+    → OnErr r (AtFault a b (executed here told limit) budget) → OnErr r (AtFault a b (executed there told limit) budget)
+fails_given a b told limit budget here there is r h = subst (λ g. OnErr r (AtFault a b (executed g told limit) budget)) is h
 
--- a log begins with what was told before its last line
-told_begins : (told : List Line) (follows : Then) (c d : ℕ) → Begins (product_of_then told follows c).told (log_of (product_of_then told follows d))
-told_begins told (Ends end) c d = (_, refl)
-told_begins told (Executes bodies) c d = (_, refl)
+-- no more than 4,096 bodies are open at once
+pub never_deeper : (a b : Received) (g : Given) (told : Told) (limit budget : ℕ) (r : Result Report Fault)
+    → IfOk r (λ report. Completes report a b (executed g told limit budget)) → IfOk r (λ report. report.deepest ≤ 4096)
+never_deeper a b g told limit budget =
+    ok_map (λ report completes. subst (λ (report : Report). report.deepest ≤ 4096) (sym completes.report_is) (depth.holds g told limit budget))
 
-pub foretells : (read : Reading) (c more : ℕ) → Foretells (product_of_reading read c) (product_of_reading read (c + more))
-foretells read c more = record {
-  bbl = then_more read.told read.follows c more;
-  log = told_begins read.told read.follows c (c + more);
+-- ---- a run that ends at once
+
+pub completes_early : (b l m : Option (List ℕ)) (told report : Report) → told ≡ report → (r : Result Report Fault)
+    → IfOk r (λ answer. answer ≡ told) → OnOk r (Appends l m (ended_line (last_line told)))
+    → IfOk r (λ answer. Completes answer (b, l) (b, m) (product_early report))
+completes_early b l m told report is (Ok answer) same writes = record {
+  report_is = same ∙ is;
+  bbl_whole = Appends-nil b;
+  log_whole = subst (λ report. Appends l m (ended_line (last_line report))) is writes;
 }
+completes_early b l m told report is (Err fault) same writes = tt
 
--- the law at a reading
-at_reading : (read : Reading) (c d : ℕ) → c ≤ d → (shorter : Product) → product_of_reading read c ≡ shorter
-    → Foretells shorter (product_of_reading read d) × (shorter.report.end ≢ ended.Stopped → product_of_reading read d ≡ shorter)
-at_reading read c d le shorter is =
-    let more : c + (d - c) ≡ d = omega arith in
-    subst (λ n. Foretells shorter (product_of_reading read n) × (shorter.report.end ≢ ended.Stopped → product_of_reading read n ≡ shorter)) more
-    (subst (λ p. Foretells p (product_of_reading read (c + (d - c))) × (p.report.end ≢ ended.Stopped → product_of_reading read (c + (d - c)) ≡ p)) is
-    (foretells read c (d - c), then_same read.told read.follows c (d - c)))
+pub fails_early : (b l m : Option (List ℕ)) (told report : Report) (budget : ℕ) → told ≡ report → AppendsBeginning l m (ended_line (last_line told))
+    → AtFault (b, l) (b, m) (λ steps. product_early report) budget
+fails_early b l m told report budget is part = record { beginnings = begins; step = inl begins }
+  where
+    begins : BothBegin (b, l) (b, m) (product_early report)
+    begins = record { bbl_begins = beginning-none_same b []; log_begins = subst (λ report. AppendsBeginning l m (ended_line (last_line report))) is part }
 
--- the law, whether the job is covered or not
-at_any : (read : Option Reading) (c d : ℕ) → c ≤ d → (shorter : Product) → option_map (λ read. product_of_reading read c) read ≡ Some shorter
-    → IsSomeAnd (option_map (λ read. product_of_reading read d) read) (λ longer.
-    Foretells shorter longer × (shorter.report.end ≢ ended.Stopped → longer ≡ shorter))
-at_any None c d le shorter is = cc
-at_any (Some read) c d le shorter is = at_reading read c d le shorter (cc)
+-- ---- behind the lines that were told before
 
-pub holds : BudgetLaw
-holds files job options c d le shorter is = at_any (reading_of files job) c d le shorter is
+module _ (lines : List Line) (b c l m n : Option (List ℕ)) (told : Appends l m (bytes_of_lines lines)) where
+  pub completes_behind : (report : Report) (whole : Product) → Completes report (b, m) (c, n) whole → Completes report (b, l) (c, n) (told_before lines whole)
+  completes_behind report whole completes = record {
+    report_is = completes.report_is;
+    bbl_whole = completes.bbl_whole;
+    log_whole = subst (Appends l n) (sym (append_assoc (bytes_of_lines lines) whole.told _)) (Appends-trans l m n _ _ told completes.log_whole);
+  }
+
+  begins_behind : (whole : Product) → BothBegin (b, m) (c, n) whole → BothBegin (b, l) (c, n) (told_before lines whole)
+  begins_behind whole begins = record {
+    bbl_begins = begins.bbl_begins;
+    log_begins = subst (AppendsBeginning l n) (sym (append_assoc (bytes_of_lines lines) whole.told _)) (beginning-after l m n _ _ told begins.log_begins);
+  }
+
+  extends_behind : (whole : Product) → BothExtend (b, m) (c, n) whole → BothExtend (b, l) (c, n) (told_before lines whole)
+  extends_behind whole extends = record {
+    bbl_extends = extends.bbl_extends;
+    log_extends = record {
+      more = extends.log_extends.more;
+      received = subst (Appends l n) (sym (append_assoc (bytes_of_lines lines) whole.told extends.log_extends.more)) (Appends-trans l m n _ _ told extends.log_extends.received);
+    };
+  }
+
+  keeps_behind : (make : ℕ → Product) (budget : ℕ) → KeepsStep (b, m) (c, n) make budget → KeepsStep (b, l) (c, n) (λ steps. told_before lines (make steps)) budget
+  keeps_behind make budget (inl begins) = inl (begins_behind (make 0) begins)
+  keeps_behind make budget (inr within) = inr (record {
+    steps = within.steps;
+    within = within.within;
+    extends = extends_behind (make within.steps) within.extends;
+    begins = begins_behind (make (within.steps + 1)) within.begins;
+  })
+
+  pub fails_behind : (make : ℕ → Product) (budget : ℕ) → AtFault (b, m) (c, n) make budget → AtFault (b, l) (c, n) (λ steps. told_before lines (make steps)) budget
+  fails_behind make budget fault = record { beginnings = begins_behind (make budget) fault.beginnings; step = keeps_behind make budget fault.step }
+
+-- a fault while these lines were told
+pub fails_in_lines : (lines : List Line) (b l m : Option (List ℕ)) (make : ℕ → Product) (budget : ℕ) → AppendsBeginning l m (bytes_of_lines lines)
+    → AtFault (b, l) (b, m) (λ steps. told_before lines (make steps)) budget
+fails_in_lines lines b l m make budget part = record { beginnings = begins budget; step = inl (begins 0) }
+  where
+    begins : (steps : ℕ) → BothBegin (b, l) (b, m) (told_before lines (make steps))
+    begins steps = record { bbl_begins = beginning-none_same b _; log_begins = beginning-longer l m _ _ (beginning-longer l m _ _ part) }
+
+-- ---- behind the reading of the files
+
+-- what was told, by the counts of its lines
+pub told_is : (warnings errors : ℕ) (first counts : Counts) (log : Received) (lines : List Line)
+    → warnings ≡ counts.warnings → errors ≡ counts.errors → first ≡ counts_of [] → Tells (first, counts) log lines → told_so warnings errors ≡ told_in lines
+told_is warnings errors first counts log lines is_warnings is_errors new told =
+    ap (λ warnings. told_so warnings errors) is_warnings
+    ∙ ap (told_so counts.warnings) is_errors
+    ∙ ap (λ (counts : Counts). told_so counts.warnings counts.errors) (told.counts [] new)
+
+module _ (job : Job) (options : Options) (read : FilesRead) (told : Told) (first counts : Counts) (b c l m n : Option (List ℕ)) (is_told : told ≡ told_so counts.warnings counts.errors) (new : first ≡ counts_of []) where
+  -- what follows is what follows the reading
+  follows : (part : Reading FilesRead) → IsRead read (first, counts) (l, m) part → product_of_files job read options told ≡ product_of_files job part.gives options (told_in part.told)
+  follows part is_read =
+      ap (λ read. product_of_files job read options told) is_read.gives
+      ∙ ap (product_of_files job part.gives options) (is_told ∙ told_is counts.warnings counts.errors first counts (l, m) part.told refl refl new is_read.tells)
+
+  pub completes_reading : (report : Report) (budget : ℕ) (part : Reading FilesRead) → IsRead read (first, counts) (l, m) part
+      → Completes report (b, m) (c, n) (product_of_files job read options told budget) → Completes report (b, l) (c, n) (product_of_reading job part options budget)
+  completes_reading report budget part is_read completes =
+      completes_behind part.told b c l m n is_read.tells.received report _ (subst (λ (make : ℕ → Product). Completes report (b, m) (c, n) (make budget)) (follows part is_read) completes)
+
+  pub fails_reading : (budget : ℕ) (part : Reading FilesRead) → IsRead read (first, counts) (l, m) part
+      → AtFault (b, m) (c, n) (product_of_files job read options told) budget → AtFault (b, l) (c, n) (product_of_reading job part options) budget
+  fails_reading budget part is_read fault =
+      fails_behind part.told b c l m n is_read.tells.received _ budget (subst (λ (make : ℕ → Product). AtFault (b, m) (c, n) make budget) (follows part is_read) fault)
+
+-- ---- behind the `.aux` files
+
+pub completes_named : (content later : Option Files) (job : Job) (name : List ℕ) (options : Options) (a z : Received) → later ≡ content
+    → IfSome content (λ files. job ≡ job_named files name) → (r : Result Report Fault)
+    → IfOk r (λ report. IfSome later (λ files. Completes report a z (product_of_reading job (files_read files job) options options.budget)))
+    → IfOk r (λ report. IfSome content (λ files. Completes report a z (product files name options)))
+completes_named content later job name options a z stays named =
+    ok_map (λ report completes. of_both content later _ _ _ stays named completes
+    (λ files is completes. subst (λ (job : Job). Completes report a z (product_of_reading job (files_read files job) options options.budget)) is completes))
+
+pub fails_named : (content later : Option Files) (job : Job) (name : List ℕ) (options : Options) (a z : Received) → later ≡ content
+    → IfSome content (λ files. job ≡ job_named files name) → (r : Result Report Fault)
+    → OnErr r (IfSome later (λ files. AtFault a z (product_of_reading job (files_read files job) options) options.budget))
+    → OnErr r (IfSome content (λ files. AtFault a z (product_with files name options) options.budget))
+fails_named content later job name options a z stays named =
+    err_map (λ fault. of_both content later _ _ _ stays named fault
+    (λ files is fault. subst (λ (job : Job). AtFault a z (product_of_reading job (files_read files job) options) options.budget) is fault))
+
+-- ---- counts of failures
+
+pub counts_of_memory : (r : Result Report Fault) (bbl log : ℕ) → r ≡ Err Memory → CountsOfOutputs r (bbl, bbl) (log, log)
+counts_of_memory r bbl log is = subst (λ (r : Result Report Fault). CountsOfOutputs r (bbl, bbl) (log, log)) (sym is) (refl, refl)
+
+pub counts_of_style : (r : Result Report Fault) (fault : Fault) (name text : List ℕ) (bbl log : ℕ) → r ≡ Err fault → Reads (Err fault) name text → length text ≤ greatest_file
+    → CountsOfOutputs r (bbl, bbl) (log, log)
+counts_of_style r Memory name text bbl log is reads fits = counts_of_memory r bbl log is
+counts_of_style r FileLimit name text bbl log is reads fits = absurd (omega (arith, reads, fits))
+counts_of_style r Device name text bbl log is reads fits = absurd reads
+counts_of_style r StringLimit name text bbl log is reads fits = absurd reads
+
+pub counts_of_end : (r : Result Report Fault) (bbl : ℕ) (log : Change) → CountsOfLog r log → CountsOfOutputs r (bbl, bbl) log
+counts_of_end (Ok report) bbl log counts = (refl, counts)
+counts_of_end (Err Memory) bbl log counts = (refl, counts)
+counts_of_end (Err Device) bbl log counts = inr (refl, counts)
+counts_of_end (Err FileLimit) bbl log counts = counts
+counts_of_end (Err StringLimit) bbl log counts = counts

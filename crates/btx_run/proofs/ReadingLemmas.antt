@@ -17,13 +17,12 @@ use Rattle.btx_aux.specs.declared.end.End.{End as AuxEnd}
 use Rattle.btx_aux.specs.declared.end.End.TheVariants as aux
 use Rattle.btx_run.specs.declared.files.found.FilesRead.{FilesRead}
 use Rattle.btx_run.specs.declared.files.found.FilesRead.TheVariants.{Ends, Found}
-use Rattle.btx_machine.specs.declared.ending.Kind.TheVariants as kind
+use Rattle.btx_machine.specs.declared.ending.Limit.TheVariants as kind
 use Rattle.btx_machine.specs.declared.report.End.TheVariants as ended
-use Rattle.btx_run.specs.KeepingStep.{Received}
-use Rattle.btx_run.specs.LogLines.{no_style_line, style_line}
+use Rattle.btx_run.specs.Files.Telling.{Received, Counted, Tells, bytes_of_lines}
+use Rattle.btx_run.specs.Files.Lines.{no_style_line, style_line}
 use Rattle.btx_run.specs.Files.Readings.{IsRead, Reading, ReadsAs, after_job, after_style, as_list, behind, database_told, databases_read, databases_told, files_found, reading, style_named, style_read}
-use Rattle.btx_run.specs.Files.Telling.{Counted, Tells}
-use Rattle.btx_run.specs.Product.{bytes_of_lines, is_too_long}
+use Rattle.btx_run.specs.Files.Names.{is_too_long}
 use Rattle.btx_run.proofs.TellingLemmas.{part_begins, rest_begins, tells_both, tells_nothing}
 
 -- ---- contents

@@ -8,8 +8,8 @@ use Rattle.btx_text.specs.LogLines.{Line}
 use Rattle.btx_out.specs.Pieces.{AppendsBeginning}
 use Rattle.btx_out.proofs.PieceLemmas.{beginning-after, beginning-all, beginning-longer}
 use Rattle.btx_run.specs.Files.Counts.{Counts, counts_of}
-use Rattle.btx_run.specs.Files.Telling.{Tells}
-use Rattle.btx_run.specs.Product.{bytes_of_lines, ended_line}
+use Rattle.btx_run.specs.Files.Telling.{Tells, bytes_of_lines}
+use Rattle.btx_machine.specs.Saying.{ended_line}
 
 -- the bytes of lines and further lines
 pub bytes_of_both : (xs ys : List Line) → bytes_of_lines (xs ++ ys) ≡ bytes_of_lines xs ++ bytes_of_lines ys

@@ -5,6 +5,8 @@ mod databases;
 pub mod found;
 pub mod journal;
 pub mod laws;
+mod lines;
+mod names;
 pub mod reading;
 
 pub use found::{FilesRead, FoundFile, FoundFiles, JobFiles};

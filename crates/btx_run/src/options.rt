@@ -1,10 +1,21 @@
-//! What a run is asked to do.
+//! What can be asked of a run.
+use btx_out::LineLength;
+use btx_step::KeptBytes;
+use btx_text::TextMode;
 
-/// The options of a run.
-#[derive(Clone, Copy, Debug, PartialEq, Eq)]
+/// What can be asked of a run.
+#[derive(Clone, Copy, Debug)]
 pub struct Options {
-    /// How often a cross-referenced entry that isn't cited has to be named to be listed.
+    /// How many references keep an entry in the list that isn't cited.
     pub min_crossrefs: u32,
-    /// How many steps a style may take at most. A step is the execution of a function, or the push of a literal.
+    /// The greatest number of steps.
     pub budget: u64,
+    /// How the text of strings is read.
+    pub text: TextMode,
+    /// The greatest length of a line of the `.bbl`, where white allows a break.
+    pub line: LineLength,
+    /// How many bytes of a string a variable of an entry keeps.
+    pub entry_max: KeptBytes,
+    /// How many bytes of a string a global variable keeps.
+    pub global_max: KeptBytes,
 }

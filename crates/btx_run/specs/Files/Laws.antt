@@ -4,9 +4,8 @@ use Rattle.btx_text.specs.declared.log_line.LineKind.{LineKind}
 use Rattle.btx_text.specs.declared.log_line.LineKind.TheVariants.{Plain, Warning, Error}
 use Rattle.btx_text.specs.LogLines.{Line, is_error}
 use Rattle.btx_aux.specs.Files.{Files}
-use Rattle.btx_run.specs.LogLines.{database_line}
+use Rattle.btx_run.specs.Files.Lines.{database_line, no_database_line}
 use Rattle.btx_run.specs.Files.Found.{NamedFile}
-use Rattle.btx_run.specs.Files.Lines.{no_database_line}
 use Rattle.btx_run.specs.Files.Readings.{databases_told, files_found}
 
 -- the line is neither a warning nor an error

@@ -12,14 +12,12 @@ use Rattle.btx_text.specs.LogLines.{Line}
 use Rattle.btx_out.specs.Pieces.{AppendsBeginning}
 use Rattle.btx_run.specs.declared.files.found.FilesRead.{FilesRead}
 use Rattle.btx_run.specs.declared.files.found.FilesRead.TheVariants.{Ends, Found}
-use Rattle.btx_machine.specs.declared.ending.Kind.TheVariants as kind
+use Rattle.btx_machine.specs.declared.ending.Limit.TheVariants as kind
 use Rattle.btx_machine.specs.declared.report.End.TheVariants as ended
-use Rattle.btx_run.specs.KeepingStep.{Received}
-use Rattle.btx_run.specs.LogLines.{database_line, no_style_line, style_line}
-use Rattle.btx_run.specs.Product.{bytes_of_lines, is_too_long, top_name}
+use Rattle.btx_run.specs.Files.Telling.{Received, bytes_of_lines, Counted, Tells}
+use Rattle.btx_run.specs.Files.Lines.{database_line, no_style_line, style_line, no_database_line}
+use Rattle.btx_run.specs.Files.Names.{is_too_long, top_name}
 use Rattle.btx_run.specs.Files.Found.{NamedFile, file_at}
-use Rattle.btx_run.specs.Files.Lines.{no_database_line}
-use Rattle.btx_run.specs.Files.Telling.{Counted, Tells}
 
 -- a part of the reading: the lines of the log that it tells, and what it gives
 pub record Reading (T : Type 0) : Type 0 where

@@ -1,10 +1,18 @@
 -- What a log received while lines were told.
-use Rattle.std.specs.Prelude.{◌≡◌, List, ◌++◌}
+use Rattle.std.specs.Prelude.{◌≡◌, ℕ, List, ◌++◌, Option}
+use Rattle.std.specs.List.{flat_map}
 use Rattle.std.specs.Io.KnownBytes.{Appends}
 use Rattle.btx_text.specs.LogLines.{Line}
-use Rattle.btx_run.specs.KeepingStep.{Received}
-use Rattle.btx_run.specs.Product.{bytes_of_lines}
+use Rattle.btx_machine.specs.Saying.{ended_line}
 use Rattle.btx_run.specs.Files.Counts.{Counts, counts_of}
+
+-- the bytes of these lines
+abbrev pub bytes_of_lines : List Line → List ℕ
+bytes_of_lines lines = flat_map (λ line. ended_line line.text) lines
+
+-- what the log received before and after
+abbrev pub Received : Type 0
+Received = Option (List ℕ) × Option (List ℕ)
 
 -- the counts before and after
 abbrev pub Counted : Type 0

@@ -5,12 +5,11 @@ ghost use Rattle.btx_run.specs.Files.Faults.{CountsOfTwo};
 ghost use Rattle.btx_run.specs.Files.Found.{file_at};
 ghost use Rattle.btx_out.specs.Pieces.{AppendsBeginning};
 ghost use Rattle.btx_run.specs.Files.Readings.{ReadsAs, as_list, database_told, databases_read, reading};
-ghost use Rattle.btx_run.specs.Files.Telling.{Tells};
-ghost use Rattle.btx_run.specs.Product.{bytes_of_lines};
+ghost use Rattle.btx_run.specs.Files.Telling.{Tells, bytes_of_lines};
 
 use crate::files::found::{FoundFile, FoundFiles, fetch_file};
 use crate::files::journal::Journal;
-use crate::log_lines::{database_line, no_database_line};
+use crate::files::lines::{database_line, no_database_line};
 use btx_aux::Finder;
 use btx_out::Sink;
 use btx_text::{Fault, LogLine};

@@ -3,8 +3,7 @@ ghost use Rattle.std.specs.Prelude.{◌≡◌, ◌∷◌, [], IfErr, OnErr, OnOk
 ghost use Rattle.btx_text.specs.Counts.{count_after};
 ghost use Rattle.btx_out.specs.Pieces.{AppendsBeginning};
 ghost use Rattle.btx_run.specs.Files.Counts.{counted, counts_of};
-ghost use Rattle.btx_run.specs.Files.Telling.{Tells};
-ghost use Rattle.btx_run.specs.Product.{bytes_of_lines};
+ghost use Rattle.btx_run.specs.Files.Telling.{Tells, bytes_of_lines};
 
 use btx_out::{Log, Sink};
 use btx_text::{Fault, LineKind, LogLine};

@@ -7,13 +7,13 @@ ghost use Rattle.btx_run.specs.Files.Faults.{CountsOfTwo};
 ghost use Rattle.btx_run.specs.Files.Found.{file_at};
 ghost use Rattle.btx_run.specs.Files.Readings.{ReadsAs, StyleFits, after_job, after_style, files_read, job_named, style_named, style_read};
 
-use crate::file_names::{is_too_long, top_name};
+use crate::files::names::{is_too_long, top_name};
 use crate::files::databases::find_databases;
 use crate::files::found::{FilesRead, FoundFile, JobFiles, fetch_file};
 use crate::files::journal::Journal;
-use crate::log_lines::{no_style_line, style_line};
+use crate::files::lines::{no_style_line, style_line};
 use btx_aux::{AuxJob, End as AuxEnd, Finder, read_aux};
-use btx_machine::{End, Kind};
+use btx_machine::{End, Limit};
 use btx_out::Sink;
 use btx_text::Fault;
 use std::alloc::Global;
@@ -44,7 +44,7 @@ fn with_style<'a, F: Finder, L: Sink>(
     ensures counts { CountsOfTwo result (F.failures finder.old, F.failures finder.new) (L.failures log.old, L.failures log.new) }
 {
     if is_too_long(style.bytes()) {
-        return Ok(FilesRead::Ends(End::Limit(Kind::File)));
+        return Ok(FilesRead::Ends(End::Limit(Limit::File)));
     }
     let databases = find_databases(alloc, finder, job.databases(), journal, log)?;
     Ok(FilesRead::Found(JobFiles { style, databases }))
@@ -124,9 +124,9 @@ fn after_job<'a, F: Finder, L: Sink>(
 {
     match job.end() {
         AuxEnd::Whole => named_style(alloc, finder, job, journal, log),
-        AuxEnd::TooManyOpen => Ok(FilesRead::Ends(End::Limit(Kind::Files))),
+        AuxEnd::TooManyOpen => Ok(FilesRead::Ends(End::Limit(Limit::Files))),
         AuxEnd::TopMissing => Ok(FilesRead::Ends(End::NoTopFile)),
-        AuxEnd::FileLimit => Ok(FilesRead::Ends(End::Limit(Kind::File))),
+        AuxEnd::FileLimit => Ok(FilesRead::Ends(End::Limit(Limit::File))),
     }
 }
 

@@ -1,4 +1,4 @@
-use Rattle.btx_run.proofs.ProductLemmas.{holds}
+use Rattle.btx_run.proofs.LawLemmas.{holds}
 use Rattle.btx_run.proofs.law.budget_law.Goals as goal
 
 pub returns : goal.returns

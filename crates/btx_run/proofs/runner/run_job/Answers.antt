@@ -1,16 +1,32 @@
-use Rattle.std.proofs.Common.{rules, ◌≡◌, Err, ap}
-use Rattle.btx_run.specs.declared.run_fault.RunFault.TheVariants.{NotYet}
-use Rattle.btx_run.specs.Product.{top_name}
-use Rattle.btx_run.proofs.StageLemmas.{if_told, runs_job, runs_passed, same_content}
+use Rattle.std.proofs.Common.{◌≡◌, ◌∙◌, ap}
+use Rattle.btx_machine.specs.Reports.{told_so}
+use Rattle.btx_machine.proofs.ComesLemmas.{err_map, ok_map, on_err}
+use Rattle.btx_run.specs.Product.{product_of_files, told_in}
+use Rattle.btx_run.specs.Files.Readings.{files_read}
+use Rattle.btx_run.proofs.ReadingLemmas.{of_told}
+use Rattle.btx_run.proofs.ProductLemmas.{completes_reading, fails_in_lines, fails_reading}
 use Rattle.btx_run.proofs.runner.run_job.Goals as goal
 
-pub returns-in_err-read-clause-runs : goal.returns-in_err-read-clause-runs
-returns-in_err-read-clause-runs g c =
-    let other : c.in_err-read.field-0.0 ≡ NotYet → ⊥ = λ is. c.in_err-read.ensures.covered (ap Err is) in
-    if_told _ _ (λ files. runs_passed c.from_residual-in_err-read.result _ _ _ _ c.in_err-read.field-0.0 (search rules) other)
+pub returns-in_err-read-clause-err : goal.returns-in_err-read-clause-err
+returns-in_err-read-clause-err g c =
+    on_err c.from_residual.result (of_told (g.F.Finder.content c.args.finder.now) _ _ c.in_err-read.ensures.reads
+    (λ files part. fails_in_lines (files_read files c.args.job.now).told (g.W.Sink.received c.args.bbl.now) (g.L.Sink.received c.args.log.now) (g.L.Sink.received c.read_files.new.log)
+    (λ steps. product_of_files c.args.job.now (files_read files c.args.job.now).gives c.args.options.now (told_in (files_read files c.args.job.now).told) steps) c.args.options.now.budget part))
 
-pub returns-clause-runs : goal.returns-clause-runs
-returns-clause-runs g c =
-    let content = g.F.Finder.content c.args.finder.now in
-    let top : c.as_slice.result.now ≡ top_name c.args.job.now = search rules in
-    runs_job content c.after_job.result _ _ c.args.job.now c.as_slice.result.now c.in_ok-read.read _ top c.in_ok-read.ensures.job (same_content content _ _ c.in_ok-read.ensures.stays c.after_job.ensures.runs)
+pub returns-clause-ok : goal.returns-clause-ok
+returns-clause-ok g c =
+    let told : told_so c.warnings.result c.errors.result ≡ told_so c.read_files.new.journal.warnings c.read_files.new.journal.errors =
+    ap (λ warnings. told_so warnings c.errors.result) c.warnings.ensures ∙ ap (told_so c.read_files.new.journal.warnings) c.errors.ensures in
+    ok_map (λ report completes. of_told (g.F.Finder.content c.args.finder.now) _ _ c.in_ok-read.ensures.reads
+    (λ files read. completes_reading c.args.job.now c.args.options.now c.in_ok-read.read (told_so c.warnings.result c.errors.result) c.new-journal.result c.read_files.new.journal
+    (g.W.Sink.received c.args.bbl.now) (g.W.Sink.received c.after_files.new.bbl) (g.L.Sink.received c.args.log.now) (g.L.Sink.received c.read_files.new.log) (g.L.Sink.received c.after_files.new.log)
+    told c.new-journal.ensures report c.args.options.now.budget (files_read files c.args.job.now) read completes)) c.after_files.result c.after_files.ensures.ok
+
+pub returns-clause-err : goal.returns-clause-err
+returns-clause-err g c =
+    let told : told_so c.warnings.result c.errors.result ≡ told_so c.read_files.new.journal.warnings c.read_files.new.journal.errors =
+    ap (λ warnings. told_so warnings c.errors.result) c.warnings.ensures ∙ ap (told_so c.read_files.new.journal.warnings) c.errors.ensures in
+    err_map (λ fault. of_told (g.F.Finder.content c.args.finder.now) _ _ c.in_ok-read.ensures.reads
+    (λ files read. fails_reading c.args.job.now c.args.options.now c.in_ok-read.read (told_so c.warnings.result c.errors.result) c.new-journal.result c.read_files.new.journal
+    (g.W.Sink.received c.args.bbl.now) (g.W.Sink.received c.after_files.new.bbl) (g.L.Sink.received c.args.log.now) (g.L.Sink.received c.read_files.new.log) (g.L.Sink.received c.after_files.new.log)
+    told c.new-journal.ensures c.args.options.now.budget (files_read files c.args.job.now) read fault)) c.after_files.result c.after_files.ensures.err

@@ -1,7 +1,6 @@
 use Rattle.std.proofs.Common.{rules, subst}
 use Rattle.btx_out.specs.Pieces.{AppendsBeginning}
-use Rattle.btx_run.specs.Files.Telling.{Tells}
-use Rattle.btx_run.specs.Product.{bytes_of_lines}
+use Rattle.btx_run.specs.Files.Telling.{Tells, bytes_of_lines}
 use Rattle.btx_run.proofs.ReadingLemmas.{of_any, of_told, reads_behind, reads_part}
 use Rattle.btx_run.proofs.files.reading.read_files.Goals as goal
 

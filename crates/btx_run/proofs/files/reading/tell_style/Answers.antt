@@ -1,8 +1,7 @@
 use Rattle.std.proofs.Common.{rules, ◌≡◌, ◌∙◌, ◌∷◌, [], ap, subst}
 use Rattle.btx_out.specs.Pieces.{AppendsBeginning}
-use Rattle.btx_run.specs.Files.Telling.{Tells}
-use Rattle.btx_run.specs.LogLines.{style_line}
-use Rattle.btx_run.specs.Product.{bytes_of_lines}
+use Rattle.btx_run.specs.Files.Telling.{Tells, bytes_of_lines}
+use Rattle.btx_run.specs.Files.Lines.{style_line}
 use Rattle.btx_run.proofs.ReadingLemmas.{of_any, of_told, reads_behind, reads_is, reads_part, style_is_read}
 use Rattle.btx_run.proofs.files.reading.tell_style.Goals as goal
 

@@ -1,5 +1,5 @@
 use Rattle.std.proofs.Common.{rules, ◌≡◌, true, false}
-use Rattle.btx_run.specs.Product.{is_too_long}
+use Rattle.btx_run.specs.Files.Names.{is_too_long}
 use Rattle.btx_run.proofs.ReadingLemmas.{databases_fail, databases_found, of_any, of_told, style_fits, style_too_long}
 use Rattle.btx_run.proofs.files.reading.with_style.Goals as goal
 

@@ -1,0 +1,24 @@
+use Rattle.btx_machine.proofs.ComesLemmas.{err_map}
+use Rattle.btx_run.specs.Product.{given_in}
+use Rattle.btx_run.proofs.ProductLemmas.{completes_early, counts_of_end, fails_early, never_deeper}
+use Rattle.btx_run.proofs.runner.after_files.Goals as goal
+
+pub returns-in-Ends-clause-ok : goal.returns-in-Ends-clause-ok
+returns-in-Ends-clause-ok g c =
+    rw c.in-Ends.is (completes_early (g.W.Sink.received c.args.bbl.now) (g.L.Sink.received c.args.log.now) (g.L.Sink.received c.tell_end.new.log) c.report_of.result _
+    c.report_of.ensures c.tell_end.result c.tell_end.ensures.report c.tell_end.ensures.ok)
+
+pub returns-in-Ends-clause-err : goal.returns-in-Ends-clause-err
+returns-in-Ends-clause-err g c =
+    rw c.in-Ends.is (err_map (fails_early (g.W.Sink.received c.args.bbl.now) (g.L.Sink.received c.args.log.now) (g.L.Sink.received c.tell_end.new.log) c.report_of.result _ c.args.options.now.budget
+    c.report_of.ensures) c.tell_end.result c.tell_end.ensures.err)
+
+pub returns-in-Ends-clause-counts : goal.returns-in-Ends-clause-counts
+returns-in-Ends-clause-counts g c = counts_of_end c.tell_end.result _ _ c.tell_end.ensures.counts
+
+pub returns-in-Found-clause-deep : goal.returns-in-Found-clause-deep
+returns-in-Found-clause-deep g c =
+    never_deeper _ _ (given_in c.args.job.now c.in-Found.found c.args.options.now) c.args.told c.args.options.now.line c.args.options.now.budget c.execute_found.result c.execute_found.ensures.ok
+
+pub returns-in-Found-clause-err : goal.returns-in-Found-clause-err
+returns-in-Found-clause-err g c = rw c.in-Found.is c.execute_found.ensures.err

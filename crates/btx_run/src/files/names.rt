@@ -1,0 +1,24 @@
+//! The names of a job's files.
+ghost use Rattle.std.specs.Prelude.{◌≡◌, IfOk};
+ghost use Rattle.btx_run.specs.Files.Names.{is_too_long, top_name};
+
+use btx_text::GREATEST_FILE;
+use std::alloc::{AllocError, Global};
+
+/// The name of the top-level file: the job's name with `.aux`, unless it ends so.
+pub fn top_name(alloc: Global, job: &[u8]) -> Result<Vec<u8>, AllocError>
+    ensures { IfOk result (λ name. name.items ≡ top_name job.now) }
+{
+    let mut name = Vec::from_slice(alloc, job)?;
+    if !job.ends_with(b".aux") {
+        name.extend_from_slice(b".aux")?;
+    }
+    Ok(name)
+}
+
+/// Whether a file is too long to be read.
+pub fn is_too_long(text: &[u8]) -> bool
+    ensures { result ≡ is_too_long text.now }
+{
+    text.len() > GREATEST_FILE
+}
