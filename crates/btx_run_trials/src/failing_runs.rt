@@ -237,7 +237,7 @@ fn counts_round(rt: HostRuntime) -> Result<(), Fail> {
     Ok(())
 }
 
-// Asserts how a run ended of which one fetch may have failed, and how often it fetched: nothing is written after a failure.
+// Asserts how a run ended of which one fetch may have failed, and how often it fetched: the list is begun behind the last fetch alone.
 fn fetched(
     rt: &impl Abort,
     tried: Result<Tried, FetchFault>,
@@ -247,7 +247,7 @@ fn fetched(
     let tried = tried?;
     assert!(rt; tried.answer == answer);
     assert_eq!(rt; tried.fetches, fetches);
-    assert!(rt; answer != Err(RunFault::Device) || tried.bbl.writes == 0 && tried.log.writes == 0);
+    assert!(rt; tried.bbl.writes == 0 || answer != Err(RunFault::Device));
     Ok(())
 }
 
@@ -279,10 +279,9 @@ const INPUTTING: [File<'static>; 4] = [
 
 #[test]
 fn stops_at_a_failing_fetch(rt: HostRuntime) -> Result<(), Fail> {
-    let outside = Err(RunFault::NotYet);
     fail_fetches(&rt, &INPUTTING, 5, Ok(2))?;
     fail_fetches(&rt, &job_of(AUX, STYLE, DATABASE), 3, Ok(0))?;
-    fail_fetches(&rt, &job_of(AUX, STYLE, b""), 3, outside)?;
-    fail_fetches(&rt, &job_of(AUX, b"", DATABASE), 2, outside)?;
+    fail_fetches(&rt, &job_of(AUX, STYLE, b""), 3, Ok(0))?;
+    fail_fetches(&rt, &job_of(AUX, b"", DATABASE), 3, Ok(0))?;
     fail_fetches(&rt, &job_of(b"", STYLE, DATABASE), 1, Ok(2))
 }

@@ -1,5 +1,7 @@
 //! Jobs over files in memory, and how their runs end.
-use btx_run::{End, Limit, MemoryFinder, Options, Over, Report, RunFault, run};
+use btx_run::{
+    End, KeptBytes, Limit, LineLength, MemoryFinder, Options, Over, Report, RunFault, TextMode, run,
+};
 use btx_text::Fault;
 use btx_trials::texts::joined;
 use std::alloc::{AllocError, Global};
@@ -29,11 +31,15 @@ pub struct Outputs {
     pub answer: Result<Report, RunFault>,
 }
 
-/// The usual threshold, with a budget.
+/// The usual options, with a budget.
 pub fn options(budget: u64) -> Options {
     Options {
         min_crossrefs: 2,
         budget,
+        text: TextMode::Bytes,
+        line: LineLength::default(),
+        entry_max: KeptBytes::of_entries(),
+        global_max: KeptBytes::of_globals(),
     }
 }
 
@@ -76,9 +82,9 @@ pub fn run_over(alloc: Global, files: &[File<'_>], budget: u64) -> Result<Output
 #[derive(Clone, Copy)]
 pub enum Ending {
     /// It finished with so many errors, steps and bodies open at once.
-    Finished(u64, u64, u32),
+    Finished(u64, u64, usize),
     /// It was stopped behind so many steps.
-    Stopped(u64, u32),
+    Stopped(u64, usize),
     /// It pushed a string that is too long, at this step.
     PastString(u64),
     /// Too many `.aux` files would have been open.

@@ -2,12 +2,10 @@
 #![tactic(auto)]
 
 #[cfg(test)]
-mod coverage;
-#[cfg(test)]
 mod failing_runs;
 #[cfg(test)]
 mod jobs;
 #[cfg(test)]
-mod runs;
+mod rows;
 #[cfg(test)]
-mod whole;
+mod runs;

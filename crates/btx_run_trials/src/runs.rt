@@ -2,7 +2,7 @@
 use crate::jobs::{
     AUX, DATABASE, Ending, FOUND, File, Outputs, STYLE, ends_as, job_of, run_named, run_over,
 };
-use btx_run::{RunFault, budget_law, database_law, steps_law};
+use btx_run::{RunFault, budget_law};
 use btx_text::Fault;
 use btx_trials::texts::{joined, text_of};
 use btx_trials::worked_lines::{ROWS, Row};
@@ -388,13 +388,10 @@ fn opens_twenty_files(rt: HostRuntime) -> Result<(), Fail> {
 
 #[test]
 fn says_what_failed(rt: HostRuntime) -> Result<(), Fail> {
-    database_law();
     budget_law();
-    steps_law();
     for (fault, text) in [
         (RunFault::Memory, "out of memory"),
         (RunFault::Device, "device error"),
-        (RunFault::NotYet, "not yet"),
     ] {
         let told = fault.to_string(rt.alloc())?;
         assert_eq!(rt; told.as_str(), text);

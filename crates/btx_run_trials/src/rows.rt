@@ -1,12 +1,7 @@
 //! Runs of the whole language: jobs of a few lines, with all that they write and answer.
-use crate::jobs::job_of;
-use btx_machine::Report;
-use btx_out::LineLength;
-use btx_run::planning::Options;
-use btx_run::whole::run_whole;
-use btx_run::{MemoryFinder, Over, RunFault};
-use btx_step::KeptBytes;
-use btx_text::{Fault, TextMode};
+use crate::jobs::{AUX, DATABASE, Outputs, job_of, run_over};
+use btx_run::{Report, RunFault};
+use btx_text::Fault;
 use std::alloc::{AllocError, Global};
 use std::test::Fail;
 
@@ -18,10 +13,6 @@ struct Row {
     budget: u64,
     shown: &'static [u8],
 }
-
-const AUX: &[u8] = b"\\citation{k}\n\\bibdata{d}\n\\bibstyle{s}\n";
-
-const DATABASE: &[u8] = b"@misc{k, title = {T}}\n";
 
 const CHILDREN: &[u8] =
     b"@misc{c1, title = {One}, crossref = {p}}\n@misc{c2, title = {Two}, crossref = {p}}\n@book{P, booktitle = {Vol}}\n";
@@ -95,18 +86,6 @@ const ROWS: [Row; 9] = [
     },
 ];
 
-// The usual options, with a budget.
-fn usual(budget: u64) -> Options {
-    Options {
-        min_crossrefs: 2,
-        budget,
-        text: TextMode::Bytes,
-        line: LineLength::default(),
-        entry_max: KeptBytes::of_entries(),
-        global_max: KeptBytes::of_globals(),
-    }
-}
-
 // What a run answered, as a line.
 fn answer_line(alloc: Global, answer: Result<Report, RunFault>) -> Result<String, AllocError> {
     match answer {
@@ -119,34 +98,19 @@ fn answer_line(alloc: Global, answer: Result<Report, RunFault>) -> Result<String
 }
 
 // What a run answered and wrote, as one text.
-fn joined(
-    alloc: Global,
-    answer: Result<Report, RunFault>,
-    bbl: Vec<u8>,
-    log: Vec<u8>,
-) -> Result<Vec<u8>, AllocError> {
-    let line = answer_line(alloc, answer)?;
+fn joined(alloc: Global, ran: &Outputs) -> Result<Vec<u8>, AllocError> {
+    let line = answer_line(alloc, ran.answer)?;
     let mut shown = Vec::from_slice(alloc, line.as_bytes())?;
-    shown.extend_from_slice(bbl.as_slice())?;
-    shown.extend_from_slice(log.as_slice())?;
+    shown.extend_from_slice(ran.bbl.as_slice())?;
+    shown.extend_from_slice(ran.log.as_slice())?;
     Ok(shown)
 }
 
 // Runs a job, and shows what comes of it.
 fn shown(alloc: Global, row: &Row) -> Result<Vec<u8>, Fault> {
     let files = job_of(row.aux, row.style, row.database);
-    let mut finder = MemoryFinder::new(alloc, &files)?;
-    let mut bbl = Over::new(Vec::new(alloc));
-    let mut log = Over::new(Vec::new(alloc));
-    let answer = run_whole(
-        alloc,
-        &mut finder,
-        b"job",
-        &usual(row.budget),
-        &mut bbl,
-        &mut log,
-    );
-    let shown = joined(alloc, answer, bbl.writer, log.writer)?;
+    let ran = run_over(alloc, &files, row.budget)?;
+    let shown = joined(alloc, &ran)?;
     Ok(shown)
 }
 
