@@ -7,11 +7,11 @@ ghost use Rattle.btx_run.specs.Files.Faults.{CountsOfTwo};
 ghost use Rattle.btx_run.specs.Files.Found.{file_at};
 ghost use Rattle.btx_run.specs.Files.Readings.{ReadsAs, StyleFits, after_job, after_style, files_read, job_named, style_named, style_read};
 
-use crate::files::names::{is_too_long, top_name};
 use crate::files::databases::find_databases;
 use crate::files::found::{FilesRead, FoundFile, JobFiles, fetch_file};
 use crate::files::journal::Journal;
 use crate::files::lines::{no_style_line, style_line};
+use crate::files::names::{is_too_long, top_name};
 use btx_aux::{AuxJob, End as AuxEnd, Finder, read_aux};
 use btx_machine::{End, Limit};
 use btx_out::Sink;
