@@ -55,6 +55,7 @@ pub struct FoundFiles<'a> {
 
 impl<'a> Model for FoundFiles<'a> {
     ghost use Rattle.std.specs.Prelude.{List};
+    ghost use Rattle.btx_run.specs.Files.Found.{NamedFile};
 
     ghost Value = { List NamedFile };
 
