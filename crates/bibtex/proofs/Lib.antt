@@ -1,2 +1,2 @@
-pub mod BudgetLemmas
+pub mod NumberLemmas
 mod CommandLineRows

@@ -1,88 +1,27 @@
 //! The command line.
-ghost use Rattle.std.specs.Prelude.{◌≡◌, ◌≤◌, ◌⊎◌, ℕ, List, Some, false, IfOk, codes, map, string_bytes, unwrap_or};
-ghost use Rattle.std.specs.Str.Parse.{digits_value, without_leading_plus};
-ghost use Rattle.clap.specs.Words.{FailsBy, IsUnsignedIn, app_of, fault_of, first_of, found_of, kind_of, one_of, one_text, rows_of, rule_of};
-ghost use Rattle.bibtex.specs.CommandLine.{IsNameOf, IsSettingsOf, RefusesBy, bibtex_command, budget_rule, directory_rule, given, job_rule, most_steps, refusal_status, status_of};
+ghost use Rattle.std.specs.Prelude.{◌≡◌, ◌⊎◌, IfOk, codes, map, string_bytes, unwrap_or};
+ghost use Rattle.clap.specs.Words.{FailsBy, fault_of, first_of, found_of, kind_of, matches_of, one_of, rows_of};
+ghost use Rattle.clap.specs.Simple.{App};
+ghost use Rattle.bibtex.specs.CommandLine.{AreOptionsOf, HasNumbers, IsBibtex, IsFlag, IsGivenFrom, IsNameOf, IsSettingsOf, Refuses, mode_of, most_steps, number_or, refusal_status, status_of};
 
 use crate::given::{Refusal, Settings};
+use crate::options::bibtex_command;
+use btx_run::{KeptBytes, LineLength, Options, TextMode};
 use clap::error::ErrorKind;
-use clap::{Arg, ArgMatches, Command, Error, value_parser};
-use std::alloc::{AllocError, Global};
+use clap::{ArgMatches, Error};
+use std::alloc::Global;
 
-// The greatest budget.
-const MOST_STEPS: i64 = 1_000_000_000_000_000;
+// How many references keep an entry in the list that isn't cited, where nothing is said.
+const USUAL_CROSSREFS: u32 = 2;
 
 // The budget where none is given.
 const USUAL_STEPS: u64 = 1_000_000_000;
 
-// The option `--dir D`.
-fn directory_option<'a>(alloc: Global) -> Arg<'a>
-    ensures rule { rule_of result ≡ directory_rule }
-    ensures local { result.global ≡ false }
-{
-    Arg::new(alloc, "dir")
-        .long("dir")
-        .value_name("D")
-        .default_value(".")
-        .help("The folder of the job's files")
-}
-
-// The option `--budget N`.
-fn budget_option<'a>(alloc: Global) -> Arg<'a>
-    ensures rule { rule_of result ≡ budget_rule }
-    ensures local { result.global ≡ false }
-{
-    Arg::new(alloc, "budget")
-        .long("budget")
-        .value_name("N")
-        .value_parser(value_parser!(u64).range(0..=MOST_STEPS))
-        .default_value("1000000000")
-        .help("How many steps the style may take at most")
-}
-
-// The word JOB.
-fn job_word<'a>(alloc: Global) -> Arg<'a>
-    ensures rule { rule_of result ≡ job_rule }
-    ensures local { result.global ≡ false }
-{
-    Arg::new(alloc, "JOB").required(true).help(
-        "The name of the job's .aux file, with or without its ending",
-    )
-}
-
-// What the program does.
-const ABOUT: &str =
-    "Writes the list of references of a LaTeX document: reads its .aux files, its databases and a style, and writes JOB.bbl and the log JOB.blg";
-
-// The exit statuses.
-const STATUSES: &str = "Exit status:
-  0  the job ran to its end, without error messages
-  1  the command line is refused
-  2  the job ran to its end, with error messages in the log
-  3  a limit was met, or there is no JOB.aux
-  4  the budget was spent
-  5  memory was refused
-  6  a file couldn't be read, or an output not be written
-  7  the job is outside the part of the language that is covered so far";
-
-// The command `bibtex [--dir D] [--budget N] JOB`. Its texts change nothing in how words are read.
-fn bibtex_command<'a>(alloc: Global) -> Result<Command<'a>, AllocError>
-    ensures { IfOk result (λ command. app_of command ≡ bibtex_command) }
-{
-    Command::new(alloc, "bibtex")
-        .about(ABOUT)
-        .after_help(STATUSES)
-        .arg(directory_option(alloc))?
-        .arg(budget_option(alloc))?
-        .arg(job_word(alloc))
-}
-
 // What a list of words gives for the command.
 fn matches<'a>(alloc: Global, words: &'a [String]) -> Result<ArgMatches<'a>, Error>
-    ensures rows { IfOk result (λ found. rows_of (found_of found) ≡ given (map (λ word. string_bytes word) words.now)) }
-    ensures budget { IfOk result (λ found. (text : List ℕ) → one_text (found_of found) (codes "budget") ≡ Some text
-        → IsUnsignedIn 0 most_steps text) }
-    ensures faults { FailsBy (fault_of bibtex_command (map (λ word. string_bytes word) words.now)) result }
+    ensures rows { IfOk result (λ found. (app : App) × IsBibtex app × (rows_of (found_of found) ≡ matches_of app (map (λ word. string_bytes word) words.now))) }
+    ensures numbers { IfOk result (λ found. HasNumbers (rows_of (found_of found))) }
+    ensures faults { (app : App) × IsBibtex app × FailsBy (fault_of app (map (λ word. string_bytes word) words.now)) result }
 {
     bibtex_command(alloc)?.try_get_matches_from(words)
 }
@@ -94,15 +33,69 @@ fn value_or<'a>(matches: &ArgMatches<'a>, id: &str, other: &'a str) -> &'a str
     matches.get_str(id).unwrap_or(other)
 }
 
+// The number of an option, or what stands in its place.
+fn number_or(matches: &ArgMatches<'_>, id: &str, usual: u32) -> u32
+    requires { IsGivenFrom 0 4294967295 id.now (rows_of (found_of matches.now)) }
+    ensures { result ≡ number_or usual (one_of id.now (rows_of (found_of matches.now))) }
+{
+    matches.get_one::<u32>(id).unwrap_or(usual)
+}
+
 // The budget.
 fn budget_of(matches: &ArgMatches<'_>) -> u64
-    requires { (text : List ℕ) → one_text (found_of matches.now) (codes "budget") ≡ Some text
-        → IsUnsignedIn 0 most_steps text }
-    ensures value { (text : List ℕ) → one_of (codes "budget") (rows_of (found_of matches.now)) ≡ Some text
-        → result ≡ digits_value 10 (without_leading_plus text) }
-    ensures within { result ≤ most_steps }
+    requires { IsGivenFrom 0 most_steps (codes "budget") (rows_of (found_of matches.now)) }
+    ensures { result ≡ number_or 1000000000 (one_of (codes "budget") (rows_of (found_of matches.now))) }
 {
     matches.get_one::<u64>("budget").unwrap_or(USUAL_STEPS)
+}
+
+// How the text of strings is read.
+fn text_mode_of(matches: &ArgMatches<'_>) -> TextMode
+    ensures { result ≡ mode_of (unwrap_or (first_of (codes "text") (rows_of (found_of matches.now))) (codes "bytes")) }
+{
+    match value_or(matches, "text", "bytes") {
+        "utf8" => TextMode::Utf8,
+        _ => TextMode::Bytes,
+    }
+}
+
+// The greatest length of a line.
+fn line_length_of(matches: &ArgMatches<'_>) -> LineLength
+    requires { IsGivenFrom 20 1000 (codes "line") (rows_of (found_of matches.now)) }
+    ensures { result ≡ number_or 79 (one_of (codes "line") (rows_of (found_of matches.now))) }
+{
+    let usual = LineLength::default();
+    LineLength::new(number_or(matches, "line", usual.get())).unwrap_or(usual)
+}
+
+// How many bytes of a string a variable keeps.
+fn kept_bytes_of(matches: &ArgMatches<'_>, id: &str, usual: KeptBytes) -> KeptBytes
+    requires { IsGivenFrom 1 1000000 id.now (rows_of (found_of matches.now)) }
+    ensures { result ≡ number_or usual (one_of id.now (rows_of (found_of matches.now))) }
+{
+    KeptBytes::new(number_or(matches, id, usual.get())).unwrap_or(usual)
+}
+
+// What is asked of the run.
+fn options_of(matches: &ArgMatches<'_>) -> Options
+    requires { HasNumbers (rows_of (found_of matches.now)) }
+    ensures { AreOptionsOf (rows_of (found_of matches.now)) result }
+{
+    Options {
+        min_crossrefs: number_or(matches, "min-crossrefs", USUAL_CROSSREFS),
+        budget: budget_of(matches),
+        text: text_mode_of(matches),
+        line: line_length_of(matches),
+        entry_max: kept_bytes_of(matches, "entry-max", KeptBytes::of_entries()),
+        global_max: kept_bytes_of(matches, "global-max", KeptBytes::of_globals()),
+    }
+}
+
+// Whether a flag is given.
+fn has_flag(matches: &ArgMatches<'_>, id: &str) -> bool
+    ensures { IsFlag (one_of id.now (rows_of (found_of matches.now))) result }
+{
+    matches.get_flag(id)
 }
 
 // The name of a job, which may be given with a last `.aux`.
@@ -122,7 +115,7 @@ fn refusal_of(alloc: Global, error: &Error) -> Refusal
     }
     match (kind, error.to_string(alloc)) {
         (_, Err(_)) => Refusal::Memory,
-        (ErrorKind::DisplayHelp, Ok(text)) => Refusal::Help(text),
+        (ErrorKind::DisplayHelp | ErrorKind::DisplayVersion, Ok(text)) => Refusal::Shown(text),
         (_, Ok(text)) => Refusal::Mistake(text),
     }
 }
@@ -131,7 +124,7 @@ fn refusal_of(alloc: Global, error: &Error) -> Refusal
 /// with them, or where memory is refused.
 pub fn settings<'a>(alloc: Global, words: &'a [String]) -> Result<Settings<'a>, Refusal>
     ensures read { IfOk result (IsSettingsOf (map (λ word. string_bytes word) words.now)) }
-    ensures refused { RefusesBy (fault_of bibtex_command (map (λ word. string_bytes word) words.now)) result }
+    ensures refused { Refuses (map (λ word. string_bytes word) words.now) result }
 {
     let matches = match matches(alloc, words) {
         Ok(matches) => matches,
@@ -142,13 +135,16 @@ pub fn settings<'a>(alloc: Global, words: &'a [String]) -> Result<Settings<'a>, 
         directory: value_or(&matches, "dir", "."),
         job,
         name: name_of(job),
-        budget: budget_of(&matches),
+        terse: has_flag(&matches, "terse"),
+        options: options_of(&matches),
     })
 }
 
 #[cfg(test)]
 mod tests {
     use super::*;
+    use crate::options::{ABOUT, STATUSES};
+    use std::alloc::AllocError;
     use std::process::Abort;
     use std::test::Fail;
 
@@ -156,18 +152,30 @@ mod tests {
     fn parts_of(alloc: Global, refusal: Refusal) -> (u8, String) {
         let status = refusal.status();
         match refusal {
-            Refusal::Help(text) | Refusal::Mistake(text) => (status, text),
+            Refusal::Shown(text) | Refusal::Mistake(text) => (status, text),
             Refusal::Memory => (status, String::new(alloc)),
         }
     }
 
-    // What is answered, in one text: the folder, the job, the name and the budget, or a refusal's status and text.
+    // The options of a run, in one text.
+    fn options_text(alloc: Global, options: &Options) -> Result<String, AllocError> {
+        let (references, budget, mode) = (options.min_crossrefs, options.budget, options.text);
+        let line = options.line.get();
+        let (entry_max, global_max) = (options.entry_max.get(), options.global_max.get());
+        let text = format!(in alloc;
+            "{references} {budget} {mode:?} {line} {entry_max} {global_max}"
+        )?;
+        Ok(text)
+    }
+
+    // What is answered, in one text: the folder, the job, the name, whether the log isn't printed and the options, or a refusal's status
+    // and text.
     fn text_of(alloc: Global, answer: Result<Settings<'_>, Refusal>) -> Result<String, AllocError> {
         let text = match answer {
             Ok(settings) => {
                 let (directory, job, name) = (settings.directory, settings.job, settings.name);
-                let budget = settings.budget;
-                format!(in alloc; "{directory} {job} {name} {budget}")?
+                let (terse, options) = (settings.terse, options_text(alloc, &settings.options)?);
+                format!(in alloc; "{directory} {job} {name} {terse} {options}")?
             }
             Err(refusal) => {
                 let (status, text) = parts_of(alloc, refusal);
@@ -215,16 +223,66 @@ mod tests {
     #[test]
     fn reads_words(rt: HostRuntime) -> Result<(), Fail> {
         for (line, want) in [
-            ("bibtex j --budget 7", ". j j 7"),
-            ("bibtex --dir a/b j.aux", "a/b j.aux j 1000000000"),
-            ("bibtex j.aux.aux --budget=0", ". j.aux.aux j.aux 0"),
+            ("bibtex j", ". j j false 2 1000000000 Bytes 79 250 20000"),
             (
-                "bibtex --budget=1000000000000000 -- -j",
-                ". -j -j 1000000000000000",
+                "bibtex --dir a/b j.aux --terse",
+                "a/b j.aux j true 2 1000000000 Bytes 79 250 20000",
             ),
-            ("bibtex .aux --dir=", " .aux  1000000000"),
+            (
+                "bibtex j.aux.aux --min-crossrefs 3 --budget=7",
+                ". j.aux.aux j.aux false 3 7 Bytes 79 250 20000",
+            ),
+            (
+                "bibtex --text utf8 --line=80 --entry-max 12 --global-max=+34 -- -j",
+                ". -j -j false 2 1000000000 Utf8 80 12 34",
+            ),
+            (
+                "bibtex .aux --dir= --text=bytes",
+                " .aux  false 2 1000000000 Bytes 79 250 20000",
+            ),
         ] {
             gives(&rt, answered(rt.alloc(), line), want)?;
+        }
+        Ok(())
+    }
+
+    // Each range has both of its ends.
+    #[test]
+    fn reads_ends(rt: HostRuntime) -> Result<(), Fail> {
+        for (line, want) in [
+            (
+                "bibtex --min-crossrefs 0 --budget 0 --line 20 --entry-max 1 --global-max 1 j",
+                ". j j false 0 0 Bytes 20 1 1",
+            ),
+            (
+                "bibtex --min-crossrefs 2147483647 --budget 1000000000000000 --line 1000 --entry-max 1000000 --global-max 1000000 j",
+                ". j j false 2147483647 1000000000000000 Bytes 1000 1000000 1000000",
+            ),
+        ] {
+            gives(&rt, answered(rt.alloc(), line), want)?;
+        }
+        Ok(())
+    }
+
+    // Numbers past the ends of their ranges, and texts that are no number, are mistakes.
+    #[test]
+    fn refuses_values(rt: HostRuntime) -> Result<(), Fail> {
+        for line in [
+            "bibtex --min-crossrefs=2147483648 j",
+            "bibtex --budget=1000000000000001 j",
+            "bibtex --budget=x j",
+            "bibtex --budget=-1 j",
+            "bibtex --line=19 j",
+            "bibtex --line=1001 j",
+            "bibtex --entry-max=0 j",
+            "bibtex --entry-max=1000001 j",
+            "bibtex --global-max=0 j",
+            "bibtex --global-max=1000001 j",
+            "bibtex --text=utf-8 j",
+            "bibtex --text=UTF8 j",
+            "bibtex --terse=1 j",
+        ] {
+            begins(&rt, answered(rt.alloc(), line), "refused 1 error: ")?;
         }
         Ok(())
     }
@@ -236,10 +294,9 @@ mod tests {
             ("bibtex -h", "refused 0 "),
             ("bibtex", "refused 1 error: "),
             ("bibtex --nope", "refused 1 error: "),
-            ("bibtex --budget=x j", "refused 1 error: "),
-            ("bibtex --budget=-1 j", "refused 1 error: "),
-            ("bibtex --budget=1000000000000001 j", "refused 1 error: "),
             ("bibtex --dir=a", "refused 1 error: "),
+            ("bibtex --terse --terse j", "refused 1 error: "),
+            ("bibtex --text j", "refused 1 error: "),
         ] {
             begins(&rt, answered(rt.alloc(), line), front)?;
         }
@@ -252,6 +309,14 @@ mod tests {
         let help = answered(rt.alloc(), "bibtex --help")?;
         let help = help.as_str();
         assert!(rt; help.contains(ABOUT) && help.contains(STATUSES), "{help}");
+        Ok(())
+    }
+
+    #[test]
+    fn tells_its_version(rt: HostRuntime) -> Result<(), Fail> {
+        for line in ["bibtex --version", "bibtex -V"] {
+            gives(&rt, answered(rt.alloc(), line), "refused 0 bibtex 1.0.0\n")?;
+        }
         Ok(())
     }
 }

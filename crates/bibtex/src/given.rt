@@ -2,6 +2,8 @@
 ghost use Rattle.std.specs.Prelude.{◌≡◌};
 ghost use Rattle.bibtex.specs.CommandLine.{status_of};
 
+use btx_run::Options;
+
 /// What the command line asks for.
 #[derive(Debug, Drop)]
 pub struct Settings<'a> {
@@ -11,15 +13,17 @@ pub struct Settings<'a> {
     pub job: &'a str,
     /// The job without a last `.aux`: the name of its outputs, without their endings.
     pub name: &'a str,
-    /// How many steps the style may take at most.
-    pub budget: u64,
+    /// Whether the log isn't printed.
+    pub terse: bool,
+    /// What is asked of the run.
+    pub options: Options,
 }
 
 /// A command line that is not run. One that is refused for want of memory has no text; each other one has its own.
 #[derive(Debug, Drop)]
 pub enum Refusal {
-    /// Help was asked for: what is printed.
-    Help(String),
+    /// Help or the version was asked for: what is printed.
+    Shown(String),
     /// The words are refused: what is told.
     Mistake(String),
     /// Memory was refused.
@@ -32,7 +36,7 @@ impl Refusal {
         ensures { result ≡ status_of self.now }
     {
         match self {
-            Refusal::Help(_) => 0,
+            Refusal::Shown(_) => 0,
             Refusal::Mistake(_) => 1,
             Refusal::Memory => 5,
         }

@@ -1,18 +1,16 @@
 //! A job of a folder.
 ghost use Rattle.std.specs.Prelude.{◌≡◌, IfErr, IfOk, string_bytes};
 ghost use Rattle.bibtex.specs.Paths.{output_path};
+ghost use Rattle.bibtex.specs.Printing.{printed_log};
 
 use crate::directory::DirectoryFinder;
 use crate::given::Settings;
 use crate::outcome::output_fault;
-use btx_run::{Options, Over, Report, RunFault, run};
+use btx_run::{Over, Report, RunFault, run};
 use std::alloc::Global;
 use std::io::Write;
 use std::rt::Files;
 use std::{fs, io};
-
-// How often a cross-referenced entry that isn't cited has to be named to be listed.
-const MIN_CROSSREFS: u32 = 2;
 
 /// The path of the job's output with this ending. The only fault is want of memory.
 pub fn path_of(alloc: Global, settings: &Settings<'_>, ending: &str) -> Result<String, RunFault>
@@ -36,7 +34,14 @@ fn store_log(
     fs::write(rt, path.as_str(), log).map_err(|error| output_fault(&error))
 }
 
-// Writes the log to `JOB.blg` and then, also where that failed, to standard output. The first fault is answered.
+// What of the log is printed.
+fn printed<'a>(settings: &Settings<'_>, log: &'a [u8]) -> &'a [u8]
+    ensures { result.now ≡ printed_log settings.now log.now }
+{
+    if settings.terse { &[] } else { log }
+}
+
+// Writes the log to `JOB.blg` and then, also where that failed, prints what is to be printed. The first fault is answered.
 fn write_log(
     rt: &(impl Files + Print),
     alloc: Global,
@@ -45,13 +50,13 @@ fn write_log(
 ) -> Result<(), RunFault> {
     let stored = store_log(rt, alloc, settings, log);
     let printed = io::writer(rt)
-        .write_all(log)
+        .write_all(printed(settings, log))
         .map_err(|error| output_fault(&error));
     stored.and(printed)
 }
 
-/// Runs the job: writes `JOB.bbl`, `JOB.blg` and, to standard output, the log again. The log is written also after a fault, except
-/// where `JOB.bbl` can't be created. The first fault is answered.
+/// Runs the job: writes `JOB.bbl`, `JOB.blg` and, where the settings aren't terse, to standard output the log again. The log is written
+/// also after a fault, except where `JOB.bbl` can't be created. The first fault is answered.
 pub fn run_job(
     rt: &(impl Files + Print),
     alloc: Global,
@@ -62,15 +67,11 @@ pub fn run_job(
     let mut bbl = Over::new(file);
     let mut log = Over::new(Vec::new(alloc));
     let mut finder = DirectoryFinder::new(rt, settings.directory);
-    let options = Options {
-        min_crossrefs: MIN_CROSSREFS,
-        budget: settings.budget,
-    };
     let answer = run(
         alloc,
         &mut finder,
         settings.job.as_bytes(),
-        &options,
+        &settings.options,
         &mut bbl,
         &mut log,
     );
@@ -84,6 +85,7 @@ pub fn run_job(
 mod tests {
     use super::*;
     use crate::scratch::{make_folder, write_file};
+    use btx_run::{KeptBytes, LineLength, Options, TextMode};
     use std::process::Abort;
     use std::test::Fail;
 
@@ -107,7 +109,15 @@ mod tests {
             directory,
             job: "job.aux",
             name: "job",
-            budget: 4,
+            terse: true,
+            options: Options {
+                min_crossrefs: 2,
+                budget: 4,
+                text: TextMode::Bytes,
+                line: LineLength::default(),
+                entry_max: KeptBytes::of_entries(),
+                global_max: KeptBytes::of_globals(),
+            },
         }
     }
 
@@ -141,5 +151,15 @@ mod tests {
         fs::remove_dir_all(&rt, directory)?;
         assert_eq!(rt; status_in(&rt, directory), Err(RunFault::Device));
         Ok(())
+    }
+
+    // A log is printed whole, and not at all where the settings are terse.
+    #[test]
+    fn prints_logs(rt: HostRuntime) {
+        let log = LOG.as_bytes();
+        let mut settings = settings_in(".");
+        assert!(rt; printed(&settings, log).is_empty());
+        settings.terse = false;
+        assert!(rt; printed(&settings, log) == log);
     }
 }

@@ -9,6 +9,7 @@ mod command_line;
 mod directory;
 mod given;
 mod job;
+mod options;
 mod outcome;
 #[cfg(test)]
 mod scratch;
@@ -38,12 +39,12 @@ fn tell_fault(rt: &impl Eprint, fault: RunFault) -> u8
     exit_status(&Err(fault))
 }
 
-// Prints why words are not run, and gives the exit status: the refusal's, unless its help can't be printed.
+// Prints why words are not run, and gives the exit status: the refusal's, unless its text can't be printed.
 fn tell_refusal(rt: &(impl Print + Eprint), refusal: &Refusal) -> u8
     ensures { (result ≡ status_of refusal.now) ⊎ (status_of refusal.now ≡ 0) }
 {
     match refusal {
-        Refusal::Help(text) => match print!(rt; "{text}") {
+        Refusal::Shown(text) => match print!(rt; "{text}") {
             Ok(()) => refusal.status(),
             Err(error) => tell_fault(rt, output_fault(&error)),
         },

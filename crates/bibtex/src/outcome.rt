@@ -8,7 +8,7 @@ use btx_run::{Report, RunFault};
 use std::io;
 use std::io::ErrorKind;
 
-/// The exit status for an answer: the report's, and 5 for want of memory, 6 for a device, 7 for a job outside what is covered so far.
+/// The exit status for an answer: the report's, and 5 for want of memory, 6 for a device.
 pub fn exit_status(answer: &Result<Report, RunFault>) -> u8
     ensures { result ≡ exit_status answer.now }
 {
@@ -16,7 +16,6 @@ pub fn exit_status(answer: &Result<Report, RunFault>) -> u8
         Ok(report) => report.status,
         Err(RunFault::Memory) => 5,
         Err(RunFault::Device) => 6,
-        Err(RunFault::NotYet) => 7,
     }
 }
 
@@ -54,11 +53,7 @@ mod tests {
             };
             assert_eq!(rt; exit_status(&Ok(report)), status);
         }
-        for (fault, status) in [
-            (RunFault::Memory, 5),
-            (RunFault::Device, 6),
-            (RunFault::NotYet, 7),
-        ] {
+        for (fault, status) in [(RunFault::Memory, 5), (RunFault::Device, 6)] {
             assert_eq!(rt; exit_status(&Err(fault)), status);
         }
     }

@@ -1,7 +1,7 @@
 use Rattle.std.proofs.Common.{◌∙◌}
 use Rattle.clap.specs.Words.{found_of}
 use Rattle.clap.proofs.WalkLemmas.{first_value-rows}
-use Rattle.bibtex.proofs.BudgetLemmas.{text_or}
+use Rattle.bibtex.proofs.NumberLemmas.{text_or}
 use Rattle.bibtex.proofs.command_line.value_or.Goals as goal
 
 -- the first value, as the rows have it
