@@ -2,7 +2,7 @@
 
     python3 compare_with_program.py [--jobs N] [--seed N] PROGRAM
 
-Compares list, log and status byte by byte. Its last line is 'N passed, M failed'; the exit status is 0 only where M is 0."""
+Compares list, log and status byte by byte. Its last line is 'N passed, M failed', of jobs; the exit status is 0 only where M is 0."""
 
 import argparse
 import pathlib
@@ -11,6 +11,7 @@ import tempfile
 
 from product import Options, run
 from random_jobs import random_jobs, worked_jobs
+
 
 def words_of(options):
     words = []
