@@ -64,11 +64,13 @@ done
 end
 
 # The version is a line with the program's name and a number; a job beside it isn't run.
-begin version
-run_program --version job
-wants_status 0
-wants_error ''
-wants_files d.bib job.aux s.bst
-[ "$(wc -l <"$folder/stdout")" -eq 1 ] || complaints+=('the version is not one line')
-grep -qxE 'bibtex [0-9]+(\.[0-9]+)+' "$folder/stdout" || complaints+=("the version is $(printf '%q' "$(cat "$folder/stdout")")")
-end
+for word in --version -V; do
+    begin "version_by_$word"
+    run_program "$word" job
+    wants_status 0
+    wants_error ''
+    wants_files d.bib job.aux s.bst
+    [ "$(wc -l <"$folder/stdout")" -eq 1 ] || complaints+=('the version is not one line')
+    grep -qxE 'bibtex [0-9]+(\.[0-9]+)+' "$folder/stdout" || complaints+=("the version is $(printf '%q' "$(cat "$folder/stdout")")")
+    end
+done
