@@ -1,11 +1,12 @@
 # What the checks are written with. `tests/run` reads this file; it sets `program`, `examples` and `room`.
 
-# The log of the first example, finished.
-first_log='The top-level auxiliary file: job.aux
+# What the log of the first example begins with, and its whole log, finished.
+found_log='The top-level auxiliary file: job.aux
 The style file: s.bst
 Database file #1: d.bib
-Ended: finished, warnings 0, errors 0, steps 4
 '
+first_log="${found_log}Ended: finished, warnings 0, errors 0, steps 4
+"
 
 # begin NAME: a check of this name, in a folder of its own that holds the files of the first example.
 begin() {
@@ -15,6 +16,21 @@ begin() {
     cp "$examples"/first/*.{aux,bib,bst} "$folder/work"
     complaints=()
     cd "$folder/work"
+}
+
+# use_style TEXT: the style is the first example's up to its READ, and then this text.
+use_style() {
+    printf 'ENTRY {title}{}{} FUNCTION {misc}{} READ %s\n' "$1" >s.bst
+}
+
+# cite KEYS: the job cites these.
+cite() {
+    printf '\\citation{%s}\n\\bibdata{d}\n\\bibstyle{s}\n' "$1" >job.aux
+}
+
+# letters N LETTER: so many of this letter.
+letters() {
+    printf "$2%.0s" $(seq "$1")
 }
 
 # run_program WORD..: runs the program in the check's folder, for at most a minute, without standard input.
@@ -49,6 +65,21 @@ wants_error() {
 # wants_error_with TEXT: standard error has a line with this text.
 wants_error_with() {
     grep -qF -- "$1" "$folder/stderr" || complaints+=("standard error has no '$1': $(printf '%q' "$(cat "$folder/stderr")")")
+}
+
+# wants_job STATUS LIST LOG: the list and the log have exactly these bytes, the log was printed, and the status is this one.
+wants_job() {
+    wants_status "$1"
+    wants_output "$3"
+    wants_error ''
+    wants_text job.bbl "$2"
+    wants_text job.blg "$3"
+}
+
+# wants_found STATUS LIST LINES: the same, where the log has these lines behind those of the first example's three files.
+wants_found() {
+    wants_job "$1" "$2" "$found_log$3
+"
 }
 
 # wants_files NAME..: the work folder holds these files, named in order, and no other.

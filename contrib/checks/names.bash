@@ -139,7 +139,8 @@ begin database_that_is_a_folder
 mkdir folder.bib
 named folder s
 run_search job
-[ "$status" -eq 2 ] || [ "$status" -eq 7 ] || complaints+=("the exit status is $status")
+wants_status 2
+wants_text job.bbl $'a\n'
 wants_no_links
 end
 
@@ -156,7 +157,7 @@ BIBINPUTS= BSTINPUTS=nowhere: run_plainly job
 wants_first job
 end
 
-if command -v kpsewhich >/dev/null; then
+if has kpsewhich; then
     begin search_paths
     mkdir -p refs styles/deep/deeper
     mv d.bib refs
@@ -165,5 +166,5 @@ if command -v kpsewhich >/dev/null; then
     wants_first job
     end
 else
-    echo 'left out: search paths of TeX (there is no kpsewhich)'
+    echo 'left out: search paths of TeX (without kpsewhich)'
 fi

@@ -72,43 +72,43 @@ TMPDIR=/nosuch run_search job
 wants_status 6
 end
 
-if takes --terse; then
-    for words in '-terse job' '--terse job' 'job -terse' '-terse -terse job'; do
-        begin "terse_$((passed + failed))"
-        run_search $words
-        wants_status 0
-        wants_output ''
-        wants_text job.bbl $'a\n'
-        wants_text job.blg "$first_log"
-        end
-    done
-else
-    echo 'left out: -terse (the program does not take it)'
-fi
-
-if takes --min-crossrefs 3; then
-    for words in '-min-crossrefs=1 job' '--min-crossrefs=1 job' '-min-crossrefs 1 job' '--min-crossrefs 1 job'; do
-        begin "min_crossrefs_$((passed + failed))"
-        cp "$examples"/cross_reference/*.{aux,bib,bst} .
-        "$program" --min-crossrefs 1 job >/dev/null
-        mv job.bbl wanted
-        run_search $words
-        cmp -s wanted job.bbl || complaints+=('the list is another than with --min-crossrefs 1')
-        end
-    done
-else
-    echo 'left out: -min-crossrefs (the program does not take it)'
-fi
-
-if "$program" --version >"$room/its_version" 2>/dev/null; then
-    begin version
-    run_search -version
+for words in '-terse job' '--terse job' 'job -terse' '-terse -terse job'; do
+    begin "terse_$((passed + failed))"
+    run_search $words
     wants_status 0
-    wants_output "$(cat "$room/its_version")"$'\n'
+    wants_output ''
+    wants_text job.bbl $'a\n'
+    wants_text job.blg "$first_log"
     end
-else
-    echo 'left out: -version (the program does not take it)'
-fi
+done
+
+for words in '-min-crossrefs=1 job' '--min-crossrefs=1 job' '-min-crossrefs 1 job' '--min-crossrefs 1 job'; do
+    begin "min_crossrefs_$((passed + failed))"
+    cp "$examples"/cross_reference/*.{aux,bib,bst} .
+    "$program" --min-crossrefs 1 job >/dev/null
+    mv job.bbl wanted
+    run_search $words
+    cmp -s wanted job.bbl || complaints+=('the list is another than with --min-crossrefs 1')
+    end
+done
+
+# What is handed on as it is: each option changes what it changes in the program.
+for words in '-text=utf8' '-line=20' '-entry-max=3' '-global-max=3'; do
+    begin "handed_on_$((passed + failed))"
+    cp "$examples"/utf8_names/*.{aux,bib,bst} .
+    "$program" "-$words" job >wanted_log
+    mv job.bbl wanted
+    run_search "$words" job
+    cmp -s wanted job.bbl || complaints+=("the list is another than with -$words")
+    cmp -s wanted_log "$folder/stdout" || complaints+=("the log is another than with -$words")
+    end
+done
+
+begin version
+run_search -version
+wants_status 0
+wants_output "$("$program" --version)"$'\n'
+end
 
 begin lines_for_tools
 printf '\\bibdata{d}\n\\bibstyle{nosuch}\n' >job.aux

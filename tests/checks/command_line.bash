@@ -14,11 +14,36 @@ refuses() {
 refuses no_job 'required arguments were not provided'
 refuses two_jobs "unexpected argument 'other'" job other
 refuses unknown_option "unexpected argument '--nope'" --nope job
-refuses budget_of_letters "invalid value 'x'" --budget x job
-refuses budget_past_the_range '1000000000000001 is not in 0..=1000000000000000' --budget 1000000000000001 job
-refuses budget_below_the_range "invalid value '-1'" --budget=-1 job
-refuses budget_twice "cannot be used multiple times" --budget 1 --budget 2 job
+refuses one_hyphen "unexpected argument '-t'" -terse job
+refuses one_hyphen_and_value "unexpected argument '-m'" -min-crossrefs=3 job
+refuses terse_with_a_value "unexpected value 'yes'" --terse=yes job
 refuses bytes_that_are_no_text 'invalid UTF-8' $'\xff'
+
+# Each option of a number is refused one past the ends of its range, where it is no number, without a value, and twice.
+# refuses_numbers OPTION LEAST GREATEST
+refuses_numbers() {
+    refuses "$1_past_its_range" "$(($3 + 1)) is not in $2..=$3" "--$1" "$(($3 + 1))" job
+    if [ "$2" -gt 0 ]; then
+        refuses "$1_below_its_range" "$(($2 - 1)) is not in $2..=$3" "--$1" "$(($2 - 1))" job
+    else
+        refuses "$1_below_its_range" "invalid value '-1'" "--$1=-1" job
+    fi
+    refuses "$1_of_letters" "invalid value 'x'" "--$1" x job
+    refuses "$1_without_a_value" 'a value is required' job "--$1"
+    refuses "$1_twice" 'cannot be used multiple times' "--$1" "$3" "--$1" "$3" job
+}
+
+refuses_numbers min-crossrefs 0 2147483647
+refuses_numbers budget 0 1000000000000000
+refuses_numbers line 20 1000
+refuses_numbers entry-max 1 1000000
+refuses_numbers global-max 1 1000000
+
+refuses text_of_another_word "invalid value 'latin1'" --text latin1 job
+refuses text_in_capitals "invalid value 'UTF8'" --text UTF8 job
+refuses text_twice 'cannot be used multiple times' --text bytes --text utf8 job
+refuses folder_twice 'cannot be used multiple times' --dir . --dir . job
+refuses terse_twice 'cannot be used multiple times' --terse --terse job
 
 # Help says what the program does, names each word, and lists the statuses.
 begin help
@@ -29,10 +54,23 @@ wants_files d.bib job.aux s.bst
 head -n 1 "$folder/stdout" | grep -q '^Writes the list of references of a LaTeX document' ||
     complaints+=('the help does not begin with what the program does')
 grep -q '^Usage: bibtex ' "$folder/stdout" || complaints+=('standard output has no usage')
-for word in '--budget <N>' '--dir <D>' '<JOB>'; do
+for word in --min-crossrefs '--budget <N>' '--dir <D>' --terse --text '--line <N>' --entry-max --global-max --version '<JOB>'; do
     grep -qF -- "$word" "$folder/stdout" || complaints+=("the help does not name $word")
 done
-for number in 0 1 2 3 4 5 6 7; do
+for number in 0 1 2 3 4 5 6; do
     grep -q "^  $number  ." "$folder/stdout" || complaints+=("the help does not list status $number")
 done
+! grep -q '^  7' "$folder/stdout" || complaints+=('the help lists a status 7')
 end
+
+# The version is a line with the program's name and a number; a job beside it isn't run.
+for word in --version -V; do
+    begin "version_by_$word"
+    run_program "$word" job
+    wants_status 0
+    wants_error ''
+    wants_files d.bib job.aux s.bst
+    [ "$(wc -l <"$folder/stdout")" -eq 1 ] || complaints+=('the version is not one line')
+    grep -qxE 'bibtex [0-9]+(\.[0-9]+)+' "$folder/stdout" || complaints+=("the version is $(printf '%q' "$(cat "$folder/stdout")")")
+    end
+done

@@ -70,34 +70,50 @@ wants_output "${first_log%Ended*}"
 wants_error "$device_error"
 end
 
-# A job outside the language whose log can't be created: the first fault is told, and no other.
-begin outside_without_a_log
-printf '@comment{x}\n@misc{k, title = {T}}\n' >d.bib
+# A job that ends at a limit, and whose log can't be created: the device's fault gives the status.
+begin limit_without_a_log
+use_style 'FUNCTION {g} {} FUNCTION {f} {{#1} {#7} while$} EXECUTE {f}'
 mkdir job.blg
 run_program job
-wants_status 7
-wants_output ''
-wants_error $'bibtex: not yet\n'
+wants_status 6
+wants_output "${found_log}Ended: limit literals, warnings 0, errors 0, steps 4006
+"
+wants_error "$device_error"
 wants_text job.bbl ''
 end
 
-begin help_that_cannot_be_printed
-status=0
-timeout 60 "$program" --help </dev/null >/dev/full 2>"$folder/stderr" || status=$?
-wants_status 6
-wants_error "$device_error"
-end
+# cannot_be_printed NAME WORD: what this word asks for can't be printed.
+cannot_be_printed() {
+    begin "$1"
+    status=0
+    timeout 60 "$program" "$2" </dev/null >/dev/full 2>"$folder/stderr" || status=$?
+    wants_status 6
+    wants_error "$device_error"
+    wants_files d.bib job.aux s.bst
+    end
+}
 
-# A folder can be opened and not be read.
-begin style_that_cannot_be_read
-rm s.bst
-mkdir s.bst
-run_program job
-wants_status 6
-wants_text job.bbl ''
-wants_beginning job.blg "$first_log"
-wants_error "$device_error"
-end
+cannot_be_printed help_that_cannot_be_printed --help
+cannot_be_printed version_that_cannot_be_printed --version
+
+# A folder can be opened and not be read: the log has what was told before.
+# cannot_be_read FILE LOG: this file is a folder.
+cannot_be_read() {
+    begin "${1//./_}_that_cannot_be_read"
+    rm "$1"
+    mkdir "$1"
+    run_program job
+    wants_status 6
+    wants_output "$2"
+    wants_error "$device_error"
+    wants_text job.bbl ''
+    wants_text job.blg "$2"
+    end
+}
+
+cannot_be_read job.aux ''
+cannot_be_read s.bst "${found_log%The style*}"
+cannot_be_read d.bib "${found_log%Database*}"
 
 # The folder takes no file.
 begin folder_that_takes_no_file

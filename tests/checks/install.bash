@@ -37,7 +37,7 @@ fi
 begin man_page
 page=$here/../docs/bibtex.1
 "$program" --help >"$folder/help"
-for option in $(grep -o -- '^ *\(-h, \)\?--[a-z-]*' "$folder/help" | grep -o -- '--[a-z-]*'); do
+for option in $(grep -o -- '^ *\(-[hV], \)\?--[a-z-]*' "$folder/help" | grep -o -- '--[a-z-]*'); do
     grep -qF -- "${option//-/\\-}" "$page" || complaints+=("the man page does not name $option")
 done
 for number in $(grep -o '^  [0-9]  ' "$folder/help"); do

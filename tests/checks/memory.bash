@@ -3,6 +3,9 @@
 refuse=$room/refuse.so
 gcc -O2 -Wall -Werror -shared -fPIC -o "$refuse" "$here/refuse.c" -ldl
 
+# More requests than any of these runs makes.
+most_requests=20000
+
 # run_refused N WORD..: runs the program with the Nth request for memory refused.
 run_refused() {
     status=0
@@ -10,28 +13,23 @@ run_refused() {
         </dev/null >"$folder/stdout" 2>"$folder/stderr" || status=$?
 }
 
-# wants_fault_or_answer: what stands after a run in which memory was refused once.
+# wants_fault_or_answer: what stands after a run in which memory was refused once, where the whole answer is this status, list and log.
 wants_fault_or_answer() {
     case $status in
-    0)
-        wants_output "$first_log"
-        wants_error ''
-        wants_text job.bbl $'a\n'
-        wants_text job.blg "$first_log"
-        ;;
+    "$whole_status") wants_job "$whole_status" "$whole_list" "$whole_log" ;;
     5) wants_error $'bibtex: out of memory\n' ;;
     6) wants_error $'bibtex: device error\n' ;;
-    *) complaints+=("the exit status is $status, not 0, 5 or 6") ;;
+    *) complaints+=("the exit status is $status, not $whole_status, 5 or 6") ;;
     esac
-    wants_beginning "$folder/stdout" "$first_log"
-    wants_beginning job.bbl $'a\n'
-    wants_beginning job.blg "$first_log"
+    wants_beginning "$folder/stdout" "$whole_log"
+    wants_beginning job.bbl "$whole_list"
+    wants_beginning job.blg "$whole_log"
 }
 
 # refuses_each WANTS WORD..: runs the program with one request for memory after another refused, until none is, and asks WANTS of each run.
 refuses_each() {
     local at before refused=0
-    for at in $(seq 1 500); do
+    for ((at = 1; at <= most_requests; at++)); do
         rm -f job.bbl job.blg "$folder/told"
         run_refused "$at" "${@:2}"
         [ -f "$folder/told" ] || break
@@ -39,15 +37,38 @@ refuses_each() {
         before=${#complaints[@]}
         "$1"
         [ ${#complaints[@]} -eq "$before" ] || complaints+=("so at request $at")
+        # One bad run tells enough.
+        [ ${#complaints[@]} -lt 20 ] || break
     done
-    [ "$refused" -gt 0 ] && [ "$refused" -lt 500 ] || complaints+=("$refused requests were refused")
+    [ "$refused" -gt 0 ] && [ "$refused" -lt "$most_requests" ] || complaints+=("$refused requests were refused")
     echo "        $refused requests for memory refused, one at a time"
 }
 
-begin refused_memory
-refuses_each wants_fault_or_answer job
-wants_status 0
-end
+# keep FILE VARIABLE: the variable becomes the file's bytes, the last line's end too.
+keep() {
+    local text
+    text=$(cat "$1" && echo .)
+    printf -v "$2" '%s' "${text%.}"
+}
+
+# refused_in EXAMPLE STATUS WORD..: an example's job of the name `job`, which ends with this status where no memory is refused.
+refused_in() {
+    begin "refused_memory_in_$1"
+    rm -f d.bib job.aux s.bst
+    cp "$examples/$1"/*.{aux,bib,bst} .
+    whole_status=$2
+    keep "$examples/$1/job.bbl" whole_list
+    keep "$examples/$1/job.blg" whole_log
+    refuses_each wants_fault_or_answer "${@:3}" job
+    wants_status "$2"
+    end
+}
+
+refused_in first 0
+refused_in cross_reference 2
+refused_in database_error 2
+refused_in stopped 4 --budget 200
+refused_in utf8_names 0 --text utf8
 
 # A refusal for want of memory has no text of its own, and each other one has its whole text.
 # wants_memory_or_text: what stands after a run that was to print a text with a status, and in which memory was refused once.
@@ -68,14 +89,14 @@ tells_all_or_nothing() {
     begin "refused_memory_in_$1"
     run_program "${@:2}"
     told_status=$status
-    told_output=$(cat "$folder/stdout" && echo .)
-    told_output=${told_output%.}
-    told_error=$(cat "$folder/stderr" && echo .)
-    told_error=${told_error%.}
+    keep "$folder/stdout" told_output
+    keep "$folder/stderr" told_error
     [ -n "$told_output$told_error" ] || complaints+=('nothing is told')
     refuses_each wants_memory_or_text "${@:2}"
     end
 }
 
 tells_all_or_nothing help --help
+tells_all_or_nothing version --version
 tells_all_or_nothing a_mistake --nope
+tells_all_or_nothing a_value_out_of_range --line 19 job

@@ -106,16 +106,6 @@ wants_output "$no_top_file"
 wants_error ''
 end
 
-begin outside
-printf '@comment{x}\n@misc{k, title = {T}}\n' >d.bib
-run_program job
-wants_status 7
-wants_output ''
-wants_error $'bibtex: not yet\n'
-wants_text job.bbl ''
-wants_text job.blg ''
-end
-
 # A file is read to its last byte, however long it is: what matters stands behind more than 64 KiB.
 begin long_top_file
 {
