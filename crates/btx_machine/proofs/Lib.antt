@@ -6,6 +6,8 @@ pub mod Stepped
 pub mod EquationLemmas
 pub mod OrderLemmas
 pub mod LawLemmas
+pub mod CostLemmas
+pub mod NeedsLemmas
 pub mod OutLemmas
 pub mod ComesLemmas
 pub mod SayLemmas

@@ -10,6 +10,7 @@ pub mod Items
 pub mod Reports
 pub mod Product
 pub mod ProductLaws
+pub mod StepsNeeded
 pub mod Faults
 pub mod Written
 pub mod Frames
