@@ -29,4 +29,8 @@ pub mod LastLemmas
 pub mod RunLemmas
 pub mod DepthLemmas
 pub mod DeepLemmas
+pub mod LowLemmas
+pub mod DirectBodies
+pub mod DirectLemmas
+pub mod DirectRuns
 pub mod MeaningRows

@@ -1,5 +1,6 @@
 //! Laws over the meaning of styles, each the contract of a function that does nothing.
 ghost use Rattle.btx_machine.specs.Budgets.{BudgetLaw};
+ghost use Rattle.btx_machine.specs.DirectDepth.{DirectLaw};
 ghost use Rattle.btx_machine.specs.Equations.{MeaningLaw, Turning};
 ghost use Rattle.btx_machine.specs.ProductLaws.{DepthLaw, RunLaw};
 ghost use Rattle.btx_machine.specs.StepsNeeded.{NeedsLaw, StoppedLaw};
@@ -26,4 +27,10 @@ pub fn depth_law()
 pub fn steps_law()
     ensures needed { NeedsLaw }
     ensures stopped { StoppedLaw }
+{}
+
+/// A run of a direct style never has more bodies open at once than the style has functions, so with at most 4,096 functions it meets no limit
+/// of calls. The style refers to nothing outside itself, and the types of the entries are functions of the style.
+pub fn direct_law()
+    ensures { DirectLaw }
 {}
