@@ -1,15 +1,12 @@
 -- What a budget changes of a whole run.
-use Rattle.std.specs.Prelude.{◌≡◌, ℕ, ◌≤◌, List, length}
+use Rattle.std.specs.Prelude.{ℕ, ◌≤◌, List}
 use Rattle.btx_aux.specs.Files.{Files}
-use Rattle.btx_bst.specs.Direct.{IsDirect}
 use Rattle.btx_out.specs.Lengths.{IsLineLength}
 use Rattle.btx_machine.specs.DirectDepth.{StaysWithin}
 use Rattle.btx_machine.specs.ProductLaws.{Foretells}
 use Rattle.btx_machine.specs.StepsNeeded.{NeededSteps, StoppedSteps}
-use Rattle.btx_run.specs.declared.files.found.FilesRead.TheVariants.{Found}
-use Rattle.btx_run.specs.declared.files.found.JobFiles.{JobFiles}
 use Rattle.btx_run.specs.declared.options.Options.{Options}
-use Rattle.btx_run.specs.Contents.{style_in}
+use Rattle.btx_run.specs.DirectStyles.{WhereDirect}
 use Rattle.btx_run.specs.Files.Readings.{reading_of}
 use Rattle.btx_run.specs.Product.{product_with}
 
@@ -31,5 +28,5 @@ StoppedLaw = (files : Files) (name : List ℕ) (options : Options) → StoppedSt
 -- with a direct style no more bodies are open at once than the style has functions, and where these are at most 4,096 the run meets no
 -- limit of calls
 abbrev pub DirectLaw : Type 0
-DirectLaw = (files : Files) (name : List ℕ) (options : Options) (budget : ℕ) (found : JobFiles) → (reading_of files name).gives ≡ Found found → IsDirect (style_in found) →
-    StaysWithin (length (style_in found).bodies) (product_with files name options budget)
+DirectLaw = (files : Files) (name : List ℕ) (options : Options) (budget : ℕ) →
+    WhereDirect (reading_of files name).gives (λ functions. StaysWithin functions (product_with files name options budget).report)
