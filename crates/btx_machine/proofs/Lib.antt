@@ -6,6 +6,8 @@ pub mod Stepped
 pub mod EquationLemmas
 pub mod OrderLemmas
 pub mod LawLemmas
+pub mod CostLemmas
+pub mod NeedsLemmas
 pub mod OutLemmas
 pub mod ComesLemmas
 pub mod SayLemmas
@@ -27,4 +29,8 @@ pub mod LastLemmas
 pub mod RunLemmas
 pub mod DepthLemmas
 pub mod DeepLemmas
+pub mod LowLemmas
+pub mod DirectBodies
+pub mod DirectLemmas
+pub mod DirectRuns
 pub mod MeaningRows

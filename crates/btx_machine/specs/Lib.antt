@@ -10,6 +10,8 @@ pub mod Items
 pub mod Reports
 pub mod Product
 pub mod ProductLaws
+pub mod StepsNeeded
+pub mod DirectDepth
 pub mod Faults
 pub mod Written
 pub mod Frames

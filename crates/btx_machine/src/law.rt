@@ -1,7 +1,9 @@
 //! Laws over the meaning of styles, each the contract of a function that does nothing.
 ghost use Rattle.btx_machine.specs.Budgets.{BudgetLaw};
+ghost use Rattle.btx_machine.specs.DirectDepth.{DirectLaw};
 ghost use Rattle.btx_machine.specs.Equations.{MeaningLaw, Turning};
 ghost use Rattle.btx_machine.specs.ProductLaws.{DepthLaw, RunLaw};
+ghost use Rattle.btx_machine.specs.StepsNeeded.{NeedsLaw, StoppedLaw};
 
 /// What the meaning of a token is, as equations in the language's own words, and what the turns of a loop are.
 pub fn meaning_law()
@@ -18,4 +20,17 @@ pub fn budget_law()
 /// No run ever has more than 4,096 bodies open at once.
 pub fn depth_law()
     ensures { DepthLaw }
+{}
+
+/// A run that isn't stopped needs just the steps that its report tells: with fewer it is stopped, and with so many or more it writes and
+/// answers the same. A stopped run took all its steps.
+pub fn steps_law()
+    ensures needed { NeedsLaw }
+    ensures stopped { StoppedLaw }
+{}
+
+/// A run of a direct style never has more bodies open at once than the style has functions, so with at most 4,096 functions it meets no limit
+/// of calls. The style refers to nothing outside itself, and the types of the entries are functions of the style.
+pub fn direct_law()
+    ensures { DirectLaw }
 {}

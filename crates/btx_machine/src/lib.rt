@@ -18,6 +18,6 @@ pub mod work;
 pub use command::Command;
 pub use ending::{Ending, Limit};
 pub use last::tell_end;
-pub use law::{budget_law, depth_law, meaning_law};
+pub use law::{budget_law, depth_law, direct_law, meaning_law, steps_law};
 pub use report::{End, Report, Told};
 pub use run::execute_style;

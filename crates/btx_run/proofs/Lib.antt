@@ -4,3 +4,6 @@ pub mod FileLawLemmas
 pub mod FileRows
 pub mod ProductLemmas
 pub mod LawLemmas
+pub mod StepsLemmas
+pub mod KindLemmas
+pub mod DirectLemmas

@@ -1,5 +1,6 @@
 pub mod Files
 pub mod Contents
+pub mod DirectStyles
 pub mod Product
 pub mod Laws
 pub mod RunFaults

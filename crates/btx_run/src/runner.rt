@@ -2,11 +2,13 @@
 ghost use Rattle.std.specs.Prelude.{◌≡◌, ◌≤◌, IfOk, IfSome, OnErr, OnOk, length};
 ghost use Rattle.std.specs.Io.KnownBytes.{Appends};
 ghost use Rattle.btx_text.specs.Limits.{greatest_file};
+ghost use Rattle.btx_machine.specs.DirectDepth.{StaysWithin};
 ghost use Rattle.btx_machine.specs.Faults.{CountsOfOutputs};
 ghost use Rattle.btx_machine.specs.KeepingStep.{AtFault, Completes};
 ghost use Rattle.btx_machine.specs.Product.{log_of, product as executed};
+ghost use Rattle.btx_run.specs.DirectStyles.{WhereDirect};
 ghost use Rattle.btx_run.specs.Files.Faults.{CountsOfThree};
-ghost use Rattle.btx_run.specs.Files.Readings.{StyleFits, files_read};
+ghost use Rattle.btx_run.specs.Files.Readings.{StyleFits, files_read, reading_of};
 ghost use Rattle.btx_run.specs.Product.{given_by, given_in, product, product_of_files, product_of_reading, product_with};
 ghost use Rattle.btx_run.specs.RunFaults.{CountsOfRun};
 
@@ -176,6 +178,10 @@ pub fn run<F: Finder, W: Sink, L: Sink>(
         Appends (W.received bbl.old) (W.received bbl.new) (product files name.now options.now).bbl)) }
     ensures log { OnOk result (IfSome (F.content finder.old) (λ files.
         Appends (L.received log.old) (L.received log.new) (log_of (product files name.now options.now)))) }
+
+    // With a direct style no more bodies were open at once than it has functions, and with at most 4,096 functions no limit of calls was met.
+    ensures direct { IfOk result (λ report. IfSome (F.content finder.old) (λ files.
+        WhereDirect (reading_of files name.now).gives (λ functions. StaysWithin functions report))) }
 
     // After a fault both outputs are beginnings of the product's, and keep step. The device's fault is told exactly where one of the three
     // counts of failures rose, by one.

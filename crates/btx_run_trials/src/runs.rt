@@ -398,3 +398,12 @@ fn says_what_failed(rt: HostRuntime) -> Result<(), Fail> {
     }
     Ok(())
 }
+
+// Where function literals stand before `if$` alone, no more bodies are open at once than the style has functions: here two of three.
+#[test]
+fn keeps_the_laws_of_runs(rt: HostRuntime) -> Result<(), Fail> {
+    btx_run::steps_law();
+    btx_run::direct_law();
+    let ran = run_body(rt.alloc(), b"#1 { newline$ } 'skip$ if$", 9);
+    ends_as(&rt, ran, b"\n", &[FOUND], Ending::Finished(0, 7, 2))
+}

@@ -1,3 +1,4 @@
+use Rattle.btx_run.proofs.DirectLemmas.{report_stays}
 use Rattle.btx_run.proofs.ReadingLemmas.{of_told}
 use Rattle.btx_run.proofs.runner.run.Goals as goal
 
@@ -9,3 +10,7 @@ returns-in-Ok-clause-bbl g c = of_told (g.F.Finder.content c.args.finder.now) _ 
 
 pub returns-in-Ok-clause-log : goal.returns-in-Ok-clause-log
 returns-in-Ok-clause-log g c = of_told (g.F.Finder.content c.args.finder.now) _ _ c.in-Ok.ensures.ok (λ files completes. completes.log_whole)
+
+pub returns-in-Ok-clause-direct : goal.returns-in-Ok-clause-direct
+returns-in-Ok-clause-direct g c =
+    of_told (g.F.Finder.content c.args.finder.now) _ _ c.in-Ok.ensures.ok (λ files completes. report_stays files c.args.name.now c.args.options.now _ completes.report_is)
