@@ -19,8 +19,6 @@ mod site;
 mod slots;
 pub mod spelling;
 mod strings;
-#[cfg(test)]
-mod tests;
 pub mod values;
 
 pub use databases::{Source, read_databases};

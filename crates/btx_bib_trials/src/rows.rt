@@ -1,5 +1,9 @@
 //! Databases, and what they give to a job whose style has the fields `title` and `booktitle` behind `crossref`.
 
+/// A style with the fields `title` and `booktitle`, a macro, and the types `misc` and `book`.
+pub const STYLE: &[u8] =
+    b"ENTRY {title booktitle}{}{} MACRO {jan}{\"January\"} FUNCTION {misc}{} FUNCTION {book}{} READ";
+
 /// The keys that are cited, how many references keep an entry that isn't cited, two databases, and what they give: the entries with
 /// the preamble in brackets, and the log.
 #[derive(Clone, Copy)]
