@@ -18,4 +18,8 @@ pub mod WholeLemmas
 pub mod StringLemmas
 pub mod ListLemmas
 pub mod StayingLemmas
+pub mod ParentLemmas
+pub mod ParentStayLemmas
+pub mod HeirLemmas
+pub mod InheritLemmas
 pub mod LibraryRows

@@ -19,6 +19,7 @@ pub mod Gatherings
 pub mod Databases
 pub mod Readings
 pub mod Laws
+pub mod Parents
 pub mod Steps
 pub mod MessageTexts
 pub mod Wordings
