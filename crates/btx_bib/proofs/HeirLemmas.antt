@@ -41,6 +41,7 @@ heir-own parent slot field value = by_body slot.body where
   by_values [] parents has = has
   by_values (v ∷ own) [] has = has
   by_values (v ∷ own) (p ∷ parents) has = or-own own parents field value has
+
   by_body : (body : Option Body) → value_at (suc field) (values_in body) ≡ Some value → value_at (suc field) (values_in (with_values body (inherited_values parent.key (values_in body) (values parent)))) ≡ Some value
   by_body None has = has
   by_body (Some body) has = by_values body.values (values parent) has
@@ -52,6 +53,7 @@ heir-lacks parent slot field value = by_body slot.body where
   by_values [] parents lacks has = cc
   by_values (v ∷ own) [] lacks has = absurd (let both : None ≡ Some value = sym lacks ∙ has in cc)
   by_values (v ∷ own) (p ∷ parents) lacks has = or-lacks own parents field value lacks has
+
   by_body : (body : Option Body) → value_at (suc field) (values_in body) ≡ None → value_at (suc field) (values_in (with_values body (inherited_values parent.key (values_in body) (values parent)))) ≡ Some value
       → value_at (suc field) (values parent) ≡ Some value
   by_body None lacks has = cc
@@ -64,6 +66,7 @@ heir-takes parent slot field value = by_body slot.body where
   by_values [] parents within lacks has = absurd (omega arith)
   by_values (v ∷ own) [] within lacks has = cc
   by_values (v ∷ own) (p ∷ parents) within lacks has = or-takes own parents field value (omega arith) lacks has
+
   by_body : (body : Option Body) → suc field < length (values_in body) → value_at (suc field) (values_in body) ≡ None → value_at (suc field) (values parent) ≡ Some value
       → value_at (suc field) (values_in (with_values body (inherited_values parent.key (values_in body) (values parent)))) ≡ Some value
   by_body None within lacks has = absurd (omega arith)
@@ -75,6 +78,7 @@ heir-parent parent slot key = by_body slot.body where
   by_values [] parents has = cc
   by_values (v ∷ own) [] has = refl
   by_values (v ∷ own) (p ∷ parents) has = refl
+
   by_body : (body : Option Body) → parent_in (values_in body) ≡ Some key → parent_in (values_in (with_values body (inherited_values parent.key (values_in body) (values parent)))) ≡ Some parent.key
   by_body None has = cc
   by_body (Some body) has = by_values body.values (values parent) has
@@ -88,6 +92,7 @@ turned slots slot = by_key (parent_at slot) refl where
   by_parent : (key : List ℕ) (o : Option Slot) → parent_at slot ≡ Some key → slot_at slots key ≡ o → Turned slots slot (inherited slots slot)
   by_parent key None some at = inl (inherited-by slots slot key None some at)
   by_parent key (Some parent) some at = inr (key, parent, some, at, inherited-by slots slot key (Some parent) some at)
+
   by_key : (o : Option (List ℕ)) → parent_at slot ≡ o → Turned slots slot (inherited slots slot)
   by_key None none = inl (inherited-alone slots slot none)
   by_key (Some key) some = by_parent key (slot_at slots key) some refl
@@ -113,15 +118,18 @@ at-turn : (done slots : List Slot) (slot after : Slot) (key : List ℕ) → afte
 at-turn done slots slot after key same = by_done (slot_at done key) refl where
   rest : Slot → List Slot → Bool → Option Slot
   rest x xs b = cond b (Some x) (slot_at xs key)
+
   by_test : (b : Bool) → slot_at done key ≡ None → is_same_key key slot.key ≡ b → AtTurn done slots slot after key
-  by_test true none is = inr
-      (slot_at-append done (slot ∷ slots) key ∙ ap (λ (o : Option Slot). option_or o (slot_at (slot ∷ slots) key)) none ∙ ap (rest slot slots) is,
-      slot_at-append done (after ∷ []) key ∙ ap (λ (o : Option Slot). option_or o (slot_at (after ∷ []) key)) none ∙ ap (λ (k : List ℕ). rest after [] (is_same_key key k)) same ∙ ap (rest after []) is)
+  by_test true none is = inr (
+    slot_at-append done (slot ∷ slots) key ∙ ap (λ (o : Option Slot). option_or o (slot_at (slot ∷ slots) key)) none ∙ ap (rest slot slots) is,
+    slot_at-append done (after ∷ []) key ∙ ap (λ (o : Option Slot). option_or o (slot_at (after ∷ []) key)) none ∙ ap (λ (k : List ℕ). rest after [] (is_same_key key k)) same ∙ ap (rest after []) is,
+  )
   by_test false none differs = inl
       (slot_at-append done (slot ∷ slots) key
       ∙ ap (λ (b : Bool). option_or (slot_at done key) (rest slot slots b)) differs
       ∙ sym (ap (λ (b : Bool). option_or (slot_at done key) (rest after slots b)) (ap (is_same_key key) same ∙ differs))
       ∙ sym (slot_at-append done (after ∷ slots) key))
+
   by_done : (o : Option Slot) → slot_at done key ≡ o → AtTurn done slots slot after key
   by_done (Some found) at = inl (slot_at-done done (slot ∷ slots) key found at ∙ sym (slot_at-done done (after ∷ slots) key found at))
   by_done None none = by_test (is_same_key key slot.key) none refl
@@ -178,10 +186,11 @@ module _ (done slots : List Slot) (slot : Slot) (key : List ℕ) (field : ℕ) (
 
   from-parent : (name : List ℕ) (parent : Slot) → parent_at slot ≡ Some name → slot_at before name ≡ Some parent → after ≡ inherited_from (Some parent) slot → slot_at (done ++ after ∷ []) key ≡ Some after
       → value_at (suc field) (values parent) ≡ Some value → IsFrom (passed inherited done (slot ∷ slots)) key field value
-  from-parent name parent some at is here has =
-      (parent.key,
-      ap (λ (o : Option Slot). parent_in (values_by o)) (pass-done slots (done ++ after ∷ []) key after here) ∙ ap parent_at is ∙ heir-parent parent slot name some,
-      pass-grows (slot ∷ slots) done parent.key field value (field-by before parent.key field parent (slot_at-own before name parent at) ∙ has))
+  from-parent name parent some at is here has = (
+    parent.key,
+    ap (λ (o : Option Slot). parent_in (values_by o)) (pass-done slots (done ++ after ∷ []) key after here) ∙ ap parent_at is ∙ heir-parent parent slot name some,
+    pass-grows (slot ∷ slots) done parent.key field value (field-by before parent.key field parent (slot_at-own before name parent at) ∙ has),
+  )
 
   turn-inherits : field_at before key field ≡ None → field_at (done ++ after ∷ slots) key field ≡ Some value → IsFrom (passed inherited done (slot ∷ slots)) key field value
   turn-inherits lacks has = ⊎_elim
@@ -204,10 +213,13 @@ pass-inherits (slot ∷ slots) done key field value lacks has =
     by_next (field_at (done ++ turn ∷ slots) key field) refl (pass-inherits slots (done ++ turn ∷ []) key field value) where
       turn : Slot
       turn = inherited (done ++ slot ∷ slots) slot
+
       final : List Slot
       final = passed inherited (done ++ turn ∷ []) slots
+
       joined : field_at ((done ++ turn ∷ []) ++ slots) key field ≡ field_at (done ++ turn ∷ slots) key field
       joined = ap (λ (xs : List Slot). field_at xs key field) (append_assoc done (turn ∷ []) slots)
+
       by_next : (o : Option (List ℕ)) → field_at (done ++ turn ∷ slots) key field ≡ o → (field_at ((done ++ turn ∷ []) ++ slots) key field ≡ None → field_at final key field ≡ Some value → IsFrom final key field value)
           → IsFrom final key field value
       by_next None none later = later (joined ∙ none) has
@@ -232,8 +244,8 @@ turn-takes done slots slot key parent field value none same some within lacks ha
     let after = inherited before slot in
     let there = slot-there before parent field value has in
     let here : slot_at (done ++ after ∷ []) key ≡ Some after =
-        slot_at-append done (after ∷ []) key ∙ ap (λ (o : Option Slot). option_or o (slot_at (after ∷ []) key)) none
-        ∙ ap (λ (b : Bool). cond b (Some after) None) (ap (is_same_key key) (key-inherited before slot) ∙ same) in
+    slot_at-append done (after ∷ []) key ∙ ap (λ (o : Option Slot). option_or o (slot_at (after ∷ []) key)) none
+    ∙ ap (λ (b : Bool). cond b (Some after) None) (ap (is_same_key key) (key-inherited before slot) ∙ same) in
     field-by (passed inherited done (slot ∷ slots)) key field after (pass-done slots (done ++ after ∷ []) key after here)
     ∙ ap (λ (s : Slot). value_at (suc field) (values s)) (inherited-by before slot parent (Some there.0) some there.1)
     ∙ heir-takes there.0 slot field value within lacks there.2
@@ -245,8 +257,10 @@ pass-takes (first ∷ slots) done key parent slot field value none at some withi
     by_test (is_same_key key first.key) refl at (pass-takes slots (done ++ turn ∷ []) key parent slot field value) where
       turn : Slot
       turn = inherited (done ++ first ∷ slots) first
+
       final : List Slot
       final = passed inherited (done ++ turn ∷ []) slots
+
       by_test : (b : Bool) → is_same_key key first.key ≡ b → cond b (Some first) (slot_at slots key) ≡ Some slot
           → (slot_at (done ++ turn ∷ []) key ≡ None → slot_at slots key ≡ Some slot → parent_at slot ≡ Some parent → suc field < length (values slot) → value_at (suc field) (values slot) ≡ None
           → field_at ((done ++ turn ∷ []) ++ slots) parent field ≡ Some value → field_at final key field ≡ Some value) → field_at final key field ≡ Some value

@@ -43,6 +43,7 @@ cut-shows field slot = by_body slot.body where
   by_values : (values : List (Option (List ℕ))) → value_at (suc field) (without_parent values) ≡ value_at (suc field) values
   by_values [] = refl
   by_values (value ∷ values) = refl
+
   by_body : (body : Option Body) → shown_as slot.key (value_at (suc field) (values_in (with_values body (without_parent (values_in body))))) ≡ shown_as slot.key (value_at (suc field) (values_in body))
   by_body None = refl
   by_body (Some body) = ap (shown_as slot.key) (by_values body.values)
@@ -71,6 +72,7 @@ shown-field field [] key = refl
 shown-field field (slot ∷ slots) key = by_test (is_same_key key slot.key) (shown-field field slots key) where
   others : Option (List ℕ × Option (List ℕ))
   others = find (λ (s : List ℕ × Option (List ℕ)). is_same_key key s.0) (map (shows field) slots)
+
   by_test : (b : Bool) → value_at (suc field) (values_by (slot_at slots key)) ≡ shown_by others → value_at (suc field) (values_by (cond b (Some slot) (slot_at slots key))) ≡ shown_by (cond b (Some (shows field slot)) others)
   by_test true rest = refl
   by_test false rest = rest
@@ -99,16 +101,18 @@ entry-field (slot ∷ slots) entry field distinct there =
     ⊎_elim (λ (first : Contains (entry_at slot) entry). of_slot (has_enough slot) slot.body refl first)
     (λ (later : Contains (flat_map entry_at slots) entry).
     let apart : is_same_key entry.key slot.key ≡ false =
-        same_key_equiv.symm entry.key slot.key ∙ apart-entry slot.key slots entry (IsDistinct-head bytes_eq (folded slot.key) (names_of slots) distinct) later in
+    same_key_equiv.symm entry.key slot.key ∙ apart-entry slot.key slots entry (IsDistinct-head bytes_eq (folded slot.key) (names_of slots) distinct) later in
     ap (λ (b : Bool). value_at (suc field) (values_by (cond b (Some slot) (slot_at slots entry.key)))) apart
     ∙ entry-field slots entry field (IsDistinct-tail bytes_eq (folded slot.key) (names_of slots) distinct) later)
     (Contains-append_cases (entry_at slot) (flat_map entry_at slots) entry there) where
       found : List ℕ → Option (List ℕ)
       found key = value_at (suc field) (values_by (cond (is_same_key key slot.key) (Some slot) (slot_at slots key)))
+
       of_entry : (values : List (Option (List ℕ))) (made : Entry) → values_in slot.body ≡ values → made.key ≡ slot.key → made.values ≡ values → made ≡ entry → found entry.key ≡ value_at (suc field) entry.values
       of_entry values made has key is same =
           subst (λ (e : Entry). found e.key ≡ value_at (suc field) e.values) same
           (ap found key ∙ ap (λ (b : Bool). value_at (suc field) (values_by (cond b (Some slot) (slot_at slots slot.key)))) (same_key_equiv.refl slot.key) ∙ ap (value_at (suc field)) (has ∙ sym is))
+
       of_slot : (enough : Bool) (body : Option Body) → slot.body ≡ body → Contains (entry_by slot.key enough body) entry → found entry.key ≡ value_at (suc field) entry.values
       of_slot enough None is first = absurd (none-contained entry first)
       of_slot false (Some body) is first = absurd (none-contained entry first)
@@ -151,13 +155,14 @@ parent-there slots key parent some = by_slot (slot_at slots key) refl some where
   by_slot (Some slot) at some = (slot, at, some)
 
 first-inherited : (wanted : Wanted) (stored : List Given) (key : List ℕ) (field : ℕ) → Inherits wanted (slots_of wanted stored) key field (field_at (after_first (slots_of wanted stored)) key field)
-first-inherited wanted stored key field = let given = slots_of wanted stored in
-    (first-grows given key field,
-    λ parent value within lacks some has.
-    (let there = parent-there given key parent some in
-    first-takes given key parent there.0 field value there.1 there.2 (subst (λ (n : ℕ). suc field < n) (sym (found-has-all wanted stored (keys_of wanted stored) key there.0 there.1 parent there.2)) within)
-    (ap (λ (o : Option Slot). value_at (suc field) (values_by o)) (sym there.1) ∙ lacks) has),
-    first-inherits given key field)
+first-inherited wanted stored key field = let given = slots_of wanted stored in (
+  first-grows given key field,
+  λ parent value within lacks some has.
+      (let there = parent-there given key parent some in
+      first-takes given key parent there.0 field value there.1 there.2 (subst (λ (n : ℕ). suc field < n) (sym (found-has-all wanted stored (keys_of wanted stored) key there.0 there.1 parent there.2)) within)
+      (ap (λ (o : Option Slot). value_at (suc field) (values_by o)) (sym there.1) ∙ lacks) has),
+  first-inherits given key field,
+)
 
 entries-inherit : (wanted : Wanted) (stored : List Given) (entry : Entry) (field : ℕ) → Contains (entries_of (slots_of wanted stored)) entry → Inherits wanted (slots_of wanted stored) entry.key field (value_at (suc field) entry.values)
 unfolding entries_of

@@ -22,4 +22,6 @@ pub mod ParentLemmas
 pub mod ParentStayLemmas
 pub mod HeirLemmas
 pub mod InheritLemmas
+pub mod CutLemmas
+pub mod CutRows
 pub mod LibraryRows

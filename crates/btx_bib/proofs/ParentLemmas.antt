@@ -103,6 +103,7 @@ cut-none slot = by_body slot.body where
   by_values : (values : List (Option (List ℕ))) → parent_in (without_parent values) ≡ None
   by_values [] = refl
   by_values (value ∷ values) = refl
+
   by_body : (body : Option Body) → parent_in (values_in (with_values body (without_parent (values_in body)))) ≡ None
   by_body None = refl
   by_body (Some body) = by_values body.values

@@ -59,6 +59,7 @@ spelled-same wanted stored key = by_cited (listed_as wanted.cited key) refl wher
   by_entry : (o : Option Given) → entry_of stored key ≡ o → is_same_key key (unwrap_or (option_map (λ (given : Given). given.key) o) key) ≡ true
   by_entry None h = same_key_equiv.refl key
   by_entry (Some given) h = found-same (λ (g : Given). g.key) stored key given h
+
   by_cited : (o : Option (List ℕ)) → listed_as wanted.cited key ≡ o → is_same_key key (unwrap_or (option_or o (option_map (λ (given : Given). given.key) (entry_of stored key))) key) ≡ true
   by_cited None h = by_entry (entry_of stored key) refl
   by_cited (Some cited) h = found-same (λ (k : List ℕ). k) wanted.cited key cited h
@@ -83,13 +84,17 @@ stays-there wanted stored parent none has [] there = cc
 stays-there wanted stored parent none has (key ∷ keys) there = by_same (is_same_key parent key) refl there (stays-there wanted stored parent none has keys) where
   others : List (List ℕ)
   others = map (spelled wanted stored) (filter (stays wanted stored) keys)
+
   first : is_same_key parent key ≡ true → stays wanted stored key ≡ true
   first same = both-true (is_some (entry_of stored key)) (is_due wanted stored key) (ap (λ (o : Option Given). is_some o) (sym (entry_of-same stored parent key same)) ∙ has) (due-always wanted stored key none)
+
   shown : Bool → List (List ℕ)
   shown b = map (spelled wanted stored) (cond b (key ∷ filter (stays wanted stored) keys) (filter (stays wanted stored) keys))
+
   more : (b : Bool) → is_any_key others parent ≡ true → is_any_key (shown b) parent ≡ true
   more true rest = or-right (is_same_key parent (spelled wanted stored key)) (is_any_key others parent) rest
   more false rest = rest
+
   by_same : (b : Bool) → is_same_key parent key ≡ b → (b || is_any_key keys parent) ≡ true → (is_any_key keys parent ≡ true → is_any_key others parent ≡ true) → is_any_key (shown (stays wanted stored key)) parent ≡ true
   by_same true same there rest =
       ap (λ (b : Bool). is_any_key (shown b) parent) (first same)

@@ -20,6 +20,7 @@ pub mod Databases
 pub mod Readings
 pub mod Laws
 pub mod Parents
+pub mod Cuts
 pub mod Steps
 pub mod MessageTexts
 pub mod Wordings

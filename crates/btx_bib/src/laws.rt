@@ -1,4 +1,5 @@
 //! Laws of libraries. Each is the contract of a function with nothing to do.
+ghost use Rattle.btx_bib.specs.Cuts.{CutGivesTheSame};
 ghost use Rattle.btx_bib.specs.Laws.{KeysDiffer, ListIsKept};
 ghost use Rattle.btx_bib.specs.Parents.{InheritsFromParent, NoParentLeaves, NoReferenceDangles};
 
@@ -27,4 +28,9 @@ pub fn no_parent_leaves()
 /// a field has, its parent has it too, once all entries have taken theirs.
 pub fn inherits_from_parent()
     ensures { InheritsFromParent }
+{}
+
+/// A database gives the same entries and preamble where it is cut in two files and no item is open at the cut.
+pub fn cut_gives_the_same()
+    ensures { CutGivesTheSame }
 {}
