@@ -18,4 +18,10 @@ pub mod WholeLemmas
 pub mod StringLemmas
 pub mod ListLemmas
 pub mod StayingLemmas
+pub mod ParentLemmas
+pub mod ParentStayLemmas
+pub mod HeirLemmas
+pub mod InheritLemmas
+pub mod CutLemmas
+pub mod CutRows
 pub mod LibraryRows

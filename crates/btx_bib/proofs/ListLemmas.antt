@@ -1,8 +1,7 @@
 -- The keys of the list: no two are one, whose case is ignored.
-use Rattle.std.proofs.Common.{◌≡◌, ℕ, Bool, true, false, if◌then◌else◌, List, [], ◌∷◌, ◌++◌, map, fold, Option, None, Some, refl, sym, ap, subst, ◌∙◌, append_assoc, append-nil}
+use Rattle.std.proofs.Common.{◌≡◌, ℕ, Bool, true, false, List, [], ◌∷◌, ◌++◌, map, fold, Option, None, Some, refl, sym, ap, subst, ◌∙◌, append_assoc, append-nil}
 use Rattle.std.specs.Str.{bytes_eq}
 use Rattle.std.specs.List.{flat_map, AllByRecursion, IsDistinct}
-use Rattle.std.proofs.lemmas.Map.Keys.{IsDistinct-head, IsDistinct-tail, IsDistinct-cons}
 use Rattle.btx_text.specs.Keys.{folded}
 use Rattle.btx_aux.specs.Names.{is_same_key, with_key}
 use Rattle.btx_bib.specs.declared.end.End.{End}
@@ -17,7 +16,6 @@ use Rattle.btx_bib.specs.Listing.{first_cited, added, last_cited, keys_of, slots
 use Rattle.btx_bib.specs.Passes.{passed, inherited, checked, after_first, after_second, entries_of, entry_at, entry_by, has_enough}
 use Rattle.btx_bib.specs.Steps.{names_of}
 use Rattle.btx_bib.specs.Known.{Known}
-use Rattle.btx_bib.specs.Told.{Database}
 use Rattle.btx_bib.specs.Databases.{library_of, library_by, read_all, told_all, with_macros}
 use Rattle.btx_bib.specs.Laws.{KeysDiffer, list_of}
 use Rattle.btx_bib.proofs.ListedKeyLemmas.{distinct-fold, distinct-none}
@@ -84,12 +82,14 @@ distinct-keys wanted stored =
     distinct-fold (last_cited wanted.all wanted.cited) (fold with_key [] (first_cited wanted.all wanted.cited ++ added wanted.all wanted stored))
     (distinct-fold (first_cited wanted.all wanted.cited ++ added wanted.all wanted stored) [] distinct-none)
 
+pub distinct-names : (wanted : Wanted) (stored : List Given) → IsDistinct bytes_eq (names_of (after_second (after_first (slots_of wanted stored))))
+distinct-names wanted stored =
+    let named : map folded (keys_of wanted stored) ≡ names_of (slots_of wanted stored) = names-listing wanted stored (keys_of wanted stored) ∙ ap names_of (slots-listing wanted stored) in
+    subst (λ (names : List (List ℕ)). IsDistinct bytes_eq names) (named ∙ sym (names-after (slots_of wanted stored))) (distinct-folded (keys_of wanted stored) (distinct-keys wanted stored))
+
 distinct-entries : (wanted : Wanted) (stored : List Given) → IsDistinct is_same_key (map (λ (entry : Entry). entry.key) (entries_of (slots_of wanted stored)))
 unfolding entries_of
-distinct-entries wanted stored =
-    let named : map folded (keys_of wanted stored) ≡ names_of (slots_of wanted stored) = names-listing wanted stored (keys_of wanted stored) ∙ ap names_of (slots-listing wanted stored) in
-    let names = subst (λ (names : List (List ℕ)). IsDistinct bytes_eq names) (named ∙ sym (names-after (slots_of wanted stored))) (distinct-folded (keys_of wanted stored) (distinct-keys wanted stored)) in
-    distinct-kept (after_second (after_first (slots_of wanted stored))) names
+distinct-entries wanted stored = distinct-kept (after_second (after_first (slots_of wanted stored))) (distinct-names wanted stored)
 
 distinct-library : (ending : End) (wanted : Wanted) (known : Known) (messages : List Message) → IsDistinct is_same_key (list_of (library_by ending wanted known messages))
 distinct-library end.Whole wanted known messages = distinct-entries wanted known.stored

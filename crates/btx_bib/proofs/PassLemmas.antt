@@ -1,5 +1,5 @@
 -- The passes, place by place.
-use Rattle.std.proofs.Common.{◌≡◌, ℕ, zero, suc, arith, ◌+◌, ◌<◌, ◌≤◌, Bool, true, false, cond, if◌then◌else◌, List, [], ◌∷◌, ◌++◌, map, take, drop, length, Option, None, Some, refl, sym, ap, subst, ◌∙◌, add-one, append_assoc}
+use Rattle.std.proofs.Common.{◌≡◌, ℕ, zero, suc, arith, ◌+◌, ◌<◌, Bool, true, false, cond, if◌then◌else◌, List, [], ◌∷◌, ◌++◌, take, drop, length, Option, None, Some, refl, sym, ap, subst, ◌∙◌, add-one, append_assoc}
 use Rattle.std.specs.Prelude.{slice_get}
 use Rattle.std.specs.Str.{bytes_eq}
 use Rattle.std.specs.Option.{option_map}
@@ -8,7 +8,7 @@ use Rattle.btx_aux.specs.Names.{is_same_key}
 use Rattle.btx_bib.specs.declared.message.Message.{Message}
 use Rattle.btx_bib.specs.declared.slots.Slot.{Slot}
 use Rattle.btx_bib.specs.Finding.{place_of, changed_at}
-use Rattle.btx_bib.specs.Passes.{passed, told_in, parent_at, parent_slot, slot_at, with_body, with_values, values_in, inherited_values, inherited, inherited_from, checked, checked_by, is_parent, cut, check_told, check_told_by, parent_told}
+use Rattle.btx_bib.specs.Passes.{passed, told_in, parent_at, parent_slot, slot_at, inherited, inherited_from, checked, checked_by, is_parent, cut, check_told, check_told_by, parent_told}
 use Rattle.btx_bib.specs.Steps.{names_of, slot_by, told_by}
 use Rattle.btx_bib.proofs.ListedKeyLemmas.{folded-same}
 
@@ -156,7 +156,7 @@ told_by-here slots (Some slot) = refl
 
 -- ---- the length of a parent's key
 
-slot_at-same : (slots : List Slot) (key : List ℕ) (slot : Slot) → slot_at slots key ≡ Some slot → is_same_key key slot.key ≡ true
+pub slot_at-same : (slots : List Slot) (key : List ℕ) (slot : Slot) → slot_at slots key ≡ Some slot → is_same_key key slot.key ≡ true
 slot_at-same [] key slot h = cc
 slot_at-same (s ∷ slots) key slot h = by_test (is_same_key key s.key) refl h (slot_at-same slots key slot) where
   by_test : (b : Bool) → is_same_key key s.key ≡ b → cond b (Some s) (slot_at slots key) ≡ Some slot → (slot_at slots key ≡ Some slot → is_same_key key slot.key ≡ true) → is_same_key key slot.key ≡ true

@@ -26,22 +26,27 @@ map-append : {A : Type 0} (f : Slot → A) (xs ys : List Slot) → map f (xs ++ 
 map-append f [] ys = refl
 map-append f (x ∷ xs) ys = ap (λ (rest : List _). f x ∷ rest) (map-append f xs ys)
 
-view-passed : {A : Type 0} (f : Slot → A) (judge : List Slot → Slot → Slot) → ((slots : List Slot) (slot : Slot) → f (judge slots slot) ≡ f slot) → (slots done : List Slot)
-    → map f (passed judge done slots) ≡ map f (done ++ slots)
-view-passed f judge keeps [] done = ap (map f) (sym (append-nil done))
-view-passed f judge keeps (slot ∷ slots) done =
+pub view-next : {A : Type 0} (f : Slot → A) (judge : List Slot → Slot → Slot) → ((slots : List Slot) (slot : Slot) → f (judge slots slot) ≡ f slot) → (slot : Slot) (slots done : List Slot)
+    → map f ((done ++ judge (done ++ slot ∷ slots) slot ∷ []) ++ slots) ≡ map f (done ++ slot ∷ slots)
+view-next f judge keeps slot slots done =
     let judged = judge (done ++ slot ∷ slots) slot in
-    view-passed f judge keeps slots (done ++ judged ∷ [])
-    ∙ ap (map f) (append_assoc done (judged ∷ []) slots)
+    ap (map f) (append_assoc done (judged ∷ []) slots)
     ∙ map-append f done (judged ∷ slots)
     ∙ ap (λ (seen : _). map f done ++ seen ∷ map f slots) (keeps (done ++ slot ∷ slots) slot)
     ∙ sym (map-append f done (slot ∷ slots))
 
+pub view-passed : {A : Type 0} (f : Slot → A) (judge : List Slot → Slot → Slot) → ((slots : List Slot) (slot : Slot) → f (judge slots slot) ≡ f slot) → (slots done : List Slot)
+    → map f (passed judge done slots) ≡ map f (done ++ slots)
+view-passed f judge keeps [] done = ap (map f) (sym (append-nil done))
+view-passed f judge keeps (slot ∷ slots) done =
+    let judged = judge (done ++ slot ∷ slots) slot in
+    view-passed f judge keeps slots (done ++ judged ∷ []) ∙ view-next f judge keeps slot slots done
+
 -- a key, and whether its entry stays
-abbrev seen_as : List ℕ → Bool → Bool → List ℕ × Bool
+abbrev pub seen_as : List ℕ → Bool → Bool → List ℕ × Bool
 seen_as key has_entry enough = (key, has_entry && enough)
 
-abbrev view : Slot → List ℕ × Bool
+abbrev pub view : Slot → List ℕ × Bool
 view slot = seen_as slot.key (is_some slot.body) (has_enough slot)
 
 same-body : (key : List ℕ) (enough : Bool) (body : Option Body) (values : List (Option (List ℕ))) → seen_as key (is_some (with_values body values)) enough ≡ seen_as key (is_some body) enough
@@ -52,7 +57,7 @@ view-from : (parent : Option Slot) (slot : Slot) → view (inherited_from parent
 view-from None slot = refl
 view-from (Some parent) slot = same-body slot.key (has_enough slot) slot.body _
 
-view-inherited : (slots : List Slot) (slot : Slot) → view (inherited slots slot) ≡ view slot
+pub view-inherited : (slots : List Slot) (slot : Slot) → view (inherited slots slot) ≡ view slot
 unfolding inherited
 view-inherited slots slot = view-from (parent_slot slots (parent_at slot)) slot
 
@@ -63,26 +68,26 @@ view-checked_by (Some key) slots slot = by_test (is_parent (slot_at slots key)) 
   by_test true = refl
   by_test false = same-body slot.key (has_enough slot) slot.body _
 
-view-checked : (slots : List Slot) (slot : Slot) → view (checked slots slot) ≡ view slot
+pub view-checked : (slots : List Slot) (slot : Slot) → view (checked slots slot) ≡ view slot
 unfolding checked
 view-checked slots slot = view-checked_by (parent_at slot) slots slot
 
-views-after : (slots : List Slot) → map view (after_second (after_first slots)) ≡ map view slots
+pub views-after : (slots : List Slot) → map view (after_second (after_first slots)) ≡ map view slots
 views-after slots = view-passed view checked view-checked (after_first slots) [] ∙ view-passed view inherited view-inherited slots []
 
 -- ---- the entries that stay
 
 -- the keys whose entries stay
-abbrev chosen_by : List ℕ × Bool → List (List ℕ)
+abbrev pub chosen_by : List ℕ × Bool → List (List ℕ)
 chosen_by seen = if seen.1 then seen.0 ∷ [] else []
 
-abbrev chosen : List (List ℕ × Bool) → List (List ℕ)
+abbrev pub chosen : List (List ℕ × Bool) → List (List ℕ)
 chosen views = flat_map chosen_by views
 
-abbrev kept : List Slot → List (List ℕ)
+abbrev pub kept : List Slot → List (List ℕ)
 kept slots = map (λ (entry : Entry). entry.key) (flat_map entry_at slots)
 
-kept-chosen : (slots : List Slot) → kept slots ≡ chosen (map view slots)
+pub kept-chosen : (slots : List Slot) → kept slots ≡ chosen (map view slots)
 kept-chosen [] = refl
 kept-chosen (slot ∷ slots) = by_body (has_enough slot) slot.body (kept-chosen slots) where
   by_body : (enough : Bool) (body : Option Body) → kept slots ≡ chosen (map view slots)

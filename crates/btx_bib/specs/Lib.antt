@@ -19,6 +19,8 @@ pub mod Gatherings
 pub mod Databases
 pub mod Readings
 pub mod Laws
+pub mod Parents
+pub mod Cuts
 pub mod Steps
 pub mod MessageTexts
 pub mod Wordings

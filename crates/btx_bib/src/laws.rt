@@ -1,5 +1,7 @@
 //! Laws of libraries. Each is the contract of a function with nothing to do.
+ghost use Rattle.btx_bib.specs.Cuts.{CutGivesTheSame};
 ghost use Rattle.btx_bib.specs.Laws.{KeysDiffer, ListIsKept};
+ghost use Rattle.btx_bib.specs.Parents.{InheritsFromParent, NoParentLeaves, NoReferenceDangles};
 
 /// No two entries of a list have one key, whose case is ignored.
 pub fn keys_differ()
@@ -10,4 +12,25 @@ pub fn keys_differ()
 /// of the list.
 pub fn list_is_kept()
     ensures { ListIsKept }
+{}
+
+/// What stands as an entry's `crossref` is the key of an entry of the list, spelled as the list spells it.
+pub fn no_reference_dangles()
+    ensures { NoReferenceDangles }
+{}
+
+/// Where no reference is asked for, a parent that has an entry stays.
+pub fn no_parent_leaves()
+    ensures { NoParentLeaves }
+{}
+
+/// An entry of the list keeps its own values. A field that it lacks has the value that its parent has of its own; and whatever value such
+/// a field has, its parent has it too, once all entries have taken theirs.
+pub fn inherits_from_parent()
+    ensures { InheritsFromParent }
+{}
+
+/// A database gives the same entries and preamble where it is cut in two files and no item is open at the cut.
+pub fn cut_gives_the_same()
+    ensures { CutGivesTheSame }
 {}

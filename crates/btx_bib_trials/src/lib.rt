@@ -3,3 +3,14 @@
 
 #[cfg(test)]
 mod grammar;
+#[cfg(test)]
+mod hostile;
+#[cfg(test)]
+mod libraries;
+#[cfg(test)]
+mod limits;
+#[cfg(test)]
+mod rows;
+pub mod showing;
+#[cfg(test)]
+mod usual;

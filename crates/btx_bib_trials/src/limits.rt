@@ -1,0 +1,116 @@
+//! Values and strings of a million bytes, and of one byte more.
+use crate::rows::STYLE;
+use crate::showing::{Size, size_of};
+use btx_bib::End;
+use btx_text::Fault;
+use std::alloc::{AllocError, Global};
+
+const MOST: usize = 1_000_000;
+
+/// What stands before so many letters and behind them in a database, and the size of what it gives.
+type Long = (&'static [u8], usize, &'static [u8], Size);
+
+const LONG: [Long; 9] = [
+    // A field.
+    (b"@misc{k,title={ ", MOST, b"\n}}", (End::Whole, 1, 0, MOST)),
+    (
+        b"@misc{k,title={ ",
+        MOST + 1,
+        b"}}",
+        (End::StringLimit, 0, 0, 0),
+    ),
+    // A field that isn't stored, since its entry isn't wanted or the style doesn't have it.
+    (
+        b"@misc{k}@misc{j,title={",
+        MOST + 1,
+        b"}}",
+        (End::Whole, 1, 0, 0),
+    ),
+    (b"@misc{k,note={", MOST + 1, b"}}", (End::Whole, 1, 0, 0)),
+    // What a value's names tell stands where it is too long.
+    (
+        b"@misc{k,title=zz # {",
+        MOST + 1,
+        b"}}",
+        (End::StringLimit, 0, 1, 0),
+    ),
+    // A string.
+    (
+        b"@string{s={",
+        MOST,
+        b"}}@misc{k,title=s}",
+        (End::Whole, 1, 0, MOST),
+    ),
+    (
+        b"@string{s={",
+        MOST + 1,
+        b"}}@misc{k,title=s}",
+        (End::StringLimit, 0, 0, 0),
+    ),
+    // The preambles together.
+    (
+        b"@preamble{{yy}}@preamble{{",
+        MOST - 2,
+        b"}}@misc{k}",
+        (End::Whole, 1, 0, 0),
+    ),
+    (
+        b"@preamble{{yy}}@preamble{{",
+        MOST - 1,
+        b"}}@misc{k}",
+        (End::StringLimit, 0, 0, 0),
+    ),
+];
+
+// Two texts with so many letters between them.
+fn with_letters(
+    alloc: Global,
+    before: &[u8],
+    letters: usize,
+    after: &[u8],
+) -> Result<Vec<u8>, AllocError> {
+    let mut text = Vec::from_slice(alloc, before)?;
+    for _ in 0..letters {
+        text.push(b'x')?;
+    }
+    text.extend_from_slice(after)?;
+    Ok(text)
+}
+
+// The size of what such a database gives to a job that cites the key `k`.
+fn long_size(alloc: Global, before: &[u8], letters: usize, after: &[u8]) -> Result<Size, Fault> {
+    let text = with_letters(alloc, before, letters, after)?;
+    size_of(alloc, STYLE, b"k", &text)
+}
+
+// The number of the first of these databases that gives something else, if one does.
+fn first_wrong(alloc: Global) -> Result<Option<usize>, Fault> {
+    for (number, (before, letters, after, wanted)) in LONG.iter().enumerate() {
+        if long_size(alloc, before, *letters, after)? != *wanted {
+            return Ok(Some(number));
+        }
+    }
+    Ok(None)
+}
+
+#[test]
+fn strings_have_a_million_bytes(rt: HostRuntime) -> Result<(), Fault> {
+    assert_eq!(rt; first_wrong(rt.alloc())?, None);
+    Ok(())
+}
+
+// The size of what a database gives where a macro of the style is too long.
+fn size_by_long_macro(alloc: Global) -> Result<Size, Fault> {
+    let before = b"ENTRY {title}{}{} MACRO {m}{\"";
+    let style = with_letters(alloc, before, MOST + 1, b"\"} READ")?;
+    size_of(alloc, &style, b"k", b"@misc{k,title=zz}")
+}
+
+#[test]
+fn a_macro_has_a_million_bytes(rt: HostRuntime) -> Result<(), Fault> {
+    assert_eq!(rt;
+        size_by_long_macro(rt.alloc())?,
+        (End::StringLimit, 0, 0, 0)
+    );
+    Ok(())
+}
