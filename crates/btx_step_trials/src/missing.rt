@@ -63,64 +63,17 @@ fn takes(wanted: u8, kind: u8) -> bool {
     wanted == b'L' || wanted == kind || (wanted == b'M' && kind == b'S')
 }
 
-/// A body, and what it answers.
-#[derive(Drop)]
-struct Case {
-    body: Vec<u8>,
-    wanted: Vec<u8>,
+/// The literal of an operand, counted from the top, in one of the ways to give each operand one of the four kinds.
+fn sample(way: usize, place: usize) -> Sample {
+    let digit = match place {
+        0 => way,
+        1 => way / 4,
+        _ => way / 16,
+    };
+    SAMPLES[digit % 4]
 }
 
-/// Puts pieces behind a text, and ` | ` before them where it isn't empty.
-fn add_item(text: &mut Vec<u8>, pieces: &[&str]) -> Result<(), AllocError> {
-    if pieces.iter().all(|piece| piece.is_empty()) {
-        return Ok(());
-    }
-    if !text.is_empty() {
-        text.extend_from_slice(b" | ")?;
-    }
-    for piece in pieces {
-        text.extend_from_slice(piece.as_bytes())?;
-    }
-    Ok(())
-}
-
-/// The body that pushes these, of which the first one is to stand on top, and executes a function.
-fn body_of(alloc: Global, function: &str, samples: &[Sample]) -> Result<Vec<u8>, AllocError> {
-    let mut body = Vec::new(alloc);
-    for sample in samples.iter().rev() {
-        body.extend_from_slice(sample.1.as_bytes())?;
-        body.push(b' ')?;
-    }
-    body.extend_from_slice(function.as_bytes())?;
-    Ok(body)
-}
-
-/// A function with so many literals too few.
-fn lacking(alloc: Global, row: Row, missing: usize) -> Result<Case, AllocError> {
-    let (function, kinds, instead) = row;
-    let mut samples = Vec::new(alloc);
-    for _ in missing..kinds.len() {
-        samples.push(SAMPLES[0])?;
-    }
-    let mut wanted = Vec::new(alloc);
-    for _ in 0..missing {
-        add_item(
-            &mut wanted,
-            &[
-                "Error--You can't pop an empty literal stack while executing ",
-                function,
-                " for entry k",
-            ],
-        )?;
-    }
-    add_item(&mut wanted, &[instead])?;
-    Ok(Case {
-        body: body_of(alloc, function, &samples)?,
-        wanted,
-    })
-}
-
-/// How many ways there are to give each operand one of the four kinds.
+/// How many ways there are.
 fn ways(kinds: &str) -> usize {
     match kinds.len() {
         1 => 4,
@@ -129,56 +82,99 @@ fn ways(kinds: &str) -> usize {
     }
 }
 
-/// The literals of a way, top first.
-fn samples_of(alloc: Global, kinds: &str, way: usize) -> Result<Vec<Sample>, AllocError> {
-    let mut rest = way;
-    let mut samples = Vec::new(alloc);
-    for _ in 0..kinds.len() {
-        samples.push(SAMPLES[rest % 4])?;
-        rest /= 4;
-    }
-    Ok(samples)
-}
-
-/// A function with literals one of which it doesn't take; None where it takes all.
-fn refused(alloc: Global, row: Row, way: usize) -> Result<Option<Case>, AllocError> {
-    let (function, kinds, instead) = row;
-    let samples = samples_of(alloc, kinds, way)?;
-    for (wanted, sample) in kinds.as_bytes().iter().zip(samples.as_slice()) {
-        if !takes(*wanted, sample.0) {
-            let mut told = Vec::new(alloc);
-            add_item(
-                &mut told,
-                &[
-                    "Error--",
-                    sample.2,
-                    complaint(*wanted),
-                    " while executing ",
-                    function,
-                    " for entry k",
-                ],
-            )?;
-            add_item(&mut told, &[instead])?;
-            return Ok(Some(Case {
-                body: body_of(alloc, function, &samples)?,
-                wanted: told,
-            }));
+/// The first operand that a function doesn't take, and the kind that it wants; None where it takes all.
+fn unfit(kinds: &str, way: usize) -> Option<(u8, Sample)> {
+    for (place, wanted) in kinds.as_bytes().iter().enumerate() {
+        let given = sample(way, place);
+        if !takes(*wanted, given.0) {
+            return Some((*wanted, given));
         }
     }
-    Ok(None)
+    None
 }
 
-fn plays_case(rt: &impl Abort, alloc: Global, case: Case) -> Result<(), Fail> {
-    let told = play(alloc, &usual(Some(0)), &case.body)?;
-    assert_eq!(rt; told.as_slice(), case.wanted.as_slice());
+/// The body that pushes so many literals of a way, the first one last, and executes a function.
+fn body_of(alloc: Global, function: &str, way: usize, count: usize) -> Result<Vec<u8>, AllocError> {
+    let mut body = Vec::new(alloc);
+    for place in (0..count).rev() {
+        body.extend_from_slice(sample(way, place).1.as_bytes())?;
+        body.push(b' ')?;
+    }
+    body.extend_from_slice(function.as_bytes())?;
+    Ok(body)
+}
+
+/// Puts an error behind a text that a function tells.
+fn add_error(told: &mut Vec<u8>, pieces: &[&str], function: &str) -> Result<(), AllocError> {
+    told.extend_from_slice(b"Error--")?;
+    for piece in pieces {
+        told.extend_from_slice(piece.as_bytes())?;
+    }
+    told.extend_from_slice(b" while executing ")?;
+    told.extend_from_slice(function.as_bytes())?;
+    told.extend_from_slice(b" for entry k")?;
     Ok(())
+}
+
+/// Puts what stands in for a result behind a text.
+fn add_instead(told: &mut Vec<u8>, instead: &str) -> Result<(), AllocError> {
+    if instead.is_empty() {
+        return Ok(());
+    }
+    told.extend_from_slice(b" | ")?;
+    told.extend_from_slice(instead.as_bytes())?;
+    Ok(())
+}
+
+/// What a function tells that has so many literals too few.
+fn lack_of(alloc: Global, row: Row, missing: usize) -> Result<Vec<u8>, AllocError> {
+    let mut told = Vec::new(alloc);
+    for number in 0..missing {
+        if number > 0 {
+            told.extend_from_slice(b" | ")?;
+        }
+        add_error(&mut told, &["You can't pop an empty literal stack"], row.0)?;
+    }
+    add_instead(&mut told, row.2)?;
+    Ok(told)
+}
+
+/// What a function tells of a literal that it doesn't take.
+fn refusal_of(alloc: Global, row: Row, wanted: u8, given: Sample) -> Result<Vec<u8>, AllocError> {
+    let mut told = Vec::new(alloc);
+    add_error(&mut told, &[given.2, complaint(wanted)], row.0)?;
+    add_instead(&mut told, row.2)?;
+    Ok(told)
+}
+
+fn plays_as(rt: &impl Abort, alloc: Global, body: Vec<u8>, wanted: Vec<u8>) -> Result<(), Fail> {
+    let told = play(alloc, &usual(Some(0)), &body)?;
+    assert_eq!(rt; told.as_slice(), wanted.as_slice());
+    Ok(())
+}
+
+/// Whether a function with so many literals, which are too few, tells it.
+fn lacks(rt: &impl Abort, alloc: Global, row: Row, given: usize) -> Result<(), Fail> {
+    let body = body_of(alloc, row.0, 0, given)?;
+    let wanted = lack_of(alloc, row, row.1.len().saturating_sub(given))?;
+    plays_as(rt, alloc, body, wanted)
+}
+
+/// Whether a function with literals one of which it doesn't take tells it.
+fn refuses(rt: &impl Abort, alloc: Global, row: Row, way: usize) -> Result<(), Fail> {
+    let Some((wanted, given)) = unfit(row.1, way) else {
+        return Ok(());
+    };
+    let body = body_of(alloc, row.0, way, row.1.len())?;
+    let told = refusal_of(alloc, row, wanted, given)?;
+    plays_as(rt, alloc, body, told)
 }
 
 #[test]
 fn too_few_operands(rt: HostRuntime) -> Result<(), Fail> {
     for row in ROWS {
-        for missing in 1..=row.1.len() {
-            plays_case(&rt, rt.alloc(), lacking(rt.alloc(), row, missing)?)?;
+        for given in 0..row.1.len() {
+            lacks(&rt, rt.alloc(), row, given)?;
         }
     }
     Ok(())
@@ -188,9 +184,7 @@ fn too_few_operands(rt: HostRuntime) -> Result<(), Fail> {
 fn operands_of_a_wrong_kind(rt: HostRuntime) -> Result<(), Fail> {
     for row in ROWS {
         for way in 0..ways(row.1) {
-            if let Some(case) = refused(rt.alloc(), row, way)? {
-                plays_case(&rt, rt.alloc(), case)?;
-            }
+            refuses(&rt, rt.alloc(), row, way)?;
         }
     }
     Ok(())

@@ -3,7 +3,7 @@ use btx_aux::{AuxJob, MemoryFinder, read_aux};
 use btx_bib::{Library, Source, read_databases};
 use btx_bst::{Style, Token, read_style};
 use btx_step::lines::line_of;
-use btx_step::{Job, KeptBytes, Limit, Next, Note, Notes, Said, Store};
+use btx_step::{Job, KeptBytes, Limit, Next, Note, Said, Store};
 use btx_text::{Fault, TextMode};
 use std::alloc::{AllocError, Global};
 
@@ -66,19 +66,29 @@ fn play_cited<'a>(
     citations: &'a AuxJob,
 ) -> Result<Vec<u8>, Fault> {
     let style = read_style(alloc, b"s.bst", text)?;
-    let sources = [Source {
-        name: b"d.bib",
-        bytes: DATABASE,
-    }];
-    let library = read_databases(alloc, &style, citations, &sources, 2)?;
+    let library = library_of(alloc, &style, citations, DATABASE)?;
     Ok(play_read(alloc, setting, &style, &library)?)
+}
+
+/// What one database gives to a job.
+pub fn library_of<'a>(
+    alloc: Global,
+    style: &Style<'a>,
+    citations: &'a AuxJob,
+    database: &'a [u8],
+) -> Result<Library<'a>, Fault> {
+    let sources = [Source {
+        name: database,
+        bytes: database,
+    }];
+    read_databases(alloc, style, citations, &sources, 2)
 }
 
 fn play_read<'a>(
     alloc: Global,
     setting: &Setting,
-    style: &'a Style<'a>,
-    library: &'a Library<'a>,
+    style: &'a Style<'_>,
+    library: &'a Library<'_>,
 ) -> Result<Vec<u8>, AllocError> {
     let job = Job::new(
         style,
@@ -118,13 +128,29 @@ fn play_token<'a>(
 ) -> Result<bool, AllocError> {
     let mut said = Said::Nothing;
     let next = store.step(job, token, &mut said)?;
+    tell_said(alloc, job, store.current(), token, said, told)?;
+    tell_next(job, next, told)?;
+    Ok(!matches!(next, Next::End(_)))
+}
+
+fn tell_said(
+    alloc: Global,
+    job: &Job<'_>,
+    entry: Option<usize>,
+    token: Token,
+    said: Said<'_>,
+    told: &mut Vec<u8>,
+) -> Result<(), AllocError> {
     match said {
-        Said::Nothing => {}
-        Said::Wrote(text) => tell(told, &[b"write ", text.as_bytes()])?,
-        Said::EndedLine => tell(told, &[b"newline"])?,
-        Said::Noted(notes) => tell_notes(alloc, job, store.current(), token, &notes, told)?,
+        Said::Nothing => Ok(()),
+        Said::Wrote(text) => tell_written(told, text.as_bytes()),
+        Said::EndedLine => tell(told, &[b"newline"]),
+        Said::Noted(notes) => tell_notes(alloc, job, entry, token, notes.as_slice(), told),
     }
-    tell_next(job, next, told)
+}
+
+fn tell_written(told: &mut Vec<u8>, text: &[u8]) -> Result<(), AllocError> {
+    tell(told, &[b"write ", text])
 }
 
 /// Puts an item behind the others.
@@ -143,16 +169,27 @@ fn tell_notes(
     job: &Job<'_>,
     entry: Option<usize>,
     token: Token,
-    notes: &Notes<'_>,
+    notes: &[Note<'_>],
     told: &mut Vec<u8>,
 ) -> Result<(), AllocError> {
     let executed = executed_name(job.style(), token);
     let key = entry.map(|entry| job.key(entry));
-    for note in notes.as_slice() {
-        let line = line_of(alloc, job.style(), executed, key, note)?;
-        tell(told, &[line.text()])?;
+    for note in notes {
+        tell_note(alloc, job, executed, key, note, told)?;
     }
     Ok(())
+}
+
+fn tell_note(
+    alloc: Global,
+    job: &Job<'_>,
+    executed: &[u8],
+    key: Option<&[u8]>,
+    note: &Note<'_>,
+    told: &mut Vec<u8>,
+) -> Result<(), AllocError> {
+    let line = line_of(alloc, job.style(), executed, key, note)?;
+    tell(told, &[line.text()])
 }
 
 /// The name of what a token executes.
@@ -163,20 +200,16 @@ pub fn executed_name<'a>(style: &'a Style<'_>, token: Token) -> &'a [u8] {
     }
 }
 
-fn tell_next(job: &Job<'_>, next: Next, told: &mut Vec<u8>) -> Result<bool, AllocError> {
+fn tell_next(job: &Job<'_>, next: Next, told: &mut Vec<u8>) -> Result<(), AllocError> {
     let style = job.style();
     match next {
-        Next::Nothing => {}
-        Next::End(Limit::Literals) => tell(told, &[b"limit literals"])?,
-        Next::End(_) => tell(told, &[b"limit string"])?,
-        Next::Run(function) => tell(told, &[b"run ", style.name(function)])?,
-        Next::Open(_) => tell(told, &[b"open"])?,
-        Next::Loop(test, body) => tell(
-            told,
-            &[b"loop ", style.name(test), b" ", style.name(body)],
-        )?,
+        Next::Nothing => Ok(()),
+        Next::End(Limit::Literals) => tell(told, &[b"limit literals"]),
+        Next::End(_) => tell(told, &[b"limit string"]),
+        Next::Run(function) => tell(told, &[b"run ", style.name(function)]),
+        Next::Open(_) => tell(told, &[b"open"]),
+        Next::Loop(test, body) => tell(told, &[b"loop ", style.name(test), b" ", style.name(body)]),
     }
-    Ok(!matches!(next, Next::End(_)))
 }
 
 fn tell_literals(
@@ -186,10 +219,19 @@ fn tell_literals(
     told: &mut Vec<u8>,
 ) -> Result<(), AllocError> {
     for _ in 0..store.depth() {
-        if let Some(value) = store.pop() {
-            let line = line_of(alloc, job.style(), b"", None, &Note::Shown(value))?;
-            tell(told, &[line.text()])?;
-        }
+        tell_top(alloc, job, store, told)?;
     }
     Ok(())
+}
+
+fn tell_top(
+    alloc: Global,
+    job: &Job<'_>,
+    store: &mut Store<'_>,
+    told: &mut Vec<u8>,
+) -> Result<(), AllocError> {
+    match store.pop() {
+        Some(value) => tell_note(alloc, job, b"", None, &Note::Shown(value), told),
+        None => Ok(()),
+    }
 }

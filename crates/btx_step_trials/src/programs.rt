@@ -1,7 +1,7 @@
 //! Programs of 50 tokens, taken by chance, against the second implementation.
 use crate::plays::{body_text, last_body, play_style, usual};
 use crate::reference::Reference;
-use btx_bst::read_style;
+use btx_bst::{Style, read_style};
 use btx_text::Fault;
 use std::alloc::{AllocError, Global};
 use std::process::Abort;
@@ -119,8 +119,12 @@ fn program(alloc: Global, seed: u64) -> Result<Vec<u8>, AllocError> {
 /// What the second implementation tells.
 fn wanted(alloc: Global, text: &[u8], in_entry: bool) -> Result<Vec<u8>, Fault> {
     let style = read_style(alloc, b"s.bst", text)?;
-    let program = Reference::new(alloc, &style, in_entry)?;
-    program.told(last_body(&style))
+    told_of(alloc, &style, in_entry)
+}
+
+fn told_of(alloc: Global, style: &Style<'_>, in_entry: bool) -> Result<Vec<u8>, Fault> {
+    let program = Reference::new(alloc, style, in_entry)?;
+    program.told(last_body(style))
 }
 
 fn plays_alike(rt: &impl Abort, alloc: Global, seed: u64, in_entry: bool) -> Result<(), Fail> {

@@ -4,6 +4,7 @@ ghost use Rattle.std.specs.Prelude.{◌≤◌, length};
 
 use crate::plays::tell;
 use btx_bst::{BuiltIn, Callee, Style, Token};
+use btx_strings::Complaints;
 use btx_text::{Fault, TextMode};
 use std::alloc::{AllocError, Global};
 
@@ -130,24 +131,33 @@ pub struct Reference<'a> {
     has_ended: bool,
 }
 
+/// The variables with their first values.
+fn first_variables(alloc: Global, style: &Style<'_>) -> Result<Vec<(Callee, Value)>, AllocError> {
+    let mut variables = Vec::new(alloc);
+    for name in [b"i", b"n", b"s", b"t"] {
+        if let Some(variable) = style.named(name) {
+            variables.push((variable, first_value(alloc, variable)))?;
+        }
+    }
+    Ok(variables)
+}
+
+/// The first value of a variable.
+fn first_value(alloc: Global, variable: Callee) -> Value {
+    match variable {
+        Callee::EntryInteger(_) | Callee::GlobalInteger(_) => Value::Integer(0),
+        _ => Value::Text(Vec::new(alloc)),
+    }
+}
+
 impl<'a> Reference<'a> {
     /// A program before its first token, in the entry `k` or in none.
     pub fn new(
         alloc: Global,
-        style: &'a Style<'a>,
+        style: &'a Style<'_>,
         in_entry: bool,
     ) -> Result<Reference<'a>, AllocError> {
-        let mut variables = Vec::new(alloc);
-        for name in [b"i", b"n"] {
-            if let Some(variable) = style.named(name) {
-                variables.push((variable, Value::Integer(0)))?;
-            }
-        }
-        for name in [b"s", b"t"] {
-            if let Some(variable) = style.named(name) {
-                variables.push((variable, Value::Text(Vec::new(alloc))))?;
-            }
-        }
+        let variables = first_variables(alloc, style)?;
         Ok(Reference {
             alloc,
             style,
@@ -234,23 +244,12 @@ impl<'a> Reference<'a> {
     }
 
     fn form_of(&self, value: &Value) -> Result<Vec<u8>, AllocError> {
-        let mut form = Vec::new(self.alloc);
         match value {
-            Value::Integer(number) => {
-                form.extend_from_slice(format!(in self.alloc; "{number}")?.as_bytes())?;
-            }
-            Value::Text(text) => {
-                form.push(b'"')?;
-                form.extend_from_slice(text)?;
-                form.push(b'"')?;
-            }
-            Value::Function(function) => {
-                form.push(b'\'')?;
-                form.extend_from_slice(self.style.name(*function))?;
-            }
-            Value::Missing => form.extend_from_slice(b"missing field")?,
+            Value::Integer(number) => numeral(self.alloc, *number),
+            Value::Text(text) => joined(self.alloc, &[b"\"", text, b"\""]),
+            Value::Function(function) => joined(self.alloc, &[b"'", self.style.name(*function)]),
+            Value::Missing => joined(self.alloc, &[b"missing field"]),
         }
-        Ok(form)
     }
 
     fn show_top(&mut self) -> Result<(), AllocError> {
@@ -301,8 +300,7 @@ impl<'a> Reference<'a> {
             return self.miss_entry();
         }
         if !wanted.takes(&value) {
-            let form = self.form_of(&value)?;
-            return self.complain(&[&form, wanted.complaint()]);
+            return self.refuse_kind(wanted, &value);
         }
         self.variables.retain(|(other, _)| *other != variable);
         self.variables
@@ -314,24 +312,39 @@ impl<'a> Reference<'a> {
 
     /// The operands, from the top; None where they don't fit, which is told.
     fn take(&mut self, kinds: &[Kind]) -> Result<Option<Vec<Value>>, AllocError> {
+        let values = self.take_any(kinds.len())?;
+        if values.len() < kinds.len() || self.refuse(kinds, &values)? {
+            return Ok(None);
+        }
+        Ok(Some(values))
+    }
+
+    /// So many operands of any kinds, from the top, and fewer where there aren't so many, which is told.
+    fn take_any(&mut self, count: usize) -> Result<Vec<Value>, AllocError> {
         let mut values = Vec::new(self.alloc);
-        for _ in kinds {
+        for _ in 0..count {
             match self.stack.pop() {
                 Some(value) => values.push(value)?,
                 None => self.complain(&[b"You can't pop an empty literal stack"])?,
             }
         }
-        if values.len() < kinds.len() {
-            return Ok(None);
-        }
-        for (kind, value) in kinds.iter().zip(values.as_slice()) {
+        Ok(values)
+    }
+
+    /// Whether one of these values is of a wrong kind, which is told of the first one.
+    fn refuse(&mut self, kinds: &[Kind], values: &[Value]) -> Result<bool, AllocError> {
+        for (kind, value) in kinds.iter().zip(values) {
             if !kind.takes(value) {
-                let form = self.form_of(value)?;
-                self.complain(&[&form, kind.complaint()])?;
-                return Ok(None);
+                self.refuse_kind(*kind, value)?;
+                return Ok(true);
             }
         }
-        Ok(Some(values))
+        Ok(false)
+    }
+
+    fn refuse_kind(&mut self, kind: Kind, value: &Value) -> Result<(), AllocError> {
+        let form = self.form_of(value)?;
+        self.complain(&[&form, kind.complaint()])
     }
 
     fn run_built_in(&mut self, function: BuiltIn) -> Result<(), Fault> {
@@ -499,7 +512,7 @@ impl<'a> Reference<'a> {
                     self.complain(&[b"\"", b, b"\" is an illegal case-conversion string"])?;
                 }
                 let answer = btx_strings::change_case(self.alloc, checked(a), checked(b))?;
-                Ok(self.push_text(&answer.text)?)
+                Ok(self.push(Value::Text(answer.text))?)
             }
         }
     }
@@ -527,17 +540,19 @@ impl<'a> Reference<'a> {
 
     fn apply_to_integer(&mut self, function: BuiltIn, number: i32) -> Result<(), AllocError> {
         if function == BuiltIn::IntegerToString {
-            let text = format!(in self.alloc; "{number}")?;
-            return self.push_text(text.as_bytes());
+            let text = numeral(self.alloc, number)?;
+            return self.push(Value::Text(text));
         }
         match u8::try_from(number) {
             Ok(byte) if byte < 128 => self.push_text(&[byte]),
-            _ => {
-                let text = format!(in self.alloc; "{number}")?;
-                self.complain(&[text.as_bytes(), b" isn't an ASCII code"])?;
-                self.push_text(b"")
-            }
+            _ => self.refuse_code(number),
         }
+    }
+
+    fn refuse_code(&mut self, number: i32) -> Result<(), AllocError> {
+        let numeral = numeral(self.alloc, number)?;
+        self.complain(&[&numeral, b" isn't an ASCII code"])?;
+        self.push_text(b"")
     }
 
     fn apply_to_text(&mut self, function: BuiltIn, text: &[u8]) -> Result<(), Fault> {
@@ -553,11 +568,11 @@ impl<'a> Reference<'a> {
             BuiltIn::CharacterToInteger => Ok(self.push_code(text)?),
             BuiltIn::AddPeriod => {
                 let answer = btx_strings::add_period(self.alloc, checked(text))?;
-                Ok(self.push_text(&answer.text)?)
+                Ok(self.push(Value::Text(answer.text))?)
             }
             BuiltIn::Purify => {
                 let answer = btx_strings::purify(self.alloc, checked(text))?;
-                Ok(self.push_text(&answer.text)?)
+                Ok(self.push(Value::Text(answer.text))?)
             }
             BuiltIn::TextLength => {
                 let length = btx_strings::text_length(checked(text), TextMode::Bytes);
@@ -582,12 +597,12 @@ impl<'a> Reference<'a> {
 
     fn push_front(&mut self, text: &[u8], count: i32) -> Result<(), Fault> {
         let answer = btx_strings::text_prefix(self.alloc, checked(text), count, TextMode::Bytes)?;
-        Ok(self.push_text(&answer.text)?)
+        Ok(self.push(Value::Text(answer.text))?)
     }
 
     fn push_piece(&mut self, text: &[u8], start: i32, length: i32) -> Result<(), Fault> {
         let answer = btx_strings::substring(self.alloc, checked(text), start, length)?;
-        Ok(self.push_text(&answer.text)?)
+        Ok(self.push(Value::Text(answer.text))?)
     }
 
     fn push_name(&mut self, names: &[u8], number: i32, format: &[u8]) -> Result<(), Fault> {
@@ -598,28 +613,65 @@ impl<'a> Reference<'a> {
             checked(format),
             TextMode::Bytes,
         )?;
-        let shown = format!(in self.alloc; "{number}")?;
-        let shown = shown.as_bytes();
-        if answer.complaints.x10 {
-            self.complain(&[b"There is no name number ", shown, b" in \"", names, b"\""])?;
+        self.complain_of_name(names, number, format, answer.complaints)?;
+        Ok(self.push(Value::Text(answer.text))?)
+    }
+
+    fn complain_of_name(
+        &mut self,
+        names: &[u8],
+        number: i32,
+        format: &[u8],
+        complaints: Complaints,
+    ) -> Result<(), AllocError> {
+        let number = numeral(self.alloc, number)?;
+        if complaints.x10 {
+            self.complain(&[
+                b"There is no name number ",
+                &number,
+                b" in \"",
+                names,
+                b"\"",
+            ])?;
         }
-        if answer.complaints.x11 {
+        if complaints.x11 {
             self.complain(&[
                 b"Name ",
-                shown,
+                &number,
                 b" in \"",
                 names,
                 b"\" has a comma at the end",
             ])?;
         }
-        if answer.complaints.x12 {
-            self.complain(&[b"Too many commas in name ", shown, b" of \"", names, b"\""])?;
+        if complaints.x12 {
+            self.complain(&[
+                b"Too many commas in name ",
+                &number,
+                b" of \"",
+                names,
+                b"\"",
+            ])?;
         }
-        if answer.complaints.x13 {
+        if complaints.x13 {
             self.complain(&[b"The format string \"", format, b"\" is illegal"])?;
         }
-        Ok(self.push_text(&answer.text)?)
+        Ok(())
     }
+}
+
+/// The digits of a number.
+fn numeral(alloc: Global, number: i32) -> Result<Vec<u8>, AllocError> {
+    let text = format!(in alloc; "{number}")?;
+    Vec::from_slice(alloc, text.as_bytes())
+}
+
+/// Pieces, one after another.
+fn joined(alloc: Global, pieces: &[&[u8]]) -> Result<Vec<u8>, AllocError> {
+    let mut text = Vec::new(alloc);
+    for piece in pieces {
+        text.extend_from_slice(piece)?;
+    }
+    Ok(text)
 }
 
 /// The bytes of a string, of which no string has more than this.

@@ -1,7 +1,7 @@
 //! The order that SORT gives to entries.
-use crate::plays::last_body;
+use crate::plays::{last_body, library_of};
 use btx_aux::{AuxJob, MemoryFinder, read_aux};
-use btx_bib::{Library, Source, read_databases};
+use btx_bib::Library;
 use btx_bst::{Style, read_style};
 use btx_step::sorting::sort;
 use btx_step::{Job, KeptBytes, Said, Store};
@@ -42,14 +42,19 @@ fn database_of(alloc: Global, titles: &str) -> Result<Vec<u8>, AllocError> {
     let mut text = Vec::new(alloc);
     let mut key = b'a';
     for title in titles.split(' ') {
-        text.extend_from_slice(b"@misc{")?;
-        text.push(key)?;
+        add_entry(&mut text, key, title)?;
         key = key.saturating_add(1);
-        text.extend_from_slice(b", title = {")?;
-        text.extend_from_slice(title.as_bytes())?;
-        text.extend_from_slice(b"}}\n")?;
     }
     Ok(text)
+}
+
+fn add_entry(text: &mut Vec<u8>, key: u8, title: &str) -> Result<(), AllocError> {
+    text.extend_from_slice(b"@misc{")?;
+    text.push(key)?;
+    text.extend_from_slice(b", title = {")?;
+    text.extend_from_slice(title.as_bytes())?;
+    text.extend_from_slice(b"}}\n")?;
+    Ok(())
 }
 
 fn sorted_cited<'a>(
@@ -58,18 +63,14 @@ fn sorted_cited<'a>(
     citations: &'a AuxJob,
 ) -> Result<Vec<u8>, Fault> {
     let style = read_style(alloc, b"s.bst", STYLE)?;
-    let sources = [Source {
-        name: b"d.bib",
-        bytes: database,
-    }];
-    let library = read_databases(alloc, &style, citations, &sources, 2)?;
+    let library = library_of(alloc, &style, citations, database)?;
     Ok(sorted_read(alloc, &style, &library)?)
 }
 
 fn sorted_read<'a>(
     alloc: Global,
-    style: &'a Style<'a>,
-    library: &'a Library<'a>,
+    style: &'a Style<'_>,
+    library: &'a Library<'_>,
 ) -> Result<Vec<u8>, AllocError> {
     let job = Job::new(
         style,
@@ -79,17 +80,34 @@ fn sorted_read<'a>(
         KeptBytes::of_globals(),
     );
     let mut store = Store::new(alloc, &job)?;
-    let mut list = Vec::new(alloc);
-    for entry in 0..library.len() {
-        store.set_current(Some(entry));
-        for token in last_body(style) {
-            let mut said = Said::Nothing;
-            let _next = store.step(&job, *token, &mut said)?;
-        }
-        list.push(entry)?;
-    }
+    let mut list = keyed(alloc, &job, &mut store, library.len())?;
     sort(&mut list, &store, 0)?;
     listed(alloc, &list)
+}
+
+/// The entries, each of which was given its key.
+fn keyed<'a>(
+    alloc: Global,
+    job: &Job<'a>,
+    store: &mut Store<'a>,
+    entries: usize,
+) -> Result<Vec<usize>, AllocError> {
+    let mut list = Vec::new(alloc);
+    for entry in 0..entries {
+        store.set_current(Some(entry));
+        give_key(job, store)?;
+        list.push(entry)?;
+    }
+    Ok(list)
+}
+
+/// Takes the tokens that give the current entry its key.
+fn give_key<'a>(job: &Job<'a>, store: &mut Store<'a>) -> Result<(), AllocError> {
+    for token in last_body(job.style()) {
+        let mut said = Said::Nothing;
+        let _next = store.step(job, *token, &mut said)?;
+    }
+    Ok(())
 }
 
 /// Numbers below ten, each with a space.
