@@ -1,0 +1,237 @@
+//! Takes the tokens of a function one after another, and tells all that they answer as one text.
+use btx_aux::{AuxJob, MemoryFinder, read_aux};
+use btx_bib::{Library, Source, read_databases};
+use btx_bst::{Style, Token, read_style};
+use btx_step::lines::line_of;
+use btx_step::{Job, KeptBytes, Limit, Next, Note, Said, Store};
+use btx_text::{Fault, TextMode};
+use std::alloc::{AllocError, Global};
+
+/// Two entries are cited, the second of a type that the style doesn't know.
+const CITATIONS: &[u8] = b"\\citation{k,j}\n\\bibdata{d}\n\\bibstyle{s}\n";
+
+/// The entries. The first one has no author, and a note of white alone.
+const DATABASE: &[u8] =
+    b"@preamble{\"pre\"}\n@misc{k, title = {T t}, note = {  }}\n@odd{j, title = {J}, author = {A}}\n";
+
+/// What stands before a tested function in its style.
+const DECLARATIONS: &[u8] =
+    b"ENTRY {title author note}{n}{t} INTEGERS {i} STRINGS {s} FUNCTION {misc} {} READ ";
+
+/// How a function is run: in which entry, if in one; how text is read; and how many bytes of a string variables keep.
+#[derive(Drop)]
+pub struct Setting {
+    pub entry: Option<usize>,
+    pub mode: TextMode,
+    pub entry_max: KeptBytes,
+    pub global_max: KeptBytes,
+}
+
+/// A setting as it usually is, in an entry or in none.
+pub fn usual(entry: Option<usize>) -> Setting {
+    Setting {
+        entry,
+        mode: TextMode::Bytes,
+        entry_max: KeptBytes::of_entries(),
+        global_max: KeptBytes::of_globals(),
+    }
+}
+
+/// What the tokens of a body answer, and the literals that they leave, top first: items with ` | ` between them.
+pub fn play(alloc: Global, setting: &Setting, body: &[u8]) -> Result<Vec<u8>, Fault> {
+    let text = body_text(alloc, body)?;
+    play_style(alloc, setting, &text)
+}
+
+/// A style whose last function has this body.
+pub fn body_text(alloc: Global, body: &[u8]) -> Result<Vec<u8>, AllocError> {
+    let mut text = Vec::from_slice(alloc, DECLARATIONS)?;
+    text.extend_from_slice(b"FUNCTION {body} {")?;
+    text.extend_from_slice(body)?;
+    text.extend_from_slice(b"}")?;
+    Ok(text)
+}
+
+/// The same of the last function of a style.
+pub fn play_style(alloc: Global, setting: &Setting, text: &[u8]) -> Result<Vec<u8>, Fault> {
+    let mut finder = MemoryFinder::new(alloc, &[(b"job.aux", CITATIONS)])?;
+    let citations = read_aux(alloc, &mut finder, b"job.aux")?;
+    play_cited(alloc, setting, text, &citations)
+}
+
+fn play_cited<'a>(
+    alloc: Global,
+    setting: &Setting,
+    text: &'a [u8],
+    citations: &'a AuxJob,
+) -> Result<Vec<u8>, Fault> {
+    let style = read_style(alloc, b"s.bst", text)?;
+    let library = library_of(alloc, &style, citations, DATABASE)?;
+    Ok(play_read(alloc, setting, &style, &library)?)
+}
+
+/// What one database gives to a job.
+pub fn library_of<'a>(
+    alloc: Global,
+    style: &Style<'a>,
+    citations: &'a AuxJob,
+    database: &'a [u8],
+) -> Result<Library<'a>, Fault> {
+    let sources = [Source {
+        name: database,
+        bytes: database,
+    }];
+    read_databases(alloc, style, citations, &sources, 2)
+}
+
+fn play_read<'a>(
+    alloc: Global,
+    setting: &Setting,
+    style: &'a Style<'_>,
+    library: &'a Library<'_>,
+) -> Result<Vec<u8>, AllocError> {
+    let job = Job::new(
+        style,
+        library,
+        setting.mode,
+        setting.entry_max,
+        setting.global_max,
+    );
+    let mut store = Store::new(alloc, &job)?;
+    store.set_current(setting.entry);
+    let mut told = Vec::new(alloc);
+    for token in last_body(style) {
+        if !play_token(alloc, &job, &mut store, *token, &mut told)? {
+            break;
+        }
+    }
+    tell_literals(alloc, &job, &mut store, &mut told)?;
+    Ok(told)
+}
+
+/// The tokens of the last function, which are none where there is no function.
+pub fn last_body<'a>(style: &'a Style<'_>) -> &'a [Token] {
+    let functions = style.functions();
+    if functions == 0 {
+        return &[];
+    }
+    style.body(functions - 1)
+}
+
+/// Takes a token, and tells what it answers; whether more may follow.
+fn play_token<'a>(
+    alloc: Global,
+    job: &Job<'a>,
+    store: &mut Store<'a>,
+    token: Token,
+    told: &mut Vec<u8>,
+) -> Result<bool, AllocError> {
+    let mut said = Said::Nothing;
+    let next = store.step(job, token, &mut said)?;
+    tell_said(alloc, job, store.current(), token, said, told)?;
+    tell_next(job, next, told)?;
+    Ok(!matches!(next, Next::End(_)))
+}
+
+fn tell_said(
+    alloc: Global,
+    job: &Job<'_>,
+    entry: Option<usize>,
+    token: Token,
+    said: Said<'_>,
+    told: &mut Vec<u8>,
+) -> Result<(), AllocError> {
+    match said {
+        Said::Nothing => Ok(()),
+        Said::Wrote(text) => tell_written(told, text.as_bytes()),
+        Said::EndedLine => tell(told, &[b"newline"]),
+        Said::Noted(notes) => tell_notes(alloc, job, entry, token, notes.as_slice(), told),
+    }
+}
+
+fn tell_written(told: &mut Vec<u8>, text: &[u8]) -> Result<(), AllocError> {
+    tell(told, &[b"write ", text])
+}
+
+/// Puts an item behind the others.
+pub fn tell(told: &mut Vec<u8>, pieces: &[&[u8]]) -> Result<(), AllocError> {
+    if !told.is_empty() {
+        told.extend_from_slice(b" | ")?;
+    }
+    for piece in pieces {
+        told.extend_from_slice(piece)?;
+    }
+    Ok(())
+}
+
+fn tell_notes(
+    alloc: Global,
+    job: &Job<'_>,
+    entry: Option<usize>,
+    token: Token,
+    notes: &[Note<'_>],
+    told: &mut Vec<u8>,
+) -> Result<(), AllocError> {
+    let executed = executed_name(job.style(), token);
+    let key = entry.map(|entry| job.key(entry));
+    for note in notes {
+        tell_note(alloc, job, executed, key, note, told)?;
+    }
+    Ok(())
+}
+
+fn tell_note(
+    alloc: Global,
+    job: &Job<'_>,
+    executed: &[u8],
+    key: Option<&[u8]>,
+    note: &Note<'_>,
+    told: &mut Vec<u8>,
+) -> Result<(), AllocError> {
+    let line = line_of(alloc, job.style(), executed, key, note)?;
+    tell(told, &[line.text()])
+}
+
+/// The name of what a token executes.
+pub fn executed_name<'a>(style: &'a Style<'_>, token: Token) -> &'a [u8] {
+    match token {
+        Token::Run(function) => style.name(function),
+        _ => &[],
+    }
+}
+
+fn tell_next(job: &Job<'_>, next: Next, told: &mut Vec<u8>) -> Result<(), AllocError> {
+    let style = job.style();
+    match next {
+        Next::Nothing => Ok(()),
+        Next::End(Limit::Literals) => tell(told, &[b"limit literals"]),
+        Next::End(_) => tell(told, &[b"limit string"]),
+        Next::Run(function) => tell(told, &[b"run ", style.name(function)]),
+        Next::Open(_) => tell(told, &[b"open"]),
+        Next::Loop(test, body) => tell(told, &[b"loop ", style.name(test), b" ", style.name(body)]),
+    }
+}
+
+fn tell_literals(
+    alloc: Global,
+    job: &Job<'_>,
+    store: &mut Store<'_>,
+    told: &mut Vec<u8>,
+) -> Result<(), AllocError> {
+    for _ in 0..store.depth() {
+        tell_top(alloc, job, store, told)?;
+    }
+    Ok(())
+}
+
+fn tell_top(
+    alloc: Global,
+    job: &Job<'_>,
+    store: &mut Store<'_>,
+    told: &mut Vec<u8>,
+) -> Result<(), AllocError> {
+    match store.pop() {
+        Some(value) => tell_note(alloc, job, b"", None, &Note::Shown(value), told),
+        None => Ok(()),
+    }
+}

@@ -1,0 +1,135 @@
+//! The order that SORT gives to entries.
+use crate::plays::{last_body, library_of};
+use btx_aux::{AuxJob, MemoryFinder, read_aux};
+use btx_bib::Library;
+use btx_bst::{Style, read_style};
+use btx_step::sorting::sort;
+use btx_step::{Job, KeptBytes, Said, Store};
+use btx_text::{Fault, TextMode};
+use std::alloc::{AllocError, Global};
+use std::process::Abort;
+use std::test::Fail;
+
+/// All entries are cited.
+const CITATIONS: &[u8] = b"\\citation{*}\n\\bibdata{d}\n\\bibstyle{s}\n";
+
+/// The key of an entry is its title.
+const STYLE: &[u8] =
+    b"ENTRY {title}{}{} FUNCTION {misc} {} READ FUNCTION {keys} {title 'sort.key$ :=}";
+
+/// The titles of the entries, and the entries in the order of their keys.
+const ROWS: [(&str, &str); 9] = [
+    ("b a C", "2 1 0 "),
+    ("a a a", "0 1 2 "),
+    ("b a b a", "1 3 0 2 "),
+    ("ab a abc", "1 0 2 "),
+    ("a  b", "1 0 2 "),
+    ("z Z 9 ~", "2 1 0 3 "),
+    ("c b a", "2 1 0 "),
+    ("a~ a", "1 0 "),
+    ("\u{e9} z", "1 0 "),
+];
+
+fn sorted(alloc: Global, titles: &str) -> Result<Vec<u8>, Fault> {
+    let mut finder = MemoryFinder::new(alloc, &[(b"job.aux", CITATIONS)])?;
+    let citations = read_aux(alloc, &mut finder, b"job.aux")?;
+    let database = database_of(alloc, titles)?;
+    sorted_cited(alloc, &database, &citations)
+}
+
+/// A database of entries with these titles.
+fn database_of(alloc: Global, titles: &str) -> Result<Vec<u8>, AllocError> {
+    let mut text = Vec::new(alloc);
+    let mut key = b'a';
+    for title in titles.split(' ') {
+        add_entry(&mut text, key, title)?;
+        key = key.saturating_add(1);
+    }
+    Ok(text)
+}
+
+fn add_entry(text: &mut Vec<u8>, key: u8, title: &str) -> Result<(), AllocError> {
+    text.extend_from_slice(b"@misc{")?;
+    text.push(key)?;
+    text.extend_from_slice(b", title = {")?;
+    text.extend_from_slice(title.as_bytes())?;
+    text.extend_from_slice(b"}}\n")?;
+    Ok(())
+}
+
+fn sorted_cited<'a>(
+    alloc: Global,
+    database: &'a [u8],
+    citations: &'a AuxJob,
+) -> Result<Vec<u8>, Fault> {
+    let style = read_style(alloc, b"s.bst", STYLE)?;
+    let library = library_of(alloc, &style, citations, database)?;
+    Ok(sorted_read(alloc, &style, &library)?)
+}
+
+fn sorted_read<'a>(
+    alloc: Global,
+    style: &'a Style<'_>,
+    library: &'a Library<'_>,
+) -> Result<Vec<u8>, AllocError> {
+    let job = Job::new(
+        style,
+        library,
+        TextMode::Bytes,
+        KeptBytes::of_entries(),
+        KeptBytes::of_globals(),
+    );
+    let mut store = Store::new(alloc, &job)?;
+    let mut list = keyed(alloc, &job, &mut store, library.len())?;
+    sort(&mut list, &store, 0)?;
+    listed(alloc, &list)
+}
+
+/// The entries, each of which was given its key.
+fn keyed<'a>(
+    alloc: Global,
+    job: &Job<'a>,
+    store: &mut Store<'a>,
+    entries: usize,
+) -> Result<Vec<usize>, AllocError> {
+    let mut list = Vec::new(alloc);
+    for entry in 0..entries {
+        store.set_current(Some(entry));
+        give_key(job, store)?;
+        list.push(entry)?;
+    }
+    Ok(list)
+}
+
+/// Takes the tokens that give the current entry its key.
+fn give_key<'a>(job: &Job<'a>, store: &mut Store<'a>) -> Result<(), AllocError> {
+    for token in last_body(job.style()) {
+        let mut said = Said::Nothing;
+        let _next = store.step(job, *token, &mut said)?;
+    }
+    Ok(())
+}
+
+/// Numbers below ten, each with a space.
+fn listed(alloc: Global, list: &[usize]) -> Result<Vec<u8>, AllocError> {
+    let mut text = Vec::new(alloc);
+    for number in list {
+        text.push(b"0123456789"[*number % 10])?;
+        text.push(b' ')?;
+    }
+    Ok(text)
+}
+
+fn sorts_row(rt: &impl Abort, alloc: Global, titles: &str, wanted: &str) -> Result<(), Fail> {
+    let order = sorted(alloc, titles)?;
+    assert_eq!(rt; order.as_slice(), wanted.as_bytes(), "{titles}");
+    Ok(())
+}
+
+#[test]
+fn entries_in_the_order_of_their_keys(rt: HostRuntime) -> Result<(), Fail> {
+    for (titles, wanted) in ROWS {
+        sorts_row(&rt, rt.alloc(), titles, wanted)?;
+    }
+    Ok(())
+}
