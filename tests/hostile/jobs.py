@@ -18,11 +18,13 @@ MOST_BODIES = MOST_LOOPS = 4_096
 
 
 OUT_OF_MEMORY = "out of memory"
+DEVICE_ERROR = "device error"
+FAULTS = {OUT_OF_MEMORY: 5, DEVICE_ERROR: 6}
 
 
 class Expected(NamedTuple):
-    """The end, the counts, the list; `log` has lines that stand in the log, with how often. Where memory is refused the run has
-    no end of its own, and the log no last line."""
+    """The end, the counts, the list; `log` has lines that stand in the log, with how often. After a fault the run has no end
+    of its own, and the log no last line."""
     end: str = "finished"
     warnings: int = 0
     errors: int = 0
@@ -34,7 +36,7 @@ class Expected(NamedTuple):
     def status(self):
         if self.end == "finished":
             return 2 if self.errors else 0
-        return {"stopped": 4, OUT_OF_MEMORY: 5}.get(self.end, 3)
+        return {"stopped": 4, **FAULTS}.get(self.end, 3)
 
     @property
     def last_line(self):
@@ -350,9 +352,9 @@ def a_list_that_is_sorted_backwards(size):
 
 @hostile(memory=200_000_000)
 def a_log_that_fills_memory(size):
-    """The log is kept in memory until the run ends."""
+    """The log is kept in memory until the run ends. It is an output like any other, so that one which can't grow is a device's fault."""
     return ({"d.bib": database_with_title(b"x" * LONGEST_STRING), "s.bst": iterates(loop(b"title top$"))},
-            Expected(OUT_OF_MEMORY, references=b""))
+            Expected(DEVICE_ERROR, references=b""))
 
 
 @hostile(memory=200_000_000)

@@ -17,7 +17,7 @@ import tempfile
 import time
 from collections import Counter
 
-from jobs import JOBS, OUT_OF_MEMORY, files_of
+from jobs import FAULTS, JOBS, files_of
 
 HERE = pathlib.Path(__file__).resolve().parent
 PROGRAM = HERE.parents[1] / "crates/bibtex/out/bibtex"
@@ -37,7 +37,7 @@ def complaints(expected, status, references, log):
     lines = log.split(b"\n")[:-1]
     if status != expected.status:
         yield f"the exit status is {status}, not {expected.status}"
-    if expected.end != OUT_OF_MEMORY and (not lines or lines[-1] != expected.last_line):
+    if expected.end not in FAULTS and (not lines or lines[-1] != expected.last_line):
         yield f"the log ends {lines[-1][:200] if lines else b''!r}, not {expected.last_line!r}"
     if references != expected.references:
         yield f"the list has {len(references):,} bytes, {references[:40]!r}.., not {len(expected.references):,}"
@@ -70,7 +70,7 @@ def by_program(program, job):
         except subprocess.TimeoutExpired:
             return [f"it runs for more than {LONGEST_RUN} seconds"]
         outputs = [path.read_bytes() if path.exists() else b"" for path in (folder / "job.bbl", folder / "job.blg")]
-    said = b"bibtex: out of memory\n" if expected.end == OUT_OF_MEMORY else b""
+    said = b"bibtex: %s\n" % expected.end.encode() if expected.end in FAULTS else b""
     if ran.stderr != said:
         return [f"can't run it: status {ran.returncode}, {ran.stderr[-200:].decode('latin1').strip() or 'nothing said'}"]
     return list(complaints(expected, ran.returncode, *outputs))
@@ -118,7 +118,7 @@ def main():
             write_files(arguments.make / job.name, files_of(job, job.size)[0])
         return 0
     if arguments.reference:
-        return check([job for job in chosen if files_of(job, job.small)[1].end != OUT_OF_MEMORY], by_reference)
+        return check([job for job in chosen if files_of(job, job.small)[1].end not in FAULTS], by_reference)
     if not arguments.program.is_file():
         print(f"there is no program {arguments.program}: build it by make\n0 passed, 1 failed")
         return 1
