@@ -29,8 +29,8 @@ pub fn steps_law()
     ensures stopped { StoppedLaw }
 {}
 
-/// A run of a direct style never has more bodies open at once than the style has functions, so with at most 4,096 functions it meets no limit
-/// of calls. The style refers to nothing outside itself, and the types of the entries are functions of the style.
+/// Where a direct style refers to nothing outside itself, as one that was read, and the types of the entries are its functions: no run has more
+/// bodies open at once than the style has functions, so with at most 4,096 functions none meets the limit of calls.
 pub fn direct_law()
     ensures { DirectLaw }
 {}
