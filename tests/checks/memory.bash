@@ -64,11 +64,29 @@ refused_in() {
     end
 }
 
+# refused_in_sorted: a job that is sorted, and whose citations are faulty. Its whole answer is what it gives where no memory is refused.
+refused_in_sorted() {
+    begin refused_memory_in_sorted
+    cite 'k,K,c,a,b'
+    printf '@misc{a, title = {A}}\n@misc{b}\n@misc{c}\n@misc{k, title = {B} # "b"}\n' >d.bib
+    use_style "FUNCTION {f} {cite\$ 'sort.key\$ :=} FUNCTION {g} {cite\$ write\$ newline\$} ITERATE {f} SORT ITERATE {g}"
+    run_program job
+    whole_status=$status
+    keep job.bbl whole_list
+    keep job.blg whole_log
+    wants_job 2 $'a\nb\nc\nk\n' "$whole_log"
+    refuses_each wants_fault_or_answer job
+    wants_status 2
+    end
+}
+
 refused_in first 0
 refused_in cross_reference 2
 refused_in database_error 2
 refused_in stopped 4 --budget 200
 refused_in utf8_names 0 --text utf8
+refused_in long_lines 0
+refused_in_sorted
 
 # A refusal for want of memory has no text of its own, and each other one has its whole text.
 # wants_memory_or_text: what stands after a run that was to print a text with a status, and in which memory was refused once.

@@ -417,7 +417,7 @@ def main():
             else:
                 failed += 1
                 print(f"{what}\n  told:  {str(told)[:400]}\n  found: {str(found)[:400]}")
-    print(f"{passed} as told, {failed} not")
+    print(f"{passed} passed, {failed} failed")
     return failed
 
 
