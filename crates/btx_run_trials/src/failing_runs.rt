@@ -197,6 +197,66 @@ fn keeps_step(rt: HostRuntime) -> Result<(), Fail> {
     Ok(())
 }
 
+// A style that writes a line, warns, and writes another line.
+const WARNING: &[u8] =
+    b"ENTRY {title}{}{} FUNCTION {misc}{} READ FUNCTION {f} {\"a\" write$ newline$ \"w\" warning$ \"b\" write$ newline$} EXECUTE {f}";
+
+const WARNED: &[u8] =
+    b"The top-level auxiliary file: job.aux\nThe style file: s.bst\nDatabase file #1: d.bib\nWarning--w\n";
+
+// Runs the job that warns over two devices.
+fn try_warning(alloc: Global, bbl: Device, log: Device) -> Result<Tried, FetchFault> {
+    try_job(alloc, &job_of(AUX, WARNING, DATABASE), u64::MAX, bbl, log)
+}
+
+// What the `.bbl` holds where the log broke off with so many bytes.
+fn list_behind(log: usize) -> &'static [u8] {
+    if log < TOLD.len() {
+        b""
+    } else if log < WARNED.len() {
+        b"a\n"
+    } else {
+        b"a\nb\n"
+    }
+}
+
+// Asserts that both outputs broke off in the same step, where the log failed.
+fn stands_in_step(rt: &impl Abort, tried: Result<Tried, FetchFault>) -> Result<(), FetchFault> {
+    let tried = tried?;
+    assert!(rt; tried.answer == Err(RunFault::Device));
+    assert!(rt; tried.bbl.bytes.as_slice() == list_behind(tried.log.bytes.len()));
+    Ok(())
+}
+
+// Asserts that nothing of the list was written, and nothing told behind it.
+fn stands_before_the_list(
+    rt: &impl Abort,
+    tried: Result<Tried, FetchFault>,
+) -> Result<(), FetchFault> {
+    let tried = tried?;
+    assert!(rt; tried.answer == Err(RunFault::Device));
+    assert!(rt; tried.bbl.bytes.is_empty() && tried.log.bytes.as_slice() == TOLD);
+    Ok(())
+}
+
+// A warning between two lines of the list is told only if the first was written, and the second is written only if it was told.
+#[test]
+fn keeps_step_at_a_warning(rt: HostRuntime) -> Result<(), Fail> {
+    let alloc = rt.alloc();
+    let whole = sound(1000);
+    stands_before_the_list(
+        &rt,
+        try_warning(alloc, failing(1000, Failing::Error, 0), whole),
+    )?;
+    for at in 0..10u64 {
+        stands_in_step(
+            &rt,
+            try_warning(alloc, whole, failing(1000, Failing::Error, at)),
+        )?;
+    }
+    Ok(())
+}
+
 // Asserts that a run was whole.
 fn is_whole(rt: &impl Abort, tried: Result<Tried, FetchFault>) -> Result<(), Fail> {
     let tried = tried?;
