@@ -30,7 +30,7 @@ pub fn inherits_from_parent()
     ensures { InheritsFromParent }
 {}
 
-/// A database gives the same entries and preamble where it is cut in two files and no item is open at the cut.
+/// A database that is no longer than a file may be gives the same entries, preamble and end where it is cut in two and no item is open there.
 pub fn cut_gives_the_same()
     ensures { CutGivesTheSame }
 {}
