@@ -1,16 +1,18 @@
-"""Runs of the proved program beside runs of the reference, over the worked jobs and jobs made from a seed.
+"""Runs of the proved program beside runs of the reference, over the worked jobs, and over jobs and programs of 50 tokens that are
+made from a seed.
 
-    python3 compare_with_program.py [--jobs N] [--seed N] PROGRAM
+    python3 compare_with_program.py [--jobs N] [--programs N] [--seed N] PROGRAM
 
 Compares list, log and status byte by byte. Its last line is 'N passed, M failed', of jobs; the exit status is 0 only where M is 0."""
 
 import argparse
+import itertools
 import pathlib
 import subprocess
 import tempfile
 
 from product import Options, run
-from random_jobs import random_jobs, worked_jobs
+from random_jobs import random_jobs, random_programs, worked_jobs
 
 
 def words_of(options):
@@ -51,10 +53,12 @@ def main():
     parser = argparse.ArgumentParser()
     parser.add_argument("program", type=lambda path: str(pathlib.Path(path).resolve()))
     parser.add_argument("--jobs", type=int, default=500)
+    parser.add_argument("--programs", type=int, default=400)
     parser.add_argument("--seed", type=int, default=1)
     arguments = parser.parse_args()
     results = []
-    for files, given in (*worked_jobs(), *random_jobs(arguments.jobs, arguments.seed)):
+    made = random_jobs(arguments.jobs, arguments.seed), random_programs(arguments.programs, arguments.seed)
+    for files, given in itertools.chain(worked_jobs(), *made):
         results.append(compare(arguments.program, files, given))
     print(f"{results.count(True)} passed, {results.count(False)} failed")
     return results.count(False)

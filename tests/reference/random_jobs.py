@@ -30,6 +30,18 @@ AUX_LINES = [b"\\citation{a}", b"\\citation{p,q}", b"\\citation{a,A}", b"\\citat
              b"\\bibdata{d}", b"\\bibdata{e,d}", b"\\bibstyle{s}", b"\\relax", b"", b"\\citation"]
 
 
+# What programs of 50 tokens are made of. Integers and strings stand there often, so that operands fit.
+PROGRAM_TOKENS = [b"#0", b"#0", b"#1", b"#1", b"#2", b"#2", b"#3", b"#-1", b"#65", b"#200", b"#2147483647", b"#-2147483648", b'""', b'"a"', b'"a"',
+                  b'"x"', b'"t"', b'"l"', b'"u"', b'"Q."', b'"B{\\\'e}b"', b'"Ann Lee and {B}, C,"', b'"{ff~}{ll}"', b"'i", b"'s", b"'n", b"'t",
+                  b"'skip$", b"'title", b"'misc", b"{}", b"i", b"i", b"s", b"n", b"t", b"title", b"author", b"note", b"misc", b":=",
+                  b"duplicate$", b"*", *BUILT_IN]
+PROGRAM_STYLE = (b"ENTRY {title author note}{n}{t} INTEGERS {i} STRINGS {s}\nFUNCTION {misc} {\"m\" write$}\nREAD\n"
+                 b"FUNCTION {told} {stack$ i s newline$ write$ newline$ int.to.str$ write$ newline$}\n"
+                 b"FUNCTION {of.entry} {told t write$ newline$ n int.to.str$ write$ newline$}\nFUNCTION {program} {")
+PROGRAM_ENDS = [b"}\nEXECUTE {program}\nEXECUTE {told}\n", b"}\nITERATE {program}\nITERATE {of.entry}\n"]
+PROGRAM_DATABASE = b'@misc{a, title = {A {\\ss}tory of: Two}, author = "Ann {\\"O}z and de la Tour, Jr, B"}\n@book{b, note = {n} # " o"}\n'
+
+
 class Maker:
     def __init__(self, seed):
         self.random = random.Random(seed)
@@ -106,11 +118,23 @@ class Maker:
                    "global_max": self.pick([1, 4, 20_000])}
         return files, options
 
+    def program(self):
+        """A style whose one body has 50 tokens; then the stack and the variables are told, outside entries or in two of them."""
+        style = PROGRAM_STYLE + self.some(PROGRAM_TOKENS, [50]) + self.pick(PROGRAM_ENDS)
+        files = {b"job.aux": b"\\citation{a,b}\n\\bibdata{d}\n\\bibstyle{s}\n", b"d.bib": PROGRAM_DATABASE, b"s.bst": style}
+        return files, {"budget": 5000, "utf8": self.random.random() < 0.3}
+
 
 def random_jobs(number, seed):
     """So many jobs: their files and their options."""
     for place in range(number):
         yield Maker(seed * 1_000_003 + place).job()
+
+
+def random_programs(number, seed):
+    """So many programs of 50 tokens, as jobs."""
+    for place in range(number):
+        yield Maker(seed * 1_000_003 + place).program()
 
 
 def worked_jobs_named():

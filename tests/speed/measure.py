@@ -22,7 +22,9 @@ from jobs import ARTICLE, LONG, PLAIN
 
 HERE = pathlib.Path(__file__).resolve().parent
 PROGRAM = HERE.parents[1] / "crates/bibtex/out/bibtex"
+# Seconds, and how `timeout` ends where they are over.
 LONGEST_RUN = 1_800
+STATUS_OF_TIMEOUT = 124
 # The original's tables are set up for fewer than 100,000 keys; a larger job gets larger ones, and its memory is then no measure.
 MOST_ENTRIES_OF_ORIGINAL = 20_000
 
@@ -47,8 +49,8 @@ class Figures(NamedTuple):
 class Tool:
     """A program that is measured."""
 
-    def __init__(self, name, path, room):
-        self.name, self.path, self.room = name, path, room
+    def __init__(self, name, path, room, longest_run):
+        self.name, self.path, self.room, self.longest_run = name, path, room, longest_run
         self.is_original = name == "original"
 
     def environment(self, entries):
@@ -57,7 +59,7 @@ class Tool:
 
     def start(self, words, folder, entries):
         """Runs `words` and the program's own; the exit status and the last line on standard error."""
-        ran = subprocess.run(["timeout", str(LONGEST_RUN), *words, self.path, "job"], cwd=folder, stdin=subprocess.DEVNULL,
+        ran = subprocess.run(["timeout", str(self.longest_run), *words, self.path, "job"], cwd=folder, stdin=subprocess.DEVNULL,
                              stdout=subprocess.DEVNULL, stderr=subprocess.PIPE, env=self.environment(entries))
         said = ran.stderr.decode("latin1").strip().split("\n")[-1]
         return ran.returncode, said
@@ -66,10 +68,11 @@ class Tool:
         return status in ((0, 1, 2) if self.is_original else (0, 2))
 
     def measured(self, folder, entries, runs, is_counted):
-        timed = [self.timed(folder, entries) for _ in range(runs)]
-        failed = [figures for figures in timed if figures.failure]
-        if failed:
-            return failed[0]
+        timed = []
+        for _ in range(runs):
+            timed.append(self.timed(folder, entries))
+            if timed[-1].failure:
+                return timed[-1]
         best = min(timed, key=lambda figures: figures.cpu)
         return best._replace(instructions=self.counted(folder, entries)) if is_counted else best
 
@@ -77,16 +80,21 @@ class Tool:
         note = self.room / "figures"
         status, said = self.start([self.room / "once", note], folder, entries)
         if not self.can_run(status):
-            return Figures(failure=f"status {status}" + (f", {said}" if said else ""))
+            return Figures(failure=self.failure(status, said))
         wall, cpu, kilobytes = map(float, note.read_text().split())
         return Figures(None, None, wall, cpu, kilobytes / 1024, self.steps(folder), (folder / "job.bbl").read_bytes())
 
+    def failure(self, status, said):
+        if status == STATUS_OF_TIMEOUT:
+            return f"it runs for more than {self.longest_run:,} seconds"
+        return f"can't run it: status {status}" + (f", {said}" if said else "")
+
     def counted(self, folder, entries):
         note = self.room / "counted"
-        self.start(["valgrind", "--tool=cachegrind", "--cache-sim=no", "--cachegrind-out-file=/dev/null",
-                    f"--log-file={note}"], folder, entries)
+        status, said = self.start(["valgrind", "--tool=cachegrind", "--cache-sim=no", "--cachegrind-out-file=/dev/null",
+                                   f"--log-file={note}"], folder, entries)
         found = re.search(r"I\s+refs:\s+([\d,]+)", note.read_text())
-        return int(found[1].replace(",", "")) if found else None
+        return int(found[1].replace(",", "")) if found and self.can_run(status) else None
 
     def steps(self, folder):
         """The steps that the log tells; the original's tells none."""
@@ -134,7 +142,7 @@ def print_job(job, figures, seed):
     steps = next((told.steps for told in figures.values() if told.steps), None) or jobs.few_steps(job, seed)
     for name, told in figures.items():
         if told.failure:
-            row([job.name, f"{job.entries:,}", name, f"can't run it: {told.failure}", *[""] * 6])
+            row([job.name, f"{job.entries:,}", name, told.failure, *[""] * 6])
             continue
         a_second = millions(steps / told.cpu) if steps and told.cpu else ""
         row([job.name, f"{job.entries:,}", name, millions(told.instructions), f"{told.cpu:.3f}", f"{told.wall:.3f}",
@@ -151,7 +159,7 @@ def same_list(figures, name):
 
 def print_loop(loop, a_step):
     for name, told in a_step.items():
-        row([loop.name, name, f"can't run it: {told}" if isinstance(told, str) else f"{told:.1f}"])
+        row([loop.name, name, told if isinstance(told, str) else f"{told:.1f}"])
 
 
 # ---- bars ----
@@ -168,7 +176,7 @@ class Bars:
             return
         is_met = not isinstance(found, str) and found <= most
         self.met, self.missed = self.met + is_met, self.missed + (not is_met)
-        told = f"can't run it: {found}" if isinstance(found, str) else shown(found)
+        told = found if isinstance(found, str) else shown(found)
         print(f"{'met      ' if is_met else 'NOT MET  '} {what}: {told}, at most {shown(most)}")
 
 
@@ -242,15 +250,15 @@ def read_arguments():
     return parser.parse_args()
 
 
-def find_tools(arguments, room):
+def find_tools(arguments, room, longest_run=LONGEST_RUN):
     tools = []
     if arguments.program.is_file():
-        tools.append(Tool("program", arguments.program.resolve(), room))
+        tools.append(Tool("program", arguments.program.resolve(), room, longest_run))
     else:
         print(f"there is no program {arguments.program}: build it by make")
     original = shutil.which("bibtex")
     if original and b"BibTeX 0.99" in subprocess.run([original, "--version"], capture_output=True).stdout:
-        tools.append(Tool("original", original, room))
+        tools.append(Tool("original", original, room, longest_run))
     else:
         print("the original bibtex isn't installed: left out")
     return tools
@@ -274,15 +282,25 @@ def measure_all(tools, arguments, room):
     return measured
 
 
-def main():
+def has_commands():
+    """Whether all is there that measuring needs; what is missing is told."""
     missing = [name for name in ("valgrind", "gcc", "timeout") if shutil.which(name) is None]
     if missing:
         print(f"{' and '.join(missing)} not found: nothing is measured")
+    return not missing
+
+
+def compile_once(room):
+    subprocess.run(["gcc", "-O2", "-Wall", "-Werror", "-o", room / "once", HERE / "once.c"], check=True)
+
+
+def main():
+    if not has_commands():
         return 0
     arguments = read_arguments()
     with tempfile.TemporaryDirectory() as room:
         room = pathlib.Path(room)
-        subprocess.run(["gcc", "-O2", "-Wall", "-Werror", "-o", room / "once", HERE / "once.c"], check=True)
+        compile_once(room)
         tools = find_tools(arguments, room)
         measured = measure_all(tools, arguments, room)
     bars = Bars()

@@ -201,7 +201,7 @@ mod tests {
         want: &str,
     ) -> Result<(), Fail> {
         let text = answered?;
-        assert_eq!(rt; text.as_str(), want);
+        assert!(rt; text.as_str() == want);
         Ok(())
     }
 

@@ -142,7 +142,7 @@ mod tests {
         bytes: &[u8],
     ) -> Result<(), Fail> {
         let (found, failed, into) = fetched?;
-        assert_eq!(rt; (found, failed), (answer, failures));
+        assert!(rt; (found, failed) == (answer, failures));
         assert!(rt; into.as_slice() == bytes);
         Ok(())
     }

@@ -136,7 +136,7 @@ mod tests {
     ) -> Result<(), Fail> {
         let path = path_of(rt.alloc(), &settings_in(directory), ending)?;
         let found = fs::read_to_string(rt, path.as_str())?;
-        assert_eq!(rt; found.as_str(), text);
+        assert!(rt; found.as_str() == text);
         Ok(())
     }
 
@@ -145,11 +145,11 @@ mod tests {
         let directory = make_folder(&rt, rt.alloc(), "job")?;
         let directory = directory.as_str();
         write_job(&rt, directory)?;
-        assert_eq!(rt; status_in(&rt, directory), Ok(0));
+        assert!(rt; status_in(&rt, directory) == Ok(0));
         wrote(&rt, directory, ".bbl", "a\n")?;
         wrote(&rt, directory, ".blg", LOG)?;
         fs::remove_dir_all(&rt, directory)?;
-        assert_eq!(rt; status_in(&rt, directory), Err(RunFault::Device));
+        assert!(rt; status_in(&rt, directory) == Err(RunFault::Device));
         Ok(())
     }
 

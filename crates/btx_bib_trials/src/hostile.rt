@@ -91,7 +91,7 @@ fn unread(alloc: Global, count: u32, harm: Harm) -> Result<usize, Fault> {
 
 #[test]
 fn every_cut(rt: HostRuntime) -> Result<(), Fault> {
-    assert_eq!(rt; unread(rt.alloc(), 3, Harm::Cut)?, 0);
+    assert!(rt; unread(rt.alloc(), 3, Harm::Cut)? == 0);
     Ok(())
 }
 
@@ -106,6 +106,6 @@ fn replaced_unread(alloc: Global, bytes: &[u8]) -> Result<usize, Fault> {
 
 #[test]
 fn every_byte_replaced(rt: HostRuntime) -> Result<(), Fault> {
-    assert_eq!(rt; replaced_unread(rt.alloc(), b"{}\"@\0")?, 0);
+    assert!(rt; replaced_unread(rt.alloc(), b"{}\"@\0")? == 0);
     Ok(())
 }

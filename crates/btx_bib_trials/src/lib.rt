@@ -11,6 +11,7 @@ mod libraries;
 mod limits;
 #[cfg(test)]
 mod rows;
-pub mod showing;
+#[cfg(test)]
+mod showing;
 #[cfg(test)]
 mod usual;

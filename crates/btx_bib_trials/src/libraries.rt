@@ -63,7 +63,7 @@ fn all_wrong(alloc: Global) -> Result<Vec<u8>, Fault> {
 #[test]
 fn each_row_gives_what_it_says(rt: HostRuntime) -> Result<(), Fault> {
     let wrong = all_wrong(rt.alloc())?;
-    assert_eq!(rt; std::str::from_utf8(&wrong), Ok(""));
+    assert!(rt; std::str::from_utf8(&wrong) == Ok(""));
     Ok(())
 }
 
@@ -93,6 +93,6 @@ fn own_counts(alloc: Global) -> Result<(usize, usize, usize), Fault> {
 
 #[test]
 fn a_caller_keeps_its_style_and_job(rt: HostRuntime) -> Result<(), Fault> {
-    assert_eq!(rt; own_counts(rt.alloc())?, (3, 1, 1));
+    assert!(rt; own_counts(rt.alloc())? == (3, 1, 1));
     Ok(())
 }

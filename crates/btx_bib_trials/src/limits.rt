@@ -95,7 +95,7 @@ fn first_wrong(alloc: Global) -> Result<Option<usize>, Fault> {
 
 #[test]
 fn strings_have_a_million_bytes(rt: HostRuntime) -> Result<(), Fault> {
-    assert_eq!(rt; first_wrong(rt.alloc())?, None);
+    assert!(rt; first_wrong(rt.alloc())? == None);
     Ok(())
 }
 
@@ -108,9 +108,6 @@ fn size_by_long_macro(alloc: Global) -> Result<Size, Fault> {
 
 #[test]
 fn a_macro_has_a_million_bytes(rt: HostRuntime) -> Result<(), Fault> {
-    assert_eq!(rt;
-        size_by_long_macro(rt.alloc())?,
-        (End::StringLimit, 0, 0, 0)
-    );
+    assert!(rt; size_by_long_macro(rt.alloc())? == (End::StringLimit, 0, 0, 0));
     Ok(())
 }

@@ -44,6 +44,6 @@ const ROWS: [Row; 12] = [
 #[test]
 fn bodies(rt: HostRuntime) -> Result<(), Fault> {
     let wrong = wrong_rows(rt.alloc(), &ROWS, Shown::Bodies)?;
-    assert_eq!(rt; std::str::from_utf8(&wrong), Ok(""));
+    assert!(rt; std::str::from_utf8(&wrong) == Ok(""));
     Ok(())
 }

@@ -28,32 +28,29 @@ const NOT_DIRECT: &[&[u8]] = &[
 
 // The calls that take a name.
 fn names(rt: &impl Abort, style: &Style<'_>) {
-    assert_eq!(rt; style.field(b"title"), Some(1));
-    assert_eq!(rt; style.named(b"crossref"), Some(Callee::Field(0)));
-    assert_eq!(rt;
-        style.named(b"while$"),
-        Some(Callee::BuiltIn(BuiltIn::While))
-    );
-    assert_eq!(rt; style.type_function(b"misc"), Some(0));
-    assert_eq!(rt; style.type_function(b"f"), None);
-    assert_eq!(rt; style.macro_text(b"jan").is_some(), true);
-    assert_eq!(rt; style.name(Callee::User(2)), b"f".as_slice());
-    assert_eq!(rt; style.name(Callee::User(1)), b"{}".as_slice());
-    assert_eq!(rt; style.name(Callee::Field(1)), b"title".as_slice());
+    assert!(rt; style.field(b"title") == Some(1));
+    assert!(rt; style.named(b"crossref") == Some(Callee::Field(0)));
+    assert!(rt; style.named(b"while$") == Some(Callee::BuiltIn(BuiltIn::While)));
+    assert!(rt; style.type_function(b"misc") == Some(0));
+    assert!(rt; style.type_function(b"f") == None);
+    assert!(rt; style.macro_text(b"jan").is_some() == true);
+    assert!(rt; style.name(Callee::User(2)) == b"f".as_slice());
+    assert!(rt; style.name(Callee::User(1)) == b"{}".as_slice());
+    assert!(rt; style.name(Callee::Field(1)) == b"title".as_slice());
 }
 
 // The calls that count.
 fn counts(rt: &impl Abort, style: &Style<'_>) {
-    assert_eq!(rt; style.functions(), 3);
-    assert_eq!(rt; style.items().len(), 11);
-    assert_eq!(rt; style.fields(), 2);
-    assert_eq!(rt; style.entry_integers(), 1);
-    assert_eq!(rt; style.entry_strings(), 2);
-    assert_eq!(rt; style.global_integers(), 3);
-    assert_eq!(rt; style.global_strings(), 1);
-    assert_eq!(rt; style.macros().len(), 1);
-    assert_eq!(rt; style.text(0), b"a".as_slice());
-    assert_eq!(rt; style.text(1), b"".as_slice());
+    assert!(rt; style.functions() == 3);
+    assert!(rt; style.items().len() == 11);
+    assert!(rt; style.fields() == 2);
+    assert!(rt; style.entry_integers() == 1);
+    assert!(rt; style.entry_strings() == 2);
+    assert!(rt; style.global_integers() == 3);
+    assert!(rt; style.global_strings() == 1);
+    assert!(rt; style.macros().len() == 1);
+    assert!(rt; style.text(0) == b"a".as_slice());
+    assert!(rt; style.text(1) == b"".as_slice());
 }
 
 #[test]
@@ -61,9 +58,9 @@ fn a_style(rt: HostRuntime) -> Result<(), Fault> {
     let style = read_style(rt.alloc(), b"s.bst", TEXT)?;
     names(&rt, &style);
     counts(&rt, &style);
-    assert_eq!(rt; style.file_name(), b"s.bst".as_slice());
+    assert!(rt; style.file_name() == b"s.bst".as_slice());
     assert!(rt; 2 < style.functions());
-    assert_eq!(rt; style.body(2).first().copied(), Some(Token::Text(0)));
+    assert!(rt; style.body(2).first().copied() == Some(Token::Text(0)));
     Ok(())
 }
 
@@ -72,12 +69,11 @@ fn a_message(rt: HostRuntime) -> Result<(), Fault> {
     let style = read_style(rt.alloc(), b"s.bst", b"\nFUNCTION {f} {nosuch}")?;
     if let Some(Item::Message(message)) = style.items().first() {
         let line = message.log_line(rt.alloc(), style.file_name())?;
-        assert_eq!(rt;
-            line.text(),
-            b"Error--nosuch is an unknown function--line 2 of file s.bst".as_slice()
+        assert!(rt;
+            line.text() == b"Error--nosuch is an unknown function--line 2 of file s.bst".as_slice()
         );
     }
-    assert_eq!(rt; style.items().len(), 2);
+    assert!(rt; style.items().len() == 2);
     Ok(())
 }
 
@@ -93,7 +89,7 @@ fn all_told(alloc: Global, texts: &[&[u8]], direct: bool) -> Result<bool, Fault>
 
 #[test]
 fn direct_styles(rt: HostRuntime) -> Result<(), Fault> {
-    assert_eq!(rt; all_told(rt.alloc(), DIRECT, true)?, true);
-    assert_eq!(rt; all_told(rt.alloc(), NOT_DIRECT, false)?, true);
+    assert!(rt; all_told(rt.alloc(), DIRECT, true)? == true);
+    assert!(rt; all_told(rt.alloc(), NOT_DIRECT, false)? == true);
     Ok(())
 }

@@ -62,7 +62,7 @@ fn whole(alloc: Global) -> Result<(usize, usize, usize), Fault> {
 #[test]
 fn the_whole_text(rt: HostRuntime) -> Result<(), Fault> {
     assert!(rt; TEXT.len() >= 2_000);
-    assert_eq!(rt; whole(rt.alloc())?, (34, 41, 0));
+    assert!(rt; whole(rt.alloc())? == (34, 41, 0));
     Ok(())
 }
 

@@ -11,4 +11,5 @@ mod hostile;
 mod long_style;
 #[cfg(test)]
 mod messages;
-pub mod showing;
+#[cfg(test)]
+mod showing;

@@ -305,20 +305,20 @@ Error--\x7f is an unknown function--line 1 of file s\nFUNCTION f\n",
 #[test]
 fn commands(rt: HostRuntime) -> Result<(), Fault> {
     let wrong = wrong_rows(rt.alloc(), &COMMANDS, Shown::Items)?;
-    assert_eq!(rt; std::str::from_utf8(&wrong), Ok(""));
+    assert!(rt; std::str::from_utf8(&wrong) == Ok(""));
     Ok(())
 }
 
 #[test]
 fn arguments(rt: HostRuntime) -> Result<(), Fault> {
     let wrong = wrong_rows(rt.alloc(), &ARGUMENTS, Shown::Items)?;
-    assert_eq!(rt; std::str::from_utf8(&wrong), Ok(""));
+    assert!(rt; std::str::from_utf8(&wrong) == Ok(""));
     Ok(())
 }
 
 #[test]
 fn words(rt: HostRuntime) -> Result<(), Fault> {
     let wrong = wrong_rows(rt.alloc(), &WORDS, Shown::Items)?;
-    assert_eq!(rt; std::str::from_utf8(&wrong), Ok(""));
+    assert!(rt; std::str::from_utf8(&wrong) == Ok(""));
     Ok(())
 }

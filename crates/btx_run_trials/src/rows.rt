@@ -118,7 +118,7 @@ fn shown(alloc: Global, row: &Row) -> Result<Vec<u8>, Fault> {
 fn jobs_of_a_few_lines(rt: HostRuntime) -> Result<(), Fail> {
     for row in &ROWS {
         let shown = shown(rt.alloc(), row)?;
-        assert_eq!(rt; shown.as_slice(), row.shown);
+        assert!(rt; shown.as_slice() == row.shown);
     }
     Ok(())
 }

@@ -9,10 +9,6 @@ mod missing;
 #[cfg(test)]
 mod plays;
 #[cfg(test)]
-mod programs;
-#[cfg(test)]
-mod reference;
-#[cfg(test)]
 mod rows;
 #[cfg(test)]
 mod sorts;

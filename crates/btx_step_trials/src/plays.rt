@@ -44,7 +44,7 @@ pub fn play(alloc: Global, setting: &Setting, body: &[u8]) -> Result<Vec<u8>, Fa
 }
 
 /// A style whose last function has this body.
-pub fn body_text(alloc: Global, body: &[u8]) -> Result<Vec<u8>, AllocError> {
+fn body_text(alloc: Global, body: &[u8]) -> Result<Vec<u8>, AllocError> {
     let mut text = Vec::from_slice(alloc, DECLARATIONS)?;
     text.extend_from_slice(b"FUNCTION {body} {")?;
     text.extend_from_slice(body)?;
@@ -53,7 +53,7 @@ pub fn body_text(alloc: Global, body: &[u8]) -> Result<Vec<u8>, AllocError> {
 }
 
 /// The same of the last function of a style.
-pub fn play_style(alloc: Global, setting: &Setting, text: &[u8]) -> Result<Vec<u8>, Fault> {
+fn play_style(alloc: Global, setting: &Setting, text: &[u8]) -> Result<Vec<u8>, Fault> {
     let mut finder = MemoryFinder::new(alloc, &[(b"job.aux", CITATIONS)])?;
     let citations = read_aux(alloc, &mut finder, b"job.aux")?;
     play_cited(alloc, setting, text, &citations)
@@ -154,7 +154,7 @@ fn tell_written(told: &mut Vec<u8>, text: &[u8]) -> Result<(), AllocError> {
 }
 
 /// Puts an item behind the others.
-pub fn tell(told: &mut Vec<u8>, pieces: &[&[u8]]) -> Result<(), AllocError> {
+fn tell(told: &mut Vec<u8>, pieces: &[&[u8]]) -> Result<(), AllocError> {
     if !told.is_empty() {
         told.extend_from_slice(b" | ")?;
     }
@@ -193,7 +193,7 @@ fn tell_note(
 }
 
 /// The name of what a token executes.
-pub fn executed_name<'a>(style: &'a Style<'_>, token: Token) -> &'a [u8] {
+fn executed_name<'a>(style: &'a Style<'_>, token: Token) -> &'a [u8] {
     match token {
         Token::Run(function) => style.name(function),
         _ => &[],

@@ -212,7 +212,7 @@ fn plays_row(rt: &impl Abort, alloc: Global, setting: &Setting, row: &str) -> Re
     let body = parts.next().unwrap_or("");
     let wanted = parts.next().unwrap_or("");
     let told = play(alloc, setting, body.as_bytes())?;
-    assert_eq!(rt; told.as_slice(), wanted.as_bytes(), "{row}");
+    assert!(rt; told.as_slice() == wanted.as_bytes());
     Ok(())
 }
 

@@ -154,7 +154,7 @@ fn write_line(
 // Asserts what was written of a logical line when it had ended.
 fn gives(rt: &impl Abort, written: &Written, lines: &[u8]) {
     assert!(rt; written.answer.is_ok() && written.failures == 0);
-    assert_eq!(rt; written.bytes.as_slice(), lines);
+    assert!(rt; written.bytes.as_slice() == lines);
 }
 
 // A row is written so, put in one piece: what is sure of it, and its lines.
@@ -249,7 +249,7 @@ fn several_lines(rt: HostRuntime) {
     let mut sink = Over::new(FakeWriter::new(rt.alloc(), 1000, Failing::Never, 0));
     let counts = write_several(&mut breaker, &mut sink);
     assert!(rt; counts == Ok([0, 9, 9, 9]));
-    assert_eq!(rt; sink.writer.bytes.as_slice(), b"one\n\ntwo\n".as_slice());
+    assert!(rt; sink.writer.bytes.as_slice() == b"one\n\ntwo\n".as_slice());
 }
 
 // How often a breaker of lines of 20 bytes wrote: behind three lines, behind two pieces of a line that can't be broken, and behind
@@ -387,10 +387,10 @@ fn lengths(rt: HostRuntime) {
         match LineLength::new(bytes) {
             Some(length) => {
                 assert!(rt; allowed, "{bytes}");
-                assert_eq!(rt; length.get(), bytes);
+                assert!(rt; length.get() == bytes);
             }
             None => assert!(rt; !allowed, "{bytes}"),
         }
     }
-    assert_eq!(rt; LineLength::default().get(), 79);
+    assert!(rt; LineLength::default().get() == 79);
 }

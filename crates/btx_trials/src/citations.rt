@@ -200,7 +200,7 @@ fn place_of(alloc: Global, lines: &[u8], lowered: &[u8]) -> Result<Option<usize>
 
 // Asserts that two texts are the same.
 fn same(rt: &impl Abort, found: &[u8], wanted: &[u8]) {
-    assert_eq!(rt; found, wanted);
+    assert!(rt; found == wanted);
 }
 
 // Asserts a job's keys, its log and its counts.
@@ -214,7 +214,7 @@ fn says(
     let told = told?;
     same(rt, &told.keys, keys);
     same(rt, &told.log, log);
-    assert_eq!(rt; told.counts, counts);
+    assert!(rt; told.counts == counts);
     Ok(())
 }
 
@@ -227,7 +227,7 @@ fn uses(
 ) -> Result<(), Fail> {
     let told = told?;
     same(rt, &told.files, files);
-    assert_eq!(rt; told.all, all);
+    assert!(rt; told.all == all);
     Ok(())
 }
 
@@ -238,7 +238,7 @@ fn stands(
     wanted: Option<usize>,
 ) -> Result<(), Fail> {
     let place = place?;
-    assert_eq!(rt; place, wanted);
+    assert!(rt; place == wanted);
     Ok(())
 }
 
@@ -252,7 +252,7 @@ fn ends(
 ) -> Result<(), Fail> {
     let told = told?;
     assert!(rt; told.keys.len() == size && told.keys.ends_with(last));
-    assert_eq!(rt; told.counts, counts);
+    assert!(rt; told.counts == counts);
     Ok(())
 }
 
@@ -427,7 +427,7 @@ fn try_refused(alloc: Global, refused_at: u64) -> Result<Tried, FetchFault> {
 
 // Asserts how a read ended.
 fn ended(rt: &impl Abort, tried: Tried, wanted: Tried) {
-    assert_eq!(rt; tried, wanted);
+    assert!(rt; tried == wanted);
 }
 
 // Two files are fetched: a fault at a third fetch is never met.

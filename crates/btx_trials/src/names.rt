@@ -29,12 +29,11 @@ fn complains(
     complaints: Complaints,
 ) -> Result<(), Fail> {
     let answer = format_name(alloc, names.as_bytes(), number, format.as_bytes(), mode)?;
-    assert_eq!(rt;
-        answer.text.as_slice(),
-        text.as_bytes(),
+    assert!(rt;
+        answer.text.as_slice() == text.as_bytes(),
         "{names} in {format}"
     );
-    assert_eq!(rt; answer.complaints, complaints, "{names} in {format}");
+    assert!(rt; answer.complaints == complaints, "{names} in {format}");
     Ok(())
 }
 
@@ -63,7 +62,7 @@ fn counts_names(rt: HostRuntime) {
         ("{ and b", 1),
         ("{\\' and} and b", 2),
     ] {
-        assert_eq!(rt; count(&rt, names), want, "{names}");
+        assert!(rt; count(&rt, names) == want, "{names}");
     }
 }
 
@@ -247,7 +246,7 @@ fn real_name(rt: &impl Abort, alloc: Global, line: &str, mode: TextMode) -> Resu
         let text = fields.next().ok_or("fewer than four texts")?;
         complains(rt, alloc, names, last, format, text, mode, Complaints::NONE)?;
     }
-    assert_eq!(rt; fields.next(), None, "{line}");
+    assert!(rt; fields.next() == None, "{line}");
     Ok(())
 }
 
@@ -378,12 +377,12 @@ fn lines_give(
 ) -> Result<(), Fail> {
     for line in lines.split('\n') {
         let mut fields = line.split('|');
-        assert_eq!(rt; fields.next(), Some(""), "{line}");
+        assert!(rt; fields.next() == Some(""), "{line}");
         let name = fields.next().ok_or("no name")?;
         let format = fields.next().ok_or("no format")?;
         let text = fields.next().ok_or("no text")?;
-        assert_eq!(rt; fields.next(), Some(""), "{line}");
-        assert_eq!(rt; fields.next(), None, "{line}");
+        assert!(rt; fields.next() == Some(""), "{line}");
+        assert!(rt; fields.next() == None, "{line}");
         complains(rt, alloc, name, 1, format, text, mode, complaints)?;
     }
     Ok(())
@@ -524,8 +523,8 @@ fn sequences_and_bytes(rt: HostRuntime) -> Result<(), Fail> {
     lines_give(&rt, alloc, in_bytes(), TextMode::Bytes, none)?;
     let name = "Cartan, Élie".as_bytes();
     let half = format_name(alloc, name, 1, b"{f. }{ll}", TextMode::Bytes)?;
-    assert_eq!(rt; half.text.as_slice(), b"\xC3. Cartan".as_slice());
-    assert_eq!(rt; half.complaints, none);
+    assert!(rt; half.text.as_slice() == b"\xC3. Cartan".as_slice());
+    assert!(rt; half.complaints == none);
     Ok(())
 }
 
@@ -535,10 +534,10 @@ fn sequences_and_bytes(rt: HostRuntime) -> Result<(), Fail> {
 fn has_length(rt: &impl Abort, case: &str, answer: Result<Answer, Fault>, want: usize) {
     match answer {
         Ok(answer) => {
-            assert_eq!(rt; answer.text.len(), want, "{case}");
-            assert_eq!(rt; answer.complaints, Complaints::NONE, "{case}");
+            assert!(rt; answer.text.len() == want, "{case}");
+            assert!(rt; answer.complaints == Complaints::NONE, "{case}");
         }
-        Err(fault) => assert_eq!(rt; Some(fault), None, "{case}"),
+        Err(_) => assert!(rt; false, "{case}"),
     }
 }
 
@@ -594,11 +593,11 @@ fn a_thousand_names_and_one(rt: HostRuntime) -> Result<(), Fail> {
         }
         names.extend_from_slice(b"Ef Gh")?;
         assert!(rt; names.len() <= LIMIT);
-        assert_eq!(rt; num_names(&names), last);
+        assert!(rt; num_names(&names) == last);
         let before = format_name(alloc, &names, 999, b"{f.~}{ll}", mode)?;
-        assert_eq!(rt; before.text.as_slice(), b"A.~Cd".as_slice());
+        assert!(rt; before.text.as_slice() == b"A.~Cd".as_slice());
         let answer = format_name(alloc, &names, last, b"{f.~}{ll}", mode)?;
-        assert_eq!(rt; answer.text.as_slice(), b"E.~Gh".as_slice());
+        assert!(rt; answer.text.as_slice() == b"E.~Gh".as_slice());
         let beyond = format_name(alloc, &names, last.saturating_add(1), b"{ll}", mode)?;
         assert!(rt; beyond.complaints.x10);
     }

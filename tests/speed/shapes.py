@@ -1,0 +1,172 @@
+"""Jobs that are large in one way each. Their style executes nothing, so that reading is all they take.
+
+    python3 shapes.py NAME SIZE FOLDER
+
+writes such a job into FOLDER. All numbers in a text have the same length, so that ten times the size is ten times the bytes."""
+
+import argparse
+import pathlib
+from typing import Callable, NamedTuple
+
+from jobs import READING
+
+
+class Shape(NamedTuple):
+    """`make` gives the files of a job for a size; a size counts the `unit`."""
+    name: str
+    unit: str
+    sizes: tuple
+    make: Callable
+
+    def jobs(self):
+        return [ShapedJob(self, size) for size in self.sizes]
+
+
+class ShapedJob(NamedTuple):
+    """`entries` is the size, whatever its unit is."""
+    shape: Shape
+    entries: int
+
+    def write(self, folder, seed):
+        """Nothing is left to chance, so the seed changes nothing."""
+        for name, text in self.shape.make(self.entries).items():
+            (folder / name).write_text(text)
+
+
+SHAPES = {}
+
+
+def shape(unit, *sizes):
+    """Adds the function's shape, under its name."""
+    def add(make):
+        SHAPES[make.__name__] = Shape(make.__name__, unit, sizes, make)
+        return make
+    return add
+
+
+# ---- databases ----
+
+
+def aux_file(keys, style):
+    return "".join("\\citation{%s}\n" % key for key in keys) + "\\bibdata{works}\n\\bibstyle{%s}\n" % style
+
+
+def database_job(database, keys):
+    """Reads the database, and cites these keys from the last one to the first."""
+    return {"job.aux": aux_file(reversed(keys), "reading"), "works.bib": database, "reading.bst": READING}
+
+
+@shape("entries", 10_000, 100_000)
+def entries(size):
+    keys = ["work%06d" % number for number in range(size)]
+    works = "".join("@article{%s, title = {On {%s}}, author = {Ann Lee}, year = 1984}\n" % (key, key) for key in keys)
+    return database_job(works, keys)
+
+
+# Fifty bytes.
+WORDS = "The  {Works}\n  of {\\'E}mile and {{Bo}\tDunn}   \n   "
+
+
+@shape("bytes", 90_000, 900_000)
+def giant_value(size):
+    """Seven tenths are words in braces, with white between them; one is white alone, one opens braces and one closes them."""
+    part = size // 10
+    value = WORDS * (7 * part // len(WORDS)) + " " * part + "{" * part + "}" * part
+    return database_job("@article{work, title = {%s}}\n" % value, ["work"])
+
+
+@shape("strings", 10_000, 100_000)
+def strings(size):
+    """Each is the one before it, with nothing behind; an entry uses the last."""
+    joined = "".join("@string{s%06d = s%06d # {}}\n" % (number, number - 1) for number in range(1, size))
+    return database_job("@string{s%06d = {Journal}}\n%s@article{work, journal = s%06d}\n" % (0, joined, size - 1), ["work"])
+
+
+@shape("children", 10_000, 100_000)
+def children(size):
+    keys = ["child%06d" % number for number in range(size)]
+    crowd = "".join("@inproceedings{%s, title = {On {%s}}, crossref = {parent}}\n" % (key, key) for key in keys)
+    parent = "@proceedings{parent, title = {Parents}, booktitle = {Parents}, editor = {Ann Lee}, year = 1984}\n"
+    return database_job(crowd + parent, keys + ["parent"])
+
+
+@shape("parents", 1_000, 10_000)
+def chain(size):
+    """Each entry's parent is the next one. In the list a parent stands before its child, so what the last entry has comes down to all."""
+    keys = ["link%06d" % number for number in range(size + 1)]
+    links = "".join("@proceedings{%s, crossref = {%s}}\n" % pair for pair in zip(keys, keys[1:]))
+    return database_job(links + "@proceedings{%s, title = {Parents}, year = 1984}\n" % keys[-1], keys)
+
+
+START = Shape("start", "entry", (1,), entries)
+
+
+# ---- styles ----
+
+
+def style_job(style):
+    """Reads the style, and a database of one entry."""
+    return {"job.aux": aux_file(["work"], "large"), "works.bib": "@article{work, title = {Work}}\n", "large.bst": style}
+
+
+@shape("bytes", 1_000_000, 10_000_000)
+def open_braces(size):
+    """A body that opens braces on one line and never closes them."""
+    return style_job(READING + "FUNCTION {f} {" + "{" * size + "\n")
+
+
+NAME, STRING = "unknown-name-%06d\n", '"string of %07d" '
+
+
+def numbered(text, size):
+    """The text again and again with a number in it, so many bytes of it."""
+    return "".join(text % number for number in range(size // len(text % 0)))
+
+
+@shape("bytes", 1_000_000, 10_000_000)
+def unknown_names(size):
+    """A body of names alone, one on each line; an error is told of each."""
+    return style_job(READING + "FUNCTION {f} {\n" + numbered(NAME, size) + "}\n")
+
+
+@shape("bytes", 1_000_000, 10_000_000)
+def string_literals(size):
+    """A body of strings alone, on one line."""
+    return style_job(READING + "FUNCTION {f} {" + numbered(STRING, size) + "}\n")
+
+
+# A hundred bytes.
+TEN_TOKENS = """#1234567 'counter := counter #-7654321 > "text that is pushed and never seen" 'write$ 'newline$ if$ """
+
+
+@shape("tokens", 100_000, 1_000_000)
+def tokens(size):
+    """One body of integers, strings, quoted names and executed ones, on one line."""
+    return style_job(READING + "INTEGERS {counter}\nFUNCTION {f} {" + TEN_TOKENS * (size // 10) + "}\n")
+
+
+# A hundred bytes.
+FUNCTION = """FUNCTION {f%06d} {f%06d year empty$ {"a year isn't given" warning$} {year write$ newline$} if$}\n"""
+
+
+@shape("functions", 10_000, 100_000)
+def functions(size):
+    """One on each line, each executes the one before it. They stand before READ, so that each is a type as well."""
+    defined = "FUNCTION {f000000} {}\n" + "".join(FUNCTION % (number, number - 1) for number in range(1, size))
+    return style_job(READING.replace("READ\n", defined + "READ\n"))
+
+
+# ---- the command ----
+
+
+def main():
+    parser = argparse.ArgumentParser()
+    parser.add_argument("name", choices=SHAPES)
+    parser.add_argument("size", type=int)
+    parser.add_argument("folder", type=pathlib.Path)
+    arguments = parser.parse_args()
+    ShapedJob(SHAPES[arguments.name], arguments.size).write(arguments.folder, 1)
+
+
+if __name__ == "__main__":
+    main()
