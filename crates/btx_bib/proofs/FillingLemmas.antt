@@ -1,21 +1,14 @@
 -- The values of the declared fields, one field after the other.
-use Rattle.std.proofs.Common.{add-one, ◌≡◌, ℕ, zero, suc, arith, ◌+◌, ◌<◌, ◌≤◌, Bool, true, false, cond, if◌then◌else◌, nat_eq, List, [], ◌∷◌, ◌++◌, length, Option, None, Some, is_some, refl, sym, ap, ◌∙◌}
-use Rattle.std.specs.Prelude.{slice_set}
+use Rattle.std.proofs.Common.{◌≡◌, ℕ, zero, suc, arith, ◌+◌, ◌<◌, ◌≤◌, Bool, true, false, cond, if◌then◌else◌, nat_eq, List, [], ◌∷◌, ◌++◌, length, Option, None, Some, is_some, refl, sym, ap, ◌∙◌}
 use Rattle.std.specs.Option.{option_or, option_map}
-use Rattle.std.specs.List.{find}
 use Rattle.std.proofs.lemmas.Bool.Decides.{nat_tests}
 use Rattle.btx_bib.specs.Finding.{changed_at}
 use Rattle.btx_bib.specs.Wanted.{Wanted}
-use Rattle.btx_bib.specs.Entries.{Field, is_number, number_of, value_in, values_from, values_of}
+use Rattle.btx_bib.specs.Entries.{Field, is_number, number_of, value_in, values_from}
 use Rattle.btx_bib.specs.Filling.{blanks, with_value}
 use Rattle.btx_bib.specs.Values.{value_at}
 
 -- ---- by place
-
-pub changed_at-slice_set : {T : Type 0} (xs : List T) (i : ℕ) (y : T) → slice_set xs i y ≡ changed_at i (λ (old : T). y) xs
-changed_at-slice_set [] i y = refl
-changed_at-slice_set (x ∷ xs) zero y = refl
-changed_at-slice_set (x ∷ xs) (suc i) y = ap (λ (rest : List _). x ∷ rest) (changed_at-slice_set xs i y)
 
 pub changed_at-past : {T : Type 0} (xs : List T) (i : ℕ) (change : T → T) → length xs ≤ i → xs ≡ changed_at i change xs
 changed_at-past [] i change h = refl
@@ -111,10 +104,3 @@ module _ (wanted : Wanted) where
       let other : is_number first (number_of wanted field) ≡ false = ap (is_number first) is ∙ later_number m first (omega arith) in
       ap (λ (value : Option (List ℕ)). value ∷ with_value (Some place) field.value (values_from wanted fields (suc first) count)) (sym (value_in-other fields field first other))
       ∙ ap (λ (rest : List (Option (List ℕ))). value_in wanted (fields ++ field ∷ []) first ∷ rest) (values_from-push fields field place (suc first) count m is (omega arith))
-
-blanks-suc : (count : ℕ) → blanks count ++ None ∷ [] ≡ None ∷ blanks count
-blanks-suc zero = refl
-blanks-suc (suc count) = ap (λ (rest : List (Option (List ℕ))). None ∷ rest) (blanks-suc count)
-
-pub blanks-push : (count : ℕ) → blanks count ++ None ∷ [] ≡ blanks (count + 1)
-blanks-push count = rw add-one (blanks-suc count)

@@ -1,5 +1,6 @@
 pub mod GrammarLemmas
 pub mod ValueLemmas
+pub mod TextLemmas
 pub mod LoweringLemmas
 pub mod TableNameLemmas
 pub mod FillingLemmas

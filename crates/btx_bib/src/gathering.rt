@@ -49,11 +49,11 @@ impl<'a> Pending<'a> {
     ghost use Rattle.btx_bib.specs.Sites.{database};
 
     // The entry with the value of a field.
-    fn with_text(mut self, field: usize, text: Text<'a>) -> Pending<'a>
-        ensures { result ≡ with_text self.entry field text.entry }
+    fn with_text(mut self, field: usize, text: Text<'a>) -> Result<Pending<'a>, AllocError>
+        ensures { IfOk result (λ pending. pending ≡ with_text self.entry field text.entry) }
     {
-        self.body.values.put(field, text);
-        self
+        self.body.values.put(field, text)?;
+        Ok(self)
     }
 
     // Takes a field, if it is declared and the entry has no value for it yet. Answers also whether its value is short enough.
@@ -82,7 +82,7 @@ impl<'a> Pending<'a> {
         }
         tell_names(alloc, &field.value, strings, None, site, messages)?;
         match value_text(alloc, &field.value, strings, Ends::Trimmed) {
-            Ok(text) => Ok((self.with_text(number, text.share()?), true)),
+            Ok(text) => Ok((self.with_text(number, text.share()?)?, true)),
             Err(Fault::StringLimit) => Ok((self, false)),
             Err(Fault::Memory) => Err(AllocError),
             Err(Fault::Device | Fault::FileLimit) => unreachable!(),
@@ -109,7 +109,8 @@ impl<'a> Gathering<'a> {
         let Some(pending) = self.current.take() else {
             return Ok(());
         };
-        let Pending { key, body } = pending;
+        let Pending { key, mut body } = pending;
+        body.values.shrink();
         self.draft.store(alloc, request, &key, body)
     }
 

@@ -14,6 +14,7 @@ pub mod message;
 mod message_texts;
 mod names;
 mod passes;
+mod places;
 mod request;
 mod site;
 mod slots;

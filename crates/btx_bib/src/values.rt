@@ -1,4 +1,5 @@
 //! The values of the declared fields.
+use crate::places::Place;
 use crate::spelling::Spelling;
 use btx_text::Text;
 use std::alloc::{AllocError, Global};
@@ -7,19 +8,25 @@ use std::marker::Model;
 /// For each declared field its value, or that it is missing.
 #[derive(Drop)]
 pub struct Values<'a> {
-    pub(crate) list: Vec<Option<Text<'a>>>,
+    // Of each declared field.
+    places: Vec<Place>,
+    // The values that there are.
+    texts: Vec<Text<'a>>,
 }
 
 impl<'a> Model for Values<'a> {
-    ghost use Rattle.std.specs.Prelude.{List, ℕ, Option};
+    ghost use Rattle.std.specs.Prelude.{List, ℕ, Option, All, length, map};
+    ghost use Rattle.btx_bib.specs.Values.{IsWithin, text_at};
 
     ghost Value = { List (Option (List ℕ)) };
 
-    ghost view = { λ values. values.list.items };
+    ghost view = { λ values. map (text_at values.texts.items) values.places.items };
+
+    ghost invariant = { λ values. All (IsWithin (length values.texts.items)) values.places.items };
 }
 
 impl<'a> Values<'a> {
-    ghost use Rattle.std.specs.Prelude.{◌≡◌, ◌<◌, ◌≤◌, [], Some, IfOk, length, option_copied, is_some};
+    ghost use Rattle.std.specs.Prelude.{◌≡◌, ◌<◌, ◌≤◌, [], ◌∷◌, ◌++◌, Some, IfOk, OnOk, length, option_copied, is_some};
     ghost use Rattle.btx_text.specs.Limits.{greatest_string};
     ghost use Rattle.btx_bib.specs.Values.{value_at};
     ghost use Rattle.btx_bib.specs.Finding.{changed_at};
@@ -32,10 +39,9 @@ impl<'a> Values<'a> {
     pub fn get(&self, field: usize) -> Option<&Text<'a>>
         ensures { option_copied result ≡ value_at field self.now }
     {
-        let Some(value) = self.list.get(field) else {
-            return None;
-        };
-        value.as_ref()
+        let place = self.places.get(field)?;
+        let number = place.number()?;
+        Some(&self.texts[number])
     }
 
     /// No value.
@@ -43,7 +49,8 @@ impl<'a> Values<'a> {
         ensures { result ≡ [] }
     {
         Values {
-            list: Vec::new(alloc),
+            places: Vec::new(alloc),
+            texts: Vec::new(alloc),
         }
     }
 
@@ -51,11 +58,10 @@ impl<'a> Values<'a> {
     pub fn missing(alloc: Global, count: usize) -> Result<Self, AllocError>
         ensures { IfOk result (λ values. values ≡ blanks count) }
     {
-        let mut list = Vec::with_capacity(alloc, count)?;
-        for _ in 0..count {
-            list.push(None)?;
-        }
-        Ok(Values { list })
+        Ok(Values {
+            places: vec![in alloc; Place::missing(); count]?,
+            texts: Vec::new(alloc),
+        })
     }
 
     /// Whether a field has a value.
@@ -67,22 +73,43 @@ impl<'a> Values<'a> {
     }
 
     /// Puts the value of a field.
-    pub fn put(&mut self, field: usize, value: Text<'a>)
-        ensures { self.new ≡ changed_at field (λ old. Some value.entry) self.old }
+    pub fn put(&mut self, field: usize, value: Text<'a>) -> Result<(), AllocError>
+        ensures { OnOk result (self.new ≡ changed_at field (λ old. Some value.entry) self.old) }
     {
-        if field < self.list.len() {
-            self.list[field] = Some(value);
+        if field < self.places.len() {
+            let place = Place::of(self.texts.len())?;
+            self.texts.push(value)?;
+            self.places[field] = place;
         }
+        Ok(())
+    }
+
+    // Adds one field.
+    fn push(&mut self, value: Option<Text<'a>>) -> Result<(), AllocError>
+        ensures { OnOk result (self.new ≡ self.old ++ value.entry ∷ []) }
+    {
+        let Some(text) = value else {
+            self.places.push(Place::missing())?;
+            return Ok(());
+        };
+        let place = Place::of(self.texts.len())?;
+        self.texts.push(text)?;
+        self.places.push(place)?;
+        Ok(())
+    }
+
+    /// Gives back the room that no value takes.
+    pub fn shrink(&mut self)
+        ensures { self.new ≡ self.old }
+    {
+        self.texts.shrink_to_fit();
     }
 
     /// The key of the parent: the value of the first declared field.
     pub fn parent(&self) -> Option<&Text<'a>>
         ensures { option_copied result ≡ parent_in self.now }
     {
-        let Some(first) = self.list.first() else {
-            return None;
-        };
-        first.as_ref()
+        self.get(0)
     }
 
     // A field's value, or the parent's.
@@ -129,19 +156,23 @@ impl<'a> Values<'a> {
         requires { length key.now ≤ greatest_string }
         ensures { IfOk result (λ values. values ≡ inherited_values key.now self.now parent.now) }
     {
-        let mut list = Vec::with_capacity(alloc, self.list.len())?;
-        for field in 0..self.list.len() {
-            list.push(self.inherited_at(alloc, field, key, parent)?)?;
+        let mut values = Values {
+            places: Vec::with_capacity(alloc, self.places.len())?,
+            texts: Vec::new(alloc),
+        };
+        for field in 0..self.places.len() {
+            values.push(self.inherited_at(alloc, field, key, parent)?)?;
         }
-        Ok(Values { list })
+        values.shrink();
+        Ok(values)
     }
 
     /// Drops the key of the parent.
     pub fn cut(&mut self)
         ensures { self.new ≡ without_parent self.old }
     {
-        if !self.list.is_empty() {
-            self.list[0] = None;
+        if !self.places.is_empty() {
+            self.places[0] = Place::missing();
         }
     }
 
@@ -149,8 +180,9 @@ impl<'a> Values<'a> {
     pub fn replace(&mut self, values: Values<'a>)
         ensures { self.new ≡ values.entry }
     {
-        let Values { list } = values;
-        self.list = list;
+        let Values { places, texts } = values;
+        self.places = places;
+        self.texts = texts;
     }
 }
 

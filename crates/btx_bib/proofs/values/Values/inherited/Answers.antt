@@ -1,5 +1,6 @@
-use Rattle.std.proofs.Common.{rules, arith, ◌≡◌, ◌∙◌, ◌<◌, ◌≤◌, ◌++◌, ◌∷◌, [], ap, sym, length, take, ℕ, List, Option, Some, None}
-use Rattle.std.proofs.lemmas.List.{take_all}
+use Rattle.std.proofs.Common.{arith, ◌≡◌, ◌∙◌, ◌<◌, ◌≤◌, ◌++◌, ◌∷◌, [], ap, sym, length, ℕ, List, Option}
+use Rattle.std.proofs.lemmas.List.{length-map, take_all}
+use Rattle.btx_bib.specs.Values.{text_at}
 use Rattle.btx_bib.specs.Passes.{inherited_values}
 use Rattle.btx_bib.proofs.ValueLemmas.{length-inherited, take-next}
 use Rattle.btx_bib.proofs.values.Values.inherited.Goals as goal
@@ -7,15 +8,15 @@ use Rattle.btx_bib.proofs.values.Values.inherited.Goals as goal
 pub loop-field-preserved : goal.loop-field-preserved
 loop-field-preserved c =
     let values = inherited_values c.args.key.now c.args.self.now c.args.parent.now in
-    let count : length c.self.inside.list.items ≡ length c.args.self.now = ap length c.self.view_is in
+    let count : length c.self.inside.places.items ≡ length c.args.self.now = sym (length-map c.self.inside.places.items (text_at c.self.inside.texts.items)) ∙ ap length c.self.view_is in
     let within : c.loop-field.field < length values = omega (arith, length-inherited c.args.key.now c.args.self.now c.args.parent.now) in
-    c.in_ok-push.ensures.items
-    ∙ ap (λ (list : List (Option (List ℕ))). list ++ c.in_ok-inherited_at.field-0 ∷ []) c.loop-field.invariant
+    c.in_ok-push.ensures
+    ∙ ap (λ (values : List (Option (List ℕ))). values ++ c.in_ok-inherited_at.field-0 ∷ []) c.loop-field.invariant
     ∙ take-next values c.loop-field.field c.in_ok-inherited_at.field-0 within c.in_ok-inherited_at.ensures
 
 pub returns : goal.returns
 returns c =
     let values = inherited_values c.args.key.now c.args.self.now c.args.parent.now in
-    let count : length c.self.inside.list.items ≡ length c.args.self.now = ap length c.self.view_is in
+    let count : length c.self.inside.places.items ≡ length c.args.self.now = sym (length-map c.self.inside.places.items (text_at c.self.inside.texts.items)) ∙ ap length c.self.view_is in
     let whole : length values ≤ c.loop-field.field = omega (arith, length-inherited c.args.key.now c.args.self.now c.args.parent.now) in
-    c.loop-field.invariant ∙ take_all c.loop-field.field values whole
+    c.shrink.ensures ∙ c.loop-field.invariant ∙ take_all c.loop-field.field values whole

@@ -3,4 +3,4 @@ use Rattle.btx_bib.specs.Passes.{inherited_values}
 use Rattle.btx_bib.proofs.values.Values.inherited.Given as goal
 
 abbrev pub invariant-loop-field : goal.invariant-loop-field
-invariant-loop-field l = l.list.items ≡ take l.field (inherited_values l.key l.self l.parent)
+invariant-loop-field l = l.values ≡ take l.field (inherited_values l.key l.self l.parent)

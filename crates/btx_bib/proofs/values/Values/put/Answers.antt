@@ -1,13 +1,15 @@
-use Rattle.std.proofs.Common.{rules, ◌≡◌, ◌∙◌, ap, ℕ, List, Option, Some}
-use Rattle.btx_bib.specs.Finding.{changed_at}
-use Rattle.btx_bib.proofs.FillingLemmas.{changed_at-slice_set, changed_at-past}
-use Rattle.btx_bib.proofs.values.Values.put.Goals.{in-Some+in-Borrowed-1, in-Some+in-Owned-1, in-Some+in-Shared-1, in-None-1}
+use Rattle.std.proofs.Common.{rules, arith, ◌≡◌, ◌∙◌, sym, ap, length, ℕ, List, Option, Some}
+use Rattle.std.proofs.lemmas.List.{length-map}
+use Rattle.btx_bib.specs.Values.{text_at}
+use Rattle.btx_bib.proofs.FillingLemmas.{changed_at-past}
+use Rattle.btx_bib.proofs.TextLemmas.{texts-put}
 use Rattle.btx_bib.proofs.values.Values.put.Goals as goal
 
-pub returns-then-field-len : goal.returns-then-field-len
-returns-then-field-len c =
-    let whole = changed_at-slice_set c.self.inside.list.items c.args.field (Some c.args.value) ∙ ap (changed_at c.args.field (λ (old : Option (List ℕ)). Some c.args.value)) c.self.view_is in
-    elim c.match-index_mut.branch [ in-Some+in-Borrowed-1 w ↦ w.self-is ∙ whole | in-Some+in-Owned-1 w ↦ w.self-is ∙ whole | in-Some+in-Shared-1 w ↦ w.self-is ∙ whole | in-None-1 w ↦ w.self-is ∙ whole ]
+pub returns-in_ok-push : goal.returns-in_ok-push
+returns-in_ok-push c = rw (c.in_ok-push.ensures.items, ← c.self.view_is) (texts-put _ _ _ _ _ c.self.invariant (search rules))
 
 pub returns-else-field-len : goal.returns-else-field-len
-returns-else-field-len c = changed_at-past c.args.self.now c.args.field (λ (old : Option (List ℕ)). Some c.args.value) (search rules)
+returns-else-field-len c =
+    let count : length c.self.inside.places.items ≡ length c.args.self.now = sym (length-map c.self.inside.places.items (text_at c.self.inside.texts.items)) ∙ ap length c.self.view_is in
+    let is = c.self.inside.places.ok.0 in
+    changed_at-past c.args.self.now c.args.field (λ (old : Option (List ℕ)). Some c.args.value) (omega arith)
