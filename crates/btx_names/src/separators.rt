@@ -1,5 +1,6 @@
 //! What stands between two names.
 ghost use Rattle.std.specs.Prelude.{◌≡◌, ◌==◌, ◌&&◌};
+ghost use Rattle.btx_text.specs.Class.{is_between};
 ghost use Rattle.btx_names.specs.NameLists as spec;
 ghost use Rattle.btx_names.specs.Steps as steps;
 
@@ -20,6 +21,13 @@ fn separates(depth: usize, text: &[u8]) -> bool
         && is_white(text[4])
 }
 
+// Whether a byte is from `!` to `z`. Such a byte is neither white nor a brace: it begins no separator, and it leaves the depth as it is.
+fn is_plain(byte: u8) -> bool
+    ensures { result ≡ is_between 33 122 byte }
+{
+    matches!(byte, b'!'..=b'z')
+}
+
 /// How long the first piece of a text is: to the white byte before the first `and` that separates, this byte included, or to the end.
 #[tactic(auto, using(crate::proofs::NameLemmas::name_len_steps))]
 pub(crate) fn name_len(text: &[u8]) -> usize
@@ -27,6 +35,9 @@ pub(crate) fn name_len(text: &[u8]) -> usize
 {
     let mut depth = 0;
     for (place, &byte) in text.iter().enumerate() {
+        if is_plain(byte) {
+            continue;
+        }
         if separates(depth, &text[place..]) {
             return place + 1;
         }
