@@ -15,9 +15,9 @@ fn separates(depth: usize, text: &[u8]) -> bool
     depth == 0
         && text.len() >= 5
         && is_white(text[0])
-        && text[1].to_ascii_lowercase() == b'a'
-        && text[2].to_ascii_lowercase() == b'n'
-        && text[3].to_ascii_lowercase() == b'd'
+        && matches!(text[1], b'a' | b'A')
+        && matches!(text[2], b'n' | b'N')
+        && matches!(text[3], b'd' | b'D')
         && is_white(text[4])
 }
 
