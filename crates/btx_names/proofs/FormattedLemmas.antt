@@ -7,7 +7,7 @@ use Rattle.btx_text.specs.declared.fault.Fault.{Fault}
 use Rattle.btx_text.specs.declared.fault.Fault.TheVariants.{Memory, Device, FileLimit, StringLimit}
 use Rattle.btx_strings.specs.declared.answers.Complaints.{Complaints}
 use Rattle.btx_strings.specs.Answers.{Answers}
-use Rattle.btx_names.specs.Becomes.{Makes}
+use Rattle.btx_names.specs.Becomes.{MakesLegal}
 use Rattle.btx_names.specs.NameParts.{NameParts, Sections, sections_of, ends_in_comma, has_third_comma, parts_by}
 use Rattle.btx_names.specs.Formats.{is_legal}
 use Rattle.btx_names.specs.FormattedNames.{formatted}
@@ -60,8 +60,10 @@ one_legal mode name format sections legal parts complaints cut asked is_so made 
     (rw (sym asked, is_so, made, cut) refl, rw (are, cut, asked) refl)
 
 -- a fault on the way is the fault of the whole
-pub answers_fault : (fault : Fault) (text : List ℕ) (complaints : Complaints) → Makes 1000000 (Err fault) text → Answers (Err fault) text complaints
-answers_fault Memory text complaints h = tt
-answers_fault StringLimit text complaints h = h
-answers_fault Device text complaints h = h
-answers_fault FileLimit text complaints h = h
+pub answers_fault : (mode : TextMode) (name format : List ℕ) (sections : Sections) (parts : NameParts) (fault : Fault) → sections ≡ sections_of name → parts ≡ parts_by sections →
+    MakesLegal 1000000 (is_legal format) (Err fault) (formatted mode parts format) → Answers (Err fault) (one_name_text mode name format) (one_name_complaints name format)
+unfolding one_name_text one_name_complaints
+answers_fault mode name format sections parts Memory cut made h = tt
+answers_fault mode name format sections parts StringLimit cut made h = rw (h.0, sym cut, sym made) h.1
+answers_fault mode name format sections parts Device cut made h = h
+answers_fault mode name format sections parts FileLimit cut made h = h

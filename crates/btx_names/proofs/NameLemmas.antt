@@ -2,9 +2,13 @@
 use Rattle.std.proofs.Common.{◌≡◌, ℕ, zero, suc, ◌+◌, ◌<◌, ◌≤◌, Bool, true, false, cond, eqb, ◌&&◌, List, [], ◌∷◌, length, take, drop, get_or, ◌⊎◌, inl, inr, refl, sym, ◌∙◌, ap, arith}
 use Rattle.std.proofs.lemmas.List.{drop_all, drop_more, take_rest, drop-drop, length-drop, take_all}
 use Rattle.std.proofs.lemmas.Bool.{and_parts, leb-true, ne_eqb}
+use Rattle.std.proofs.lemmas.Bool.Decides.{nat_tests}
+use Rattle.std.proofs.Math.Bool.{and-false}
+use Rattle.std.specs.Prelude.{nat_le, slice_index}
+use Rattle.btx_text.specs.Class.{is_between, is_white}
 use Rattle.btx_text.specs.Elements.{depth_after}
 use Rattle.btx_text.specs.Lines.{in_front}
-use Rattle.btx_names.specs.NameLists.{is_separator, pieces_from, names_of}
+use Rattle.btx_names.specs.NameLists.{is_letter, is_separator, pieces_from, names_of}
 use Rattle.btx_names.specs.Steps.{name_len}
 
 -- ---- the length of the first name
@@ -22,7 +26,30 @@ pub name_len_all : (depth : ℕ) (s : List ℕ) (i : ℕ) → length s ≤ i →
 unfolding name_len
 name_len_all depth s i h = rw (drop_all i s h) refl
 
-pub ruleset name_len_steps = (name_len_here, name_len_next, name_len_all, take_rest)
+-- a byte from `!` to `z` is neither white nor a brace
+abbrev is_plain : ℕ → Bool
+is_plain = is_between 33 122
+
+depth_after-plain : (depth b : ℕ) → is_plain b ≡ true → depth_after depth b ≡ depth
+depth_after-plain depth b plain = grind (arith, nat_tests)
+
+is_white-plain : (b : ℕ) → is_plain b ≡ true → is_white b ≡ false
+is_white-plain b plain = grind (arith, nat_tests)
+
+is_separator-plain : (b : ℕ) (bs : List ℕ) → is_plain b ≡ true → is_separator (b ∷ bs) ≡ false
+unfolding is_separator
+is_separator-plain b bs plain = at (nat_le 5 (length (b ∷ bs))) where
+  at : (fits : Bool) → (fits && is_white b && is_letter 97 (slice_index (b ∷ bs) 1) && is_letter 110 (slice_index (b ∷ bs) 2) && is_letter 100 (slice_index (b ∷ bs) 3) && is_white (slice_index (b ∷ bs) 4)) ≡ false
+  at true = rw (is_white-plain b plain) refl
+  at false = refl
+
+pub name_len_plain : (depth : ℕ) (s : List ℕ) (i : ℕ) → i < length s → is_plain (get_or s i 0) ≡ true →
+    name_len depth (drop i s) ≡ suc (name_len depth (drop (i + 1) s))
+name_len_plain depth s i h plain =
+    let none : (eqb depth 0 && is_separator (drop i s)) ≡ false = rw (drop_more s i 0 h, is_separator-plain (get_or s i 0) (drop (i + 1) s) plain) (and-false (eqb depth 0)) in
+    name_len_next depth s i h none ∙ ap (λ d. suc (name_len d (drop (i + 1) s))) (depth_after-plain depth (get_or s i 0) plain)
+
+pub ruleset name_len_steps = (name_len_here, name_len_next, name_len_plain, name_len_all, take_rest)
 
 -- ---- the pieces
 

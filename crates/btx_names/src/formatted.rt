@@ -2,7 +2,8 @@
 ghost use Rattle.std.specs.Prelude.{◌≡◌, ◌++◌, ◌≤◌, length, MatchOption, None, Some};
 ghost use Rattle.btx_strings.specs.Answers.{Answers};
 ghost use Rattle.btx_text.specs.Limits.{greatest_string};
-ghost use Rattle.btx_names.specs.Becomes.{Becomes, Makes};
+ghost use Rattle.btx_names.specs.Becomes.{Becomes, MakesLegal, MakesUntilIllegal};
+ghost use Rattle.btx_names.specs.Formats.{is_legal};
 ghost use Rattle.btx_names.specs.Answered as spec;
 ghost use Rattle.btx_names.specs.FormattedNames.{formatted, item_text, tokens_of_part};
 ghost use Rattle.btx_names.specs.ItemViews.{item_view};
@@ -77,14 +78,11 @@ fn format_one(alloc: Global, name: &[u8], format: &[u8], mode: TextMode) -> Resu
     ensures { Answers result (spec.one_name_text mode name.now format.now) (spec.one_name_complaints name.now format.now) }
 {
     let sections = Sections::of(name);
-    let legal = is_legal(format);
-    let complaints = complaints_of(name, sections, legal);
-    if !legal {
-        return Answer::new(Vec::new(alloc), complaints);
-    }
     let list = TokenList::of(alloc, sections)?;
-    let text = formatted(alloc, NameParts::of(&list, sections), format, mode)?;
-    Answer::new(text, complaints)
+    match legal_text(alloc, NameParts::of(&list, sections), format, mode)? {
+        Some(text) => Answer::new(text, complaints_of(name, sections, true)),
+        None => Answer::new(Vec::new(alloc), complaints_of(name, sections, false)),
+    }
 }
 
 // What is wrong with a name and a format.
@@ -100,20 +98,38 @@ fn complaints_of(name: &[u8], sections: Sections<'_>, is_legal: bool) -> Complai
     }
 }
 
-// The parts of a name in a legal format.
+// The parts of a name in a format; none where the format is illegal.
+fn legal_text(
+    alloc: Global,
+    parts: NameParts<'_, '_>,
+    format: &[u8],
+    mode: TextMode,
+) -> Result<Option<Vec<u8>>, Fault>
+    ensures { MakesLegal greatest_string (is_legal format.now) result (formatted mode (parts_view parts.entry) format.now) }
+{
+    match formatted(alloc, parts, format, mode) {
+        Err(Fault::StringLimit) if !is_legal(format) => Ok(None),
+        text => text,
+    }
+}
+
+// The parts of a name in a format, which is read once; none where an illegal item is met, which may stand behind too long a text.
 fn formatted(
     alloc: Global,
     parts: NameParts<'_, '_>,
     format: &[u8],
     mode: TextMode,
-) -> Result<Vec<u8>, Fault>
-    ensures { Makes greatest_string result (formatted mode (parts_view parts.entry) format.now) }
+) -> Result<Option<Vec<u8>>, Fault>
+    ensures { MakesUntilIllegal greatest_string (is_legal format.now) result (formatted mode (parts_view parts.entry) format.now) }
 {
     let mut writer = Writer::new(alloc, mode);
     for item in Items::of(format) {
+        if matches!(item, Item::Illegal) {
+            return Ok(None);
+        }
         push_item(&mut writer, item, parts)?;
     }
-    Ok(writer.into_text())
+    Ok(Some(writer.into_text()))
 }
 
 // Adds what an item of a format gives.

@@ -1,6 +1,7 @@
 //! Runs: the beginnings of a text before a byte of some kind at depth 0.
 ghost use Rattle.std.specs.Prelude.{◌≡◌, ◌≤◌, ◌==◌, ◌&&◌, length};
 ghost use Rattle.btx_names.specs.Runs as spec;
+ghost use Rattle.btx_names.specs.Steps as steps;
 
 use btx_text::classify::{is_alpha, is_white};
 use btx_text::depths::depth_after;
@@ -47,6 +48,16 @@ fn ends_run(stop: Stop, depth: usize, byte: u8) -> bool
     depth == 0 && stops(stop, byte)
 }
 
+// Whether a byte is from `.` to `z`, in a run that ends at no letter. The run does not end at such a byte, and it leaves the depth as it is.
+fn is_passed(stop: Stop, byte: u8) -> bool
+    ensures { result ≡ steps.is_passed stop byte }
+{
+    match stop {
+        Stop::Letter => false,
+        Stop::Break | Stop::Comma | Stop::Closing | Stop::Brace => matches!(byte, b'.'..=b'z'),
+    }
+}
+
 /// How many bytes of a text stand before the first of a kind at depth 0; all, where there is none.
 #[tactic(auto, using(crate::proofs::RunLemmas::run_steps))]
 pub fn run_len(text: &[u8], stop: Stop) -> usize
@@ -55,6 +66,9 @@ pub fn run_len(text: &[u8], stop: Stop) -> usize
 {
     let mut depth = 0;
     for (place, &byte) in text.iter().enumerate() {
+        if is_passed(stop, byte) {
+            continue;
+        }
         if ends_run(stop, depth, byte) {
             return place;
         }

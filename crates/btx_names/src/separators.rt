@@ -1,5 +1,6 @@
 //! What stands between two names.
 ghost use Rattle.std.specs.Prelude.{◌≡◌, ◌==◌, ◌&&◌};
+ghost use Rattle.btx_text.specs.Class.{is_between};
 ghost use Rattle.btx_names.specs.NameLists as spec;
 ghost use Rattle.btx_names.specs.Steps as steps;
 
@@ -14,10 +15,17 @@ fn separates(depth: usize, text: &[u8]) -> bool
     depth == 0
         && text.len() >= 5
         && is_white(text[0])
-        && text[1].to_ascii_lowercase() == b'a'
-        && text[2].to_ascii_lowercase() == b'n'
-        && text[3].to_ascii_lowercase() == b'd'
+        && matches!(text[1], b'a' | b'A')
+        && matches!(text[2], b'n' | b'N')
+        && matches!(text[3], b'd' | b'D')
         && is_white(text[4])
+}
+
+// Whether a byte is from `!` to `z`. Such a byte is neither white nor a brace: it begins no separator, and it leaves the depth as it is.
+fn is_plain(byte: u8) -> bool
+    ensures { result ≡ is_between 33 122 byte }
+{
+    matches!(byte, b'!'..=b'z')
 }
 
 /// How long the first piece of a text is: to the white byte before the first `and` that separates, this byte included, or to the end.
@@ -27,6 +35,9 @@ pub(crate) fn name_len(text: &[u8]) -> usize
 {
     let mut depth = 0;
     for (place, &byte) in text.iter().enumerate() {
+        if is_plain(byte) {
+            continue;
+        }
         if separates(depth, &text[place..]) {
             return place + 1;
         }
