@@ -5,13 +5,11 @@ use Rattle.btx_strings.specs.declared.conversions.Conversion.{Conversion}
 use Rattle.btx_strings.specs.declared.case_change.Place.{Place}
 use Rattle.btx_strings.specs.declared.case_change.Place.TheVariants.{First, Colon, ColonAndWhite, Inside}
 use Rattle.btx_strings.specs.Case.{is_white_text, is_colon, after_colon, begins_title, cased_part, cased_parts}
-use Rattle.btx_strings.specs.CaseState.{is_after_colon, place_after}
+use Rattle.btx_strings.specs.CaseState.{is_after_colon, is_beginning}
 
--- an element at this place begins a title or a part of one
-abbrev pub is_beginning : Place → Bool
-is_beginning First = true
-is_beginning ColonAndWhite = true
-is_beginning _ = false
+-- the place after one more element
+abbrev pub place_after : Place → Part → Place
+place_after place part = cond (is_white_text part.text) (cond (is_after_colon place) ColonAndWhite Inside) (cond (is_colon part) Colon Inside)
 
 -- the place after the elements before, nearest first
 abbrev pub place_of : List Part → Place
@@ -50,5 +48,3 @@ cased_parts-carried conversion before (part ∷ parts) =
 -- from the first element on
 pub cased_from-first : (conversion : Conversion) (parts : List Part) → cased_parts conversion [] parts ≡ cased_from conversion First parts
 cased_from-first conversion parts = cased_parts-carried conversion [] parts
-
-pub ruleset carried = (cased_from-first)

@@ -1,5 +1,6 @@
 pub mod ControlLemmas
 pub mod CaseLemmas
+pub mod PieceLemmas
 pub mod WidthLemmas
 pub mod LengthLemmas
 pub mod WorkedStrings

@@ -1,18 +1,20 @@
 //! Letters raised and lowered.
 ghost use Rattle.std.specs.Prelude.{◌≡◌, ◌++◌, map, OnOk};
+ghost use Rattle.std.specs.List.{prefix_len};
 ghost use Rattle.btx_strings.specs.Answers.{Answers, no_complaints};
 ghost use Rattle.btx_strings.specs.Case as spec;
-ghost use Rattle.btx_strings.specs.CaseState.{place_after};
+ghost use Rattle.btx_strings.specs.CaseState.{cased_piece, is_beginning, is_plain, piece_len, place_after};
 ghost use Rattle.btx_strings.specs.Glyphs.{glyph_of};
-ghost use Rattle.btx_text.specs.Parts.{part_of};
+ghost use Rattle.btx_text.specs.Elements.{group_len};
 
 use crate::answers::{Answer, Complaints};
 use crate::controls::{Glyph, Glyphs, Sequences};
 use crate::conversions::Conversion;
-use btx_text::{Element, Elements, Fault, Kind};
+use btx_text::Fault;
+use btx_text::depths::depth_after;
 use std::alloc::{AllocError, Global};
 
-// What stands before an element.
+// What stands before a piece.
 #[derive(Clone, Copy, Debug, PartialEq, Eq)]
 enum Place {
     First,
@@ -42,53 +44,103 @@ pub fn change_case(alloc: Global, string: &[u8], conversion: &[u8]) -> Result<An
     }
 }
 
-// A string in another case.
-#[tactic(auto, using(crate::proofs::CaseLemmas::carried))]
+// A string in another case, piece by piece.
+#[tactic(auto, using(crate::proofs::PieceLemmas::pieces))]
 fn cased(alloc: Global, string: &[u8], conversion: Conversion) -> Result<Answer, Fault>
     ensures { Answers result (spec.cased conversion string.now) no_complaints }
 {
     let mut text = Vec::with_capacity(alloc, string.len())?;
     let mut place = Place::First;
-    for element in Elements::of(string) {
-        let begins = matches!(place, Place::First | Place::ColonAndWhite);
-        push_element(&mut text, conversion, begins, element)?;
-        place = place_after(place, element);
+    let mut rest = string;
+    while !rest.is_empty() {
+        let (piece, others) = rest.split_at(piece_len(place, rest));
+        push_piece(&mut text, conversion, begins(place), piece)?;
+        place = place_after(place, piece);
+        rest = others;
     }
     Answer::new(text, Complaints::NONE)
 }
 
-// What stands before the element after this one.
-fn place_after(place: Place, element: Element<'_>) -> Place
-    ensures { result ≡ place_after place (part_of element.entry) }
+// How many bytes the piece has that a text begins with: a whole group in braces; else, where nothing begins, all before a colon or a
+// group; else one byte.
+#[tactic(auto, unfolding(crate::specs::CaseState::piece_len))]
+fn piece_len(place: Place, rest: &[u8]) -> usize
+    ensures { result ≡ piece_len place rest.now }
 {
-    if matches!(element.text, [b' ' | b'\t' | b'\r']) {
-        return match place {
-            Place::Colon | Place::ColonAndWhite => Place::ColonAndWhite,
-            Place::First | Place::Inside => Place::Inside,
-        };
+    match rest {
+        [] => 0,
+        [b'{', ..] => group_len(rest),
+        [b':', ..] => 1,
+        _ if place == Place::Inside => run_len(rest),
+        _ => 1,
     }
-    if element.depth == 0 && matches!(element.text, b":") {
-        return Place::Colon;
-    }
-    Place::Inside
 }
 
-// Adds an element in another case, which may begin a title or a part of one.
-fn push_element(
+// How many bytes there are until the depth is back at 0, or to the end.
+#[tactic(auto, using(btx_text::proofs::ElementLemmas::group_steps))]
+fn group_len(rest: &[u8]) -> usize
+    ensures { result ≡ group_len 0 rest.now }
+{
+    let mut depth = 0;
+    for (i, &byte) in rest.iter().enumerate() {
+        depth = depth_after(depth, byte);
+        if depth == 0 {
+            return i + 1;
+        }
+    }
+    rest.len()
+}
+
+// How many bytes there are before a colon or a group.
+fn run_len(rest: &[u8]) -> usize
+    ensures { result ≡ prefix_len is_plain rest.now }
+{
+    for (i, &byte) in rest.iter().enumerate() {
+        if matches!(byte, b':' | b'{') {
+            return i;
+        }
+    }
+    rest.len()
+}
+
+// Whether a title or a part of one begins at a place.
+fn begins(place: Place) -> bool
+    ensures { result ≡ is_beginning place }
+{
+    matches!(place, Place::First | Place::ColonAndWhite)
+}
+
+// What stands before the piece after this one.
+fn place_after(place: Place, piece: &[u8]) -> Place
+    ensures { result ≡ place_after place piece.now }
+{
+    match piece {
+        [b' ' | b'\t' | b'\r'] => match place {
+            Place::Colon | Place::ColonAndWhite => Place::ColonAndWhite,
+            Place::First | Place::Inside => Place::Inside,
+        },
+        [b':'] => Place::Colon,
+        _ => Place::Inside,
+    }
+}
+
+// Adds a piece in another case, which may begin a title or a part of one.
+#[tactic(auto, unfolding(crate::specs::CaseState::cased_piece))]
+fn push_piece(
     text: &mut Vec<u8>,
     conversion: Conversion,
     begins: bool,
-    element: Element<'_>,
+    piece: &[u8],
 ) -> Result<(), AllocError>
-    ensures { OnOk result (text.new.items ≡ text.old.items ++ spec.cased_part conversion begins (part_of element.entry)) }
+    ensures { OnOk result (text.new.items ≡ text.old.items ++ cased_piece conversion begins piece.now) }
 {
     if matches!(conversion, Conversion::Title) && begins {
-        return text.extend_from_slice(element.text);
+        return text.extend_from_slice(piece);
     }
-    match element.kind {
-        Kind::Byte if element.depth == 0 => push_cased(text, conversion, element.text),
-        Kind::Special => push_special(text, conversion, element.text),
-        _ => text.extend_from_slice(element.text),
+    match piece {
+        [b'{', b'\\', ..] => push_special(text, conversion, piece),
+        [b'{', ..] => text.extend_from_slice(piece),
+        _ => push_cased(text, conversion, piece),
     }
 }
 
@@ -96,8 +148,11 @@ fn push_element(
 fn push_cased(text: &mut Vec<u8>, conversion: Conversion, bytes: &[u8]) -> Result<(), AllocError>
     ensures { OnOk result (text.new.items ≡ text.old.items ++ map (spec.case_of conversion) bytes.now) }
 {
-    for byte in bytes {
-        text.push(conversion.apply(*byte))?;
+    let start = text.len();
+    text.extend_from_slice(bytes)?;
+    match conversion {
+        Conversion::Upper => text[start..].make_ascii_uppercase(),
+        Conversion::Title | Conversion::Lower => text[start..].make_ascii_lowercase(),
     }
     Ok(())
 }

@@ -1,7 +1,10 @@
-use Rattle.std.proofs.Common.{◌≡◌, ◌++◌}
+use Rattle.std.proofs.Common.{◌≡◌, ◌++◌, length}
 use Rattle.btx_strings.specs.Case as spec
-use Rattle.btx_strings.proofs.CaseLemmas.{cased_from}
+use Rattle.btx_strings.proofs.PieceLemmas.{cased_rest}
 use Rattle.btx_strings.proofs.case_change.cased.Given as goal
 
-abbrev pub invariant-loop-element : goal.invariant-loop-element
-invariant-loop-element l = l.text.items ++ cased_from l.conversion l.place l.element-iterator ≡ spec.cased l.conversion l.string
+abbrev pub invariant-loop-rest : goal.invariant-loop-rest
+invariant-loop-rest l = l.text.items ++ cased_rest l.conversion l.place l.rest ≡ spec.cased l.conversion l.string
+
+abbrev pub decreases-loop-rest : goal.decreases-loop-rest
+decreases-loop-rest l = length l.rest
