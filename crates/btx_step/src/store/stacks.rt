@@ -60,6 +60,7 @@ impl<'a> Store<'a> {
     }
 
     // `top$`
+    #[inline(always)]
     pub(super) fn show_top(&mut self, said: &mut Said<'a>) -> Result<Next, AllocError>
         requires { said.old ≡ silence }
         ensures { IfOk result (λ next. answer next said.new self.new ≡ spec.shows_top self.old.literals self.old) }
@@ -80,6 +81,7 @@ impl<'a> Store<'a> {
     }
 
     // `warning$`
+    #[inline(always)]
     pub(super) fn warn(&mut self, said: &mut Said<'a>) -> Result<Next, AllocError>
         requires { said.old ≡ silence }
         ensures { IfOk result (λ next. answer next said.new self.new ≡ spec.warns self.old.literals self.old) }
