@@ -5,13 +5,12 @@ ghost use Rattle.btx_strings.specs.Answers.{Answers, no_complaints};
 ghost use Rattle.btx_strings.specs.Case as spec;
 ghost use Rattle.btx_strings.specs.CaseState.{cased_piece, is_beginning, is_plain, piece_len, place_after};
 ghost use Rattle.btx_strings.specs.Glyphs.{glyph_of};
-ghost use Rattle.btx_text.specs.Elements.{group_len};
 
 use crate::answers::{Answer, Complaints};
 use crate::controls::{Glyph, Glyphs, Sequences};
 use crate::conversions::Conversion;
 use btx_text::Fault;
-use btx_text::depths::depth_after;
+use btx_text::string_elements::group_len;
 use std::alloc::{AllocError, Global};
 
 // What stands before a piece.
@@ -74,21 +73,6 @@ fn piece_len(place: Place, rest: &[u8]) -> usize
         _ if place == Place::Inside => run_len(rest),
         _ => 1,
     }
-}
-
-// How many bytes there are until the depth is back at 0, or to the end.
-#[tactic(auto, using(btx_text::proofs::ElementLemmas::group_steps))]
-fn group_len(rest: &[u8]) -> usize
-    ensures { result ≡ group_len 0 rest.now }
-{
-    let mut depth = 0;
-    for (i, &byte) in rest.iter().enumerate() {
-        depth = depth_after(depth, byte);
-        if depth == 0 {
-            return i + 1;
-        }
-    }
-    rest.len()
 }
 
 // How many bytes there are before a colon or a group.

@@ -137,10 +137,10 @@ fn extent(kind: Kind, first: u8, rest: &[u8]) -> usize
     }
 }
 
-// How many bytes there are until the depth is back at 0, or to the end.
+/// How many bytes of a string there are until the brace depth is back at 0, or to its end.
 #[inline(never)]
 #[tactic(auto, using(crate::proofs::ElementLemmas::group_steps))]
-fn group_len(rest: &[u8]) -> usize
+pub fn group_len(rest: &[u8]) -> usize
     ensures { result ≡ group_len 0 rest.now }
 {
     let mut depth = 0;
