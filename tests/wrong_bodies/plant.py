@@ -4,9 +4,9 @@
 
 A wrong body is a file crates/NAME/wrong-bodies/*.edit: a line 'function:' with the function that must be refused, a line 'file:', and pairs of
 lines 'old:' and 'new:'; each old text stands in that file once. A function is proved from the contracts of those that it calls, never from
-their bodies, so wrong bodies of different functions don't touch each other: those of one crate are planted together, in as few rounds as
-have each function once, and only their functions are checked. What isn't refused so, or not for a reason of its own (functions that call one
-another are proved together), is planted once more, alone. With --alone each is from the beginning.
+their bodies: so the wrong bodies of one crate are planted together, in as few rounds as have each function once, and only their functions are
+checked. What isn't refused so for a reason of its own (the check may only tell that a function is called that isn't proved) is planted once
+more, alone. With --alone each is from the beginning.
 
 It stands on the libraries that the gate has built (rt ci), and on the kit's own way to check a crate whose text is changed. The last line is
 'N passed, M failed', of wrong bodies; the exit status is 0 only where M is 0."""
@@ -71,18 +71,23 @@ def in_rounds(bodies, alone):
 
 
 def why_not_refused(crate, body, said):
-    """Why what the check said is no refusal of this body, if it isn't."""
+    """Why what the check said is no refusal of this body, if it isn't: a goal of its function must be left, or an answer for one be wrong."""
     name = re.escape(f"{crate}::{body.function}")
     verdict = re.search(rf"(?m)^fn {name}: (.*)$", said)
     if not verdict or verdict[1] == "proved":
         return "NOT REFUSED: its function is still proved" if verdict else "nothing is told of its function"
-    if verdict[1].startswith("no proof"):
+    if "did not prove" in verdict[1]:
         return None
-    folder = re.escape(body.function.replace("::", "/"))
-    errors = re.findall(rf"(?m)^(?:\./)?proofs/{folder}/\S+?:\d+:\d+: error.*$", said)
+    errors = re.findall(rf"(?m)^(?:\./)?proofs/{folder_of(body)}/\S+?:\d+:\d+: error.*$", said)
     if all(GONE.search(it) for it in errors):
-        return f"refused only since a name is gone, or another function isn't proved: {[verdict[0], *errors][-1][:200]}"
+        return f"refused only since a name is gone, or another function isn't proved: {[verdict[0], *errors][-1][:300]}"
     return None
+
+
+def folder_of(body):
+    """The folder of a function's proof, as a pattern: its own, or the one of the functions that it is proved with."""
+    *modules, name = map(re.escape, body.function.split("::"))
+    return "/".join([*modules, rf"(?:{name}|\+\w+)"])
 
 
 def try_round(kit, crate, bodies, kept):
