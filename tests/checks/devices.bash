@@ -10,6 +10,19 @@ wants_error "$device_error"
 wants_files d.bib job.aux s.bst
 end
 
+# The second database can't be read: all that was found before it is told.
+begin second_database_that_cannot_be_read
+printf '%s\n' '\citation{k}' '\bibdata{d,e}' '\bibstyle{s}' >job.aux
+mkdir e.bib
+run_program job
+found=${first_log%Ended*}
+wants_status 6
+wants_output "$found"
+wants_error "$device_error"
+wants_text job.blg "$found"
+wants_text job.bbl ''
+end
+
 # The `.bbl` can't be created: no log is written.
 begin references_that_cannot_be_created
 mkdir job.bbl

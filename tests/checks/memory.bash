@@ -80,6 +80,24 @@ refused_in_sorted() {
     end
 }
 
+# first_of_two_faults: the log's file can't be written either. The status is that of the fault that came first.
+first_of_two_faults() {
+    begin first_of_two_faults
+    local at first
+    for ((at = 1; at <= most_requests; at++)); do
+        rm -rf job.bbl job.blg "$folder/told"
+        run_refused "$at" job
+        [ -f "$folder/told" ] || break
+        first=$status
+        rm -rf job.bbl job.blg
+        mkdir job.blg
+        run_refused "$at" job
+        [[ $first != [56] || $status == "$first" ]] || complaints+=("the exit status is $status, not $first, at request $at")
+    done
+    [ "$at" -gt 1 ] || complaints+=('no request was refused')
+    end
+}
+
 refused_in first 0
 refused_in cross_reference 2
 refused_in database_error 2
@@ -87,6 +105,7 @@ refused_in stopped 4 --budget 200
 refused_in utf8_names 0 --text utf8
 refused_in long_lines 0
 refused_in_sorted
+first_of_two_faults
 
 # A refusal for want of memory has no text of its own, and each other one has its whole text.
 # wants_memory_or_text: what stands after a run that was to print a text with a status, and in which memory was refused once.

@@ -2,6 +2,7 @@
 ghost use Rattle.std.specs.Prelude.{◌≡◌, IfErr, IfOk, string_bytes};
 ghost use Rattle.bibtex.specs.Paths.{output_path};
 ghost use Rattle.bibtex.specs.Printing.{printed_log};
+ghost use Rattle.bibtex.specs.Status.{first_fault};
 
 use crate::directory::DirectoryFinder;
 use crate::given::Settings;
@@ -55,6 +56,18 @@ fn write_log(
     stored.and(printed)
 }
 
+// What a run answered, unless only what followed it failed: of two faults the first counts.
+fn first_fault(
+    answer: Result<Report, RunFault>,
+    written: Result<(), RunFault>,
+) -> Result<Report, RunFault>
+    ensures { result ≡ first_fault answer written }
+{
+    let report = answer?;
+    written?;
+    Ok(report)
+}
+
 /// Runs the job: writes `JOB.bbl`, `JOB.blg` and, where the settings aren't terse, to standard output the log again. The log is written
 /// also after a fault, except where `JOB.bbl` can't be created. The first fault is answered.
 pub fn run_job(
@@ -76,9 +89,7 @@ pub fn run_job(
         &mut log,
     );
     let written = write_log(rt, alloc, settings, log.writer.as_slice());
-    let report = answer?;
-    written?;
-    Ok(report)
+    first_fault(answer, written)
 }
 
 #[cfg(test)]

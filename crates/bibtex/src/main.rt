@@ -1,9 +1,9 @@
 //! The command `bibtex`: runs a job of a folder.
 #![tactic(auto)]
 
-ghost use Rattle.std.specs.Prelude.{◌≡◌, ◌⊎◌};
+ghost use Rattle.std.specs.Prelude.{◌≡◌};
 ghost use Rattle.bibtex.specs.CommandLine.{status_of};
-ghost use Rattle.bibtex.specs.Status.{exit_status};
+ghost use Rattle.bibtex.specs.Status.{exit_status, told_by};
 
 mod command_line;
 mod directory;
@@ -41,7 +41,7 @@ fn tell_fault(rt: &impl Eprint, fault: RunFault) -> u8
 
 // Prints why words are not run, and gives the exit status: the refusal's, unless its text can't be printed.
 fn tell_refusal(rt: &(impl Print + Eprint), refusal: &Refusal) -> u8
-    ensures { (result ≡ status_of refusal.now) ⊎ (status_of refusal.now ≡ 0) }
+    ensures { told_by (status_of refusal.now) result }
 {
     match refusal {
         Refusal::Shown(text) => match print!(rt; "{text}") {
