@@ -165,6 +165,14 @@ if has kpsewhich; then
     BIBINPUTS=nowhere:refs: BSTINPUTS=styles//: run_search job
     wants_first job
     end
+
+    # A variable keeps as many bytes as TeX Live says, where no option says otherwise.
+    begin limits_of_tex
+    printf '%s\n' 'ENTRY {}{}{} FUNCTION {misc} {} READ' 'FUNCTION {f} {entry.max$ int.to.str$ write$ newline$ global.max$ int.to.str$ write$ newline$} EXECUTE {f}' >s.bst
+    run_search -entry-max=7 job
+    wants_status 0
+    wants_text job.bbl "7"$'\n'"$(kpsewhich -progname=bibtex -var-value=glob_str_size)"$'\n'
+    end
 else
-    echo 'left out: search paths of TeX (without kpsewhich)'
+    echo 'left out: search paths and limits of TeX (without kpsewhich)'
 fi
