@@ -159,7 +159,7 @@ impl<'a> Gathering<'a> {
         } = self;
         draft.cite_all(alloc, request, request.last_cited())?;
         let Draft { names, slots } = draft;
-        let entries = entries_of(slots, alloc, &names, &mut messages)?;
+        let entries = entries_of(slots, alloc, names, &mut messages)?;
         Ok(Library {
             entries,
             preamble,

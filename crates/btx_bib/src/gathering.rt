@@ -110,7 +110,7 @@ impl<'a> Gathering<'a> {
             return Ok(());
         };
         let Pending { key, mut body } = pending;
-        body.values.shrink();
+        body.values.trim()?;
         self.draft.store(alloc, request, &key, body)
     }
 

@@ -33,8 +33,7 @@ fn inherit_at(
         return Ok(());
     };
     let values = slot.values_from(alloc, parent)?;
-    slots.set_values(place, values);
-    Ok(())
+    slots.set_values(place, values)
 }
 
 // The first pass: each entry takes what it lacks from its parent.
@@ -175,19 +174,34 @@ fn staying<'a>(
     Ok(entries)
 }
 
+// The list after both passes. No key is looked up any more, so the names are dropped.
+fn passed<'a>(
+    mut slots: Slots<'a>,
+    alloc: Global,
+    names: Names,
+    messages: &mut Messages<'a>,
+) -> Result<Slots<'a>, AllocError>
+    requires { names ≡ names_of slots }
+    ensures slots { IfOk result (λ passed. passed ≡ after_second (after_first slots.entry)) }
+    ensures messages { OnOk result (messages.new ≡ messages.old ++ told_in checked check_told [] (after_first slots.entry)) }
+{
+    inherit(&mut slots, alloc, &names)?;
+    check(&mut slots, alloc, &names, messages)?;
+    Ok(slots)
+}
+
 /// The entries of a list that stay, with what they inherit; what the passes tell is added to the messages.
 #[tactic(auto, unfolding(crate::specs::Passes::entries_of, crate::specs::Passes::references_told))]
 pub fn entries_of<'a>(
-    mut slots: Slots<'a>,
+    slots: Slots<'a>,
     alloc: Global,
-    names: &Names,
+    names: Names,
     messages: &mut Messages<'a>,
 ) -> Result<Vec<Entry<'a>>, AllocError>
-    requires { names.now ≡ names_of slots }
+    requires { names ≡ names_of slots }
     ensures entries { IfOk result (λ entries. entries.items ≡ entries_of slots.entry) }
     ensures messages { OnOk result (messages.new ≡ messages.old ++ references_told slots.entry) }
 {
-    inherit(&mut slots, alloc, names)?;
-    check(&mut slots, alloc, names, messages)?;
+    let slots = passed(slots, alloc, names, messages)?;
     staying(slots, alloc, messages)
 }

@@ -14,7 +14,7 @@ pub struct Request<'r, 'a> {
     /// The style, which declares the fields and the types.
     pub style: &'r Style<'a>,
     /// How many references keep an entry that wasn't cited.
-    pub fewest: usize,
+    pub fewest: u32,
 }
 
 impl<'r, 'a> Request<'r, 'a> {
@@ -32,7 +32,7 @@ impl<'r, 'a> Request<'r, 'a> {
         let all = job.all();
         let fewest = match all {
             Some(_) => 0,
-            None => min_crossrefs as usize,
+            None => min_crossrefs,
         };
         Request {
             job,

@@ -22,7 +22,7 @@ pub struct Slot<'a> {
     /// Whether it was cited.
     pub is_cited: bool,
     /// How many references it lacks to stay without having been cited.
-    pub wanting: usize,
+    pub wanting: u32,
     /// Its entry, if there is one.
     pub body: Option<Body<'a>>,
 }
@@ -136,13 +136,14 @@ impl<'a> Slots<'a> {
     }
 
     /// Gives the entry at a place other values.
-    pub fn set_values(&mut self, place: usize, values: Values<'a>)
-        ensures { self.new ≡ changed_at place (λ slot. with_body slot (with_values slot.body values.entry)) self.old }
+    pub fn set_values(&mut self, place: usize, values: Values<'a>) -> Result<(), AllocError>
+        ensures { OnOk result (self.new ≡ changed_at place (λ slot. with_body slot (with_values slot.body values.entry)) self.old) }
     {
         if place < self.list.len() {
             let slot = &mut self.list[place];
-            slot.set_values(values);
+            slot.set_values(values)?;
         }
+        Ok(())
     }
 
     /// Takes the entry at a place its parent.
@@ -157,7 +158,7 @@ impl<'a> Slots<'a> {
 }
 
 impl<'a> Slot<'a> {
-    ghost use Rattle.std.specs.Prelude.{◌≡◌, ◌≤◌, [], length, IfOk, option_copied};
+    ghost use Rattle.std.specs.Prelude.{◌≡◌, ◌≤◌, [], length, IfOk, OnOk, option_copied};
     ghost use Rattle.btx_text.specs.Limits.{greatest_string};
     ghost use Rattle.btx_bib.specs.Drafts.{with_entry};
     ghost use Rattle.btx_bib.specs.Passes.{cut, has_enough, inherited_values, parent_at, values_in, with_body, with_values};
@@ -205,11 +206,12 @@ impl<'a> Slot<'a> {
     }
 
     // Gives the entry other values.
-    fn set_values(&mut self, values: Values<'a>)
-        ensures { self.new ≡ with_body self.old (with_values self.old.body values.entry) }
+    fn set_values(&mut self, values: Values<'a>) -> Result<(), AllocError>
+        ensures { OnOk result (self.new ≡ with_body self.old (with_values self.old.body values.entry)) }
     {
-        if let Some(body) = &mut self.body {
-            body.values.replace(values);
+        match &mut self.body {
+            Some(body) => body.values.replace(values),
+            None => Ok(()),
         }
     }
 

@@ -5,6 +5,12 @@ use btx_text::Text;
 use std::alloc::{AllocError, Global};
 use std::marker::Model;
 
+// Most entries have so many values and no more.
+const MOSTLY_GIVEN: usize = 16;
+
+// Most children inherit so many values and no more.
+const MOSTLY_INHERITED: usize = 8;
+
 /// For each declared field its value, or that it is missing.
 #[derive(Drop)]
 pub struct Values<'a> {
@@ -60,7 +66,7 @@ impl<'a> Values<'a> {
     {
         Ok(Values {
             places: vec![in alloc; Place::missing(); count]?,
-            texts: Vec::new(alloc),
+            texts: Vec::with_capacity(alloc, count.min(MOSTLY_GIVEN))?,
         })
     }
 
@@ -98,11 +104,19 @@ impl<'a> Values<'a> {
         Ok(())
     }
 
-    /// Gives back the room that no value takes.
-    pub fn shrink(&mut self)
-        ensures { self.new ≡ self.old }
+    /// Gives back the room that no value takes. With a parent there is room for what most children inherit, so that their values
+    /// needn't move then.
+    pub fn trim(&mut self) -> Result<(), AllocError>
+        ensures { OnOk result (self.new ≡ self.old) }
     {
-        self.texts.shrink_to_fit();
+        let inherited = match self.parent() {
+            Some(_) => MOSTLY_INHERITED,
+            None => 0,
+        };
+        self.texts.reserve_exact(inherited)?;
+        self.texts
+            .shrink_to(self.texts.len().saturating_add(inherited));
+        Ok(())
     }
 
     /// The key of the parent: the value of the first declared field.
@@ -158,12 +172,11 @@ impl<'a> Values<'a> {
     {
         let mut values = Values {
             places: Vec::with_capacity(alloc, self.places.len())?,
-            texts: Vec::new(alloc),
+            texts: Vec::with_capacity(alloc, self.places.len())?,
         };
         for field in 0..self.places.len() {
             values.push(self.inherited_at(alloc, field, key, parent)?)?;
         }
-        values.shrink();
         Ok(values)
     }
 
@@ -176,13 +189,17 @@ impl<'a> Values<'a> {
         }
     }
 
-    /// Takes the place of these values.
-    pub fn replace(&mut self, values: Values<'a>)
-        ensures { self.new ≡ values.entry }
+    /// Has these values from now on, in the room that it has if that suffices.
+    pub fn replace(&mut self, values: Values<'a>) -> Result<(), AllocError>
+        ensures { OnOk result (self.new ≡ values.entry) }
     {
-        let Values { places, texts } = values;
+        let Values { places, mut texts } = values;
+        self.places.clear();
+        self.texts.clear();
+        self.texts.append(&mut texts)?;
+        self.texts.shrink_to_fit();
         self.places = places;
-        self.texts = texts;
+        Ok(())
     }
 }
 

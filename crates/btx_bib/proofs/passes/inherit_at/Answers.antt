@@ -1,6 +1,7 @@
 use Rattle.std.proofs.Common.{rules, arith, ◌≡◌, ◌≤◌, length, ◌∙◌, ap, sym, Option, Some, None, ℕ, List}
 use Rattle.std.specs.Prelude.{slice_get}
 use Rattle.std.specs.Str.{bytes_eq}
+use Rattle.std.proofs.lemmas.Result.{IfOk-weaker}
 use Rattle.btx_text.specs.Keys.{folded}
 use Rattle.btx_bib.specs.declared.slots.Slot.{Slot}
 use Rattle.btx_bib.specs.Finding.{place_of, changed_at}
@@ -42,7 +43,8 @@ returns c =
     let found : Some parent ≡ slot_by slots (place_of (bytes_eq (folded c.in-Some-parent.key.now)) c.args.names.now) = search rules in
     let inherits = inherited-by slots slot c.in-Some-parent.key.now (Some parent) named (slot_at-by slots c.args.names.now c.in-Some-parent.key.now (Some parent) c.requires found) in
     let values = ap (λ (values : List (Option (List ℕ))). with_body slot (with_values slot.body values)) c.in_ok-values.ensures in
-    c.set_values.ensures ∙ changed_at-agree slots c.args.place slot (λ (s : Slot). with_body s (with_values s.body c.in_ok-values.values)) (inherited slots) there (values ∙ sym inherits)
+    let agrees = changed_at-agree slots c.args.place slot (λ (s : Slot). with_body s (with_values s.body c.in_ok-values.values)) (inherited slots) there (values ∙ sym inherits) in
+    IfOk-weaker c.set_values.result _ _ (λ done is. is ∙ agrees) c.set_values.ensures
 
 pub values_from-requires : goal.values_from-requires
 values_from-requires c =

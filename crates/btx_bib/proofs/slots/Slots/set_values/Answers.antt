@@ -6,11 +6,11 @@ use Rattle.btx_bib.proofs.FillingLemmas.{changed_at-past}
 use Rattle.btx_bib.proofs.PlaceLemmas.{changed_at-set}
 use Rattle.btx_bib.proofs.slots.Slots.set_values.Goals as goal
 
-pub returns-then-place-len : goal.returns-then-place-len
-returns-then-place-len c =
+pub returns-in_ok-set_values : goal.returns-in_ok-set_values
+returns-in_ok-set_values c =
     let change = λ (slot : Slot). with_body slot (with_values slot.body c.args.values) in
     let within : c.args.place < length c.self.inside.list.items = search rules in
-    changed_at-set c.self.inside.list.items c.args.place c.index_mut-slot.result.now c.set_values.new.self change c.set_values.ensures c.index_mut-slot.ensures.value within
+    changed_at-set c.self.inside.list.items c.args.place c.index_mut-slot.result.now c.set_values.new.self change c.in_ok-set_values.ensures c.index_mut-slot.ensures.value within
     ∙ ap (changed_at c.args.place change) c.self.view_is
 
 pub returns-else-place-len : goal.returns-else-place-len

@@ -19,4 +19,4 @@ returns c =
     let values = inherited_values c.args.key.now c.args.self.now c.args.parent.now in
     let count : length c.self.inside.places.items ≡ length c.args.self.now = sym (length-map c.self.inside.places.items (text_at c.self.inside.texts.items)) ∙ ap length c.self.view_is in
     let whole : length values ≤ c.loop-field.field = omega (arith, length-inherited c.args.key.now c.args.self.now c.args.parent.now) in
-    c.shrink.ensures ∙ c.loop-field.invariant ∙ take_all c.loop-field.field values whole
+    c.loop-field.invariant ∙ take_all c.loop-field.field values whole
