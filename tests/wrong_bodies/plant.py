@@ -2,7 +2,7 @@
 
     python3 plant.py [--alone] [--jobs N] [CRATE..]
 
-A wrong body is a file crates/NAME/wrong-bodies/*.edit: a line 'function:' with the function that must be refused, a line 'file:', and pairs of
+A wrong body is a file crates/NAME/wrong-bodies/*.edit, or must-fail/*.edit: a line 'function:' with the function that must be refused, a line 'file:', and pairs of
 lines 'old:' and 'new:'; each old text stands in that file once. A function is proved from the contracts of those that it calls, never from
 their bodies: so the wrong bodies of one crate are planted together, in as few rounds as have each function once, and only their functions are
 checked. What isn't refused so for a reason of its own (the check may only tell that a function is called that isn't proved) is planted once
@@ -23,6 +23,8 @@ import sys
 import tempfile
 
 ROOT = pathlib.Path(__file__).resolve().parents[2]
+# The kit's own gate tries those of the first folder as well, one by one.
+FOLDERS = ("must-fail", "wrong-bodies")
 # An error that tells only that a name is gone says nothing of a contract.
 GONE = re.compile(r"is not in scope|has no field|has no `|was not admitted")
 
@@ -109,7 +111,8 @@ def try_round(kit, crate, bodies, kept):
 
 
 def try_crate(kit, crate, alone):
-    bodies = [WrongBody(path) for path in sorted(pathlib.Path(crate.folder, "wrong-bodies").glob("*.edit"))]
+    paths = sorted(path for folder in FOLDERS for path in pathlib.Path(crate.folder, folder).glob("*.edit"))
+    bodies = [WrongBody(path) for path in paths]
     with tempfile.TemporaryDirectory() as kept:
         tried = [it for bodies in in_rounds(bodies, alone) for it in try_round(kit, crate, bodies, kept)]
         results = [it if it[1] is None else try_round(kit, crate, [it[0]], kept)[0] for it in tried]
