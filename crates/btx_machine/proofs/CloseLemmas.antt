@@ -1,5 +1,5 @@
 -- What a run writes last.
-use Rattle.std.proofs.Common.{◌≡◌, ℕ, zero, suc, ◌+◌, List, [], ◌∷◌, ◌++◌, Option, sym, ap, subst, ◌∙◌, refl, append_assoc, ◌≤◌, arith}
+use Rattle.std.proofs.Common.{◌≡◌, ℕ, zero, suc, ◌+◌, List, [], ◌∷◌, ◌++◌, Option, sym, ap, subst, ◌∙◌, refl, append_assoc, ◌≤◌, inl, inr, arith}
 use Rattle.std.specs.Io.KnownBytes.{Appends}
 use Rattle.std.specs.List.{flat_map}
 use Rattle.std.proofs.KnownBytes.{Appends-trans, Appends-nil}
@@ -47,6 +47,7 @@ closing_bbl start b c l outputs end out last h part =
       bbl_most = p.1;
       log_least = whole_least start.log l out.log h.log;
       log_most = beginning_more start.log l out.log (out.log ++ ended_line last) (whole_most start.log l out.log h.log) (ended_line last, refl);
+      last_line = inr (whole_most start.log l out.log h.log);
     }
 
 pub closing_log : (start : Start) (b c l m : Option (List ℕ)) (outputs : Outputs) (end : Ending) (out : Out) (last : List ℕ) → Stands start outputs (b, l) out → FinishedAt outputs end b c → AppendsBeginning l m (ended_line last)
@@ -59,6 +60,7 @@ closing_log start b c l m outputs end out last h whole part =
       bbl_most = whole_most start.bbl c (bbl_at start.limit end out) w;
       log_least = record { more = part.front; received = Appends-trans start.log l m out.log part.front h.log part.received };
       log_most = record { front = out.log ++ part.front; rest = part.rest; whole = ap (λ xs. out.log ++ xs) part.whole ∙ sym (append_assoc out.log part.front part.rest); received = Appends-trans start.log l m out.log part.front h.log part.received };
+      last_line = inl w;
     }
 
 pub nothing_told : (l : Option (List ℕ)) (bytes : List ℕ) → AppendsBeginning l l bytes

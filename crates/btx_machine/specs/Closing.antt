@@ -1,5 +1,5 @@
 -- What a run writes last.
-use Rattle.std.specs.Prelude.{ℕ, List, ◌++◌, Option}
+use Rattle.std.specs.Prelude.{ℕ, ◌⊎◌, List, ◌++◌, Option}
 use Rattle.std.specs.Io.KnownBytes.{Appends}
 use Rattle.btx_out.specs.Pieces.{AppendsBeginning, AppendsAtLeast}
 use Rattle.btx_machine.specs.declared.outputs.Outputs.{Outputs}
@@ -25,12 +25,13 @@ abbrev pub Closes : Work → Ending → ℕ → Received → Received → Type 0
 Closes old end steps before after = (start : Start) (out : Out) → Stands start old.outputs before out →
     Appends start.bbl after.0 (bbl_at start.limit end out) × Appends start.log after.1 (out.log ++ ended_line (last_line (report_at end steps (state old.store out))))
 
--- at a failure a part of that
+-- at a failure a part of that, and nothing of the last line unless the list is written to its end
 pub record Closing (start : Start) (after : Received) (out : Out) (bbl last : List ℕ) : Type 0 where
   pub bbl_least : AppendsAtLeast start.bbl after.0 (so_far start.limit out)
   pub bbl_most : AppendsBeginning start.bbl after.0 bbl
   pub log_least : AppendsAtLeast start.log after.1 out.log
   pub log_most : AppendsBeginning start.log after.1 (out.log ++ ended_line last)
+  pub last_line : Appends start.bbl after.0 bbl ⊎ AppendsBeginning start.log after.1 out.log
 
 abbrev pub ClosesPart : Work → Ending → ℕ → Received → Received → Type 0
 ClosesPart old end steps before after = (start : Start) (out : Out) → Stands start old.outputs before out →

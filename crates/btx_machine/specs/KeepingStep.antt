@@ -34,7 +34,12 @@ pub record WithinOneStep (before after : Received) (make : ℕ → Product) (bud
 abbrev pub KeepsStep : Received → Received → (ℕ → Product) → ℕ → Type 0
 KeepsStep before after make budget = BothBegin before after (make 0) ⊎ WithinOneStep before after make budget
 
--- after a fault both outputs are beginnings of the product's, and keep step
+-- the log's last line comes only behind the whole list: the list was written to its end, or nothing of that line was written
+abbrev pub LastLineBehindList : Received → Received → Product → Type 0
+LastLineBehindList before after product = Appends before.0 after.0 product.bbl ⊎ AppendsBeginning before.1 after.1 product.told
+
+-- after a fault both outputs are beginnings of the product's, and keep step; who finds the log's last line has the whole list
 pub record AtFault (before after : Received) (make : ℕ → Product) (budget : ℕ) : Type 0 where
   pub beginnings : BothBegin before after (make budget)
+  pub last_line : LastLineBehindList before after (make budget)
   pub step : KeepsStep before after make budget

@@ -20,7 +20,7 @@ use Rattle.btx_bib.specs.Requests.{asked}
 use Rattle.btx_step.specs.Jobs.{Job as Stored}
 use Rattle.btx_machine.specs.Faults.{CountsOfLog, CountsOfOutputs}
 use Rattle.btx_machine.specs.Items.{Given, given}
-use Rattle.btx_machine.specs.KeepingStep.{AtFault, BothBegin, BothExtend, Completes, KeepsStep}
+use Rattle.btx_machine.specs.KeepingStep.{AtFault, BothBegin, BothExtend, Completes, KeepsStep, LastLineBehindList}
 use Rattle.btx_machine.specs.Product.{Product, product_early, product as executed}
 use Rattle.btx_machine.specs.Reports.{last_line, told_so}
 use Rattle.btx_machine.specs.Saying.{ended_line}
@@ -85,7 +85,7 @@ completes_early b l m told report is (Err fault) same writes = tt
 
 pub fails_early : (b l m : Option (List ℕ)) (told report : Report) (budget : ℕ) → told ≡ report → AppendsBeginning l m (ended_line (last_line told))
     → AtFault (b, l) (b, m) (λ steps. product_early report) budget
-fails_early b l m told report budget is part = record { beginnings = begins; step = inl begins }
+fails_early b l m told report budget is part = record { beginnings = begins; last_line = inl (Appends-nil b); step = inl begins }
   where
     begins : BothBegin (b, l) (b, m) (product_early report)
     begins = record { bbl_begins = beginning-none_same b []; log_begins = subst (λ report. AppendsBeginning l m (ended_line (last_line report))) is part }
@@ -106,6 +106,10 @@ module _ (lines : List Line) (b c l m n : Option (List ℕ)) (told : Appends l m
     log_begins = subst (AppendsBeginning l n) (sym (append_assoc (bytes_of_lines lines) whole.told _)) (beginning-after l m n _ _ told begins.log_begins);
   }
 
+  last_behind : (whole : Product) → LastLineBehindList (b, m) (c, n) whole → LastLineBehindList (b, l) (c, n) (told_before lines whole)
+  last_behind whole (inl list) = inl list
+  last_behind whole (inr part) = inr (beginning-after l m n _ _ told part)
+
   extends_behind : (whole : Product) → BothExtend (b, m) (c, n) whole → BothExtend (b, l) (c, n) (told_before lines whole)
   extends_behind whole extends = record {
     bbl_extends = extends.bbl_extends;
@@ -125,12 +129,12 @@ module _ (lines : List Line) (b c l m n : Option (List ℕ)) (told : Appends l m
   })
 
   pub fails_behind : (make : ℕ → Product) (budget : ℕ) → AtFault (b, m) (c, n) make budget → AtFault (b, l) (c, n) (λ steps. told_before lines (make steps)) budget
-  fails_behind make budget fault = record { beginnings = begins_behind (make budget) fault.beginnings; step = keeps_behind make budget fault.step }
+  fails_behind make budget fault = record { beginnings = begins_behind (make budget) fault.beginnings; last_line = last_behind (make budget) fault.last_line; step = keeps_behind make budget fault.step }
 
 -- a fault while these lines were told
 pub fails_in_lines : (lines : List Line) (b l m : Option (List ℕ)) (make : ℕ → Product) (budget : ℕ) → AppendsBeginning l m (bytes_of_lines lines)
     → AtFault (b, l) (b, m) (λ steps. told_before lines (make steps)) budget
-fails_in_lines lines b l m make budget part = record { beginnings = begins budget; step = inl (begins 0) }
+fails_in_lines lines b l m make budget part = record { beginnings = begins budget; last_line = inr (beginning-longer l m _ _ part); step = inl (begins 0) }
   where
     begins : (steps : ℕ) → BothBegin (b, l) (b, m) (told_before lines (make steps))
     begins steps = record { bbl_begins = beginning-none_same b _; log_begins = beginning-longer l m _ _ (beginning-longer l m _ _ part) }

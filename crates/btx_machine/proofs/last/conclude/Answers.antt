@@ -1,8 +1,8 @@
 use Rattle.std.proofs.Common.{sym, ap, ◌∙◌}
 use Rattle.btx_machine.specs.Reports.{report_of}
-use Rattle.btx_machine.proofs.ComesLemmas.{err_map}
+use Rattle.btx_machine.proofs.ComesLemmas.{on_err, err_map}
 use Rattle.btx_machine.proofs.SayLemmas.{on_ok_map}
-use Rattle.btx_machine.proofs.LastLemmas.{line_part, line_whole}
+use Rattle.btx_machine.proofs.LastLemmas.{unfinished_part, line_part, line_whole}
 use Rattle.btx_machine.proofs.last.conclude.Goals as goal
 
 pub returns-clause-ok : goal.returns-clause-ok
@@ -10,3 +10,6 @@ returns-clause-ok g c = on_ok_map (line_whole c.args.work c.args.end c.args.step
 
 pub returns-clause-err : goal.returns-clause-err
 returns-clause-err g c = err_map (line_part c.args.work c.args.end c.args.steps (g.W.Sink.received c.args.bbl.now) (g.W.Sink.received c.finish.new.bbl) (g.L.Sink.received c.args.log.now) c.finish.new.outputs c.finish.ensures.warnings c.finish.ensures.errors c.in_ok-finish.ensures.ok c.deepest.result c.deepest.ensures c.told-told.result c.told-told.ensures.warnings c.told-told.ensures.errors c.report_of-report.result (c.report_of-report.ensures ∙ ap (λ end. report_of end c.args.steps c.deepest.result c.told-told.result) c.of.ensures) (g.L.Sink.received c.tell_end.new.log)) c.tell_end.result c.tell_end.ensures.err
+
+pub returns-in_err-finish-clause-err : goal.returns-in_err-finish-clause-err
+returns-in_err-finish-clause-err g c = on_err c.from_residual.result (unfinished_part c.args.work c.args.end c.args.steps (g.W.Sink.received c.args.bbl.now) (g.W.Sink.received c.finish.new.bbl) (g.L.Sink.received c.args.log.now) c.in_err-finish.ensures.err)
