@@ -1,6 +1,7 @@
 //! What is written and told while a run goes on.
 ghost use Rattle.std.specs.Prelude.{◌≡◌, [], List, ℕ, Option, IsSome, OnErr, OnOk};
 ghost use Rattle.btx_text.specs.LogLines.{is_error, is_warning};
+ghost use Rattle.btx_step.specs.Answers.{silence};
 ghost use Rattle.btx_machine.specs.Saying.{counted_if, line_told, lines_of, lines_told, said_on};
 
 use crate::report::Told;
@@ -59,19 +60,20 @@ impl Outputs {
         job: &Job<'_>,
         executed: &[u8],
         current: Option<usize>,
-        said: Said<'_>,
+        said: &mut Said<'_>,
         bbl: &mut W,
         log: &mut L,
     ) -> Result<(), Fault>
         requires { Writes self.old }
         ensures ok { OnOk result (Becomes self.old (W.received bbl.old, L.received log.old) self.new (W.received bbl.new, L.received log.new)
-            (λ out. said_on job.now executed.now current said.entry out)) }
+            (λ out. said_on job.now executed.now current said.old out)) }
         ensures err { OnErr result (Stops self.old (W.received bbl.old, L.received log.old) (W.received bbl.new, L.received log.new)
-            (λ out. said_on job.now executed.now current said.entry out)) }
+            (λ out. said_on job.now executed.now current said.old out)) }
+        ensures silent { said.new ≡ silence }
         ensures writes { OnOk result (Writes self.new) }
         ensures counts { CountsOfOutputs result (W.failures bbl.old, W.failures bbl.new) (L.failures log.old, L.failures log.new) }
     {
-        match said {
+        match std::mem::replace(said, Said::Nothing) {
             Said::Nothing => Ok(()),
             Said::Wrote(text) => self.breaker.put(text.as_bytes(), bbl),
             Said::EndedLine => self.breaker.newline(bbl),
