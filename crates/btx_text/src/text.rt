@@ -6,6 +6,9 @@ use std::alloc::{AllocError, Global};
 use std::marker::Model;
 use std::rc::RcSlice;
 
+// Most strings that are put together from others come to so many bytes and no more.
+const MOSTLY_JOINED: usize = 128;
+
 // Where the bytes are.
 #[derive(Drop)]
 enum Kept<'a> {
@@ -154,7 +157,7 @@ fn copy_with_room(alloc: Global, bytes: &[u8], room: usize) -> Result<Vec<u8>, A
     requires { length bytes.now + room ≤ greatest_string }
     ensures { IfOk result (λ copy. copy.items ≡ bytes.now) }
 {
-    let mut copy = Vec::with_capacity(alloc, bytes.len() + room)?;
+    let mut copy = Vec::with_capacity(alloc, (bytes.len() + room).max(MOSTLY_JOINED))?;
     copy.extend_from_slice(bytes)?;
     Ok(copy)
 }
