@@ -1,9 +1,9 @@
 -- What a run writes last.
-use Rattle.std.proofs.Common.{◌≡◌, ℕ, zero, suc, ◌+◌, List, [], ◌∷◌, ◌++◌, Option, sym, ap, subst, ◌∙◌, refl, append_assoc, ◌≤◌, inl, inr, arith}
+use Rattle.std.proofs.Common.{◌≡◌, ℕ, List, [], ◌++◌, Option, sym, ap, ◌∙◌, refl, append_assoc, ◌≤◌, inl, inr, arith}
 use Rattle.std.specs.Io.KnownBytes.{Appends}
 use Rattle.std.specs.List.{flat_map}
 use Rattle.std.proofs.KnownBytes.{Appends-trans, Appends-nil}
-use Rattle.btx_out.specs.Breaking.{left, sure, wrap, written_of}
+use Rattle.btx_out.specs.Breaking.{left, sure, wrap}
 use Rattle.btx_out.specs.Breakers.{holding, finished, Finishes, FinishesPart, AppendsPartOfRest}
 use Rattle.btx_out.specs.Pieces.{AppendsAtLeast, AppendsBeginning}
 use Rattle.btx_out.proofs.WrittenLemmas.{written_of-finish, begins-finish}
@@ -11,7 +11,7 @@ use Rattle.btx_machine.specs.declared.outputs.Outputs.{Outputs}
 use Rattle.btx_machine.specs.declared.ending.Ending.{Ending}
 use Rattle.btx_machine.specs.declared.ending.Ending.TheVariants as ends
 use Rattle.btx_machine.specs.States.{Out}
-use Rattle.btx_machine.specs.Written.{Received, Start, Stands}
+use Rattle.btx_machine.specs.Written.{Start, Stands}
 use Rattle.btx_machine.specs.Saying.{ended_line}
 use Rattle.btx_machine.proofs.LawLemmas.{so_far_begins}
 use Rattle.btx_machine.proofs.OutLemmas.{at_least_less, beginning_more, whole_least, whole_most}

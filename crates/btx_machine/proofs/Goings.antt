@@ -1,5 +1,5 @@
 -- What was written and told goes on.
-use Rattle.std.proofs.Common.{◌≡◌, ℕ, ◌+◌, ◌≤◌, List, [], ◌∷◌, ◌++◌, ◌⊎◌, inl, inr, sym, ap, subst, ◌∙◌, refl, append-nil, append_assoc}
+use Rattle.std.proofs.Common.{◌≡◌, ℕ, ◌≤◌, List, [], ◌∷◌, ◌++◌, ◌⊎◌, inl, inr, sym, ap, ◌∙◌, refl, append-nil, append_assoc}
 use Rattle.btx_out.specs.Breaking.{written_of, left}
 use Rattle.btx_out.specs.States.{wrap_after, sure_after}
 use Rattle.btx_out.proofs.WrittenLemmas.{written_of-longer, written_of-more}

@@ -1,5 +1,5 @@
 -- The last line.
-use Rattle.std.proofs.Common.{◌≡◌, ℕ, List, [], ◌∷◌, ◌++◌, Option, sym, ap, subst, ◌∙◌, refl}
+use Rattle.std.proofs.Common.{◌≡◌, ℕ, List, Option, ap, subst, ◌∙◌}
 use Rattle.std.specs.Io.KnownBytes.{Appends}
 use Rattle.std.proofs.KnownBytes.{Appends-trans}
 use Rattle.btx_out.specs.Pieces.{AppendsBeginning}
@@ -7,14 +7,14 @@ use Rattle.btx_machine.specs.declared.outputs.Outputs.{Outputs}
 use Rattle.btx_machine.specs.declared.work.Work.{Work}
 use Rattle.btx_machine.specs.declared.ending.Ending.{Ending}
 use Rattle.btx_machine.specs.States.{Out, state}
-use Rattle.btx_machine.specs.Written.{Received, Start, Stands}
+use Rattle.btx_machine.specs.Written.{Start, Stands}
 use Rattle.btx_machine.specs.Saying.{ended_line}
 use Rattle.btx_machine.specs.declared.report.Report.{Report}
 use Rattle.btx_machine.specs.declared.report.Told.{Told}
 use Rattle.btx_machine.specs.Reports.{end_as, told_so, report_of, last_line}
-use Rattle.btx_machine.specs.Product.{bbl_at, report_at}
-use Rattle.btx_machine.specs.Closing.{FinishedAt, FinishedPart, Closing, Closes, ClosesPart}
-use Rattle.btx_machine.proofs.CloseLemmas.{closing_bbl, closing_log, nothing_told}
+use Rattle.btx_machine.specs.Product.{report_at}
+use Rattle.btx_machine.specs.Closing.{FinishedAt, FinishedPart, Closes, ClosesPart}
+use Rattle.btx_machine.proofs.CloseLemmas.{closing_bbl, closing_log}
 
 -- the pending line could not be ended
 pub unfinished_part : (work : Work) (end : Ending) (steps : ℕ) (b c l : Option (List ℕ)) → FinishedPart work.outputs end b c → ClosesPart work end steps (b, l) (c, l)

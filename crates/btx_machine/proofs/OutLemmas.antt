@@ -1,9 +1,9 @@
 -- What the outputs stand for, and what the sinks have received.
-use Rattle.std.proofs.Common.{◌≡◌, ℕ, ◌≤◌, List, [], ◌∷◌, ◌++◌, Option, sym, ap, subst, ◌∙◌, refl, append-nil, append_assoc, arith}
+use Rattle.std.proofs.Common.{◌≡◌, ℕ, ◌≤◌, List, [], ◌++◌, Option, sym, ap, subst, ◌∙◌, refl, append-nil, append_assoc, arith}
 use Rattle.std.specs.Io.KnownBytes.{Appends}
 use Rattle.std.proofs.KnownBytes.{Appends-trans}
 use Rattle.std.specs.List.{flat_map}
-use Rattle.btx_out.specs.Breaking.{Collecting, left, sure, wrap, written_of}
+use Rattle.btx_out.specs.Breaking.{Collecting, left, sure, wrap}
 use Rattle.btx_out.specs.Breakers.{Held, holding, AppendsPartOfRest, Puts, PutsPart, Ends, EndsPart}
 use Rattle.btx_out.specs.Pieces.{AppendsAtLeast, AppendsBeginning}
 use Rattle.btx_out.proofs.WrittenLemmas.{written_of-put, begins-put, written_of-newline, begins-newline, left-nil}

@@ -1,10 +1,10 @@
 -- What a failure leaves, of a run within runs.
-use Rattle.std.proofs.Common.{◌≡◌, ℕ, zero, suc, ◌+◌, ◌-◌, ◌<◌, ◌≤◌, ◌⊎◌, inl, inr, List, sym, ap, subst, ◌∙◌, refl, arith}
+use Rattle.std.proofs.Common.{◌≡◌, ℕ, zero, suc, ◌+◌, ◌≤◌, ◌⊎◌, inl, inr, sym, ap, subst, ◌∙◌, refl, arith}
 use Rattle.btx_machine.specs.declared.work.Work.{Work}
-use Rattle.btx_machine.specs.States.{Out, State, state, Outcome, Done, Stopped, end_of}
+use Rattle.btx_machine.specs.States.{Out, State, state, Outcome, end_of}
 use Rattle.btx_machine.specs.Meaning.{then_do}
 use Rattle.btx_machine.specs.Commands.{Doing}
-use Rattle.btx_machine.specs.Written.{Received, Stands, Between, Within, FailsWithin, Fails, Leads, Comes, Start}
+use Rattle.btx_machine.specs.Written.{Received, Between, Within, FailsWithin, Fails, Comes, Start}
 use Rattle.btx_machine.proofs.Goings.{starts_self}
 use Rattle.btx_machine.proofs.OutLemmas.{wider}
 use Rattle.btx_machine.proofs.Adds.{Adds, adds_self}

@@ -1,5 +1,5 @@
 -- How far a run has come, item by item.
-use Rattle.std.proofs.Common.{◌≡◌, ℕ, zero, suc, ◌+◌, ◌-◌, ◌<◌, ◌≤◌, List, [], ◌∷◌, Option, sym, ap, subst, ◌∙◌, refl, arith}
+use Rattle.std.proofs.Common.{◌≡◌, ℕ, zero, suc, ◌+◌, sym, ap, subst, ◌∙◌, refl, arith}
 use Rattle.btx_machine.specs.declared.ending.Ending.{Ending}
 use Rattle.btx_machine.specs.declared.ending.Ending.TheVariants as ends
 use Rattle.btx_machine.specs.declared.work.Work.{Work}
@@ -7,9 +7,8 @@ use Rattle.btx_machine.specs.States.{Out, State, state, Outcome, Done, Stopped, 
 use Rattle.btx_machine.specs.Meaning.{then_do}
 use Rattle.btx_machine.specs.Commands.{Doing}
 use Rattle.btx_machine.specs.Goings.{Starts}
-use Rattle.btx_machine.specs.Written.{Received, Stands, Leads, Comes, Runs}
+use Rattle.btx_machine.specs.Written.{Received, Comes, Runs}
 use Rattle.btx_machine.proofs.Goings.{starts_self, starts_trans}
-use Rattle.btx_machine.proofs.Adds.{Adds}
 use Rattle.btx_machine.proofs.Tracks.{Tracks}
 use Rattle.btx_machine.proofs.OrderLemmas.{Lasts, Grows}
 use Rattle.btx_machine.proofs.WithinLemmas.{ends_stay}

@@ -1,5 +1,5 @@
 -- What a run has written where a write or a request for memory failed.
-use Rattle.std.specs.Prelude.{◌≡◌, ℕ, ◌+◌, ◌<◌, ◌⊎◌, List, Option}
+use Rattle.std.specs.Prelude.{◌≡◌, ℕ, ◌+◌, ◌<◌, ◌⊎◌}
 use Rattle.std.specs.Io.KnownBytes.{Appends}
 use Rattle.btx_out.specs.Pieces.{AppendsBeginning, AppendsAtLeast}
 use Rattle.btx_machine.specs.Written.{Received}

@@ -1,15 +1,14 @@
 -- The product of a run whose files are read: what it writes from there on, and what it answers.
-use Rattle.std.specs.Prelude.{ℕ, ◌-◌, List, [], ◌∷◌, ◌++◌}
+use Rattle.std.specs.Prelude.{ℕ, ◌-◌, List, [], ◌++◌}
 use Rattle.std.specs.List.{flat_map}
 use Rattle.btx_out.specs.Breaking.{wrap, written_of}
 use Rattle.btx_out.specs.Breakers.{finished}
-use Rattle.btx_step.specs.Stores.{Store}
 use Rattle.btx_step.specs.Starts.{first_store}
 use Rattle.btx_machine.specs.declared.ending.Ending.{Ending}
 use Rattle.btx_machine.specs.declared.ending.Ending.TheVariants as ending
 use Rattle.btx_machine.specs.declared.report.Report.{Report}
 use Rattle.btx_machine.specs.declared.report.Told.{Told}
-use Rattle.btx_machine.specs.States.{Out, State, state, Outcome, Done, Stopped, Limit, end_of}
+use Rattle.btx_machine.specs.States.{Out, State, state, Outcome, Done, Stopped, Limit}
 use Rattle.btx_machine.specs.Saying.{ended_line}
 use Rattle.btx_machine.specs.Reports.{end_as, told_so, report_of, last_line}
 use Rattle.btx_machine.specs.Items.{Given, items_of}

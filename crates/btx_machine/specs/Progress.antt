@@ -1,8 +1,8 @@
 -- How far a run has come.
-use Rattle.std.specs.Prelude.{◌≡◌, ℕ, suc, ◌+◌, List, ◌⊎◌, Option}
+use Rattle.std.specs.Prelude.{◌≡◌, ℕ, suc, ◌+◌, ◌⊎◌}
 use Rattle.btx_machine.specs.declared.ending.Ending.{Ending}
 use Rattle.btx_machine.specs.declared.work.Work.{Work}
-use Rattle.btx_machine.specs.States.{Out, State, state, Outcome, Stopped, end_of, outcome_of}
+use Rattle.btx_machine.specs.States.{Out, State, state, Stopped, end_of}
 use Rattle.btx_machine.specs.Goings.{Starts}
 use Rattle.btx_machine.specs.Written.{Received, Start, Stands, Between, Within, Runs}
 use Rattle.btx_machine.specs.Commands.{Doing}

@@ -1,5 +1,5 @@
 -- What the sinks have received of what was written and told.
-use Rattle.std.specs.Prelude.{◌≡◌, ℕ, ◌+◌, ◌<◌, List, ◌++◌, Option}
+use Rattle.std.specs.Prelude.{◌≡◌, ℕ, ◌+◌, ◌<◌, List, Option}
 use Rattle.std.specs.Io.KnownBytes.{Appends}
 use Rattle.btx_out.specs.Breaking.{left}
 use Rattle.btx_out.specs.Breakers.{holding}

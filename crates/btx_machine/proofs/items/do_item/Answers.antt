@@ -1,4 +1,4 @@
-use Rattle.std.proofs.Common.{◌-◌, ◌∙◌, ap, refl}
+use Rattle.std.proofs.Common.{◌-◌, ◌∙◌, ap}
 use Rattle.btx_bst.specs.Views.{complaint_view, item_view}
 use Rattle.btx_bst.specs.MessageTexts.{line_of}
 use Rattle.btx_bst.specs.Style.{Style}

@@ -1,4 +1,4 @@
-use Rattle.std.proofs.Common.{arith, rules, ◌-◌, ◌+◌, ap, drop, refl, []}
+use Rattle.std.proofs.Common.{arith, rules, ◌-◌, ◌+◌, ap, drop, []}
 use Rattle.std.proofs.lemmas.List.{drop_all}
 use Rattle.btx_machine.proofs.ComesLemmas.{on_err}
 use Rattle.btx_bst.specs.Views.{item_view, items_view}

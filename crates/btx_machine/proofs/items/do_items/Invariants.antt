@@ -1,4 +1,4 @@
-use Rattle.std.proofs.Common.{◌≡◌, ◌≤◌, ◌-◌, ℕ, [], drop}
+use Rattle.std.proofs.Common.{◌≡◌, ◌≤◌, ◌-◌, [], drop}
 use Rattle.btx_bst.specs.Views.{items_view}
 use Rattle.btx_machine.specs.Faults.{Writes}
 use Rattle.btx_machine.specs.Written.{Comes}

@@ -1,4 +1,4 @@
-use Rattle.std.proofs.Common.{sym, ap, ◌∙◌}
+use Rattle.std.proofs.Common.{ap, ◌∙◌}
 use Rattle.btx_machine.specs.Reports.{report_of}
 use Rattle.btx_machine.proofs.ComesLemmas.{on_err, err_map}
 use Rattle.btx_machine.proofs.SayLemmas.{on_ok_map}

@@ -1,4 +1,4 @@
-use Rattle.std.proofs.Common.{◌-◌, ◌∙◌, [], refl, ap, arith}
+use Rattle.std.proofs.Common.{◌-◌, ◌∙◌, ap, arith}
 use Rattle.btx_bst.specs.Style.{Style}
 use Rattle.btx_bst.specs.Views.{items_view}
 use Rattle.btx_machine.specs.Items.{given}

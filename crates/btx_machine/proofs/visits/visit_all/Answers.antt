@@ -1,4 +1,4 @@
-use Rattle.std.proofs.Common.{arith, rules, ◌-◌, ◌+◌, drop, refl, Some}
+use Rattle.std.proofs.Common.{arith, rules, ◌-◌, ◌+◌, drop, Some}
 use Rattle.std.proofs.lemmas.List.{drop_all}
 use Rattle.btx_machine.specs.Commands.{visit}
 use Rattle.btx_machine.proofs.OrderLemmas.{visit_grows}

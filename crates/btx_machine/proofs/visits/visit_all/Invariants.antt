@@ -1,4 +1,4 @@
-use Rattle.std.proofs.Common.{◌≡◌, ◌≤◌, ◌-◌, ℕ, [], drop, Some}
+use Rattle.std.proofs.Common.{◌≡◌, ◌≤◌, ◌-◌, [], drop, Some}
 use Rattle.btx_machine.specs.Commands.{visit}
 use Rattle.btx_machine.specs.Faults.{Writes}
 use Rattle.btx_machine.specs.Written.{Comes}

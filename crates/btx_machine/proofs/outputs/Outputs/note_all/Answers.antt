@@ -1,7 +1,6 @@
-use Rattle.std.proofs.Common.{arith, rules, ◌+◌, ◌∙◌, drop, refl, ap, sym}
+use Rattle.std.proofs.Common.{arith, rules, ◌+◌, drop, refl, ap}
 use Rattle.std.proofs.lemmas.List.{drop_all}
-use Rattle.btx_step.specs.Notes.{line_of}
-use Rattle.btx_machine.specs.Saying.{key_at, lines_of}
+use Rattle.btx_machine.specs.Saying.{lines_of}
 use Rattle.btx_machine.proofs.ComesLemmas.{on_err}
 use Rattle.btx_machine.proofs.SayLemmas as by
 use Rattle.btx_machine.proofs.SayLemmas.{drop_at, noting_at}
