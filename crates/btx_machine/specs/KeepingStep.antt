@@ -1,4 +1,4 @@
--- What a run has written where a write or a request for memory failed.
+-- What a run has written when it ends, and where a write or a request for memory failed; of sinks that don't tell their bytes nothing is said.
 use Rattle.std.specs.Prelude.{◌≡◌, ℕ, ◌+◌, ◌<◌, ◌⊎◌}
 use Rattle.std.specs.Io.KnownBytes.{Appends}
 use Rattle.btx_out.specs.Pieces.{AppendsBeginning, AppendsAtLeast}

@@ -15,8 +15,8 @@ use btx_step::{Job, Store};
 use btx_text::{Fault, LogLine};
 use std::alloc::Global;
 
-/// Executes the style of a job: writes the list of references in lines of at most so many bytes, and the rest of the log, of which so
-/// much was told before. READ tells `messages`. At most `budget` steps are taken.
+/// Executes the style of a job: writes the list of references, in lines of at most so many bytes where white allows a break, and the rest of the
+/// log, of which so much was told before. READ tells `messages`. At most `budget` steps are taken.
 pub fn execute_style<'a, W: Sink, L: Sink>(
     alloc: Global,
     job: &Job<'a>,
