@@ -1,18 +1,23 @@
-# make            proves the program and builds it
+# make            proves the program and builds it; prints each crate as it is done, with the minutes so far
 # make check      the whole gate: every proof, test and end-to-end check from nothing
-# make install    puts the program and its man page below PREFIX (DESTDIR before it, where a package is made)
+# make install    puts the program, the scripts beside it and their man pages below PREFIX (DESTDIR before it, where a package is made).
+#                 The program is installed as NAME, so that it doesn't hide TeX's own bibtex: contrib/README.md says why
 # make uninstall  takes them away again
 
 PREFIX = /usr/local
 DESTDIR =
+NAME = bibtex-proved
 bin = $(DESTDIR)$(PREFIX)/bin
 man = $(DESTDIR)$(PREFIX)/share/man/man1
 program = crates/bibtex/out/bibtex
+scripts = bibtex-search bibtex-confined
+page = $(subst -,\\-,$(NAME))
+title = $(shell printf '%s' '$(page)' | tr a-z A-Z)
 
 .PHONY: all check install uninstall
 
 all:
-	cd crates/bibtex && mkdir -p out && rt run -- --help >out/build.log 2>&1 || { tail -n 20 out/build.log >&2; exit 1; }
+	contrib/build
 
 check:
 	bash .ci/run
@@ -20,8 +25,11 @@ check:
 install:
 	@test -x $(program) || { echo 'there is no $(program): run make first' >&2; exit 1; }
 	install -d '$(bin)' '$(man)'
-	install -m 755 $(program) '$(bin)/bibtex'
-	install -m 644 docs/bibtex.1 '$(man)/bibtex.1'
+	install -m 755 $(program) '$(bin)/$(NAME)'
+	install -m 755 $(scripts:%=contrib/%) '$(bin)'
+	sed -e 's/^\.TH BIBTEX /.TH $(title) /' -e 's/^bibtex \\- /$(page) \\- /' -e 's/^\.B bibtex\( \|$$\)/.B $(page)\1/' docs/bibtex.1 >'$(man)/$(NAME).1'
+	chmod 644 '$(man)/$(NAME).1'
+	install -m 644 $(scripts:%=contrib/%.1) '$(man)'
 
 uninstall:
-	rm -f '$(bin)/bibtex' '$(man)/bibtex.1'
+	rm -f '$(bin)/$(NAME)' $(scripts:%='$(bin)/%') '$(man)/$(NAME).1' $(scripts:%='$(man)/%.1')

@@ -9,7 +9,7 @@ make_there() {
 # wants_installed NAME..: these files stand below DESTDIR, and no other.
 wants_installed() {
     local found
-    found=$(cd "$folder/root" 2>/dev/null && find . -type f | sort | tr '\n' ' ') || true
+    found=$(cd "$folder/root" 2>/dev/null && find . -type f | LC_ALL=C sort | tr '\n' ' ') || true
     [ "$found" = "${*:+$* }" ] || complaints+=("installed are '$found', not '$*'")
 }
 
@@ -18,9 +18,18 @@ if command -v make >/dev/null; then
     make_there install
     wants_status 0
     wants_error ''
-    wants_installed ./usr/bin/bibtex ./usr/share/man/man1/bibtex.1
+    wants_installed ./usr/bin/bibtex-confined ./usr/bin/bibtex-proved ./usr/bin/bibtex-search \
+        ./usr/share/man/man1/bibtex-confined.1 ./usr/share/man/man1/bibtex-proved.1 ./usr/share/man/man1/bibtex-search.1
+    cmp -s "$folder/root/usr/bin/bibtex-proved" "$program" || complaints+=('the installed program is another')
+    [ -x "$folder/root/usr/bin/bibtex-proved" ] || complaints+=('the installed program may not be run')
+    grep -q '^\.TH BIBTEX\\-PROVED ' "$folder/root/usr/share/man/man1/bibtex-proved.1" || complaints+=('the page has another name')
+    end
+
+    begin installed_under_another_name
+    make_there install NAME=bibtex
+    wants_status 0
     cmp -s "$folder/root/usr/bin/bibtex" "$program" || complaints+=('the installed program is another')
-    [ -x "$folder/root/usr/bin/bibtex" ] || complaints+=('the installed program may not be run')
+    cmp -s "$folder/root/usr/share/man/man1/bibtex.1" "$here/../docs/bibtex.1" || complaints+=('the page is another')
     end
 
     begin uninstalled

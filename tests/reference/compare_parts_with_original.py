@@ -12,7 +12,7 @@ import random
 from compare_with_original import SIZES, original
 from product import Options, run
 
-PIECES = ["{", "}", "{\\", "a", "B", "c", "D", ":", " ", "~", "-", ",", ".", "!", "1", "{\\ss }", "{\\oe}", "{\\'e}", "\\AE", "\\i ",
+PIECES = ["{", "}", "{\\", "{\\1}", "{\\2 x}", "a", "B", "c", "D", ":", " ", "~", "-", ",", ".", "!", "1", "{\\ss }", "{\\oe}", "{\\'e}", "\\AE", "\\i ",
           "and", " and ", " AND ", "von", "de ", ": ", "{\\O x}", "{ab}", "{\\relax Xy}", "{\\aa}", "Smith", "Jr", "?"]
 FORMATS = ["{ff}", "{f.}", "{vv~}", "{ll}", "{, jj}", "{l{}}", "{f{-}}", "{~}", "x", "~", "{ff~}", "{f.~}", "{vv }", "{ll }", "{v{}}",
            "{(jj)}", "{, f.}"]
@@ -55,8 +55,9 @@ def calls_of(pick, keeps_braces):
     cases = [f'"{text}" "{letter}" change.case$' for letter in "tlu"]
     lengths = [f'"{text}" {name} int.to.str$' for name in ("width$", "text.length$", "num.names$")]
     start, length, number = pick([-3, -1, 0, 1, 2, 5]), pick([0, 1, 2, 5]), pick([0, 1, 2, 3, 8])
+    name = pick([-1, 0, 1, 1, 1, 2, 9])
     return [*cases, *lengths, f'"{text}" add.period$', f'"{text}" purify$', f'"{text}" #{number} text.prefix$',
-            f'"{text}" #{start} #{length} substring$', f'"{text}" #1 "{joined(pick, FORMATS, [1, 2, 3])}" format.name$']
+            f'"{text}" #{start} #{length} substring$', f'"{text}" #{name} "{joined(pick, FORMATS, [1, 2, 3])}" format.name$']
 
 
 def call_job(pick, keeps_braces):
