@@ -1,0 +1,83 @@
+//! A program of one's own over the library: it runs a job whose files are in memory, and prints the reference list, the log, and how the
+//! run ended. Copy it and put your own files into the place of these.
+#![tactic(auto)]
+
+use btx_run::{
+    FetchFault, KeptBytes, LineLength, MemoryFinder, Options, Over, Report, RunFault, TextMode, run,
+};
+use std::alloc::Global;
+use std::process::ExitCode;
+use std::str;
+
+// The files of a job: what LaTeX wrote of a document, a style, and a database.
+const AUX: &[u8] = b"\\citation{knuth}\n\\bibstyle{short}\n\\bibdata{books}\n";
+
+const STYLE: &[u8] = b"ENTRY {author title}{}{}
+FUNCTION {book} {author write$ \": \" write$ title write$ \".\" write$ newline$}
+READ
+ITERATE {call.type$}
+";
+
+const DATABASE: &[u8] = b"@book{knuth, author = {Donald E. Knuth}, title = {The {\\TeX}book}}\n";
+
+// What a run wrote, and what it answered.
+#[derive(Drop)]
+struct Ran {
+    list: Vec<u8>,
+    log: Vec<u8>,
+    answer: Result<Report, RunFault>,
+}
+
+// What can be asked of a run: of each option what the program takes where no word says otherwise, but a small budget.
+fn options() -> Options {
+    Options {
+        min_crossrefs: 2,
+        budget: 1_000_000,
+        text: TextMode::Utf8,
+        line: LineLength::default(),
+        entry_max: KeptBytes::of_entries(),
+        global_max: KeptBytes::of_globals(),
+    }
+}
+
+// Runs the job `paper` over its files in memory.
+fn run_paper(alloc: Global) -> Result<Ran, FetchFault> {
+    let files: [(&[u8], &[u8]); 3] = [
+        (b"paper.aux", AUX),
+        (b"short.bst", STYLE),
+        (b"books.bib", DATABASE),
+    ];
+    let mut finder = MemoryFinder::new(alloc, &files)?;
+    let mut list = Over::new(Vec::new(alloc));
+    let mut log = Over::new(Vec::new(alloc));
+    let answer = run(
+        alloc,
+        &mut finder,
+        b"paper",
+        &options(),
+        &mut list,
+        &mut log,
+    );
+    Ok(Ran {
+        list: list.writer,
+        log: log.writer,
+        answer,
+    })
+}
+
+fn main(rt: HostRuntime) -> ExitCode {
+    let Ok(ran) = run_paper(rt.alloc()) else {
+        return ExitCode::from(5);
+    };
+    match ran.answer {
+        Ok(report) => {
+            let list = str::from_utf8(ran.list.as_slice()).unwrap_or("the list isn't UTF-8\n");
+            let _ = print!(rt; "{list}");
+            ExitCode::from(report.status)
+        }
+        Err(fault) => {
+            let _ = eprintln!(rt; "{fault}");
+            ExitCode::from(5)
+        }
+    }
+}
