@@ -1,4 +1,5 @@
 # What bibtex-search says where a file isn't there, can't be read or can't be written; and how often it calls kpsewhich.
+source "$here/checks/fake_tex"
 
 # wants_untouched: the old list and log stand as they were.
 wants_untouched() {
@@ -164,33 +165,6 @@ else
     echo 'left out: a full disk (this user may not mount one)'
 fi
 end
-
-# A kpsewhich of our own, which finds what stands in the folder tree or has an absolute name, and keeps its calls.
-# fake_tex OUT IN: its openout_any and openin_any.
-fake_tex() {
-    mkdir -p bin tree
-    ln -sf "$room"/plain/* bin
-    cat >bin/kpsewhich <<END
-#!/bin/sh
-echo called >>"$PWD/calls"
-case \$* in
-*-expand-var*) printf '%s\n' 7 9 '$1' '$2' '\$TEXMFOUTPUT' && exit ;;
-esac
-for name in "\$@"; do :; done
-printf '%s\n' "\$name"
-while read -r name; do
-    [ -e "$PWD/tree/\$name" ] && name=$PWD/tree/\$name
-    [ ! -e "\$name" ] || printf '%s\n' "\$name"
-done
-END
-    chmod +x bin/kpsewhich
-}
-
-# run_fake WORD..: the script with this kpsewhich.
-run_fake() {
-    status=0
-    PATH=${fake:-$PWD/bin} "$search" "$@" </dev/null >"$folder/stdout" 2>"$folder/stderr" || status=$?
-}
 
 begin one_call_for_all_names
 fake_tex a a

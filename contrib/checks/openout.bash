@@ -1,4 +1,5 @@
 # TeX lets a document call bibtex, since bibtex honours openout_any and openin_any. So does bibtex-search, by the rules of TeX Live.
+source "$here/checks/fake_tex"
 
 # victim: a job above the present folder, with an old list.
 victim() {
