@@ -62,6 +62,15 @@ if has latexmk && has pdflatex && [ -n "$original" ]; then
     grep -q '^\\bibitem{three}' ours/out/paper.bbl || complaints+=('what the chapter cites is not in the list')
     end
 
+    begin latexmk_auxdir_in_place_with_chapters
+    document two
+    mkdir document/chapters
+    echo 'More.\cite{three}' >document/chapters/first.tex
+    sed -i 's,\\bibliographystyle,\\include{chapters/first}&,' document/paper.tex
+    same_as_original out/paper.bbl -outdir=out -nobibtexfudge
+    grep -q '^\\bibitem{three}' ours/out/paper.bbl || complaints+=('what the chapter cites is not in the list')
+    end
+
     begin latexmk_warnings
     document one nowhere
     same_as_original paper.bbl

@@ -21,7 +21,7 @@ end
 begin absolute_job
 mkdir elsewhere
 mv job.aux elsewhere
-run_search "$PWD/elsewhere/job"
+openout_any=a run_search "$PWD/elsewhere/job"
 wants_first elsewhere/job
 end
 
@@ -29,7 +29,7 @@ begin job_above
 mkdir inner
 cp d.bib s.bst inner
 cd inner
-run_search ../job
+openout_any=a run_search ../job
 wants_first ../job
 end
 
@@ -133,6 +133,50 @@ run_search job
 wants_status 2
 wants_text job.bbl $'a\n'
 wants_no_links
+end
+
+# An included file stands in the present folder, or else beside the top one; never beside the one that includes it.
+# document_of_chapters: out/job.aux includes ch/one.aux, which cites k and includes ch/two.aux.
+document_of_chapters() {
+    mkdir -p out/ch out/ch/ch
+    printf '\\@input{ch/one.aux}\n\\bibdata{d}\n\\bibstyle{s}\n' >out/job.aux
+    printf '\\citation{k}\n\\@input{ch/two.aux}\n' >out/ch/one.aux
+    rm job.aux
+}
+
+begin includes_beside_the_top
+document_of_chapters
+: >out/ch/two.aux
+run_search out/job
+wants_first out/job
+grep -qx 'A level-2 auxiliary file: ch/two.aux' out/job.blg || complaints+=('the second chapter was not read')
+end
+
+begin includes_of_the_present_folder_first
+document_of_chapters
+: >out/ch/two.aux
+mkdir ch
+: >ch/one.aux
+run_search out/job
+wants_status 2
+grep -q 'I found no .citation commands' out/job.blg || complaints+=('the chapter beside the top file was read')
+end
+
+begin includes_beside_an_included_one
+document_of_chapters
+: >out/ch/ch/two.aux
+run_search out/job
+wants_status 2
+grep -q "I couldn't open auxiliary file ch/two.aux" out/job.blg || complaints+=('a chapter beside a chapter was read')
+end
+
+begin includes_that_are_deep
+for number in {1..25}; do
+    printf '\\@input{%s.aux}\n' "$((number + 1))" >"$number.aux"
+done
+run_search 1
+wants_status 3
+[ "$(grep -c '^A level-' 1.blg)" -eq 19 ] || complaints+=("$(grep -c '^A level-' 1.blg) levels were read, not 19")
 end
 
 begin database_that_is_a_folder

@@ -27,20 +27,6 @@ job=x budget=1 line=1 terse=yes run_search job
 wants_first job
 end
 
-begin no_job
-run_search nosuch
-wants_status 3
-wants_text nosuch.bbl ''
-wants_text nosuch.blg $'Ended: no top file, warnings 0, errors 0, steps 0\n'
-end
-
-begin no_folder
-run_search nosuch/job
-wants_status 6
-wants_error_with 'device error'
-wants_no_links
-end
-
 begin no_program
 BIBTEX_PROGRAM=./nosuch run_search job
 wants_refusal 'there is no program ./nosuch'
@@ -82,6 +68,39 @@ for words in '-terse job' '--terse job' 'job -terse' '-terse -terse job'; do
     end
 done
 
+# With -terse what went well isn't printed; each message is, and an end before the last command.
+begin terse_with_messages
+printf '\\citation{k,nosuch}\n\\bibdata{d,e}\n\\bibstyle{s}\n' >job.aux
+run_search -terse job
+wants_status 2
+wants_output "Error--I couldn't open database file e.bib
+Warning--I didn't find a database entry for \"nosuch\"
+Ended: finished, warnings 1, errors 1, steps 4
+(There was 1 error message)
+"
+end
+
+begin terse_with_a_warning
+cite nosuch
+run_search -terse job
+wants_status 0
+[ "$(tail -n 1 "$folder/stdout")" = '(There was 1 warning)' ] || complaints+=("printed was $(cat "$folder/stdout")")
+end
+
+begin terse_stopped
+run_search -terse -budget=3 job
+wants_status 4
+wants_output 'Ended: stopped, warnings 0, errors 0, steps 3
+'
+end
+
+begin terse_and_a_full_output
+status=0
+PATH=$script_path "$search" -terse -budget=3 job >/dev/full 2>"$folder/stderr" || status=$?
+wants_status 6
+wants_error_with "can't be printed"
+end
+
 for words in '-min-crossrefs=1 job' '--min-crossrefs=1 job' '-min-crossrefs 1 job' '--min-crossrefs 1 job'; do
     begin "min_crossrefs_$((passed + failed))"
     cp "$examples"/cross_reference/*.{aux,bib,bst} .
@@ -108,19 +127,4 @@ begin version
 run_search -version
 wants_status 0
 wants_output "$("$program" --version)"$'\n'
-end
-
-begin lines_for_tools
-printf '\\bibdata{d}\n\\bibstyle{nosuch}\n' >job.aux
-run_search job
-wants_status 2
-wants_text job.blg "The top-level auxiliary file: job.aux
-Error--I found no \\citation commands
-Error--I couldn't open style file nosuch.bst
-Ended: finished, warnings 0, errors 2, steps 0
-The same for tools that read the log of the original:
-I found no \\citation commands---while reading file job.aux
-(There were 2 error messages)
-"
-[ "$(tail -n 1 "$folder/stdout")" = 'Ended: finished, warnings 0, errors 2, steps 0' ] || complaints+=('what was printed is not the log of the program')
 end
