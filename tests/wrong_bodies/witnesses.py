@@ -2,9 +2,11 @@
 
     witness: CALL gives RIGHT, not WRONG
     witness: test FILE NAME
+    witness: clause FILE NAME
 
 CALL is a call of the functions under "What a witness can call"; RIGHT and WRONG are Python's literals. The second form names a check or a test
-that sees the wrong body, for what no job shows: a device that fails, memory that is refused, a call that the program doesn't make.
+that sees the wrong body, for what no job shows: a device that fails, memory that is refused, a call that the program doesn't make. The third
+names the clause that the body breaks, where neither a job nor a test of bearable size shows it, as with a file of 2 GiB.
 
     python3 witnesses.py PROGRAM              the built program gives RIGHT, and so does the reference, where it knows the call
     python3 witnesses.py --wrong NAME PROGRAM    a program that was built with the wrong body NAME (or CRATE/NAME) gives WRONG
@@ -29,7 +31,7 @@ FOLDERS = ("must-fail", "wrong-bodies")
 ALL_HAVE_ONE = False
 LINE = re.compile(r"(?m)^witness: (.*)$")
 CALLED = re.compile(r"(.+) gives (.+), not (.+)")
-TESTED = re.compile(r"test (\S+) (\S+)")
+NAMED = re.compile(r"(?:test|clause) (\S+) (\S+)")
 
 
 # ---- what a witness can call: each gives what is run, and which part of the outcome is looked at ----
@@ -125,19 +127,19 @@ def read(line):
     """The call, the right value and the wrong one."""
     found = CALLED.fullmatch(line)
     if not found:
-        raise ValueError("it is neither 'CALL gives RIGHT, not WRONG' nor 'test FILE NAME'")
+        raise ValueError("it is neither 'CALL gives RIGHT, not WRONG' nor 'test FILE NAME' nor 'clause FILE NAME'")
     return [eval(it, dict(VOCABULARY)) for it in found.groups()]
 
 
 def complaints(line, program):
     """What is wrong with a witness: the right value is what the program and the reference give."""
-    tested = TESTED.fullmatch(line)
-    if tested:
-        path = ROOT / tested[1]
+    named = NAMED.fullmatch(line)
+    if named:
+        path = ROOT / named[1]
         if not path.is_file():
-            yield f"there is no {tested[1]}"
-        elif not re.search(rf"(?<![\w$]){re.escape(tested[2])}(?![\w$])", path.read_text(encoding="utf-8")):
-            yield f"{tested[1]} has no {tested[2]}"
+            yield f"there is no {named[1]}"
+        elif not re.search(rf"(?<![\w$]){re.escape(named[2])}(?![\w$])", path.read_text(encoding="utf-8")):
+            yield f"{named[1]} has no {named[2]}"
         return
     call, right, wrong = read(line)
     if right == wrong:
@@ -149,8 +151,8 @@ def complaints(line, program):
 
 
 def complaints_of_wrong(line, program):
-    if TESTED.fullmatch(line):
-        yield "a test is its witness: run that test"
+    if NAMED.fullmatch(line):
+        yield "its witness is no job: run the test, or read the clause"
         return
     call, _, wrong = read(line)
     if (there := call.by_program(program)) != wrong:
