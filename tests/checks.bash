@@ -1,4 +1,8 @@
-# What the checks are written with. `tests/run` reads this file; it sets `program`, `examples` and `room`.
+# What the checks are written with. `tests/run` and `contrib/check` read this file; they set `program`, `examples` and `room`.
+
+passed=0
+failed=0
+check=
 
 # What the log of the first example begins with, and its whole log, finished.
 found_log='The top-level auxiliary file: job.aux
@@ -10,6 +14,7 @@ first_log="${found_log}Ended: finished, warnings 0, errors 0, steps 4
 
 # begin NAME: a check of this name, in a folder of its own that holds the files of the first example.
 begin() {
+    [ -z "$check" ] || miss "$check" 'it has no end'
     check=$1
     folder=$room/$check
     mkdir "$folder" "$folder/work"
@@ -103,9 +108,51 @@ end() {
     if [ ${#complaints[@]} -eq 0 ]; then
         passed=$((passed + 1))
         echo "ok      $check"
-        return
+    else
+        miss "$check" "${complaints[@]}"
     fi
+    check=
+    echo "$passed $failed" >"$room/counts"
+}
+
+# miss NAME WHY..: counts what failed, and says why.
+miss() {
     failed=$((failed + 1))
-    echo "FAILED  $check"
-    printf '        %s\n' "${complaints[@]}"
+    echo "FAILED  $1"
+    printf '        %s\n' "${@:2}"
+}
+
+# break_of LINE COMMAND: a command failed whose status no check asks for. The check that stands open fails, and goes on.
+break_of() {
+    if [ -n "$check" ]; then
+        complaints+=("line $1 failed: $2")
+    else
+        miss "$group" "line $1 failed: $2"
+    fi
+}
+
+# run_group FILE: runs the checks of a file in a shell of its own. A file that bash can't read to its end, or that ends that shell, is a
+# failure beside what its checks counted; the files after it are run all the same.
+run_group() {
+    group=$(basename "$1")
+    rm -f "$room/ended"
+    bash -n "$1" || miss "$group" 'bash cannot read it'
+    echo "$passed $failed" >"$room/counts"
+    (
+        set -E
+        trap 'break_of "$LINENO" "$BASH_COMMAND"' ERR
+        source "$1"
+        trap - ERR
+        [ -z "$check" ] || miss "$check" 'it has no end'
+        echo "$passed $failed" >"$room/counts"
+        : >"$room/ended"
+    )
+    read -r passed failed <"$room/counts"
+    [ -f "$room/ended" ] || miss "$group" 'it ended before its last line'
+}
+
+# tell_counts: the last line of all checks, and the status that goes with it.
+tell_counts() {
+    echo "$passed passed, $failed failed"
+    [ "$failed" -eq 0 ] && [ "$passed" -gt 0 ]
 }

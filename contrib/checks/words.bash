@@ -49,7 +49,7 @@ for moment in {1..50}; do
 done
 [ -n "$(ls -A "$TMPDIR")" ] || complaints+=('there was no folder of links')
 kill -TERM -- "-$!"
-wait "$!"
+wait "$!" || true
 wants_no_links
 end
 
@@ -104,7 +104,7 @@ end
 for words in '-min-crossrefs=1 job' '--min-crossrefs=1 job' '-min-crossrefs 1 job' '--min-crossrefs 1 job'; do
     begin "min_crossrefs_$((passed + failed))"
     cp "$examples"/cross_reference/*.{aux,bib,bst} .
-    "$program" --min-crossrefs 1 job >/dev/null
+    "$program" --min-crossrefs 1 job >/dev/null || true
     mv job.bbl wanted
     run_search $words
     cmp -s wanted job.bbl || complaints+=('the list is another than with --min-crossrefs 1')

@@ -3,7 +3,8 @@ made from a seed.
 
     python3 compare_with_program.py [--jobs N] [--programs N] [--seed N] PROGRAM
 
-Compares list, log and status byte by byte. Its last line is 'N passed, M failed', of jobs; the exit status is 0 only where M is 0."""
+Without --seed the seed is the commit's, so that each commit is compared over other jobs; it is printed, and --seed repeats a run. Compares
+list, log and status byte by byte. The last line is 'N passed, M failed', of jobs; the exit status is 0 only where M is 0."""
 
 import argparse
 import itertools
@@ -49,13 +50,25 @@ def compare(program, files, given):
     return there == told
 
 
+def seed_of_commit():
+    """A number from the commit that is checked out, or 1 where there is none."""
+    try:
+        said = subprocess.run(["git", "rev-parse", "HEAD"], cwd=pathlib.Path(__file__).parent, capture_output=True, text=True)
+        return int(said.stdout[:8], 16)
+    except (OSError, ValueError):
+        return 1
+
+
 def main():
     parser = argparse.ArgumentParser()
     parser.add_argument("program", type=lambda path: str(pathlib.Path(path).resolve()))
     parser.add_argument("--jobs", type=int, default=500)
     parser.add_argument("--programs", type=int, default=400)
-    parser.add_argument("--seed", type=int, default=1)
+    parser.add_argument("--seed", type=int, default=None)
     arguments = parser.parse_args()
+    if arguments.seed is None:
+        arguments.seed = seed_of_commit()
+    print(f"the seed is {arguments.seed}", flush=True)
     results = []
     made = random_jobs(arguments.jobs, arguments.seed), random_programs(arguments.programs, arguments.seed)
     for files, given in itertools.chain(worked_jobs(), *made):

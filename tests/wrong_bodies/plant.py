@@ -6,7 +6,9 @@ A wrong body is a file crates/NAME/wrong-bodies/*.edit, or must-fail/*.edit: a l
 lines 'old:' and 'new:'; each old text stands in that file once. A function is proved from the contracts of those that it calls, never from
 their bodies: so the wrong bodies of one crate are planted together, in as few rounds as have each function once, and only their functions are
 checked. What isn't refused so for a reason of its own (the check may only tell that a function is called that isn't proved) is planted once
-more, alone. With --alone each is from the beginning.
+more, alone. With --alone each is from the beginning. For each it prints the goal that refused: its name and what it says, where the check tells.
+
+Each file also has a line 'witness:', which witnesses.py checks; here it must only be there.
 
 It stands on the libraries that the gate has built (rt ci), and on the kit's own way to check a crate whose text is changed. The last line is
 'N passed, M failed', of wrong bodies; the exit status is 0 only where M is 0."""
@@ -22,9 +24,10 @@ import shutil
 import sys
 import tempfile
 
-ROOT = pathlib.Path(__file__).resolve().parents[2]
-# The kit's own gate tries those of the first folder as well, one by one.
-FOLDERS = ("must-fail", "wrong-bodies")
+from witnesses import FOLDERS, ROOT, tell_lacking, witness_of
+
+# How much of a goal is printed.
+LONGEST_GOAL = 300
 # An error that tells only that a name is gone says nothing of a contract.
 GONE = re.compile(r"is not in scope|has no field|has no `|was not admitted")
 
@@ -72,18 +75,33 @@ def in_rounds(bodies, alone):
     return rounds
 
 
-def why_not_refused(crate, body, said):
-    """Why what the check said is no refusal of this body, if it isn't: a goal of its function must be left, or an answer for one be wrong."""
+class Judged:
+    """What became of a body: why it isn't refused, if it isn't, and else the goal that refused it."""
+
+    def __init__(self, body, why=None, goal=None):
+        self.body, self.why, self.goal = body, why, goal
+
+
+def judged(crate, body, said):
+    """What the check said of this body: a goal of its function must be left, or an answer for one be wrong."""
     name = re.escape(f"{crate}::{body.function}")
     verdict = re.search(rf"(?m)^fn {name}: (.*)$", said)
     if not verdict or verdict[1] == "proved":
-        return "NOT REFUSED: its function is still proved" if verdict else "nothing is told of its function"
-    if "did not prove" in verdict[1]:
-        return None
-    errors = re.findall(rf"(?m)^(?:\./)?proofs/{folder_of(body)}/\S+?:\d+:\d+: error.*$", said)
-    if all(GONE.search(it) for it in errors):
-        return f"refused only since a name is gone, or another function isn't proved: {[verdict[0], *errors][-1][:300]}"
-    return None
+        return Judged(body, "NOT REFUSED: its function is still proved" if verdict else "nothing is told of its function")
+    open_goal = re.search(r"did not prove `([^`]*)`", verdict[1])
+    if open_goal:
+        return Judged(body, goal=goal_of(body, said, open_goal[1]))
+    errors = re.findall(rf"(?m)^(?:\./)?(proofs/{folder_of(body)}/\S+?:\d+:\d+: error.*)$", said)
+    of_goals = [it for it in errors if not GONE.search(it)]
+    if not of_goals and "did not prove" not in verdict[1]:
+        return Judged(body, f"refused only since a name is gone, or another function isn't proved: {[verdict[0], *errors][-1][:300]}")
+    return Judged(body, goal=[*of_goals, verdict[1]][0][:LONGEST_GOAL])
+
+
+def goal_of(body, said, name):
+    """A goal that is left: its name, and what must be shown."""
+    wanted = re.search(rf"(?m)^note: `{re.escape(name)}` of (?:\./)?proofs/{folder_of(body)}/\S+ must prove: (.*)$", said)
+    return f"`{name}`" + (f": {wanted[1]}"[:LONGEST_GOAL] if wanted else "")
 
 
 def folder_of(body):
@@ -93,20 +111,19 @@ def folder_of(body):
 
 
 def try_round(kit, crate, bodies, kept):
-    """For each body of the round its name and why it isn't refused."""
+    """What becomes of each body of the round."""
     folder, texts, results, planted = pathlib.Path(crate.folder), {}, [], []
     for body in bodies:
         try:
             texts = body.planted_in(texts, folder)
             planted.append(body)
         except (OSError, ValueError) as error:
-            results.append((body, str(error)))
+            results.append(Judged(body, str(error)))
     only = [word for body in planted for word in ("--only", body.function)]
     said = kit.checked(crate, texts, ["--jobs", "1", *only], kept).stdout
     told = re.search(r"^only=\d+ proved=\d+", said.rstrip("\n").rpartition("\n")[2])
     for body in planted:
-        why = why_not_refused(crate.name, body, said) if told else "the check came to no end: " + said[:400]
-        results.append((body, why))
+        results.append(judged(crate.name, body, said) if told else Judged(body, "the check came to no end: " + said[:400]))
     return results
 
 
@@ -115,10 +132,10 @@ def try_crate(kit, crate, alone):
     bodies = [WrongBody(path) for path in paths]
     with tempfile.TemporaryDirectory() as kept:
         tried = [it for bodies in in_rounds(bodies, alone) for it in try_round(kit, crate, bodies, kept)]
-        results = [it if it[1] is None else try_round(kit, crate, [it[0]], kept)[0] for it in tried]
-    for body, why in results:
-        print(f"{crate.name}/{body.name}: {why or 'refused, as it must be'}", flush=True)
-    return [why is None for _, why in results]
+        results = [try_round(kit, crate, [it.body], kept)[0] if it.why else it for it in tried]
+    for it in results:
+        print(f"{crate.name}/{it.body.name}: {it.why or f'refused, as it must be, at {it.body.function}, {it.goal}'}", flush=True)
+    return results
 
 
 def main():
@@ -133,9 +150,10 @@ def main():
     crates = [it for it in kit.rtlib.crates_below(str(ROOT)) if not arguments.crates or it.name in arguments.crates]
     with concurrent.futures.ThreadPoolExecutor(arguments.jobs) as pool:
         results = [*pool.map(lambda crate: try_crate(kit, crate, arguments.alone), reversed(crates))]
-    refused = [it for of_crate in results for it in of_crate]
-    print(f"{refused.count(True)} passed, {refused.count(False)} failed")
-    return refused.count(False)
+    refused = [not it.why for of_crate in results for it in of_crate]
+    lacking = tell_lacking([it.body.name for of_crate in results for it in of_crate if witness_of(it.body.text) is None])
+    print(f"{refused.count(True)} passed, {refused.count(False) + lacking} failed")
+    return refused.count(False) + lacking
 
 
 if __name__ == "__main__":

@@ -1,0 +1,163 @@
+"""Sees that what the documents cite is there: files, wrong bodies, and the calls, clauses and definitions in their tables.
+
+    python3 check.py
+
+It reads README.md and the .md files of docs/, crates/, tests/, examples/ and contrib/. A table says what its columns hold by their heads. Each
+failure is a line; the last line is 'N passed, M failed', of citations, and the exit status is 0 only where M is 0.
+
+Not checked: the counts and times of docs/PROOFS.md, which are as they were measured."""
+
+import functools
+import pathlib
+import re
+
+ROOT = pathlib.Path(__file__).resolve().parents[2]
+DOCUMENTS = sorted(path for pattern in ("README.md", "docs/*.md", "crates/*/README.md", "crates/*/docs/*.md", "tests/**/*.md", "examples/**/*.md",
+                                        "contrib/*.md") for path in ROOT.glob(pattern))
+# What a build makes, and no clone has.
+BUILT = re.compile(r"crates/\w+/out\b")
+PATH = re.compile(r"(?<![\w./-])(?:crates|docs|tests|examples|contrib|\.ci|specs|proofs|src)/[\w.*/-]*\w\*?/?")
+CODE = re.compile(r"`([^`]+)`")
+NAME = re.compile(r"[A-Za-z_]\w*(?:-\w+)*")
+CITED = re.compile(r"[A-Za-z_][\w-]*(?:::[A-Za-z_][\w-]*)*(?:\.antt)?")
+# The heads of columns that name calls, clauses or definitions, and of those that name wrong bodies.
+OF_NAMES = re.compile(r"public call|carried by|definitions?|rests on|clause|law|function|call")
+OF_BODIES = re.compile(r"wrong bod")
+A_LIST_OF_BODIES = re.compile(r"\*{0,2}Wrong bodies")
+
+
+# ---- what there is ----
+
+
+@functools.cache
+def crates():
+    return [path.parent.name for path in sorted(ROOT.glob("crates/*/src"))]
+
+
+@functools.cache
+def bodies():
+    """The names of the wrong bodies, each with the crates that have it."""
+    found = {}
+    for path in ROOT.glob("crates/*/*/*.edit"):
+        found.setdefault(path.stem, set()).add(path.parts[-3])
+    return found
+
+
+@functools.cache
+def names_of(crate):
+    """The names that stand in a crate's code and definitions, comments aside, and the names of its files."""
+    found = set()
+    for path in (ROOT / "crates" / crate).rglob("*"):
+        if path.suffix in (".rt", ".antt") and "out" not in path.parts:
+            text = path.read_text(encoding="utf-8")
+            code = re.sub(r"(?m)//.*$" if path.suffix == ".rt" else r"(?m)(?:^|(?<=\s))--.*$", "", text)
+            found.update(NAME.findall(code))
+            found.update((path.name, path.stem))
+    return found
+
+
+# ---- what a document cites ----
+
+
+class Document:
+    """Its citations: each is a line's number, what is cited, and what is wrong with it, or None."""
+
+    def __init__(self, path):
+        self.path, self.found = path, []
+        self.lines = path.read_text(encoding="utf-8").split("\n")
+        inside = path.relative_to(ROOT).parts
+        self.own = [inside[1]] if inside[0] == "crates" else []
+
+    def cite(self, number, cited, is_there, what):
+        self.found.append((number, cited, None if is_there else what))
+
+    def read(self):
+        crates_here, head, in_list, after_blank = self.own, None, False, True
+        for number, line in enumerate(self.lines, 1):
+            if line.startswith("#"):
+                crates_here = self.own or [it for it in CODE.findall(line) if it in crates()] or crates_here * line.startswith("###")
+            self.read_paths(number, line, crates_here)
+            in_list = self.is_in_list(line, in_list, after_blank)
+            after_blank = not line.strip()
+            if in_list:
+                self.read_bodies(number, line)
+            if not line.startswith("|"):
+                head = None
+            elif head is None:
+                head = [it.strip() for it in line.strip("|").split("|")]
+            elif not line.startswith("|-"):
+                self.read_row(number, [it.strip() for it in line.strip("|").split("|")], head, crates_here)
+        return self.found
+
+    @staticmethod
+    def is_in_list(line, before, after_blank):
+        """Whether a line belongs to a paragraph that begins with 'Wrong bodies', or to the list behind it."""
+        if A_LIST_OF_BODIES.match(line):
+            return True
+        goes_on = not line.strip() or line.startswith(("-", " ")) or not after_blank
+        return before and goes_on and not line.startswith(("#", "|"))
+
+    def read_paths(self, number, line, crates_here):
+        for cited in PATH.findall(line):
+            if BUILT.match(cited):
+                continue
+            inner = cited.startswith(("specs/", "proofs/", "src/"))
+            # (a file of another crate, which the line names)
+            beside = [it for near in self.lines[max(number - 2, 0):number + 1] for it in CODE.findall(near) if it in crates()]
+            places = [f"crates/{crate}/{cited}" for crate in crates_here + beside or crates()]
+            places = places if inner else [cited, str(self.path.parent.relative_to(ROOT) / cited)]
+            self.cite(number, cited, any(self.is_file(it) for it in places), "there is no such file")
+
+    @staticmethod
+    def is_file(place):
+        place = place.rstrip("/")
+        return any(True for ending in ("", ".antt") for _ in ROOT.glob(place + ending))
+
+    def read_bodies(self, number, text, is_column=False):
+        """In a column each name is a wrong body's; in a paragraph each of several words that no code has."""
+        for cited in CODE.findall(text):
+            is_one = re.fullmatch(r"\w+", cited) if is_column else re.fullmatch(r"[a-z]+(?:_[a-z0-9]+)+", cited) and not self.is_known(cited, [])
+            if is_one and cited not in crates():
+                self.cite(number, cited, cited in bodies(), "no crate has such a wrong body")
+
+    def read_row(self, number, cells, head, crates_here):
+        crates_here = crates_here and crates_here + [it for cell in cells for it in CODE.findall(cell) if it in crates()]
+        for title, cell in zip(head, cells):
+            if OF_BODIES.search(title):
+                self.read_bodies(number, cell, is_column=True)
+            elif OF_NAMES.search(title):
+                for cited in CODE.findall(cell):
+                    if CITED.fullmatch(cited) and cited not in crates():
+                        self.cite(number, cited, self.is_known(cited, crates_here), "no code or definition has such a name")
+
+    @staticmethod
+    def is_known(cited, crates_here):
+        """Whether the crates that the section or the row is about have each part of a name's path."""
+        return all(any(part in names_of(crate) for crate in crates_here or crates()) for part in cited.split("::"))
+
+
+def unnamed_bodies():
+    """The wrong bodies that no document of proofs names."""
+    texts = "\n".join(path.read_text(encoding="utf-8") for path in [ROOT / "docs/PROOFS.md", *ROOT.glob("crates/*/README.md")])
+    named = set(CODE.findall(texts))
+    for name, where in sorted(bodies().items()):
+        yield ", ".join(sorted(where)), name, name in named
+
+
+def main():
+    passed = failed = 0
+    for path in DOCUMENTS:
+        for number, cited, wrong in Document(path).read():
+            passed, failed = passed + (wrong is None), failed + (wrong is not None)
+            if wrong:
+                print(f"{path.relative_to(ROOT)}, line {number}: `{cited}`: {wrong}")
+    for crate, name, is_named in unnamed_bodies():
+        passed, failed = passed + is_named, failed + (not is_named)
+        if not is_named:
+            print(f"{crate}: no document names the wrong body `{name}`")
+    print(f"{passed} passed, {failed} failed")
+    return failed
+
+
+if __name__ == "__main__":
+    raise SystemExit(main() > 0)
