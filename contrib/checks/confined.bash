@@ -20,7 +20,7 @@ end
 
 begin confined_options
 cp "$examples"/cross_reference/*.{aux,bib,bst} .
-"$program" --min-crossrefs 1 --line 40 job >/dev/null
+"$program" --min-crossrefs 1 --line 40 job >/dev/null || true
 mv job.bbl wanted
 run_confined job --min-crossrefs=1 --line=40
 cmp -s wanted job.bbl || complaints+=('the list is another than with the options')
@@ -129,7 +129,7 @@ attack_sorts() {
     printf '@misc{k%s}\n' $(seq 20000) >d.bib
     {
         printf 'ENTRY {}{}{} FUNCTION {misc}{cite$ #3 #1 substring$ %s sort.key$ :=} READ ITERATE {misc}\n' "'"
-        yes 'SORT' | head -n 200000
+        head -n 200000 < <(yes 'SORT')
     } | sed "s/ ' sort/ 'sort/" >s.bst
 }
 attack_zeros() { truncate -s 3G d.bib; }
@@ -158,7 +158,7 @@ attack_repeated_fields() {
     printf 'ENTRY {title}{}{} FUNCTION {misc}{} READ\n' >s.bst
     {
         echo "@misc{$key, title = 1"
-        yes ', title = 2' | head -n 12500
+        head -n 12500 < <(yes ', title = 2')
         echo '}'
     } >d.bib
 }
