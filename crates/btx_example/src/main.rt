@@ -1,5 +1,5 @@
-//! A program of one's own over the library: it runs a job whose files are in memory, and prints the reference list, the log, and how the
-//! run ended. Copy it and put your own files into the place of these.
+//! A program of one's own over the library: it runs a job whose files are in memory, and prints the reference list. Its exit status is the
+//! run's, and 5 after a fault. Copy it and put your own files into the place of these.
 #![tactic(auto)]
 
 use btx_run::{
