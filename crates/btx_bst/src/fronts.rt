@@ -8,7 +8,7 @@ ghost use Rattle.btx_bst.specs.Views.{word_view};
 use crate::complaint::Complaint;
 use crate::integers::integer_at;
 use crate::word::Word;
-use btx_text::classify::is_white;
+use btx_text::classify::{is_name_byte, is_white};
 
 /// A line without the white and the comment that it begins with.
 #[tactic(auto, using(crate::proofs::FrontLemmas::white_steps))]
@@ -41,17 +41,6 @@ pub fn letters_len(line: &[u8]) -> usize
     line.len()
 }
 
-// Whether a name ends before this byte.
-fn ends_name(byte: u8) -> bool
-    ensures { result ≡ spec.ends_name byte }
-{
-    byte < 33
-        || matches!(
-            byte,
-            b'"' | b'#' | b'%' | b'\'' | b'(' | b')' | b',' | b'=' | b'{' | b'}'
-        )
-}
-
 // Whether a word of a body ends before this byte.
 fn ends_word(byte: u8) -> bool
     ensures { result ≡ spec.ends_word byte }
@@ -66,7 +55,7 @@ fn run_len(line: &[u8]) -> usize
     ensures bound { result ≤ length line.now }
 {
     for (i, &byte) in line.iter().enumerate() {
-        if ends_name(byte) {
+        if !is_name_byte(byte) {
             return i;
         }
     }

@@ -32,6 +32,14 @@ is_digit = is_between 48 57
 abbrev pub is_sep : ℕ → Bool
 is_sep b = b == 126 || b == 45
 
+-- the bytes from 33 up that no name has: `" # % ' ( ) , = { }`
+abbrev pub is_sign : ℕ → Bool
+is_sign b = b == 34 || b == 35 || b == 37 || b == 39 || b == 40 || b == 41 || b == 44 || b == 61 || b == 123 || b == 125
+
+-- a byte that names are made of, in styles and in databases: from 33 up, and none of these signs
+abbrev pub is_name_byte : ℕ → Bool
+is_name_byte b = nat_le 33 b && not (is_sign b)
+
 -- the class of a byte
 unfoldable pub class_of : ℕ → Class
 class_of b = if is_white b then White else if is_alpha b then Alpha else if is_digit b then Digit else if is_sep b then Sep else Other

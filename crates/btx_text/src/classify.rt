@@ -1,6 +1,6 @@
 //! Which class a byte has.
 ghost use Rattle.std.specs.Prelude.{◌≡◌};
-ghost use Rattle.btx_text.specs.Class.{class_of, is_alpha, is_white};
+ghost use Rattle.btx_text.specs.Class.{class_of, is_alpha, is_name_byte, is_white};
 
 use crate::byte_class::Class;
 
@@ -30,4 +30,15 @@ pub fn is_alpha(byte: u8) -> bool
     ensures { result ≡ is_alpha byte }
 {
     byte.is_ascii_alphabetic() || byte >= 128
+}
+
+/// Whether a byte is one that names are made of, in styles and in databases: from 33 up, and none of `" # % ' ( ) , = { }`.
+#[inline(always)]
+pub fn is_name_byte(byte: u8) -> bool
+    ensures { result ≡ is_name_byte byte }
+{
+    !matches!(
+        byte,
+        0..=32 | b'"' | b'#' | b'%' | b'\'' | b'(' | b')' | b',' | b'=' | b'{' | b'}'
+    )
 }

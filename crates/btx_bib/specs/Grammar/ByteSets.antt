@@ -1,6 +1,6 @@
 -- The bytes that the words of a database are made of, and the runs of them.
 use Rattle.std.specs.Prelude.{ℕ, suc, ◌==◌, ◌||◌, ◌&&◌, not, nat_le, Bool, false, List, [], ◌∷◌, take, drop, if◌then◌else◌}
-use Rattle.btx_text.specs.Class.{is_white, is_digit}
+use Rattle.btx_text.specs.Class.{is_white, is_digit, is_name_byte}
 use Rattle.btx_text.specs.Elements.{depth_after}
 use Rattle.btx_bib.specs.declared.grammar.byte_sets.Delimiter.{Delimiter}
 use Rattle.btx_bib.specs.declared.grammar.byte_sets.Delimiter.TheVariants.{Braces, Parens}
@@ -12,14 +12,6 @@ use Rattle.btx_bib.specs.declared.grammar.byte_sets.Enclosure.TheVariants.{Group
 -- white, or the end of a line
 abbrev pub is_gap : ℕ → Bool
 is_gap b = is_white b || b == 10
-
--- the bytes from 33 up that no name has: `" # % ' ( ) , = { }`
-abbrev pub is_sign : ℕ → Bool
-is_sign b = b == 34 || b == 35 || b == 37 || b == 39 || b == 40 || b == 41 || b == 44 || b == 61 || b == 123 || b == 125
-
--- a byte that names are made of
-abbrev pub is_name_byte : ℕ → Bool
-is_name_byte b = nat_le 33 b && not (is_sign b)
 
 -- a byte that a name begins with: no digit
 abbrev pub begins_name : ℕ → Bool

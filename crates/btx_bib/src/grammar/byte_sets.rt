@@ -2,7 +2,7 @@
 ghost use Rattle.std.specs.Prelude.{◌≡◌, ◌≤◌, ◌==◌, ◌&&◌, length};
 ghost use Rattle.btx_bib.specs.Grammar.ByteSets as spec;
 
-use btx_text::classify::is_white;
+use btx_text::classify::{is_name_byte, is_white};
 use btx_text::depths::depth_after;
 use memchr::{memchr2, memchr3};
 
@@ -43,17 +43,6 @@ pub fn is_gap(byte: u8) -> bool
     ensures { result ≡ spec.is_gap byte }
 {
     is_white(byte) || byte == b'\n'
-}
-
-// A byte of a name.
-#[inline(always)]
-fn is_name_byte(byte: u8) -> bool
-    ensures { result ≡ spec.is_name_byte byte }
-{
-    !matches!(
-        byte,
-        0..=32 | b'"' | b'#' | b'%' | b'\'' | b'(' | b')' | b',' | b'=' | b'{' | b'}'
-    )
 }
 
 /// Whether a name can begin with a byte.
