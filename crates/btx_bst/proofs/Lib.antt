@@ -31,3 +31,4 @@ pub mod WrittenLemmas
 pub mod PassageLemmas
 pub mod SpellingLemmas
 pub mod ItemSpellingLemmas
+pub mod FirstNameLemmas

@@ -37,3 +37,4 @@ pub mod Macros
 pub mod Nexts
 pub mod Written
 pub mod Passages
+pub mod FirstNames

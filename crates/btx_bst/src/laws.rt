@@ -1,5 +1,6 @@
 //! Laws over the definition of a style, each the contract of a function that does nothing.
 ghost use Rattle.btx_bst.specs.Counts.{BeforeReadLaw, CountLaw};
+ghost use Rattle.btx_bst.specs.FirstNames.{FirstNamesLaw};
 ghost use Rattle.btx_bst.specs.ItemSpelling.{GivenLaw, GivingLaw, SkippedLaw, SkippedToEndLaw};
 ghost use Rattle.btx_bst.specs.Macros.{MacroTextsLaw, OneMacroLaw};
 ghost use Rattle.btx_bst.specs.Meanings.{MeaningsLaw, OneMeaningLaw};
@@ -24,6 +25,11 @@ pub fn references_are_earlier()
 pub fn no_name_has_two_meanings()
     ensures names { MeaningsLaw }
     ensures one { OneMeaningLaw }
+{}
+
+/// The names that the program means by a number keep their numbers in every style: `crossref`, `sort.key$`, `entry.max$` and `global.max$`.
+pub fn predefined_names_keep_their_numbers()
+    ensures { FirstNamesLaw }
 {}
 
 /// No macro has two meanings: the name of each means its text, and two macros of one name are one.
