@@ -32,3 +32,4 @@ pub mod PassageLemmas
 pub mod SpellingLemmas
 pub mod ItemSpellingLemmas
 pub mod FirstNameLemmas
+pub mod StyleRows

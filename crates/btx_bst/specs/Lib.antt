@@ -38,3 +38,4 @@ pub mod Nexts
 pub mod Written
 pub mod Passages
 pub mod FirstNames
+pub mod WorkedStyles

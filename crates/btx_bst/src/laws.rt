@@ -9,6 +9,7 @@ ghost use Rattle.btx_bst.specs.Order.{MacroLaw, OnceLaw, OrderLaw};
 ghost use Rattle.btx_bst.specs.Passages.{CommandLaw, InkLaw, SkipLaw};
 ghost use Rattle.btx_bst.specs.References.{ReferencesLaw, ItemsLaw, ExecutedLaw};
 ghost use Rattle.btx_bst.specs.Spelling.{SpelledLaw, BrokenLaw, DividedLaw};
+ghost use Rattle.btx_bst.specs.WorkedStyles as worked;
 ghost use Rattle.btx_bst.specs.Written.{FaultlessLaw, WrittenLaw};
 
 /// Each token refers to strings, fields and variables of the style and to functions before its own alone; what each command defines or
@@ -86,6 +87,15 @@ pub fn styles_are_spelled()
 pub fn styles_are_read_as_written()
     ensures written { WrittenLaw }
     ensures faultless { FaultlessLaw }
+{}
+
+/// Short texts are read as they are worked by hand: each command, each message with its line, bodies with their tokens, and what messages say.
+#[tactic(auto, using(crate::proofs::StyleRows::worked_rows))]
+pub fn worked_styles_are_read_so()
+    ensures commands { worked.AreRead worked.commands }
+    ensures faults { worked.AreRead worked.faults }
+    ensures bodies { worked.AreBodies worked.bodies }
+    ensures messages { worked.AreTexts worked.messages }
 {}
 
 /// Nothing of a text is read twice, and nothing is left out: the text at a place is the white before a command, the command's own, what is
