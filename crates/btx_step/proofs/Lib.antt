@@ -5,6 +5,7 @@ pub mod Ascent
 pub mod Bytes
 pub mod Orders
 pub mod RowLemmas
+pub mod RuleLemmas
 pub mod KeepLemmas
 pub mod AssignLemmas
 pub mod LeaveLemmas

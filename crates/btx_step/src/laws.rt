@@ -15,11 +15,12 @@ pub fn reads_back()
 {}
 
 /// A step changes no field, key or list, since it answers none; only `:=` changes a variable; no step changes the variables of an entry
-/// that isn't the current one, or which entry that is.
+/// that isn't the current one, which entry that is, or the greatest number of bodies that were open at once.
 pub fn variables_stay()
     ensures variables { leaves.VariablesStay }
     ensures others { leaves.OtherEntriesStay }
     ensures current { leaves.CurrentStays }
+    ensures deepest { leaves.DeepestStays }
 {}
 
 /// Below the literals that a step takes all others stay, but for `stack$`, which leaves none.
