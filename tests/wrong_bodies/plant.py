@@ -8,6 +8,8 @@ their bodies: so the wrong bodies of one crate are planted together, in as few r
 checked. What isn't refused so for a reason of its own (the check may only tell that a function is called that isn't proved) is planted once
 more, alone. With --alone each is from the beginning. For each it prints the goal that refused: its name and what it says, where the check tells.
 
+One that changes a definition too, a file of specs/, has a round of its own behind the others, which are to be judged by the definitions that stand.
+
 Each file also has a line 'witness:', which witnesses.py checks; here it must only be there.
 
 It stands on the libraries that the gate has built (rt ci), and on the kit's own way to check a crate whose text is changed. The last line is
@@ -45,6 +47,7 @@ class WrongBody:
     def __init__(self, path):
         self.name, self.text = path.stem, path.read_text(encoding="utf-8")
         self.function = "".join(re.findall(r"(?m)^function: (\S+)$", self.text))
+        self.changes_definitions = re.search(r"(?m)^file: specs/", self.text) is not None
 
     def planted_in(self, texts, folder):
         """The texts of the files that this body changes, above those that others have changed."""
@@ -65,11 +68,11 @@ class WrongBody:
 
 
 def in_rounds(bodies, alone):
-    """The bodies in rounds that have each function once at most."""
+    """The bodies in rounds that have each function once at most. One that changes a definition stands alone, behind the others."""
     rounds = []
-    for body in bodies:
+    for body in sorted(bodies, key=lambda it: it.changes_definitions):
         free = next((it for it in rounds if not alone and all(body.function != other.function for other in it)), None)
-        if free is None:
+        if free is None or body.changes_definitions:
             rounds.append(free := [])
         free.append(body)
     return rounds
