@@ -1,5 +1,6 @@
 pub mod TellingLemmas
 pub mod ReadingLemmas
+pub mod AnsweredLemmas
 pub mod FileLawLemmas
 pub mod FileRows
 pub mod ProductLemmas

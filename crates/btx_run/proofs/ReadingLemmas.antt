@@ -86,7 +86,7 @@ databases_told-append files earlier (x ∷ xs) ys =
     ∙ ap (λ l. databases_told files (earlier ++ x ∷ []) xs ++ databases_told files l ys) (append_assoc earlier (x ∷ []) xs))
 
 -- the names of one database more
-names_more : (names : List Bytes) (i : ℕ) (name : Bytes) → i < length names → name ≡ get_or names i name
+pub names_more : (names : List Bytes) (i : ℕ) (name : Bytes) → i < length names → name ≡ get_or names i name
     → texts_of (take (i + 1) names) ≡ texts_of (take i names) ++ name.items ∷ []
 names_more names i name lt is =
     ap texts_of (take_more names i name lt ∙ ap (λ x. take i names ++ x ∷ []) (sym is)) ∙ map-append (λ (name : Bytes). name.items) (take i names) (name ∷ [])
@@ -167,7 +167,7 @@ databases_fail (Err fault) files job style names a b x y err short is part =
     rw short (subst (λ names. AppendsBeginning x y (bytes_of_lines (databases_told files [] names))) is part)
 
 pub style_is_read : (files : Files) (job : Job) (name : List ℕ) (style : NamedFile) → style_read files job name (Some style) ≡ behind (style_line name ∷ []) (after_style files job style)
-unfolding style_read
+unfolding style_read after_style
 style_is_read files job name style = refl
 
 pub style_is_missed : (files : Files) (job : Job) (name : List ℕ) → style_read files job name None ≡ behind (no_style_line name ∷ []) (reading [] (Ends ended.Finished))

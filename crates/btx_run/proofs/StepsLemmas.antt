@@ -65,7 +65,7 @@ found_goes_on files job style =
     one_of (is_too_long style.bytes) (reading [] (Ends (ended.Limit kind.File))) (with_style style (databases_read files job.databases)) (other_end (ended.Limit kind.File) refl) tt
 
 read_goes_on : (files : Files) (job : Job) (name : List ℕ) (style : Option NamedFile) → GoesOn (style_read files job name style).gives
-unfolding style_read
+unfolding style_read after_style
 read_goes_on files job name None = other_end ended.Finished refl
 read_goes_on files job name (Some style) = found_goes_on files job style
 

@@ -6,7 +6,9 @@ ghost use Rattle.btx_machine.specs.DirectDepth.{StaysWithin};
 ghost use Rattle.btx_machine.specs.Faults.{CountsOfOutputs};
 ghost use Rattle.btx_machine.specs.KeepingStep.{AtFault, Completes};
 ghost use Rattle.btx_machine.specs.Product.{log_of, product as executed};
+ghost use Rattle.btx_run.specs.Answered.{CompletesAsAnswered, FailsAsAnswered, product_answered};
 ghost use Rattle.btx_run.specs.DirectStyles.{WhereDirect};
+ghost use Rattle.btx_run.specs.Files.Answered.{Answers, BySome};
 ghost use Rattle.btx_run.specs.Files.Faults.{CountsOfThree};
 ghost use Rattle.btx_run.specs.Files.Readings.{StyleFits, files_read, reading_of};
 ghost use Rattle.btx_run.specs.Product.{given_by, given_in, product, product_of_files, product_of_reading, product_with};
@@ -128,6 +130,10 @@ fn run_job<F: Finder, W: Sink, L: Sink>(
     ensures err { OnErr result (IfSome (F.content finder.old) (λ files.
         AtFault (W.received bbl.old, L.received log.old) (W.received bbl.new, L.received log.new)
         (product_of_reading job.now (files_read files job.now) options.now) options.now.budget)) }
+    ensures answered { IfOk result (λ report. BySome (Answers job.now) (λ answers.
+        Completes report (W.received bbl.old, L.received log.old) (W.received bbl.new, L.received log.new) (product_answered job.now answers options.now options.now.budget))) }
+    ensures begun { OnErr result (BySome (Answers job.now) (λ answers.
+        AtFault (W.received bbl.old, L.received log.old) (W.received bbl.new, L.received log.new) (product_answered job.now answers options.now) options.now.budget)) }
     ensures counts { CountsOfThree result (F.failures finder.old, F.failures finder.new) (W.failures bbl.old, W.failures bbl.new) (L.failures log.old, L.failures log.new) }
     ensures stays { F.content finder.new ≡ F.content finder.old }
 {
@@ -155,6 +161,8 @@ fn run_named<F: Finder, W: Sink, L: Sink>(
     ensures deep { IfOk result (λ report. report.deepest ≤ 4096) }
     ensures err { OnErr result (IfSome (F.content finder.old) (λ files.
         AtFault (W.received bbl.old, L.received log.old) (W.received bbl.new, L.received log.new) (product_with files name.now options.now) options.now.budget)) }
+    ensures answered { IfOk result (CompletesAsAnswered options.now (W.received bbl.old, L.received log.old) (W.received bbl.new, L.received log.new)) }
+    ensures begun { OnErr result (FailsAsAnswered options.now (W.received bbl.old, L.received log.old) (W.received bbl.new, L.received log.new)) }
     ensures counts { CountsOfThree result (F.failures finder.old, F.failures finder.new) (W.failures bbl.old, W.failures bbl.new) (L.failures log.old, L.failures log.new) }
     ensures stays { F.content finder.new ≡ F.content finder.old }
 {
@@ -188,6 +196,12 @@ pub fn run<F: Finder, W: Sink, L: Sink>(
     ensures fault { OnErr result (IfSome (F.content finder.old) (λ files.
         AtFault (W.received bbl.old, L.received log.old) (W.received bbl.new, L.received log.new) (product_with files name.now options.now) options.now.budget)) }
     ensures counts { CountsOfRun result (F.failures finder.old, F.failures finder.new) (W.failures bbl.old, W.failures bbl.new) (L.failures log.old, L.failures log.new) }
+
+    // Of every finder, whether it tells its content or not: there are a job and the files that the finder answered such that the report is that of
+    // their product, and both outputs received its bytes. After a fault there are such files that both outputs are beginnings of their product's, and
+    // keep step.
+    ensures answered { IfOk result (CompletesAsAnswered options.now (W.received bbl.old, L.received log.old) (W.received bbl.new, L.received log.new)) }
+    ensures begun { OnErr result (FailsAsAnswered options.now (W.received bbl.old, L.received log.old) (W.received bbl.new, L.received log.new)) }
 
     // Whatever the finder and the sinks are.
     ensures bound { IfOk result (λ report. report.steps ≤ options.now.budget) }

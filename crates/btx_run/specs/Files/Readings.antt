@@ -62,15 +62,22 @@ databases_read files names = reading (databases_told files [] names) (files_foun
 abbrev pub with_style : NamedFile → Reading (List NamedFile) → Reading FilesRead
 with_style style part = reading part.told (Found (record { style = style; databases = part.gives }))
 
+-- what follows a style that was found, with what the databases give: a style that is too long ends the run, and no database is looked for
+abbrev pub style_found : NamedFile → Reading (List NamedFile) → Reading FilesRead
+style_found style databases = if is_too_long style.bytes then reading [] (Ends (ended.Limit kind.File)) else with_style style databases
+
 -- what follows a style that was found: one that is too long ends the run, else the databases are looked for
 unfoldable pub after_style : Files → Job → NamedFile → Reading FilesRead
-after_style files job style =
-    if is_too_long style.bytes then reading [] (Ends (ended.Limit kind.File)) else with_style style (databases_read files job.databases)
+after_style files job style = style_found style (databases_read files job.databases)
+
+-- a style that was looked for by this name, with what the databases give: without it the run ends
+abbrev pub style_sought : List ℕ → Option NamedFile → Reading (List NamedFile) → Reading FilesRead
+style_sought name None databases = reading (no_style_line name ∷ []) (Ends ended.Finished)
+style_sought name (Some style) databases = behind (style_line name ∷ []) (style_found style databases)
 
 -- the style of this name, once it is looked for: without it the run ends
 unfoldable pub style_read : Files → Job → List ℕ → Option NamedFile → Reading FilesRead
-style_read files job name None = reading (no_style_line name ∷ []) (Ends ended.Finished)
-style_read files job name (Some style) = behind (style_line name ∷ []) (after_style files job style)
+style_read files job name style = style_sought name style (databases_read files job.databases)
 
 -- the style that the `.aux` files name, if they name one: without one the run ends
 unfoldable pub style_named : Files → Job → Option (List ℕ) → Reading FilesRead
@@ -84,12 +91,16 @@ StyleFits (Found found) = length found.style.bytes ≤ greatest_file
 
 -- ---- the job
 
+-- what follows the `.aux` files, by how their reading ended: only a whole one goes on to the style
+abbrev pub after_aux : AuxEnd → Reading FilesRead → Reading FilesRead
+after_aux aux.Whole style = style
+after_aux aux.TooManyOpen style = reading [] (Ends (ended.Limit kind.Files))
+after_aux aux.TopMissing style = reading [] (Ends ended.NoTopFile)
+after_aux aux.FileLimit style = reading [] (Ends (ended.Limit kind.File))
+
 -- what follows the `.aux` files, by how their reading ended
 unfoldable pub after_job : Files → Job → AuxEnd → Reading FilesRead
-after_job files job aux.Whole = style_named files job job.style
-after_job files job aux.TooManyOpen = reading [] (Ends (ended.Limit kind.Files))
-after_job files job aux.TopMissing = reading [] (Ends ended.NoTopFile)
-after_job files job aux.FileLimit = reading [] (Ends (ended.Limit kind.File))
+after_job files job end = after_aux end (style_named files job job.style)
 
 -- what the `.aux` files told, and what follows them
 abbrev pub files_read : Files → Job → Reading FilesRead

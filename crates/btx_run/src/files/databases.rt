@@ -1,6 +1,7 @@
 //! The databases of a job are looked for.
-ghost use Rattle.std.specs.Prelude.{◌≡◌, ◌+◌, ◌++◌, ◌∷◌, [], length, IfOk, IfSome, OnErr, OnOk};
+ghost use Rattle.std.specs.Prelude.{◌≡◌, ℕ, ◌+◌, ◌++◌, ◌∷◌, [], length, IfOk, IfSome, List, OnErr, OnOk, Option};
 ghost use Rattle.btx_aux.specs.Entries.{texts_of};
+ghost use Rattle.btx_run.specs.Files.Answered.{AddsAs, AnswersTo, BySome, answer, database_answered, databases_answered};
 ghost use Rattle.btx_run.specs.Files.Faults.{CountsOfTwo};
 ghost use Rattle.btx_run.specs.Files.Found.{file_at};
 ghost use Rattle.btx_out.specs.Pieces.{AppendsBeginning};
@@ -41,6 +42,8 @@ fn find_database<'a, F: Finder, L: Sink>(
 ) -> Result<Option<FoundFile<'a>>, Fault>
     ensures reads { IfSome (F.content finder.old) (λ files. ReadsAs result (journal.old, journal.new) (L.received log.old, L.received log.new)
         (reading (database_told number name.entry.now (file_at files name.entry.now) ∷ []) (file_at files name.entry.now))) }
+    ensures answered { BySome (Option (List ℕ)) (λ bytes. ReadsAs result (journal.old, journal.new) (L.received log.old, L.received log.new)
+        (database_answered number (answer name.entry.now bytes))) }
     ensures stays { F.content finder.new ≡ F.content finder.old }
     ensures counts { CountsOfTwo result (F.failures finder.old, F.failures finder.new) (L.failures log.old, L.failures log.new) }
 {
@@ -64,14 +67,16 @@ fn add_database<'a, F: Finder, L: Sink>(
         (database_told (length found.old + 1) name.entry.now (file_at files name.entry.now) ∷ []))) }
     ensures err { OnErr result (IfSome (F.content finder.old) (λ files. AppendsBeginning (L.received log.old) (L.received log.new)
         (bytes_of_lines (database_told (length found.old + 1) name.entry.now (file_at files name.entry.now) ∷ [])))) }
+    ensures answered { BySome (Option (List ℕ)) (λ bytes. AddsAs result found.old found.new (journal.old, journal.new) (L.received log.old, L.received log.new)
+        (database_answered (length found.old + 1) (answer name.entry.now bytes))) }
     ensures stays { F.content finder.new ≡ F.content finder.old }
     ensures counts { CountsOfTwo result (F.failures finder.old, F.failures finder.new) (L.failures log.old, L.failures log.new) }
 {
     let number = found.next_number();
-    if let Some(database) = find_database(alloc, finder, number, name, journal, log)? {
-        found.push(database)?;
+    match find_database(alloc, finder, number, name, journal, log)? {
+        Some(database) => Ok(found.push(database)?),
+        None => Ok(()),
     }
-    Ok(())
 }
 
 /// Looks for the databases of these names, each in turn.
@@ -84,6 +89,8 @@ pub fn find_databases<'a, F: Finder, L: Sink>(
 ) -> Result<FoundFiles<'a>, Fault>
     ensures reads { IfSome (F.content finder.old) (λ files. ReadsAs result (journal.old, journal.new) (L.received log.old, L.received log.new)
         (databases_read files (texts_of names.entry.now))) }
+    ensures answered { BySome (AnswersTo (texts_of names.entry.now)) (λ answers. ReadsAs result (journal.old, journal.new) (L.received log.old, L.received log.new)
+        (databases_answered answers.each)) }
     ensures stays { F.content finder.new ≡ F.content finder.old }
     ensures counts { CountsOfTwo result (F.failures finder.old, F.failures finder.new) (L.failures log.old, L.failures log.new) }
 {

@@ -5,6 +5,7 @@ use Rattle.btx_run.specs.Product.{product_of_files, told_in}
 use Rattle.btx_run.specs.Files.Readings.{files_read}
 use Rattle.btx_run.proofs.ReadingLemmas.{of_told}
 use Rattle.btx_run.proofs.ProductLemmas.{completes_reading, fails_in_lines, fails_reading}
+use Rattle.btx_run.specs.Files.Answered.{reading_answered}
 use Rattle.btx_run.proofs.runner.run_job.Goals as goal
 
 pub returns-in_err-read-clause-err : goal.returns-in_err-read-clause-err
@@ -30,3 +31,40 @@ returns-clause-err g c =
     (λ files read. fails_reading c.args.job.now c.args.options.now c.in_ok-read.read (told_so c.warnings.result c.errors.result) c.new-journal.result c.read_files.new.journal
     (g.W.Sink.received c.args.bbl.now) (g.W.Sink.received c.after_files.new.bbl) (g.L.Sink.received c.args.log.now) (g.L.Sink.received c.read_files.new.log) (g.L.Sink.received c.after_files.new.log)
     told c.new-journal.ensures c.args.options.now.budget (files_read files c.args.job.now) read fault)) c.after_files.result c.after_files.ensures.err
+
+pub returns-in_err-read-clause-begun : goal.returns-in_err-read-clause-begun
+returns-in_err-read-clause-begun g c =
+    let some = c.in_err-read.ensures.answered in
+    let part = reading_answered c.args.job.now some.answers in
+    on_err c.from_residual.result (record {
+      answers = some.answers;
+      holds =
+          fails_in_lines part.told (g.W.Sink.received c.args.bbl.now) (g.L.Sink.received c.args.log.now) (g.L.Sink.received c.read_files.new.log)
+          (λ steps. product_of_files c.args.job.now part.gives c.args.options.now (told_in part.told) steps) c.args.options.now.budget some.holds;
+    })
+
+pub returns-clause-answered : goal.returns-clause-answered
+returns-clause-answered g c =
+    let told : told_so c.warnings.result c.errors.result ≡ told_so c.read_files.new.journal.warnings c.read_files.new.journal.errors =
+    ap (λ warnings. told_so warnings c.errors.result) c.warnings.ensures ∙ ap (told_so c.read_files.new.journal.warnings) c.errors.ensures in
+    let some = c.in_ok-read.ensures.answered in
+    ok_map (λ report completes. record {
+      answers = some.answers;
+      holds =
+          completes_reading c.args.job.now c.args.options.now c.in_ok-read.read (told_so c.warnings.result c.errors.result) c.new-journal.result c.read_files.new.journal
+          (g.W.Sink.received c.args.bbl.now) (g.W.Sink.received c.after_files.new.bbl) (g.L.Sink.received c.args.log.now) (g.L.Sink.received c.read_files.new.log) (g.L.Sink.received c.after_files.new.log)
+          told c.new-journal.ensures report c.args.options.now.budget (reading_answered c.args.job.now some.answers) some.holds completes;
+    }) c.after_files.result c.after_files.ensures.ok
+
+pub returns-clause-begun : goal.returns-clause-begun
+returns-clause-begun g c =
+    let told : told_so c.warnings.result c.errors.result ≡ told_so c.read_files.new.journal.warnings c.read_files.new.journal.errors =
+    ap (λ warnings. told_so warnings c.errors.result) c.warnings.ensures ∙ ap (told_so c.read_files.new.journal.warnings) c.errors.ensures in
+    let some = c.in_ok-read.ensures.answered in
+    err_map (λ fault. record {
+      answers = some.answers;
+      holds =
+          fails_reading c.args.job.now c.args.options.now c.in_ok-read.read (told_so c.warnings.result c.errors.result) c.new-journal.result c.read_files.new.journal
+          (g.W.Sink.received c.args.bbl.now) (g.W.Sink.received c.after_files.new.bbl) (g.L.Sink.received c.args.log.now) (g.L.Sink.received c.read_files.new.log) (g.L.Sink.received c.after_files.new.log)
+          told c.new-journal.ensures c.args.options.now.budget (reading_answered c.args.job.now some.answers) some.holds fault;
+    }) c.after_files.result c.after_files.ensures.err
