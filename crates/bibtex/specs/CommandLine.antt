@@ -13,9 +13,13 @@ use Rattle.clap.specs.declared.error.kind.ErrorKind.TheVariants.{DisplayHelp, Di
 use Rattle.btx_text.specs.declared.element_kind.TextMode.{TextMode}
 use Rattle.btx_text.specs.declared.element_kind.TextMode.TheVariants.{Bytes, Utf8}
 use Rattle.btx_run.specs.declared.options.Options.{Options}
+use Rattle.btx_run.specs.declared.run_fault.RunFault.TheVariants as run_fault
+use Rattle.bibtex.specs.Status.{status_at}
 use Rattle.bibtex.specs.declared.given.Refusal.{Refusal}
 use Rattle.bibtex.specs.declared.given.Refusal.TheVariants.{Memory, Mistake, Shown}
 use Rattle.bibtex.specs.declared.given.Settings.{Settings}
+use Rattle.bibtex.specs.declared.outcome.Exit.{Exit}
+use Rattle.bibtex.specs.declared.outcome.Exit.TheVariants as exit
 
 -- ---- the rules
 
@@ -161,18 +165,22 @@ pub record HasNumbers (rows : List Row) : Type 0 where
 
 -- ---- what is not run
 
+-- the end of a refusal whose text, if it has one, could be printed
+abbrev pub refusal_exit : Refusal → Exit
+refusal_exit (Shown _) = exit.Shown
+refusal_exit (Mistake _) = exit.Refused
+refusal_exit Memory = exit.Failed run_fault.Memory
+
 -- the exit status of a refusal
 abbrev pub status_of : Refusal → ℕ
-status_of (Shown _) = 0
-status_of (Mistake _) = 1
-status_of Memory = 5
+status_of refusal = status_at (refusal_exit refusal)
 
--- that of a fault of the words: 0 for help and the version, 1 for all mistakes, and 5 where memory was refused
+-- that of a fault of the words: help and the version are shown, all mistakes are refused, and memory may be refused
 abbrev pub refusal_status : ErrorKind → ℕ
-refusal_status DisplayHelp = 0
-refusal_status DisplayVersion = 0
-refusal_status OutOfMemory = 5
-refusal_status _ = 1
+refusal_status DisplayHelp = status_at exit.Shown
+refusal_status DisplayVersion = status_at exit.Shown
+refusal_status OutOfMemory = status_at (exit.Failed run_fault.Memory)
+refusal_status _ = status_at exit.Refused
 
 -- words with these faults: they are run only where they have none, and a refusal has the status of one of them, or of refused memory
 abbrev pub RefusesBy : Kinds → Result Settings Refusal → Type 0

@@ -1,5 +1,7 @@
+pub mod Acts
 pub mod CommandLine
 pub mod FileErrors
+pub mod Jobs
 pub mod Paths
 pub mod Printing
 pub mod Status

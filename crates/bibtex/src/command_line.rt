@@ -150,7 +150,7 @@ mod tests {
 
     // What a refusal has: its status, and its text.
     fn parts_of(alloc: Global, refusal: Refusal) -> (u8, String) {
-        let status = refusal.status();
+        let status = refusal.exit().status();
         match refusal {
             Refusal::Shown(text) | Refusal::Mistake(text) => (status, text),
             Refusal::Memory => (status, String::new(alloc)),
