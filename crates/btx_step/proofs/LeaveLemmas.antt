@@ -8,17 +8,16 @@ use Rattle.btx_bst.specs.declared.token.Token.{Token}
 use Rattle.btx_bst.specs.declared.token.Token.TheVariants as token
 use Rattle.btx_step.specs.declared.next.Next.TheVariants as next
 use Rattle.btx_step.specs.declared.said.Said.TheVariants as said
-use Rattle.btx_step.specs.declared.stand_in.StandIn.{StandIn}
 use Rattle.btx_step.specs.declared.stand_in.StandIn.TheVariants as stand_in
 use Rattle.btx_step.specs.Jobs.{Job}
 use Rattle.btx_step.specs.Stores.{Store}
 use Rattle.btx_step.specs.Answers.{with_literals}
 use Rattle.btx_step.specs.Entries.{finds_missing}
-use Rattle.btx_step.specs.Operands.{Default, Push, Back}
 use Rattle.btx_step.specs.Table.{row, runs_missing}
 use Rattle.btx_step.specs.Steps.{built_in_run, run_of, step_of}
 use Rattle.btx_step.specs.Leaves.{is_assignment, is_listing, operands_taken, VariablesStay, OtherEntriesStay, CurrentStays, DeepestStays, LowerLiteralsStay, ListingEmpties}
 use Rattle.btx_step.proofs.AssignLemmas.{assigned}
+use Rattle.btx_step.proofs.RuleLemmas.{pushed_by}
 use Rattle.btx_step.proofs.KeepLemmas as keep
 use Rattle.btx_step.proofs.KeepLemmas.{Keeps}
 
@@ -29,15 +28,10 @@ missing_kept : (current : Option ℕ) (s : Store) → Keeps (with_literals [] s)
 missing_kept None s = keep.without_entry s.literals s
 missing_kept (Some entry) s = keep.by_operands (row built_in.Missing).operands stand_in.Zero finds_missing (λ field p s r. keep.absence field s) s.literals s
 
--- what stands in for a result
-pushed_by : Default → StandIn
-pushed_by (Push instead) = instead
-pushed_by Back = stand_in.Nothing
-
 built_in_kept : (job : Job) (f : BuiltIn) (s : Store)
     → is_assignment (token.Run (callee.BuiltIn f)) ≡ false → is_listing (token.Run (callee.BuiltIn f)) ≡ false
     → Keeps (with_literals [] s) (drop (length (row f).operands) s.literals) (built_in_run job f s)
-unfolding built_in_run pushed_by
+unfolding built_in_run
 built_in_kept job built_in.Assign s a l = no_step a
 built_in_kept job built_in.Stack s a l = no_step l
 built_in_kept job built_in.Missing s a l = missing_kept s.current s

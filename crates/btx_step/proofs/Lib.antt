@@ -6,6 +6,7 @@ pub mod Bytes
 pub mod Orders
 pub mod RowLemmas
 pub mod RuleLemmas
+pub mod AppliedLemmas
 pub mod KeepLemmas
 pub mod AssignLemmas
 pub mod LeaveLemmas

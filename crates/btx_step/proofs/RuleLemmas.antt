@@ -5,9 +5,10 @@ use Rattle.btx_step.specs.declared.literal.Literal.TheVariants as literal
 use Rattle.btx_step.specs.declared.literal.Wanted.TheVariants as wanted
 use Rattle.btx_step.specs.declared.said.Note.{Note}
 use Rattle.btx_step.specs.declared.stand_in.StandIn.{StandIn}
+use Rattle.btx_step.specs.declared.stand_in.StandIn.TheVariants as stand_in
 use Rattle.btx_step.specs.Stores.{Store}
 use Rattle.btx_step.specs.Answers.{Answer, with_literals, complained}
-use Rattle.btx_step.specs.Operands.{Operand, Any, Of, Value, Does, Push, applied, or_default, complaints, on_operands}
+use Rattle.btx_step.specs.Operands.{Operand, Any, Of, Value, Does, Default, Push, Back, applied, or_default, complaints, on_operands}
 use Rattle.btx_step.specs.Applied.{literal_of}
 
 -- Q of the literals that are taken, R of those below them, and P of the store that a function begins with and its answer
@@ -55,3 +56,8 @@ module _ (Q : Literal → Type 0) (R : List Literal → Type 0) (P : Store → A
   by_rule none fails operands instead does h xs s t =
       answered (applied operands does xs) instead (complaints operands xs) xs (drop (length operands) xs) s (if_applied operands does h xs t)
       (fails (complaints operands xs) instead) (below_taken none operands xs t)
+
+-- what a default pushes
+abbrev pub pushed_by : Default → StandIn
+pushed_by (Push instead) = instead
+pushed_by Back = stand_in.Nothing

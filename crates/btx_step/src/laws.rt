@@ -1,7 +1,14 @@
 //! Laws over what a step does, each the contract of a function that does nothing.
+ghost use Rattle.btx_step.specs.Applied as applied;
 ghost use Rattle.btx_step.specs.Laws as law;
 ghost use Rattle.btx_step.specs.Leaves as leaves;
 ghost use Rattle.btx_step.specs.Orders as order;
+
+/// Of every built-in function and every stack: either all operands are there and fit, they go, and the function is done on them; or what is
+/// missing is told, else the first operand of a wrong kind, and the function's default follows.
+pub fn applied_or_reported()
+    ensures { applied.AppliedOrReported }
+{}
 
 /// `swap$ swap$` is nothing, and `duplicate$ pop$` is nothing.
 pub fn nothing_done()
