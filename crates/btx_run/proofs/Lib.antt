@@ -3,6 +3,7 @@ pub mod ReadingLemmas
 pub mod AnsweredLemmas
 pub mod FileLawLemmas
 pub mod FileRows
+pub mod WorkedJobs
 pub mod ProductLemmas
 pub mod LawLemmas
 pub mod StepsLemmas
