@@ -2,14 +2,12 @@
 use Rattle.std.proofs.Common.{◌≡◌, ℕ, ◌+◌, List, [], ◌∷◌, ◌++◌, Option, None, Some, length, map, refl, ap, ◌∙◌}
 use Rattle.std.specs.Option.{option_map}
 use Rattle.std.proofs.lemmas.List.{map-append}
-use Rattle.btx_text.specs.LogLines.{Line}
 use Rattle.btx_aux.specs.Files.{Files}
 use Rattle.btx_aux.specs.Job.{Job}
-use Rattle.btx_run.specs.declared.files.found.FilesRead.{FilesRead}
-use Rattle.btx_run.specs.Files.Answered.{Answer, Answers, databases_answered, file_answered, files_answered, lines_answered, style_answered}
+use Rattle.btx_run.specs.Files.Answered.{Answer, databases_answered, file_answered, files_answered, lines_answered, style_answered}
 use Rattle.btx_run.specs.Files.Found.{NamedFile, file_at, named}
 use Rattle.btx_run.specs.Files.Laws.{AnswersReadFiles, AreOf}
-use Rattle.btx_run.specs.Files.Readings.{Reading, after_aux, after_job, after_style, as_list, behind, database_told, databases_read, databases_told, files_found, reading, style_named, style_read, style_sought}
+use Rattle.btx_run.specs.Files.Readings.{Reading, after_aux, after_job, as_list, behind, database_told, databases_read, databases_told, files_found, reading, style_named, style_read, style_sought}
 
 file_is : (files : Files) (given : Answer) → given.bytes ≡ files given.name → file_answered given ≡ file_at files given.name
 file_is files given is = ap (option_map (named given.name)) is
