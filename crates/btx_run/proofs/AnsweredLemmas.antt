@@ -20,7 +20,7 @@ use Rattle.btx_run.specs.Files.Found.{NamedFile, named}
 use Rattle.btx_run.specs.Files.Names.{is_too_long}
 use Rattle.btx_run.specs.Files.Readings.{IsRead, Reading, ReadsAs, after_aux, as_list, database_told, reading, style_found, style_read, style_sought}
 use Rattle.btx_run.specs.Files.Telling.{Counted, Received, Tells, bytes_of_lines}
-use Rattle.btx_run.proofs.ReadingLemmas.{names_more, reads_at_once, reads_failing, reads_nothing}
+use Rattle.btx_run.proofs.ReadingLemmas.{names_more, reads_at_once, reads_failing}
 use Rattle.btx_run.proofs.TellingLemmas.{part_begins, rest_begins, tells_both}
 
 -- ---- answers that may be taken where nothing was asked

@@ -2,7 +2,9 @@ pub mod TellingLemmas
 pub mod ReadingLemmas
 pub mod AnsweredLemmas
 pub mod FileLawLemmas
+pub mod AnsweredLaws
 pub mod FileRows
+pub mod WorkedJobs
 pub mod ProductLemmas
 pub mod LawLemmas
 pub mod StepsLemmas

@@ -9,7 +9,7 @@ use Rattle.btx_text.specs.LogLines.{Line}
 use Rattle.btx_out.specs.Pieces.{AppendsBeginning}
 use Rattle.btx_machine.specs.declared.report.End.TheVariants as ended
 use Rattle.btx_run.specs.declared.files.found.FilesRead.{FilesRead}
-use Rattle.btx_run.specs.declared.files.found.FilesRead.TheVariants.{Ends, Found}
+use Rattle.btx_run.specs.declared.files.found.FilesRead.TheVariants.{Ends}
 use Rattle.btx_run.specs.Files.Found.{NamedFile, named}
 use Rattle.btx_run.specs.Files.Readings.{Reading, after_aux, as_list, behind, database_told, reading, style_sought}
 use Rattle.btx_run.specs.Files.Telling.{Counted, Received, Tells, bytes_of_lines}
