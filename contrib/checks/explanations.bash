@@ -66,8 +66,6 @@ Ended: finished, warnings 4, errors 8, steps 36
 "
 }
 
-ln -sf "$(python3 -c 'import sys; print(sys.executable)')" "$room/plain/python3"
-
 begin explained
 write_explained
 run_search -explain -terse job

@@ -9,6 +9,7 @@ the machine and on what else it does, three times as many. A row of RULES withou
 met. Its last line is 'N bars met, M not'; the exit status is 0 only where M is 0."""
 
 import argparse
+import functools
 import pathlib
 import re
 import shutil
@@ -19,7 +20,8 @@ from typing import Callable, NamedTuple
 
 from measure import PROGRAM, Bars, compile_once
 
-RULES = pathlib.Path(__file__).resolve().parents[2] / "docs/RULES.md"
+HERE = pathlib.Path(__file__).resolve().parent
+RULES = HERE.parents[1] / "docs/RULES.md"
 SECTION = "### What a job can cost at most"
 # Seconds.
 LONGEST_RUN = 300
@@ -246,6 +248,22 @@ def missing_parents(size):
     """Each message names the parent, of 1,000,000 bytes."""
     database = "@string{p = {%s}}\n" % ("p" * (LONGEST_STRING - 1)) + entries_of(size, ",crossref=p")
     return Job({"job.aux": ALL, "d.bib": database, "s.bst": style("")}, size * LONGEST_STRING)
+
+
+@functools.lru_cache(maxsize=None)
+def keys_that_collide(count):
+    with tempfile.TemporaryDirectory() as folder:
+        maker = pathlib.Path(folder) / "collide"
+        subprocess.run(["gcc", "-O2", "-Wall", "-Werror", "-o", maker, HERE / "collide.c"], check=True)
+        return subprocess.run([maker, str(count)], capture_output=True, text=True, check=True).stdout.split()
+
+
+@cost("seconds", "nanoseconds a pair of keys", 2_000, 6_000, scale=1e-9)
+def chosen_keys(size):
+    """Each is cited and has an entry, and is compared with all that were looked up before."""
+    chosen = keys_that_collide(6_000)[:size]
+    database = "".join("@misc{%s}\n" % key for key in chosen)
+    return Job({"job.aux": "\\citation{%s}\n" % ",".join(chosen) + AUX, "d.bib": database, "s.bst": style("")}, size * size // 2)
 
 
 # ---- what RULES says ----
