@@ -485,5 +485,3 @@ one_list from (o ∷ os) (x ∷ xs) a b h k =
 
 pub one-reading : OneReadingLaw
 one-reading from first second a b h k = (one_list from first second a b h k, sym (is_read_as first from a h) ∙ is_read_as second from b k)
-
-pub ruleset reading_laws = (style-read, one-reading)

@@ -92,7 +92,6 @@ pub fn styles_are_read_as_written()
 
 /// A text has one reading, and is read so: each command, whole or with its fault, and the line of the fault, are what the spelling of commands
 /// says; nothing that stands in a text can be told as anything else.
-#[tactic(auto, using(crate::proofs::CommandSpellingLemmas::reading_laws))]
 pub fn styles_have_one_reading()
     ensures reading { ReadingLaw }
     ensures one { OneReadingLaw }
