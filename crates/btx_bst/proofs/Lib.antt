@@ -33,3 +33,5 @@ pub mod SpellingLemmas
 pub mod ItemSpellingLemmas
 pub mod FirstNameLemmas
 pub mod StyleRows
+pub mod TokenSpellingLemmas
+pub mod CommandSpellingLemmas

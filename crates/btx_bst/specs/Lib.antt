@@ -39,3 +39,5 @@ pub mod Written
 pub mod Passages
 pub mod FirstNames
 pub mod WorkedStyles
+pub mod TokenSpelling
+pub mod CommandSpelling

@@ -1,4 +1,5 @@
 //! Laws over the definition of a style, each the contract of a function that does nothing.
+ghost use Rattle.btx_bst.specs.CommandSpelling.{OneReadingLaw, ReadingLaw};
 ghost use Rattle.btx_bst.specs.Counts.{BeforeReadLaw, CountLaw};
 ghost use Rattle.btx_bst.specs.FirstNames.{FirstNamesLaw};
 ghost use Rattle.btx_bst.specs.ItemSpelling.{GivenLaw, GivingLaw, SkippedLaw, SkippedToEndLaw};
@@ -87,6 +88,13 @@ pub fn styles_are_spelled()
 pub fn styles_are_read_as_written()
     ensures written { WrittenLaw }
     ensures faultless { FaultlessLaw }
+{}
+
+/// A text has one reading, and is read so: each command, whole or with its fault, and the line of the fault, are what the spelling of commands
+/// says; nothing that stands in a text can be told as anything else.
+pub fn styles_have_one_reading()
+    ensures reading { ReadingLaw }
+    ensures one { OneReadingLaw }
 {}
 
 /// Short texts are read as they are worked by hand: each command, each message with its line, bodies with their tokens, and what messages say.
