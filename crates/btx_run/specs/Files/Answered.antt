@@ -1,5 +1,5 @@
--- What the reading of a job's files comes to by what its finder answered. This holds for every finder, whether it tells its content or not: nothing is
--- asked of it but its answers.
+-- What the reading of a job's files comes to, by what its finder answered when it was asked for each of them. Of a finder that doesn't tell its content,
+-- as one over the files of a disk, nothing else is known.
 use Rattle.std.specs.Prelude.{◌≡◌, ℕ, ◌+◌, List, [], ◌∷◌, ◌++◌, length, map, Option, None, Some, Result, Ok, Err}
 use Rattle.std.specs.List.{flat_map}
 use Rattle.std.specs.Option.{option_map}
@@ -28,7 +28,7 @@ file_answered given = option_map (named given.name) given.bytes
 
 -- ---- databases
 
--- the files that were found, in order
+-- the files that were found, in the order of the answers
 abbrev pub files_answered : List Answer → List NamedFile
 files_answered answers = flat_map (λ given. as_list (file_answered given)) answers
 
@@ -53,17 +53,18 @@ pub record AnswersTo (names : List (List ℕ)) : Type 0 where
   pub each : List Answer
   pub in_turn : map (λ (given : Answer). given.name) each ≡ names
 
--- what a finder answers for a job: the bytes of its style, or that there is no such file, and its databases
+-- what a finder answered for the files that a job names: for its style the bytes, or that there is no such file, and for each of its databases
 pub record Answers (job : Job) : Type 0 where
   pub style : Option (List ℕ)
   pub databases : AnswersTo job.databases
 
--- the style that the `.aux` files name, if they name one, by its bytes or that there is no such file, and with what the databases give
+-- the style, by the name that the `.aux` files give it, if they do, and by its bytes, if the finder has it, with what the databases give: without a name or
+-- without the file the run ends
 abbrev pub style_answered : Option (List ℕ) → Option (List ℕ) → Reading (List NamedFile) → Reading FilesRead
 style_answered None bytes databases = reading [] (Ends ended.Finished)
 style_answered (Some name) bytes databases = style_sought name (file_answered (answer name bytes)) databases
 
--- what follows the `.aux` files of a job
+-- what follows the `.aux` files of a job, by these answers
 abbrev pub job_answered : (job : Job) → Answers job → Reading FilesRead
 job_answered job answers = after_aux job.ending (style_answered job.style answers.style (databases_answered answers.databases.each))
 
