@@ -1,10 +1,9 @@
 -- What the words of a command line mean.
-use Rattle.std.specs.Prelude.{◌≡◌, ◌≢◌, ◌≤◌, ◌⊎◌, ◌++◌, ℕ, Bool, true, List, [], ◌∷◌, Option, None, Some, Result, MatchResult, codes, if◌then◌else◌, map, unwrap_or}
+use Rattle.std.specs.Prelude.{◌≡◌, ◌≢◌, ◌≤◌, ◌⊎◌, ◌++◌, ℕ, Bool, true, false, List, [], ◌∷◌, Option, None, Some, Result, MatchResult, codes, if◌then◌else◌, map, unwrap_or}
 use Rattle.std.specs.Borrow.{Bor}
 use Rattle.std.specs.Str.{bytes_eq}
 use Rattle.std.specs.Str.Parse.{digits_value, without_leading_plus}
 use Rattle.clap.specs.Simple.{new_shape}
-use Rattle.clap.specs.Values.{bool_text}
 use Rattle.clap.specs.Words.{App, IsAmong, IsUnsignedIn, Kinds, Row, Rule, Text, fault_of, first_of, matches_of, new_rule, one_of}
 use Rattle.clap.specs.declared.builder.action.ArgAction.TheVariants.{SetTrue}
 use Rattle.clap.specs.declared.builder.value_parser.ValueParser.TheVariants.{Names, Unsigned}
@@ -116,9 +115,14 @@ abbrev pub number_or : ℕ → Option Text → ℕ
 number_or usual None = usual
 number_or usual (Some text) = digits_value 10 (without_leading_plus text)
 
--- a flag's text is that of its truth value
+-- a flag's text is `true`; it has none where it isn't known at all
+abbrev pub is_set : Option Text → Bool
+is_set None = false
+is_set (Some text) = bytes_eq text (codes "true")
+
+-- a flag is on exactly where its text is `true`, whatever else stands there
 abbrev pub IsFlag : Option Text → Bool → Type 0
-IsFlag text flag = (value : Bool) → text ≡ Some (bool_text value) → flag ≡ value
+IsFlag text flag = flag ≡ is_set text
 
 abbrev pub mode_of : Text → TextMode
 mode_of word = if bytes_eq word (codes "utf8") then Utf8 else Bytes

@@ -9,9 +9,11 @@ use Rattle.btx_machine.specs.Written.{Received}
 use Rattle.btx_machine.specs.declared.report.Report.{Report}
 use Rattle.btx_run.specs.Product.{product, product_with}
 use Rattle.btx_run.specs.declared.run_fault.RunFault.{RunFault}
+use Rattle.bibtex.specs.ListFiles.{FinishesList, Held, received_by}
 use Rattle.bibtex.specs.Printing.{printed_log}
 use Rattle.bibtex.specs.Status.{first_fault}
 use Rattle.bibtex.specs.declared.given.Settings.{Settings}
+use Rattle.bibtex.specs.declared.list_file.ListFile.{ListFile}
 
 -- The job that was asked for is run, with all that was asked of it, over a finder of this content, if it tells one: its report, list and
 -- log are the product's, and after a fault the two outputs are beginnings of them. Whatever the finder is, the run keeps to its budget.
@@ -45,12 +47,24 @@ pub record HandsLog (settings : Settings) (log : List ℕ) (before after : Hande
   pub handed : after ≡ option_map (λ handed. handed ++ Stored log stored ∷ Printed (printed_log settings log) printed ∷ []) before
   pub first : answer ≡ both_done stored printed
 
--- A job is done: it is run, and then the log that was kept is handed on, also after a fault. The first fault is answered.
-pub record DoesJob (content : Option Files) (settings : Settings) (list : Option (List ℕ) × Option (List ℕ)) (before after : Handed)
-    (answer : Result Report RunFault) : Type 0 where
+-- A job's list is written, over this change of its file: the job is run, and then the list's file is ended, also after a fault. The first
+-- fault is answered.
+pub record ListsJob {W : Type 0} (content : Option Files) (contents : W → Held) (settings : Settings) (before after : ListFile W)
+    (log : Held × Held) (answer : Result Report RunFault) : Type 0 where
   pub ran : Result Report RunFault
+  pub written : ListFile W
+  pub finished : Result (Unit {0}) RunFault
+  pub runs : RunsJob content settings (received_by contents before, log.0) (received_by contents written, log.1) ran
+  pub finishes : FinishesList contents ran written after finished
+  pub first : answer ≡ first_fault ran finished
+
+-- A job is done, over this change of its list's file: its list is written, and then the log that was kept is handed on, also after a fault.
+-- The first fault is answered.
+pub record DoesJob {W : Type 0} (content : Option Files) (contents : W → Held) (settings : Settings) (list : ListFile W × ListFile W)
+    (before after : Handed) (answer : Result Report RunFault) : Type 0 where
+  pub listed : Result Report RunFault
   pub log : List ℕ
   pub written : Result (Unit {0}) RunFault
-  pub runs : RunsJob content settings (list.0, Some []) (list.1, Some log) ran
+  pub lists : ListsJob content contents settings list.0 list.1 (Some [], Some log) listed
   pub hands : HandsLog settings log before after written
-  pub first : answer ≡ first_fault ran written
+  pub first : answer ≡ first_fault listed written

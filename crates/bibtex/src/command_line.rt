@@ -95,7 +95,7 @@ fn options_of(matches: &ArgMatches<'_>) -> Options
 fn has_flag(matches: &ArgMatches<'_>, id: &str) -> bool
     ensures { IsFlag (one_of id.now (rows_of (found_of matches.now))) result }
 {
-    matches.get_flag(id)
+    matches.get_one::<bool>(id).unwrap_or(false)
 }
 
 // The name of a job, which may be given with a last `.aux`.

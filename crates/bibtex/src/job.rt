@@ -1,18 +1,17 @@
 //! A job of a folder.
 ghost use Rattle.std.specs.Prelude.{◌≡◌, ◌≤◌, IfOk};
 ghost use Rattle.btx_run.specs.RunFaults.{CountsOfRun};
-ghost use Rattle.bibtex.specs.Jobs.{DoesJob, HandsLog, RunsJob, both_done};
+ghost use Rattle.bibtex.specs.Jobs.{DoesJob, HandsLog, ListsJob, RunsJob, both_done};
 ghost use Rattle.bibtex.specs.Printing.{printed_log};
 ghost use Rattle.bibtex.specs.Status.{first_fault};
 
 use crate::directory::DirectoryFinder;
 use crate::given::Settings;
-use crate::outcome::output_fault;
-use crate::outputs::{LogOutputs, SystemOutputs};
+use crate::list_file::{EmptiedFile, ListFile, open_list};
+use crate::outputs::{LogOutputs, SystemOutputs, empty_old_log};
 use crate::paths::path_of;
 use btx_run::{Finder, Over, Report, RunFault, Sink, run};
 use std::alloc::Global;
-use std::fs;
 use std::rt::Files;
 
 // Runs the job that the settings ask for.
@@ -71,24 +70,39 @@ fn first_fault(
     Ok(report)
 }
 
-// Runs the job and then, also after a fault, hands on the log. The first fault is answered.
-fn do_job<F: Finder, W: Sink, O: LogOutputs>(
+// Runs the job and then, also after a fault, ends its list's file. The first fault is answered.
+fn list_job<F: Finder, W: EmptiedFile, L: Sink>(
     alloc: Global,
     settings: &Settings<'_>,
     finder: &mut F,
-    bbl: &mut W,
+    list: &mut ListFile<W>,
+    log: &mut L,
+) -> Result<Report, RunFault>
+    ensures { ListsJob (F.content finder.old) W.contents settings.now list.old list.new (L.received log.old, L.received log.new) result }
+{
+    let ran = run_over(alloc, settings, finder, list, log);
+    let finished = list.finish(&ran);
+    first_fault(ran, finished)
+}
+
+// Writes the job's list and then, also after a fault, hands on the log. The first fault is answered.
+fn do_job<F: Finder, W: EmptiedFile, O: LogOutputs>(
+    alloc: Global,
+    settings: &Settings<'_>,
+    finder: &mut F,
+    list: &mut ListFile<W>,
     outputs: &mut O,
 ) -> Result<Report, RunFault>
-    ensures { DoesJob (F.content finder.old) settings.now (W.received bbl.old, W.received bbl.new) (O.handed outputs.old) (O.handed outputs.new) result }
+    ensures { DoesJob (F.content finder.old) W.contents settings.now (list.old, list.new) (O.handed outputs.old) (O.handed outputs.new) result }
 {
     let mut log = Over::new(Vec::new(alloc));
-    let answer = run_over(alloc, settings, finder, bbl, &mut log);
+    let listed = list_job(alloc, settings, finder, list, &mut log);
     let written = write_log(outputs, settings, log.writer.as_slice());
-    first_fault(answer, written)
+    first_fault(listed, written)
 }
 
 /// Runs the job: writes `JOB.bbl`, `JOB.blg` and, where the settings aren't terse, to standard output the log again. The log is written
-/// also after a fault, except where `JOB.bbl` can't be created. The first fault is answered.
+/// also after a fault, except where `JOB.bbl` can't be opened. The first fault is answered.
 pub fn run_job(
     rt: &(impl Files + Print),
     alloc: Global,
@@ -97,16 +111,11 @@ pub fn run_job(
     ensures { IfOk result (λ report. report.steps ≤ settings.now.options.budget) }
 {
     let path = path_of(alloc, settings, ".bbl")?;
-    let file = fs::create(rt, path.as_str()).map_err(|error| output_fault(&error))?;
+    let mut list = open_list(rt, path.as_str())?;
+    empty_old_log(rt, alloc, settings);
     let mut finder = DirectoryFinder::new(rt, settings.directory);
     let mut outputs = SystemOutputs::new(rt, alloc, settings);
-    let report = do_job(
-        alloc,
-        settings,
-        &mut finder,
-        &mut Over::new(file),
-        &mut outputs,
-    )?;
+    let report = do_job(alloc, settings, &mut finder, &mut list, &mut outputs)?;
     Ok(report)
 }
 
@@ -115,9 +124,9 @@ mod tests {
     use super::*;
     use crate::scratch::{make_folder, write_file};
     use btx_run::{KeptBytes, LineLength, Options, TextMode};
-    use std::io;
     use std::process::Abort;
     use std::test::Fail;
+    use std::{fs, io};
 
     const STYLE: &[u8] =
         b"ENTRY {title}{}{} FUNCTION {misc}{} READ FUNCTION {f} {\"a\" write$ newline$} EXECUTE {f}\n";

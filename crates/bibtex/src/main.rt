@@ -11,6 +11,7 @@ mod command_line;
 mod directory;
 mod given;
 mod job;
+mod list_file;
 mod options;
 mod outcome;
 mod outputs;

@@ -8,6 +8,7 @@ use crate::outcome::output_fault;
 use crate::paths::path_of;
 use btx_run::RunFault;
 use std::alloc::Global;
+use std::fs::OpenOptions;
 use std::io::Write;
 use std::rt::Files;
 use std::{fs, io};
@@ -24,6 +25,17 @@ pub trait LogOutputs {
     /// Prints to standard output.
     fn print(&mut self, log: &[u8]) -> Result<(), RunFault>
         ensures { handed self.new ≡ option_map (λ before. before ++ Printed log.now result ∷ []) (handed self.old) };
+}
+
+/// Empties the log's file that an earlier run left, so that no old log stands beside a new list. Where there is none, or that can't be
+/// done, nothing is said: the end of the run tells.
+pub fn empty_old_log(rt: &impl Files, alloc: Global, settings: &Settings<'_>) {
+    if let Ok(path) = path_of(alloc, settings, ".blg") {
+        let _ = OpenOptions::new()
+            .write(true)
+            .truncate(true)
+            .open(rt, path.as_str());
+    }
 }
 
 /// The file `JOB.blg` and the standard output of the real system.
