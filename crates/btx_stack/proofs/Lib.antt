@@ -5,3 +5,5 @@ pub mod Joins
 pub mod Swaps
 pub mod Few
 pub mod LongStrings
+pub mod Depths
+pub mod LongDepths

@@ -1,5 +1,5 @@
 -- The literals, from what the slots hold and the long strings.
-use Rattle.std.proofs.Common.{ℕ, ◌≡◌, ◌≤◌, ◌<◌, ◌+◌, ◌^◌, suc, Bool, true, false, cond, List, [], ◌∷◌, ◌++◌, length, take, get_or, Option, Some, None, refl, sym, ap, subst, ◌∙◌, arith}
+use Rattle.std.proofs.Common.{ℕ, ◌≡◌, ◌≤◌, ◌<◌, ◌+◌, ◌^◌, suc, Bool, true, false, cond, List, [], ◌∷◌, ◌++◌, length, take, Option, Some, None, refl, sym, ap, subst, ◌∙◌, arith}
 use Rattle.std.specs.Prelude.{nat_lt, nat_le, IsTrue}
 use Rattle.std.proofs.lemmas.Bool.Decides.{nat_tests}
 use Rattle.std.proofs.lemmas.List.{take_at, length-append}
@@ -366,12 +366,6 @@ off_owns (content.Large i ∷ xs) n e o = cc
 pub off_stands : (old : List Content) (large : List (List ℕ)) (was : List Literal) → filled old large ≡ was → 0 < length was → 0 < length old
 off_stands old large was o l = omega (arith, ap length o, length_filled old large)
 
--- the string on top
-pub text_shown : (old below : List Content) (large : List (List ℕ)) (was : List Literal) (text : List ℕ) → old ≡ content.Text text ∷ below → filled old large ≡ was → was ≡ literal.Text text ∷ below_top was
-text_shown old below large was text e o =
-    let s : was ≡ literal.Text text ∷ filled below large = sym o ∙ ap (λ xs. filled xs large) e in
-    s ∙ ap (λ xs. literal.Text text ∷ xs) (sym (ap below_top s))
-
 pub large_within : (old : List Content) (n i : ℕ) → large_on old ≡ Some i → Owns old n → i < n
 large_within [] n i e o = cc
 large_within (content.Integer m ∷ xs) n i e o = cc
@@ -379,17 +373,6 @@ large_within (content.Text t ∷ xs) n i e o = cc
 large_within (content.Function f ∷ xs) n i e o = cc
 large_within (content.Missing ∷ xs) n i e o = cc
 large_within (content.Large j ∷ xs) n i e o = let s : j ≡ i = cc in omega (arith, o.0, s)
-
-pub large_text : (old : List Content) (large : List (List ℕ)) (was : List Literal) (i : ℕ) (text : List ℕ) → large_on old ≡ Some i → filled old large ≡ was → text ≡ get_or large i [] → was ≡ literal.Text text ∷ below_top was
-large_text [] large was i text e o g = cc
-large_text (content.Integer m ∷ xs) large was i text e o g = cc
-large_text (content.Text t ∷ xs) large was i text e o g = cc
-large_text (content.Function f ∷ xs) large was i text e o g = cc
-large_text (content.Missing ∷ xs) large was i text e o g = cc
-large_text (content.Large j ∷ xs) large was i text e o g =
-    let s : i ≡ j = cc in
-    let h : was ≡ literal.Text text ∷ filled xs (take j large) = sym o ∙ ap (λ t. literal.Text t ∷ filled xs (take j large)) (sym (g ∙ ap (λ k. get_or large k []) s)) in
-    h ∙ ap (λ ys. literal.Text text ∷ ys) (sym (ap below_top h))
 
 pub no_text : (old : List Content) (large : List (List ℕ)) (was : List Literal) → steps.has_text old ≡ false → large_on old ≡ None → filled old large ≡ was → has_text was ≡ false
 no_text [] large was e f o = sym (ap has_text o)

@@ -25,7 +25,7 @@ large_as kind.Lent v made = refl
 large_as kind.Made v made = refl
 large_as kind.Large v made = refl
 
-no_large_kind : (k : Kind) (v : Slot) (made : List ℕ) (xs : List Content) → (k ≡ kind.Large → ⊥) → large_on (content_as k v made ∷ xs) ≡ None
+pub no_large_kind : (k : Kind) (v : Slot) (made : List ℕ) (xs : List Content) → (k ≡ kind.Large → ⊥) → large_on (content_as k v made ∷ xs) ≡ None
 no_large_kind kind.Integer v made xs n = refl
 no_large_kind kind.Function v made xs n = refl
 no_large_kind kind.Missing v made xs n = refl

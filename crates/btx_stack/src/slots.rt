@@ -1,5 +1,5 @@
 //! The stack of slots over one pool of bytes, below the layer of long strings.
-ghost use Rattle.std.specs.Prelude.{◌≡◌, ◌≤◌, ◌<◌, [], ◌∷◌, length, IfOk, OnErr, IsSome, IsTrue};
+ghost use Rattle.std.specs.Prelude.{◌≡◌, ◌≤◌, ◌<◌, ◌+◌, [], ◌∷◌, length, drop, IfOk, IfSome, OnErr, IsSome, is_some, IsTrue};
 ghost use Rattle.btx_text.specs.Limits.{greatest_string};
 ghost use Rattle.btx_code.specs.Ops.{callee_of};
 ghost use Rattle.btx_stack.specs.Slots.{greatest_short};
@@ -228,22 +228,41 @@ impl<'a> Slots<'a> {
         self.top = at + 1;
     }
 
-    /// Whether a string stands on top that isn't a long one.
+    /// The bytes of the string `depth` below the top, if one stands there that isn't a long one.
+    #[tactic(auto, using(crate::proofs::Depths::end_top, crate::proofs::Depths::end_above, crate::proofs::Depths::depth_within, crate::proofs::Depths::depth_low, crate::proofs::Depths::depth_text, crate::proofs::Depths::depth_kind, crate::proofs::Depths::no_text_there))]
     #[inline(always)]
-    pub fn has_text(&self) -> bool
-        ensures { result ≡ has_text self.now }
+    pub fn text_at(&self, depth: usize) -> Option<&[u8]>
+        ensures some { is_some result ≡ has_text (drop depth self.now) }
+        ensures text { IfSome result (λ text. drop depth self.now ≡ content.Text text.now ∷ drop (depth + 1) self.now) }
     {
-        let at = self.top;
-        at < 1000 && self.all[at].kind.is_text()
+        if depth >= 1000 - self.top {
+            return None;
+        }
+        let slot = self.all[self.top + depth];
+        if !slot.kind.is_text() {
+            return None;
+        }
+        if depth == 0 {
+            return Some(slot.text(&self.pool, self.pool.len()));
+        }
+        let end = self.all[self.top + depth - 1].start as usize;
+        Some(slot.text(&self.pool, end))
     }
 
-    /// The bytes of the string on top.
+    /// The index of the long string `depth` below the top, if one stands there.
+    #[tactic(auto, using(crate::proofs::Depths::depth_large, crate::proofs::Depths::depth_no_large, crate::proofs::Depths::no_large_there))]
     #[inline(always)]
-    pub fn top_text(&self) -> &[u8]
-        requires { IsTrue (has_text self.now) }
-        ensures { self.now ≡ content.Text result.now ∷ below_top self.now }
+    pub fn large_at(&self, depth: usize) -> Option<u32>
+        ensures { result ≡ large_on (drop depth self.now) }
     {
-        self.all[self.top].text(&self.pool, self.pool.len())
+        if depth >= 1000 - self.top {
+            return None;
+        }
+        let slot = self.all[self.top + depth];
+        match slot.kind {
+            Kind::Large => Some(slot.number),
+            _ => None,
+        }
     }
 
     /// Joins the two strings on top, the lower one first, and answers true; or answers false where they are no two strings, or would be too long for
@@ -373,11 +392,12 @@ impl<'a> Slots<'a> {
                 Ok(true)
             }
             Kind::Made => {
-                if self.pool.len() - a.start as usize > most {
+                let start = a.start as usize;
+                if self.pool.len() - start > most {
                     return Ok(false);
                 }
-                variable.keep(&self.pool[a.start as usize..])?;
-                self.pool.truncate(a.start as usize);
+                variable.keep(&self.pool[start..])?;
+                self.pool.truncate(start);
                 self.top = at + 1;
                 Ok(true)
             }
