@@ -10,7 +10,7 @@ NAME = bibtex-proved
 bin = $(DESTDIR)$(PREFIX)/bin
 man = $(DESTDIR)$(PREFIX)/share/man/man1
 program = crates/bibtex/out/bibtex
-scripts = bibtex-search bibtex-confined
+scripts = bibtex-search bibtex-explain bibtex-confined
 page = $(subst -,\\-,$(NAME))
 title = $(shell printf '%s' '$(page)' | tr a-z A-Z)
 

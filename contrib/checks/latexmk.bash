@@ -31,7 +31,7 @@ same_as_original() {
     wants_no_links
 }
 
-original=$(command -v bibtex)
+original=$(command -v bibtex) || true
 if has latexmk && has pdflatex && [ -n "$original" ]; then
     begin latexmk_plain
     document one three

@@ -18,8 +18,9 @@ if command -v make >/dev/null; then
     make_there install
     wants_status 0
     wants_error ''
-    wants_installed ./usr/bin/bibtex-confined ./usr/bin/bibtex-proved ./usr/bin/bibtex-search \
-        ./usr/share/man/man1/bibtex-confined.1 ./usr/share/man/man1/bibtex-proved.1 ./usr/share/man/man1/bibtex-search.1
+    wants_installed ./usr/bin/bibtex-confined ./usr/bin/bibtex-explain ./usr/bin/bibtex-proved ./usr/bin/bibtex-search \
+        ./usr/share/man/man1/bibtex-confined.1 ./usr/share/man/man1/bibtex-explain.1 ./usr/share/man/man1/bibtex-proved.1 \
+        ./usr/share/man/man1/bibtex-search.1
     cmp -s "$folder/root/usr/bin/bibtex-proved" "$program" || complaints+=('the installed program is another')
     [ -x "$folder/root/usr/bin/bibtex-proved" ] || complaints+=('the installed program may not be run')
     grep -q '^\.TH BIBTEX\\-PROVED ' "$folder/root/usr/share/man/man1/bibtex-proved.1" || complaints+=('the page has another name')

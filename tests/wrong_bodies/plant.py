@@ -3,10 +3,13 @@
     python3 plant.py [--alone] [--jobs N] [CRATE..]
 
 A wrong body is a file crates/NAME/wrong-bodies/*.edit, or must-fail/*.edit: a line 'function:' with the function that must be refused, a line 'file:', and pairs of
-lines 'old:' and 'new:'; each old text stands in that file once. A function is proved from the contracts of those that it calls, never from
+lines 'old:' and 'new:'; each old text stands in that file once. Further lines 'file:' may follow, with their pairs: so a slip is made in a
+definition and the code alike, with what lemmas say of it, and a law must refuse it; such a body is planted alone. A function is proved from the contracts of those that it calls, never from
 their bodies: so the wrong bodies of one crate are planted together, in as few rounds as have each function once, and only their functions are
 checked. What isn't refused so for a reason of its own (the check may only tell that a function is called that isn't proved) is planted once
 more, alone. With --alone each is from the beginning. For each it prints the goal that refused: its name and what it says, where the check tells.
+
+One that changes a definition too, a file of specs/, has a round of its own behind the others, which are to be judged by the definitions that stand.
 
 Each file also has a line 'witness:', which witnesses.py checks; here it must only be there.
 
@@ -45,6 +48,7 @@ class WrongBody:
     def __init__(self, path):
         self.name, self.text = path.stem, path.read_text(encoding="utf-8")
         self.function = "".join(re.findall(r"(?m)^function: (\S+)$", self.text))
+        self.changes_definitions = re.search(r"(?m)^file: (specs|proofs)/", self.text) is not None
 
     def planted_in(self, texts, folder):
         """The texts of the files that this body changes, above those that others have changed."""
@@ -65,11 +69,11 @@ class WrongBody:
 
 
 def in_rounds(bodies, alone):
-    """The bodies in rounds that have each function once at most."""
+    """The bodies in rounds that have each function once at most. One that changes a definition stands alone, behind the others."""
     rounds = []
-    for body in bodies:
+    for body in sorted(bodies, key=lambda it: it.changes_definitions):
         free = next((it for it in rounds if not alone and all(body.function != other.function for other in it)), None)
-        if free is None:
+        if free is None or body.changes_definitions:
             rounds.append(free := [])
         free.append(body)
     return rounds
@@ -92,6 +96,8 @@ def judged(crate, body, said):
     if open_goal:
         return Judged(body, goal=goal_of(body, said, open_goal[1]))
     errors = re.findall(rf"(?m)^(?:\./)?(proofs/{folder_of(body)}/\S+?:\d+:\d+: error.*)$", said)
+    if body.changes_definitions:
+        errors += re.findall(r"(?m)^(?:\./)?(proofs/\w+\.antt:\d+:\d+: error.*)$", said)
     of_goals = [it for it in errors if not GONE.search(it)]
     if not of_goals and "did not prove" not in verdict[1]:
         return Judged(body, f"refused only since a name is gone, or another function isn't proved: {[verdict[0], *errors][-1][:300]}")

@@ -1,2 +1,4 @@
+pub mod FlagLemmas
+pub mod GrowthLemmas
 pub mod NumberLemmas
 mod CommandLineRows

@@ -1,10 +1,9 @@
 -- What the words of a command line mean.
-use Rattle.std.specs.Prelude.{◌≡◌, ◌≢◌, ◌≤◌, ◌⊎◌, ◌++◌, ℕ, Bool, true, List, [], ◌∷◌, Option, None, Some, Result, MatchResult, codes, if◌then◌else◌, map, unwrap_or}
+use Rattle.std.specs.Prelude.{◌≡◌, ◌≢◌, ◌≤◌, ◌⊎◌, ◌++◌, ℕ, Bool, true, false, List, [], ◌∷◌, Option, None, Some, Result, MatchResult, codes, if◌then◌else◌, map, unwrap_or}
 use Rattle.std.specs.Borrow.{Bor}
 use Rattle.std.specs.Str.{bytes_eq}
 use Rattle.std.specs.Str.Parse.{digits_value, without_leading_plus}
 use Rattle.clap.specs.Simple.{new_shape}
-use Rattle.clap.specs.Values.{bool_text}
 use Rattle.clap.specs.Words.{App, IsAmong, IsUnsignedIn, Kinds, Row, Rule, Text, fault_of, first_of, matches_of, new_rule, one_of}
 use Rattle.clap.specs.declared.builder.action.ArgAction.TheVariants.{SetTrue}
 use Rattle.clap.specs.declared.builder.value_parser.ValueParser.TheVariants.{Names, Unsigned}
@@ -13,9 +12,13 @@ use Rattle.clap.specs.declared.error.kind.ErrorKind.TheVariants.{DisplayHelp, Di
 use Rattle.btx_text.specs.declared.element_kind.TextMode.{TextMode}
 use Rattle.btx_text.specs.declared.element_kind.TextMode.TheVariants.{Bytes, Utf8}
 use Rattle.btx_run.specs.declared.options.Options.{Options}
+use Rattle.btx_run.specs.declared.run_fault.RunFault.TheVariants as run_fault
+use Rattle.bibtex.specs.Status.{status_at}
 use Rattle.bibtex.specs.declared.given.Refusal.{Refusal}
 use Rattle.bibtex.specs.declared.given.Refusal.TheVariants.{Memory, Mistake, Shown}
 use Rattle.bibtex.specs.declared.given.Settings.{Settings}
+use Rattle.bibtex.specs.declared.outcome.Exit.{Exit}
+use Rattle.bibtex.specs.declared.outcome.Exit.TheVariants as exit
 
 -- ---- the rules
 
@@ -112,9 +115,14 @@ abbrev pub number_or : ℕ → Option Text → ℕ
 number_or usual None = usual
 number_or usual (Some text) = digits_value 10 (without_leading_plus text)
 
--- a flag's text is that of its truth value
+-- a flag's text is `true`; it has none where it isn't known at all
+abbrev pub is_set : Option Text → Bool
+is_set None = false
+is_set (Some text) = bytes_eq text (codes "true")
+
+-- a flag is on exactly where its text is `true`, whatever else stands there
 abbrev pub IsFlag : Option Text → Bool → Type 0
-IsFlag text flag = (value : Bool) → text ≡ Some (bool_text value) → flag ≡ value
+IsFlag text flag = flag ≡ is_set text
 
 abbrev pub mode_of : Text → TextMode
 mode_of word = if bytes_eq word (codes "utf8") then Utf8 else Bytes
@@ -161,18 +169,22 @@ pub record HasNumbers (rows : List Row) : Type 0 where
 
 -- ---- what is not run
 
+-- the end of a refusal whose text, if it has one, could be printed
+abbrev pub refusal_exit : Refusal → Exit
+refusal_exit (Shown _) = exit.Shown
+refusal_exit (Mistake _) = exit.Refused
+refusal_exit Memory = exit.Failed run_fault.Memory
+
 -- the exit status of a refusal
 abbrev pub status_of : Refusal → ℕ
-status_of (Shown _) = 0
-status_of (Mistake _) = 1
-status_of Memory = 5
+status_of refusal = status_at (refusal_exit refusal)
 
--- that of a fault of the words: 0 for help and the version, 1 for all mistakes, and 5 where memory was refused
+-- that of a fault of the words: help and the version are shown, all mistakes are refused, and memory may be refused
 abbrev pub refusal_status : ErrorKind → ℕ
-refusal_status DisplayHelp = 0
-refusal_status DisplayVersion = 0
-refusal_status OutOfMemory = 5
-refusal_status _ = 1
+refusal_status DisplayHelp = status_at exit.Shown
+refusal_status DisplayVersion = status_at exit.Shown
+refusal_status OutOfMemory = status_at (exit.Failed run_fault.Memory)
+refusal_status _ = status_at exit.Refused
 
 -- words with these faults: they are run only where they have none, and a refusal has the status of one of them, or of refused memory
 abbrev pub RefusesBy : Kinds → Result Settings Refusal → Type 0

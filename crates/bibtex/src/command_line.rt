@@ -95,7 +95,7 @@ fn options_of(matches: &ArgMatches<'_>) -> Options
 fn has_flag(matches: &ArgMatches<'_>, id: &str) -> bool
     ensures { IsFlag (one_of id.now (rows_of (found_of matches.now))) result }
 {
-    matches.get_flag(id)
+    matches.get_one::<bool>(id).unwrap_or(false)
 }
 
 // The name of a job, which may be given with a last `.aux`.
@@ -150,7 +150,7 @@ mod tests {
 
     // What a refusal has: its status, and its text.
     fn parts_of(alloc: Global, refusal: Refusal) -> (u8, String) {
-        let status = refusal.status();
+        let status = refusal.exit().status();
         match refusal {
             Refusal::Shown(text) | Refusal::Mistake(text) => (status, text),
             Refusal::Memory => (status, String::new(alloc)),

@@ -1,11 +1,11 @@
 //! The files of a folder.
-ghost use Rattle.std.specs.Prelude.{◌≡◌, false, None, IfOk, string_bytes};
+ghost use Rattle.std.specs.Prelude.{◌≡◌, false, None};
 ghost use Rattle.std.specs.IoError.{error_kind};
 ghost use Rattle.bibtex.specs.FileErrors.{read_fault, unopened};
-ghost use Rattle.bibtex.specs.Paths.{path_in};
 
+use crate::paths::path_in;
 use btx_run::{FetchFault, Finder};
-use std::alloc::{AllocError, Global};
+use std::alloc::Global;
 use std::io::{ErrorKind, Read};
 use std::rt::Files;
 use std::{fs, io};
@@ -58,14 +58,6 @@ impl<'a, R: Files> DirectoryFinder<'a, R> {
     }
 }
 
-// The path of a file of a folder.
-fn path_in(alloc: Global, directory: &str, name: &str) -> Result<String, AllocError>
-    ensures { IfOk result (λ path. string_bytes path ≡ path_in directory.now name.now) }
-{
-    let path = format!(in alloc; "{directory}/{name}")?;
-    Ok(path)
-}
-
 // What a file that can't be opened means for a fetch: there is no such file, or memory was refused.
 fn unopened(error: &io::Error) -> Result<bool, FetchFault>
     ensures { result ≡ unopened (error_kind error.now) }
@@ -115,6 +107,7 @@ impl<R: Files> Finder for DirectoryFinder<'_, R> {
 mod tests {
     use super::*;
     use crate::scratch::{make_folder, write_file};
+    use std::alloc::AllocError;
     use std::process::Abort;
     use std::test::Fail;
 

@@ -1,8 +1,9 @@
 //! What a command line says.
 ghost use Rattle.std.specs.Prelude.{◌≡◌};
-ghost use Rattle.bibtex.specs.CommandLine.{status_of};
+ghost use Rattle.bibtex.specs.CommandLine.{refusal_exit};
 
-use btx_run::Options;
+use crate::outcome::Exit;
+use btx_run::{Options, RunFault};
 
 /// What the command line asks for.
 #[derive(Debug, Drop)]
@@ -31,14 +32,14 @@ pub enum Refusal {
 }
 
 impl Refusal {
-    /// The exit status.
-    pub fn status(&self) -> u8
-        ensures { result ≡ status_of self.now }
+    /// The program's end, where its text, if it has one, could be printed.
+    pub fn exit(&self) -> Exit
+        ensures { result ≡ refusal_exit self.now }
     {
         match self {
-            Refusal::Shown(_) => 0,
-            Refusal::Mistake(_) => 1,
-            Refusal::Memory => 5,
+            Refusal::Shown(_) => Exit::Shown,
+            Refusal::Mistake(_) => Exit::Refused,
+            Refusal::Memory => Exit::Failed(RunFault::Memory),
         }
     }
 }

@@ -1,38 +1,32 @@
 //! A job of a folder.
-ghost use Rattle.std.specs.Prelude.{◌≡◌, IfErr, IfOk, string_bytes};
-ghost use Rattle.bibtex.specs.Paths.{output_path};
+ghost use Rattle.std.specs.Prelude.{◌≡◌, ◌≤◌, IfOk};
+ghost use Rattle.btx_run.specs.RunFaults.{CountsOfRun};
+ghost use Rattle.bibtex.specs.Jobs.{DoesJob, HandsLog, ListsJob, RunsJob, both_done};
 ghost use Rattle.bibtex.specs.Printing.{printed_log};
 ghost use Rattle.bibtex.specs.Status.{first_fault};
 
 use crate::directory::DirectoryFinder;
 use crate::given::Settings;
-use crate::outcome::output_fault;
-use btx_run::{Over, Report, RunFault, run};
+use crate::list_file::{EmptiedFile, ListFile, open_list};
+use crate::outputs::{LogOutputs, SystemOutputs, empty_old_log};
+use crate::paths::path_of;
+use btx_run::{Finder, Over, Report, RunFault, Sink, run};
 use std::alloc::Global;
-use std::io::Write;
 use std::rt::Files;
-use std::{fs, io};
 
-/// The path of the job's output with this ending. The only fault is want of memory.
-pub fn path_of(alloc: Global, settings: &Settings<'_>, ending: &str) -> Result<String, RunFault>
-    ensures path { IfOk result (λ path. string_bytes path ≡ output_path settings.now ending.now) }
-    ensures fault { IfErr result (λ fault. fault ≡ RunFault.Memory) }
-{
-    let directory = settings.directory;
-    let name = settings.name;
-    let path = format!(in alloc; "{directory}/{name}{ending}")?;
-    Ok(path)
-}
-
-// Writes the log to `JOB.blg`.
-fn store_log(
-    rt: &impl Files,
+// Runs the job that the settings ask for.
+fn run_over<F: Finder, W: Sink, L: Sink>(
     alloc: Global,
     settings: &Settings<'_>,
-    log: &[u8],
-) -> Result<(), RunFault> {
-    let path = path_of(alloc, settings, ".blg")?;
-    fs::write(rt, path.as_str(), log).map_err(|error| output_fault(&error))
+    finder: &mut F,
+    bbl: &mut W,
+    log: &mut L,
+) -> Result<Report, RunFault>
+    ensures runs { RunsJob (F.content finder.old) settings.now (W.received bbl.old, L.received log.old) (W.received bbl.new, L.received log.new) result }
+    ensures counts { CountsOfRun result (F.failures finder.old, F.failures finder.new) (W.failures bbl.old, W.failures bbl.new) (L.failures log.old, L.failures log.new) }
+{
+    let name = settings.job.as_bytes();
+    run(alloc, finder, name, &settings.options, bbl, log)
 }
 
 // What of the log is printed.
@@ -42,18 +36,26 @@ fn printed<'a>(settings: &Settings<'_>, log: &'a [u8]) -> &'a [u8]
     if settings.terse { &[] } else { log }
 }
 
-// Writes the log to `JOB.blg` and then, also where that failed, prints what is to be printed. The first fault is answered.
-fn write_log(
-    rt: &(impl Files + Print),
-    alloc: Global,
+// Of two answers the first fault.
+fn both_done(first: Result<(), RunFault>, second: Result<(), RunFault>) -> Result<(), RunFault>
+    ensures { result ≡ both_done first second }
+{
+    first?;
+    second?;
+    Ok(())
+}
+
+// Hands the log to its file and then, also where that failed, what is to be printed to standard output. The first fault is answered.
+fn write_log<O: LogOutputs>(
+    outputs: &mut O,
     settings: &Settings<'_>,
     log: &[u8],
-) -> Result<(), RunFault> {
-    let stored = store_log(rt, alloc, settings, log);
-    let printed = io::writer(rt)
-        .write_all(printed(settings, log))
-        .map_err(|error| output_fault(&error));
-    stored.and(printed)
+) -> Result<(), RunFault>
+    ensures { HandsLog settings.now log.now (O.handed outputs.old) (O.handed outputs.new) result }
+{
+    let stored = outputs.store(log);
+    let printed = outputs.print(printed(settings, log));
+    both_done(stored, printed)
 }
 
 // What a run answered, unless only what followed it failed: of two faults the first counts.
@@ -68,28 +70,53 @@ fn first_fault(
     Ok(report)
 }
 
+// Runs the job and then, also after a fault, ends its list's file. The first fault is answered.
+fn list_job<F: Finder, W: EmptiedFile, L: Sink>(
+    alloc: Global,
+    settings: &Settings<'_>,
+    finder: &mut F,
+    list: &mut ListFile<W>,
+    log: &mut L,
+) -> Result<Report, RunFault>
+    ensures { ListsJob (F.content finder.old) W.contents settings.now list.old list.new (L.received log.old, L.received log.new) result }
+{
+    let ran = run_over(alloc, settings, finder, list, log);
+    let finished = list.finish(&ran);
+    first_fault(ran, finished)
+}
+
+// Writes the job's list and then, also after a fault, hands on the log. The first fault is answered.
+fn do_job<F: Finder, W: EmptiedFile, O: LogOutputs>(
+    alloc: Global,
+    settings: &Settings<'_>,
+    finder: &mut F,
+    list: &mut ListFile<W>,
+    outputs: &mut O,
+) -> Result<Report, RunFault>
+    ensures { DoesJob (F.content finder.old) W.contents settings.now (list.old, list.new) (O.handed outputs.old) (O.handed outputs.new) result }
+{
+    let mut log = Over::new(Vec::new(alloc));
+    let listed = list_job(alloc, settings, finder, list, &mut log);
+    let written = write_log(outputs, settings, log.writer.as_slice());
+    first_fault(listed, written)
+}
+
 /// Runs the job: writes `JOB.bbl`, `JOB.blg` and, where the settings aren't terse, to standard output the log again. The log is written
-/// also after a fault, except where `JOB.bbl` can't be created. The first fault is answered.
+/// also after a fault, except where `JOB.bbl` can't be opened. The first fault is answered.
 pub fn run_job(
     rt: &(impl Files + Print),
     alloc: Global,
     settings: &Settings<'_>,
-) -> Result<Report, RunFault> {
+) -> Result<Report, RunFault>
+    ensures { IfOk result (λ report. report.steps ≤ settings.now.options.budget) }
+{
     let path = path_of(alloc, settings, ".bbl")?;
-    let file = fs::create(rt, path.as_str()).map_err(|error| output_fault(&error))?;
-    let mut bbl = Over::new(file);
-    let mut log = Over::new(Vec::new(alloc));
+    let mut list = open_list(rt, path.as_str())?;
+    empty_old_log(rt, alloc, settings);
     let mut finder = DirectoryFinder::new(rt, settings.directory);
-    let answer = run(
-        alloc,
-        &mut finder,
-        settings.job.as_bytes(),
-        &settings.options,
-        &mut bbl,
-        &mut log,
-    );
-    let written = write_log(rt, alloc, settings, log.writer.as_slice());
-    first_fault(answer, written)
+    let mut outputs = SystemOutputs::new(rt, alloc, settings);
+    let report = do_job(alloc, settings, &mut finder, &mut list, &mut outputs)?;
+    Ok(report)
 }
 
 #[cfg(test)]
@@ -99,6 +126,7 @@ mod tests {
     use btx_run::{KeptBytes, LineLength, Options, TextMode};
     use std::process::Abort;
     use std::test::Fail;
+    use std::{fs, io};
 
     const STYLE: &[u8] =
         b"ENTRY {title}{}{} FUNCTION {misc}{} READ FUNCTION {f} {\"a\" write$ newline$} EXECUTE {f}\n";

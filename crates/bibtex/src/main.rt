@@ -1,24 +1,29 @@
 //! The command `bibtex`: runs a job of a folder.
 #![tactic(auto)]
 
-ghost use Rattle.std.specs.Prelude.{◌≡◌};
+ghost use Rattle.std.specs.Prelude.{◌≡◌, [], ◌∷◌, map, string_bytes};
+ghost use Rattle.bibtex.specs.Acts.{ComesTo, Does, IsTold, ToldFault, telling};
 ghost use Rattle.bibtex.specs.CommandLine.{status_of};
-ghost use Rattle.bibtex.specs.Status.{exit_status, told_by};
+ghost use Rattle.bibtex.specs.Status.{exit_of, status_at, told_by};
 
+mod acting;
 mod command_line;
 mod directory;
 mod given;
 mod job;
+mod list_file;
 mod options;
 mod outcome;
+mod outputs;
+mod paths;
 #[cfg(test)]
 mod scratch;
 
-use btx_run::RunFault;
+use acting::{Performer, SystemPerformer};
+use btx_run::{Report, RunFault};
 use command_line::settings;
 use given::Refusal;
-use job::run_job;
-use outcome::{exit_status, output_fault};
+use outcome::Exit;
 use std::alloc::Global;
 use std::io::ErrorKind;
 use std::process::ExitCode;
@@ -31,39 +36,54 @@ fn words(rt: &(impl Env + AllocGlobal)) -> io::Result<Vec<String>> {
     Ok(words)
 }
 
-// Prints a fault, and gives its exit status.
-fn tell_fault(rt: &impl Eprint, fault: RunFault) -> u8
-    ensures { result ≡ exit_status (Err fault) }
+// Tells a fault, and gives the program's end.
+fn tell_fault<P: Performer>(performer: &mut P, fault: RunFault) -> Exit
+    ensures exit { result ≡ Exit.Failed fault }
+    ensures acts { Does (P.acts performer.old) (P.acts performer.new) (ToldFault fault ∷ []) }
 {
-    let _ = eprintln!(rt; "bibtex: {fault}");
-    exit_status(&Err(fault))
+    performer.tell_fault(fault);
+    Exit::Failed(fault)
 }
 
-// Prints why words are not run, and gives the exit status: the refusal's, unless its text can't be printed.
-fn tell_refusal(rt: &(impl Print + Eprint), refusal: &Refusal) -> u8
-    ensures { told_by (status_of refusal.now) result }
+// Prints or tells why words are not run, and gives the program's end: the refusal's, unless its text can't be printed.
+fn tell_refusal<P: Performer>(performer: &mut P, refusal: &Refusal) -> Exit
+    ensures status { told_by (status_of refusal.now) (status_at result) }
+    ensures told { IsTold refusal.now (P.acts performer.old) (P.acts performer.new) result }
 {
     match refusal {
-        Refusal::Shown(text) => match print!(rt; "{text}") {
-            Ok(()) => refusal.status(),
-            Err(error) => tell_fault(rt, output_fault(&error)),
+        Refusal::Shown(text) => match performer.show(text.as_str()) {
+            Ok(()) => refusal.exit(),
+            Err(fault) => tell_fault(performer, fault),
         },
         Refusal::Mistake(text) => {
-            let _ = eprint!(rt; "{text}");
-            refusal.status()
+            performer.tell(text.as_str());
+            refusal.exit()
         }
-        Refusal::Memory => tell_fault(rt, RunFault::Memory),
+        Refusal::Memory => tell_fault(performer, RunFault::Memory),
     }
 }
 
-// Does what the words ask for, and gives the exit status.
-fn answer(rt: &(impl Files + Print + Eprint), alloc: Global, words: &[String]) -> u8 {
+// Tells the fault of a job that failed, and gives the program's end.
+fn tell_answer<P: Performer>(performer: &mut P, answer: Result<Report, RunFault>) -> Exit
+    ensures exit { result ≡ exit_of answer }
+    ensures acts { Does (P.acts performer.old) (P.acts performer.new) (telling answer) }
+{
+    if let Err(fault) = answer {
+        performer.tell_fault(fault);
+    }
+    Exit::of(answer)
+}
+
+// Does what the words ask for, and gives the program's end.
+fn answer<P: Performer>(performer: &mut P, alloc: Global, words: &[String]) -> Exit
+    ensures { ComesTo (map (λ word. string_bytes word) words.now) (P.acts performer.old) (P.acts performer.new) result }
+{
     match settings(alloc, words) {
-        Ok(settings) => match run_job(rt, alloc, &settings) {
-            Ok(report) => exit_status(&Ok(report)),
-            Err(fault) => tell_fault(rt, fault),
-        },
-        Err(refusal) => tell_refusal(rt, &refusal),
+        Ok(settings) => {
+            let answer = performer.run_job(alloc, &settings);
+            tell_answer(performer, answer)
+        }
+        Err(refusal) => tell_refusal(performer, &refusal),
     }
 }
 
@@ -75,13 +95,16 @@ fn hold_places<R: Files>(rt: &R) -> [Option<R::File>; 3] {
 
 fn main(rt: HostRuntime) -> ExitCode {
     let _places = hold_places(&rt);
-    let status = match words(&rt) {
-        Ok(words) => answer(&rt, rt.alloc(), words.as_slice()),
-        Err(error) if error.kind() == ErrorKind::OutOfMemory => tell_fault(&rt, RunFault::Memory),
+    let mut performer = SystemPerformer::new(&rt);
+    let exit = match words(&rt) {
+        Ok(words) => answer(&mut performer, rt.alloc(), words.as_slice()),
+        Err(error) if error.kind() == ErrorKind::OutOfMemory => {
+            tell_fault(&mut performer, RunFault::Memory)
+        }
         Err(_) => {
-            let _ = eprintln!(rt; "error: invalid UTF-8 was detected in one or more arguments");
-            1
+            performer.tell("error: invalid UTF-8 was detected in one or more arguments\n");
+            Exit::Refused
         }
     };
-    ExitCode::from(status)
+    ExitCode::from(exit.status())
 }

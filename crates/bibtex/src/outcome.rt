@@ -2,20 +2,47 @@
 ghost use Rattle.std.specs.Prelude.{◌≡◌};
 ghost use Rattle.std.specs.IoError.{error_kind};
 ghost use Rattle.bibtex.specs.FileErrors.{output_fault};
-ghost use Rattle.bibtex.specs.Status.{exit_status};
+ghost use Rattle.bibtex.specs.Status.{exit_of, status_at};
 
 use btx_run::{Report, RunFault};
 use std::io;
 use std::io::ErrorKind;
 
-/// The exit status for an answer: the report's, and 5 for want of memory, 6 for a device.
-pub fn exit_status(answer: &Result<Report, RunFault>) -> u8
-    ensures { result ≡ exit_status answer.now }
-{
-    match answer {
-        Ok(report) => report.status,
-        Err(RunFault::Memory) => 5,
-        Err(RunFault::Device) => 6,
+/// How the program ends. Each end has one exit status.
+#[derive(Clone, Copy, Debug, PartialEq, Eq)]
+pub enum Exit {
+    /// Help or the version was asked for, and printed.
+    Shown,
+    /// The command line is refused.
+    Refused,
+    /// The job ran to one of its ends.
+    Ran(Report),
+    /// Memory was refused, or a file or an output failed.
+    Failed(RunFault),
+}
+
+impl Exit {
+    /// The end for what a job answered.
+    pub fn of(answer: Result<Report, RunFault>) -> Exit
+        ensures { result ≡ exit_of answer }
+    {
+        match answer {
+            Ok(report) => Exit::Ran(report),
+            Err(fault) => Exit::Failed(fault),
+        }
+    }
+
+    /// The exit status: 0 and 1 for words that aren't run, the report's for a job that ran, 5 for want of memory, 6 for a device.
+    pub fn status(self) -> u8
+        ensures { result ≡ status_at self }
+    {
+        match self {
+            Exit::Shown => 0,
+            Exit::Refused => 1,
+            Exit::Ran(report) => report.status,
+            Exit::Failed(RunFault::Memory) => 5,
+            Exit::Failed(RunFault::Device) => 6,
+        }
     }
 }
 
@@ -51,10 +78,13 @@ mod tests {
                 warnings: 0,
                 errors,
             };
-            assert!(rt; exit_status(&Ok(report)) == status);
+            assert!(rt; Exit::of(Ok(report)).status() == status);
         }
         for (fault, status) in [(RunFault::Memory, 5), (RunFault::Device, 6)] {
-            assert!(rt; exit_status(&Err(fault)) == status);
+            assert!(rt; Exit::of(Err(fault)).status() == status);
+        }
+        for (exit, status) in [(Exit::Shown, 0), (Exit::Refused, 1)] {
+            assert!(rt; exit.status() == status);
         }
     }
 }

@@ -1,5 +1,5 @@
 -- What is kept and told along databases is what is known and told of them.
-use Rattle.std.proofs.Common.{◌≡◌, ℕ, zero, suc, ◌+◌, ◌<◌, arith, Bool, true, false, cond, if◌then◌else◌, List, [], ◌∷◌, ◌++◌, drop, get_or, length, Option, None, Some, is_some, refl, sym, ap, subst, ◌∙◌, append_assoc}
+use Rattle.std.proofs.Common.{◌≡◌, ℕ, zero, suc, ◌+◌, ◌<◌, arith, Bool, true, false, if◌then◌else◌, List, [], ◌∷◌, ◌++◌, drop, get_or, length, Option, None, Some, is_some, refl, sym, ap, subst, ◌∙◌, append_assoc}
 use Rattle.std.proofs.lemmas.List.{at_drop_more}
 use Rattle.btx_bib.specs.declared.databases.Source.{Source}
 use Rattle.btx_bib.specs.declared.end.End.TheVariants.{FileLimit}
@@ -12,9 +12,9 @@ use Rattle.btx_bib.specs.Grammar.Items.{Event, Comment, Preamble, Definition, En
 use Rattle.btx_bib.specs.Known.{Known, after, after_all, after_event, closed as closing, goes_on, keeping, stored_in}
 use Rattle.btx_bib.specs.Databases.{is_too_long, read_all, read_one, told_all, told_one}
 use Rattle.btx_bib.specs.Stored.{entry_of}
-use Rattle.btx_bib.specs.Told.{Database, event_told, told_along, told_at}
+use Rattle.btx_bib.specs.Told.{Database, event_told, told_along}
 use Rattle.btx_bib.specs.Wanted.{Wanted}
-use Rattle.btx_bib.specs.Gatherings.{closed, events_with, is_kept, kept_after, kept_along, kept_told, told_of}
+use Rattle.btx_bib.specs.Gatherings.{closed, events_with, is_kept, kept_after, kept_along, kept_told}
 use Rattle.btx_bib.specs.Readings.{database_of, databases_of, kept_by_all, kept_one, told_by_all, told_by_one}
 use Rattle.btx_bib.proofs.GrammarLemmas.LengthLemmas.{events-none, events-some, events-less, left}
 use Rattle.btx_bib.proofs.GatheringLemmas.{ended-along, ended-told, none-along, none-told, turn-along, turn-told}

@@ -1,5 +1,5 @@
 -- What is kept while a database is read, event by event.
-use Rattle.std.proofs.Common.{◌≡◌, ℕ, Bool, true, false, not, cond, if◌then◌else◌, List, [], ◌∷◌, ◌++◌, length, ◌<◌, Option, None, Some, refl, sym, ap, ◌∙◌, append_assoc, append-nil}
+use Rattle.std.proofs.Common.{◌≡◌, ℕ, Bool, true, false, not, if◌then◌else◌, List, [], ◌∷◌, ◌++◌, None, Some, refl, sym, ap, ◌∙◌, append_assoc}
 use Rattle.btx_bib.specs.declared.gathering.Gathering.{Gathering}
 use Rattle.btx_bib.specs.declared.grammar.commands.Wanted.{Wanted as Next}
 use Rattle.btx_bib.specs.declared.message.Message.{Message}
@@ -7,8 +7,8 @@ use Rattle.btx_bib.specs.Grammar.Items.{Event, Placed, Step, next_step}
 use Rattle.btx_bib.specs.Known.{goes_on}
 use Rattle.btx_bib.specs.Told.{Database}
 use Rattle.btx_bib.specs.Wanted.{Wanted}
-use Rattle.btx_bib.specs.Gatherings.{events_with, is_kept, kept_after, kept_along, kept_next, kept_told, keeping_kept, told_next, told_of}
-use Rattle.btx_bib.proofs.GrammarLemmas.LengthLemmas.{events-none, events-some, events-less, left}
+use Rattle.btx_bib.specs.Gatherings.{events_with, is_kept, kept_after, kept_along, kept_next, kept_told, keeping_kept, told_of}
+use Rattle.btx_bib.proofs.GrammarLemmas.LengthLemmas.{events-none, events-some}
 
 -- ---- at a limit nothing more is kept or told
 

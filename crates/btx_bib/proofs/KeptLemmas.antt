@@ -1,5 +1,5 @@
 -- What is kept while databases are read is what is known of them.
-use Rattle.std.proofs.Common.{◌≡◌, ℕ, zero, suc, ◌+◌, ◌<◌, arith, Bool, true, false, not, ◌&&◌, ◌||◌, cond, if◌then◌else◌, List, [], ◌∷◌, ◌++◌, length, Option, None, Some, is_some, refl, sym, ap, subst, ◌∙◌, append_assoc, append-nil}
+use Rattle.std.proofs.Common.{◌≡◌, ℕ, arith, Bool, true, false, not, ◌&&◌, ◌||◌, if◌then◌else◌, List, [], ◌∷◌, ◌++◌, length, Option, None, Some, is_some, refl, sym, ap, subst, ◌∙◌, append-nil}
 use Rattle.std.specs.Prelude.{nat_lt, slice_get}
 use Rattle.std.specs.Option.{option_map}
 use Rattle.btx_text.specs.Keys.{folded}
@@ -12,16 +12,15 @@ use Rattle.btx_bib.specs.declared.end.End.TheVariants.{StringLimit}
 use Rattle.btx_bib.specs.declared.gathering.Gathering.{Gathering}
 use Rattle.btx_bib.specs.declared.gathering.Pending.{Pending}
 use Rattle.btx_bib.specs.declared.grammar.value_ends.Ends.TheVariants.{Kept, Trimmed}
-use Rattle.btx_bib.specs.declared.message.Message.{Message}
 use Rattle.btx_bib.specs.declared.message.Message.TheVariants as message
 use Rattle.btx_bib.specs.Grammar.Fields.{Field as Read}
 use Rattle.btx_bib.specs.Grammar.Items.{Event, Comment, Preamble, Definition, Entry, FieldOf, End, Wrong, is_repeated}
 use Rattle.btx_bib.specs.Grammar.ValueTexts.{value_text}
-use Rattle.btx_bib.specs.Known.{Known, closed as closing, after_event, after_field, after_key, goes_on, has_value, if_fits, keeping, stored_in, takes, with_field}
+use Rattle.btx_bib.specs.Known.{Known, closed as closing, after_event, after_field, after_key, if_fits, stored_in, takes, with_field}
 use Rattle.btx_bib.specs.Told.{Database, event_told, field_told, kind_told, names_told, spot_at, spot_before}
 use Rattle.btx_bib.specs.Wanted.{Wanted}
-use Rattle.btx_bib.specs.Entries.{Given, body_of, listed, values_from, values_of}
-use Rattle.btx_bib.specs.Filling.{blanks, value_by}
+use Rattle.btx_bib.specs.Entries.{Given, body_of, listed, values_of}
+use Rattle.btx_bib.specs.Filling.{value_by}
 use Rattle.btx_bib.specs.Finding.{changed_at}
 use Rattle.btx_bib.specs.Stored.{entry_of, is_wanted}
 use Rattle.btx_bib.specs.Strings.{Strings, defined, other_value, string_value}

@@ -24,5 +24,7 @@ pub mod ParentStayLemmas
 pub mod HeirLemmas
 pub mod InheritLemmas
 pub mod CutLemmas
+pub mod StoredLemmas
+pub mod DefinitionLemmas
 pub mod CutRows
 pub mod LibraryRows

@@ -1,5 +1,5 @@
 -- The cited keys before and after `*`, and the one at a place.
-use Rattle.std.proofs.Common.{◌≡◌, ◌∙◌, ℕ, zero, suc, arith, ◌<◌, ◌≤◌, nat_lt, Bool, true, List, [], ◌∷◌, take, drop, length, slice_index_or, Option, Some, refl, sym, ap}
+use Rattle.std.proofs.Common.{◌≡◌, ◌∙◌, ℕ, zero, suc, arith, ◌≤◌, nat_lt, true, List, [], ◌∷◌, take, drop, length, slice_index_or, Some, refl, sym, ap}
 use Rattle.std.specs.Prelude.{slice_get}
 use Rattle.std.specs.Option.{option_map}
 use Rattle.std.proofs.lemmas.Option.{slice_get-map, slice_get-get_or}

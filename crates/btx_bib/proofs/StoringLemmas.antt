@@ -1,23 +1,22 @@
 -- What is kept of the list after the stored entries is what these entries come to.
-use Rattle.std.proofs.Common.{◌≡◌, ℕ, zero, suc, arith, ◌+◌, ◌-◌, Bool, true, false, not, ◌&&◌, ◌||◌, cond, if◌then◌else◌, List, [], ◌∷◌, ◌++◌, map, fold, Option, None, Some, is_some, refl, sym, ap, subst, ◌∙◌, append_assoc, append-nil, take, drop}
+use Rattle.std.proofs.Common.{◌≡◌, ℕ, zero, suc, arith, ◌+◌, Bool, true, false, ◌||◌, cond, if◌then◌else◌, List, [], ◌∷◌, ◌++◌, map, fold, Option, None, Some, is_some, refl, sym, ap, subst, ◌∙◌, append_assoc, append-nil, take, drop}
 use Rattle.std.specs.Prelude.{count_by, slice_get}
 use Rattle.std.specs.Str.{bytes_eq}
-use Rattle.std.specs.Option.{option_map, option_or, unwrap_or}
-use Rattle.std.specs.List.{find, list_any, flat_map, AllByRecursion, IsDistinct}
+use Rattle.std.specs.Option.{option_map}
+use Rattle.std.specs.List.{find, list_any, flat_map, IsDistinct}
 use Rattle.std.proofs.lemmas.Grind.{fold-append}
 use Rattle.btx_text.specs.Keys.{folded}
 use Rattle.btx_aux.specs.Names.{is_same_key, listed_as, with_key}
 use Rattle.btx_bib.specs.declared.draft.Draft.{Draft}
 use Rattle.btx_bib.specs.declared.draft.Standing.{Standing}
 use Rattle.btx_bib.specs.declared.draft.Standing.TheVariants as standing
-use Rattle.btx_bib.specs.declared.slots.Body.{Body}
 use Rattle.btx_bib.specs.declared.slots.Slot.{Slot}
 use Rattle.btx_bib.specs.Wanted.{Wanted}
 use Rattle.btx_bib.specs.Finding.{place_of, changed_at}
-use Rattle.btx_bib.specs.Entries.{Given, body_of, listed, parent_in, parent_of}
-use Rattle.btx_bib.specs.Stored.{is_any_key, keys_in, entry_of, parents_in, references, references_by, is_wanted}
-use Rattle.btx_bib.specs.Listing.{added, first_cited, first_keys, keys_of, last_cited, slot_of, slots_of}
-use Rattle.btx_bib.specs.Drafts.{cited_all, cited_at, empty, place_in, open_slot, with_entry, once_more, has_body, late_slot, new_standing, put_at, referred, referred_at, referred_by, standing_at, stored_at}
+use Rattle.btx_bib.specs.Entries.{Given, body_of, listed, parent_of}
+use Rattle.btx_bib.specs.Stored.{is_any_key, entry_of, references, references_by, is_wanted}
+use Rattle.btx_bib.specs.Listing.{added, first_cited, keys_of, last_cited, slot_of, slots_of}
+use Rattle.btx_bib.specs.Drafts.{cited_all, cited_at, empty, place_in, open_slot, with_entry, once_more, has_body, late_slot, new_standing, put_at, referred_at, referred_by, standing_at, stored_at}
 use Rattle.btx_bib.specs.Steps.{names_of}
 use Rattle.btx_bib.proofs.PlaceLemmas.{place_of-none}
 use Rattle.btx_bib.proofs.ListedKeyLemmas.{same_key_equiv, folded-same, is_any_key-same, entry_of-same, is_any_key-append, is_any_key-fold, distinct-fold, distinct-none, changed_key, unchanged, none_same, changed_at-key}

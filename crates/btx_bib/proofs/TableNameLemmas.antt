@@ -1,11 +1,10 @@
 -- A table of names, as a list of names.
-use Rattle.std.proofs.Common.{◌≡◌, ℕ, zero, suc, arith, ◌+◌, ◌<◌, Bool, true, false, not, ◌||◌, cond, if◌then◌else◌, List, [], ◌∷◌, ◌++◌, length, Option, None, Some, refl, sym, ap, ◌∙◌, nat_lt, one-add}
+use Rattle.std.proofs.Common.{◌≡◌, ℕ, suc, arith, ◌+◌, Bool, true, false, not, ◌||◌, cond, if◌then◌else◌, List, [], ◌∷◌, ◌++◌, length, Option, None, Some, refl, ap, ◌∙◌, nat_lt, one-add}
 use Rattle.std.specs.Prelude.{position}
 use Rattle.std.specs.Str.{bytes_eq}
 use Rattle.std.specs.Option.{option_map}
 use Rattle.std.specs.List.{list_any, position_or_len}
 use Rattle.std.proofs.lemmas.Bool.Decides.{nat_tests}
-use Rattle.indexmap.specs.IndexSet.{insert_key}
 use Rattle.btx_aux.specs.Entries.{Bytes, texts_of}
 use Rattle.btx_bib.specs.Finding.{place_of}
 

@@ -1,5 +1,5 @@
 -- What is kept before the first database and behind the last one, and the library of it.
-use Rattle.std.proofs.Common.{◌≡◌, ℕ, zero, suc, ◌+◌, ◌≤◌, arith, Bool, true, false, if◌then◌else◌, List, [], ◌∷◌, ◌++◌, drop, fold, length, Option, None, Some, refl, sym, ap, subst, ◌∙◌}
+use Rattle.std.proofs.Common.{◌≡◌, ℕ, zero, suc, Bool, true, false, if◌then◌else◌, List, [], ◌∷◌, ◌++◌, drop, fold, length, None, Some, refl, sym, ap, subst, ◌∙◌}
 use Rattle.std.specs.Prelude.{nat_lt, slice_get}
 use Rattle.btx_text.specs.Limits.{greatest_string}
 use Rattle.btx_bib.specs.declared.draft.Draft.{Draft}
@@ -8,10 +8,9 @@ use Rattle.btx_bib.specs.declared.end.End.TheVariants as end
 use Rattle.btx_bib.specs.declared.gathering.Gathering.{Gathering}
 use Rattle.btx_bib.specs.declared.message.Message.{Message}
 use Rattle.btx_bib.specs.declared.slots.Slot.{Slot}
-use Rattle.btx_bib.specs.Databases.{library_by, library_of, nothing, read_all, told_all, with_macro, with_macros}
+use Rattle.btx_bib.specs.Databases.{library_by, library_of, nothing, read_all, with_macro, with_macros}
 use Rattle.btx_bib.specs.Grammar.ValueTexts.{squeezed}
 use Rattle.btx_bib.specs.Known.{Known, goes_on}
-use Rattle.btx_bib.specs.Library.{Library}
 use Rattle.btx_bib.specs.Listing.{keys_of}
 use Rattle.btx_bib.specs.Passes.{entries_of, references_told}
 use Rattle.btx_bib.specs.Strings.{defined}
@@ -20,7 +19,7 @@ use Rattle.btx_bib.specs.Wanted.{Wanted}
 use Rattle.btx_bib.specs.Readings.{IsListed, beginning, kept_by_all, kept_macro, kept_macros, library_kept, listed_draft, told_by_all}
 use Rattle.btx_bib.proofs.AlongLemmas.{all-kept, all-sound, all-told}
 use Rattle.btx_bib.proofs.KeptLemmas.{Sound, kept_of}
-use Rattle.btx_bib.proofs.StoringLemmas.{Covered, covered-none, draft, first-draft, last-draft, listing, names-listing, slots-listing}
+use Rattle.btx_bib.proofs.StoringLemmas.{covered-none, first-draft, last-draft, names-listing, slots-listing}
 
 -- the macro at an index, and the others
 

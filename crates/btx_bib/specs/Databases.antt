@@ -1,5 +1,5 @@
 -- What some databases give to a job, read one after the other.
-use Rattle.std.specs.Prelude.{ℕ, nat_lt, Bool, List, [], ◌∷◌, ◌++◌, fold, length, Option, None, if◌then◌else◌}
+use Rattle.std.specs.Prelude.{ℕ, nat_lt, Bool, List, [], ◌∷◌, ◌++◌, fold, length, None, if◌then◌else◌}
 use Rattle.btx_text.specs.Limits.{greatest_file}
 use Rattle.btx_bib.specs.declared.end.End.{End}
 use Rattle.btx_bib.specs.declared.end.End.TheVariants as end
@@ -9,7 +9,7 @@ use Rattle.btx_bib.specs.Grammar.Items.{Placed, events_from}
 use Rattle.btx_bib.specs.Grammar.ValueTexts.{squeezed}
 use Rattle.btx_bib.specs.Library.{Library}
 use Rattle.btx_bib.specs.Wanted.{Wanted}
-use Rattle.btx_bib.specs.Strings.{Strings, defined}
+use Rattle.btx_bib.specs.Strings.{defined}
 use Rattle.btx_bib.specs.Listing.{slots_of}
 use Rattle.btx_bib.specs.Passes.{entries_of, references_told}
 use Rattle.btx_bib.specs.Known.{Known, goes_on, closed, if_fits, after_all, keeping}

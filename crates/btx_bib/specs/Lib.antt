@@ -21,6 +21,7 @@ pub mod Readings
 pub mod Laws
 pub mod Parents
 pub mod Cuts
+pub mod Storing
 pub mod Steps
 pub mod MessageTexts
 pub mod Wordings

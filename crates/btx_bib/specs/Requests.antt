@@ -1,5 +1,5 @@
 -- What a job and its style ask of databases, and what the code's request asks.
-use Rattle.std.specs.Prelude.{ℕ, List, Option, None, Some, length}
+use Rattle.std.specs.Prelude.{ℕ, Option, None, Some, length}
 use Rattle.btx_bib.specs.declared.request.Request.{Request}
 use Rattle.btx_aux.specs.Job.{Job}
 use Rattle.btx_bst.specs.Style.{Style, field_of, type_of}

@@ -1,5 +1,5 @@
 -- The passes, place by place, where places are found by the keys in lower case.
-use Rattle.std.specs.Prelude.{ℕ, List, [], ◌++◌, map, Option, None, Some, slice_get}
+use Rattle.std.specs.Prelude.{ℕ, List, [], map, Option, None, Some, slice_get}
 use Rattle.std.specs.Str.{bytes_eq}
 use Rattle.btx_text.specs.Keys.{folded}
 use Rattle.btx_bib.specs.declared.message.Message.{Message}

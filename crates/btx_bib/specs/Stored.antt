@@ -1,6 +1,6 @@
 -- Which entries of the databases are stored. An entry is stored if `*` or its key is cited, or if it is the parent of an entry stored
 -- before it, and no entry stored before it has its key. Keys are compared without case (btxdoc, section 3).
-use Rattle.std.specs.Prelude.{ℕ, ◌||◌, Bool, List, [], ◌∷◌, ◌++◌, map, Option, None, Some, is_some}
+use Rattle.std.specs.Prelude.{ℕ, ◌||◌, Bool, List, [], ◌++◌, map, Option, None, Some, is_some}
 use Rattle.std.specs.List.{find, list_any, flat_map}
 use Rattle.btx_aux.specs.Names.{is_same_key}
 use Rattle.btx_bib.specs.Wanted.{Wanted}

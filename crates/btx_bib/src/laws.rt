@@ -1,7 +1,16 @@
 //! Laws of libraries. Each is the contract of a function with nothing to do.
+ghost use Rattle.std.specs.Prelude.{◌≡◌, List, ℕ};
 ghost use Rattle.btx_bib.specs.Cuts.{CutGivesTheSame};
+ghost use Rattle.btx_bib.specs.Databases.{events_of};
+ghost use Rattle.btx_bib.specs.Grammar.Items.{Placed};
+ghost use Rattle.btx_bib.specs.Grammar.Reading.{IsReading};
+ghost use Rattle.btx_bib.specs.Known.{Known, keeping};
+ghost use Rattle.btx_bib.specs.Told.{Database};
+ghost use Rattle.btx_bib.specs.Wanted.{Wanted};
+ghost use Rattle.btx_bib.specs.declared.grammar.commands.Wanted.TheVariants as next;
 ghost use Rattle.btx_bib.specs.Laws.{KeysDiffer, ListIsKept};
 ghost use Rattle.btx_bib.specs.Parents.{InheritsFromParent, NoParentLeaves, NoReferenceDangles};
+ghost use Rattle.btx_bib.specs.Storing.{LastDefinitionCounts, LastMacroCounts, OthersKeepTheirs, OthersStoreNone, WantedNewAreStored};
 
 /// No two entries of a list have one key, whose case is ignored.
 pub fn keys_differ()
@@ -33,4 +42,27 @@ pub fn inherits_from_parent()
 /// A database that is no longer than a file may be gives the same entries, preamble and end where it is cut in two and no item is open there.
 pub fn cut_gives_the_same()
     ensures { CutGivesTheSame }
+{}
+
+/// The events along which a library is known and told are the one reading of each database.
+pub fn libraries_read_the_one_reading()
+    ensures reads { (wanted : Wanted) (known : Known) (database : Database) →
+        IsReading (keeping wanted) known next.Item database.text (events_of wanted known database) }
+    ensures only { (wanted : Wanted) (known : Known) (database : Database) (events : List Placed) →
+        IsReading (keeping wanted) known next.Item database.text events → events ≡ events_of wanted known database }
+{}
+
+/// A name stands for the value of its last definition before, and where there is none for the value that it had: at the beginning that of
+/// the style's last macro of this name.
+pub fn last_definition_counts()
+    ensures last { LastDefinitionCounts }
+    ensures others { OthersKeepTheirs }
+    ensures macros { LastMacroCounts }
+{}
+
+/// An entry that is read is stored exactly if it is wanted (all entries are, or it was cited, or a stored entry refers to it) and no
+/// stored one has its key; nothing else that is read stores one.
+pub fn wanted_new_entries_are_stored()
+    ensures entry { WantedNewAreStored }
+    ensures others { OthersStoreNone }
 {}

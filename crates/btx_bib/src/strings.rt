@@ -1,5 +1,6 @@
 //! The strings of databases, by their names.
-ghost use Rattle.std.specs.Prelude.{◌≡◌, [], OnOk};
+ghost use Rattle.std.specs.Prelude.{◌≡◌, [], true, false, OnOk};
+ghost use Rattle.btx_bib.specs.Grammar.Squeezing.{is_squeezed};
 ghost use Rattle.btx_bib.specs.Strings.{defined};
 
 use crate::grammar::value_texts::Strings;
@@ -9,7 +10,7 @@ use indexmap::IndexMap;
 use std::alloc::{AllocError, Global};
 use std::marker::Model;
 
-/// The strings: the style's macros and those that databases define, each with its last value.
+/// The strings: the style's macros and those that databases define, each with its last value, which is squeezed.
 #[derive(Drop)]
 pub struct StringTable<'a> {
     table: IndexMap<Vec<u8>, Text<'a>>,
@@ -17,11 +18,13 @@ pub struct StringTable<'a> {
 
 impl<'a> Model for StringTable<'a> {
     ghost use Rattle.std.specs.Prelude.{List, ℕ};
-    ghost use Rattle.btx_bib.specs.Strings.{pairs_of};
+    ghost use Rattle.btx_bib.specs.Strings.{AreSqueezed, pairs_of};
 
     ghost Value = { List (List ℕ × List ℕ) };
 
     ghost view = { λ strings. pairs_of strings.table.entries };
+
+    ghost invariant = { λ strings. AreSqueezed (pairs_of strings.table.entries) };
 }
 
 impl<'a> StringTable<'a> {
@@ -36,6 +39,7 @@ impl<'a> StringTable<'a> {
 
     /// Gives a name a value, in the place of an earlier one.
     pub fn define(&mut self, alloc: Global, name: &[u8], value: Text<'a>) -> Result<(), AllocError>
+        requires { is_squeezed false value ≡ true }
         ensures { OnOk result (self.new ≡ defined self.old name.now value.entry) }
     {
         let lowered = in_lower_case(alloc, name)?;

@@ -8,21 +8,49 @@ use btx_bib::grammar::value_texts::{Strings, value_text};
 use btx_bib::grammar::values::Value;
 use btx_text::{Fault, Text};
 use std::alloc::{AllocError, Global};
+use std::marker::Model;
 use std::test::Fail;
 
-// Every name has this value.
+// Every name has this value, which is squeezed.
 #[derive(Drop)]
 struct OneValue<'a> {
     value: Text<'a>,
 }
 
+impl<'a> Model for OneValue<'a> {
+    ghost use Rattle.std.specs.Prelude.{◌≡◌, List, ℕ, true, false};
+    ghost use Rattle.btx_bib.specs.Grammar.Squeezing.{is_squeezed};
+
+    ghost Value = { List ℕ };
+
+    ghost view = { λ these. these.value };
+
+    ghost invariant = { λ these. is_squeezed false these.value ≡ true };
+}
+
 impl<'a> Strings<'a> for OneValue<'a> {
     ghost use Rattle.std.specs.Prelude.{Some};
 
-    ghost values = { λ these _. Some these.value };
+    ghost values = { λ these _. Some these };
 
     fn value_of(&self, _alloc: Global, _name: &[u8]) -> Result<Option<&Text<'a>>, AllocError> {
         Ok(Some(&self.value))
+    }
+}
+
+// Every name has a letter with white round it.
+#[tactic(auto, unfolding(btx_bib::specs::Grammar::Squeezing::is_squeezed))]
+fn spaced_letter<'a>() -> OneValue<'a> {
+    OneValue {
+        value: Text::borrowed(b" v "),
+    }
+}
+
+// Every name has the empty text.
+#[tactic(auto, unfolding(btx_bib::specs::Grammar::Squeezing::is_squeezed))]
+fn empty_value<'a>() -> OneValue<'a> {
+    OneValue {
+        value: Text::empty(),
     }
 }
 
@@ -129,9 +157,7 @@ fn value_in<'a>(event: Event<'a>) -> Option<Value<'a>> {
 
 #[test]
 fn texts_of_values(rt: HostRuntime) -> Result<(), Fail> {
-    let strings = OneValue {
-        value: Text::borrowed(b" v\t"),
-    };
+    let strings = spaced_letter();
     let fields = [
         (b"@a{c,f={Knuth}}".as_slice(), b"Knuth".as_slice()),
         (b"@a{c,f={ Donald Knuth\r\n}}", b"Donald Knuth"),
@@ -160,9 +186,7 @@ fn long_field(alloc: Global, len: usize) -> Result<Vec<u8>, AllocError> {
 
 #[test]
 fn greatest_value(rt: HostRuntime) -> Result<(), Fail> {
-    let strings = OneValue {
-        value: Text::empty(),
-    };
+    let strings = empty_value();
     let whole = long_field(rt.alloc(), 1_000_000)?;
     let found = first_text(rt.alloc(), &whole, Ends::Trimmed, &strings)?;
     assert!(rt; found.len() == 1_000_000);

@@ -18,7 +18,7 @@ more_in : (style : Style) (p : Place) (line : List ℕ) → (line ≡ [] → ⊥
 more_in style p [] h = absurd (h refl)
 more_in style p (b ∷ bs) h = refl
 
-end_turn : (s : State) → IsEnd s.place → item_turn s ≡ Ends s.style
+pub end_turn : (s : State) → IsEnd s.place → item_turn s ≡ Ends s.style
 unfolding item_turn
 end_turn s e = end_in s.style (ink s.place) (ink s.place).line e
 

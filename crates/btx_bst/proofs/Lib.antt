@@ -31,3 +31,8 @@ pub mod WrittenLemmas
 pub mod PassageLemmas
 pub mod SpellingLemmas
 pub mod ItemSpellingLemmas
+pub mod FirstNameLemmas
+pub mod StyleRows
+pub mod TokenSpellingLemmas
+pub mod CommandSpellingLemmas
+pub mod WordSpellingLemmas

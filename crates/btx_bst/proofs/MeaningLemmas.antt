@@ -36,10 +36,10 @@ use Rattle.btx_bst.proofs.ReferenceLemmas.{FineEnd, FineStyle, fine_keeps, fine_
 -- ---- lists of names
 
 -- each name of a list is told by what looks names up
-abbrev Told : (List ℕ → Option Callee) → (ℕ → Callee) → List (List ℕ) → Type 0
+abbrev pub Told : (List ℕ → Option Callee) → (ℕ → Callee) → List (List ℕ) → Type 0
 Told look f xs = (k : ℕ) (m : List ℕ) → slice_get xs k ≡ Some m → look m ≡ Some (f k)
 
-abbrev ToldFunctions : (List ℕ → Option Callee) → List (Option (List ℕ)) → Type 0
+abbrev pub ToldFunctions : (List ℕ → Option Callee) → List (Option (List ℕ)) → Type 0
 ToldFunctions look xs = (k : ℕ) (m : List ℕ) → slice_get xs k ≡ Some (Some m) → look m ≡ Some (User k)
 
 same : (name : List ℕ) → bytes_eq name name ≡ true
@@ -80,13 +80,13 @@ pad_cases (x ∷ xs) c (suc k) m e = pad_cases xs c k m e
 
 -- ---- names
 
-record AllTold (a : Names) : Type 0 where
-  of_functions : ToldFunctions (named_lower a) a.functions
-  of_fields : Told (named_lower a) Field a.fields
-  of_entry_integers : Told (named_lower a) EntryInteger a.entry_integers
-  of_entry_strings : Told (named_lower a) EntryString a.entry_strings
-  of_global_integers : Told (named_lower a) GlobalInteger a.global_integers
-  of_global_strings : Told (named_lower a) GlobalString a.global_strings
+pub record AllTold (a : Names) : Type 0 where
+  pub of_functions : ToldFunctions (named_lower a) a.functions
+  pub of_fields : Told (named_lower a) Field a.fields
+  pub of_entry_integers : Told (named_lower a) EntryInteger a.entry_integers
+  pub of_entry_strings : Told (named_lower a) EntryString a.entry_strings
+  pub of_global_integers : Told (named_lower a) GlobalInteger a.global_integers
+  pub of_global_strings : Told (named_lower a) GlobalString a.global_strings
 
 told_name : (a : Names) (k : Kind) (name : List ℕ) → named_lower a name ≡ None → AllTold a → AllTold (with_name k name a)
 told_name a kind.Field name none t =
@@ -154,7 +154,7 @@ told_list k a (Took x p) t = told_end k (listing a p) t
 
 -- ---- styles
 
-abbrev Clear : Style → Type 0
+abbrev pub Clear : Style → Type 0
 Clear s = FineStyle s × AllTold s.names
 
 clear_ended : (s : Style) (name : List ℕ) (r : End) → named_lower s.names name ≡ None → Clear s → FineEnd s.names (length s.bodies) r → AllTold (function_ended s name r).style.names
@@ -201,8 +201,8 @@ told_predefined = record {
   of_global_strings = λ k m e. absurd (cc);
 }
 
-clear_style : (file text : List ℕ) → Clear (style_of file text)
-clear_style file text = kept-style Clear clear_keeps file text (fine_start file, told_predefined)
+pub clear-style : (file text : List ℕ) → Clear (style_of file text)
+clear-style file text = kept-style Clear clear_keeps file text (fine_start file, told_predefined)
 
 -- ---- the name of anything
 
@@ -268,7 +268,7 @@ meaning a (GlobalInteger k) t h = at_number (named_lower a) GlobalInteger a.glob
 meaning a (GlobalString k) t h = at_number (named_lower a) GlobalString a.global_strings k t.of_global_strings h
 
 pub meanings : MeaningsLaw
-meanings file text c h = meaning (style_of file text).names c (clear_style file text).1 h
+meanings file text c h = meaning (style_of file text).names c (clear-style file text).1 h
 
 pub one-meaning : OneMeaningLaw
 one-meaning file text a b h k e =

@@ -54,7 +54,7 @@ unfolding ink_from
 ink_from_twice n line [] = ap (λ (x : List ℕ). place_at n x []) (white_twice line)
 ink_from_twice n line (next ∷ after) = ink_twice_at n (behind_white line) next after (ink_from (n + 1) next after) (white_twice line) (ink_from_twice (n + 1) next after)
 
-ink_twice : (p : Place) → ink (ink p) ≡ ink p
+pub ink_twice : (p : Place) → ink (ink p) ≡ ink p
 ink_twice p = ink_from_twice p.number p.line p.after
 
 -- ---- lists of names
@@ -64,14 +64,14 @@ unfolding len_till
 brace_no_name p q b bs name e h = let g : name_in p (125 ∷ bs) ≡ Took name q = rw e at h in absurd (cc)
 
 -- where a name stands, no `}` does
-name_no_brace : (p q : Place) (line name : List ℕ) → name_in p line ≡ Took name q → brace_in 125 NoClose p line ≡ Slip NoClose p
+pub name_no_brace : (p q : Place) (line name : List ℕ) → name_in p line ≡ Took name q → brace_in 125 NoClose p line ≡ Slip NoClose p
 name_no_brace p q [] name e = absurd (cc)
 name_no_brace p q (b ∷ bs) name e = at (b == 125) refl where
   at : (t : Bool) → (b == 125) ≡ t → cond {A = OneRead (Unit {0})} t (Took tt (further p bs)) (Slip NoClose p) ≡ Slip NoClose p
   at true f = absurd (brace_no_name p q b bs name (eqb-true b 125 f) e)
   at false f = refl
 
-listed_name : (k : Kind) (known : Names) (name : List ℕ) (p q : Place) → name_at p ≡ Took name q → named known name ≡ None → list_turn k (listing known p) ≡ Again (listing (with_name k (folded name) known) q)
+pub listed_name : (k : Kind) (known : Names) (name : List ℕ) (p q : Place) → name_at p ≡ Took name q → named known name ≡ None → list_turn k (listing known p) ≡ Again (listing (with_name k (folded name) known) q)
 unfolding list_turn
 listed_name k known name p q e f =
     ap (list_turn_in k known) (name_no_brace (ink p) q (ink p).line name e)

@@ -37,3 +37,8 @@ pub mod Macros
 pub mod Nexts
 pub mod Written
 pub mod Passages
+pub mod FirstNames
+pub mod WorkedStyles
+pub mod TokenSpelling
+pub mod WordSpelling
+pub mod CommandSpelling

@@ -1,5 +1,7 @@
 //! Laws over the definition of a style, each the contract of a function that does nothing.
+ghost use Rattle.btx_bst.specs.CommandSpelling.{OneReadingLaw, ReadingLaw};
 ghost use Rattle.btx_bst.specs.Counts.{BeforeReadLaw, CountLaw};
+ghost use Rattle.btx_bst.specs.FirstNames.{FirstNamesLaw};
 ghost use Rattle.btx_bst.specs.ItemSpelling.{GivenLaw, GivingLaw, SkippedLaw, SkippedToEndLaw};
 ghost use Rattle.btx_bst.specs.Macros.{MacroTextsLaw, OneMacroLaw};
 ghost use Rattle.btx_bst.specs.Meanings.{MeaningsLaw, OneMeaningLaw};
@@ -8,6 +10,8 @@ ghost use Rattle.btx_bst.specs.Order.{MacroLaw, OnceLaw, OrderLaw};
 ghost use Rattle.btx_bst.specs.Passages.{CommandLaw, InkLaw, SkipLaw};
 ghost use Rattle.btx_bst.specs.References.{ReferencesLaw, ItemsLaw, ExecutedLaw};
 ghost use Rattle.btx_bst.specs.Spelling.{SpelledLaw, BrokenLaw, DividedLaw};
+ghost use Rattle.btx_bst.specs.WordSpelling.{TokensLaw};
+ghost use Rattle.btx_bst.specs.WorkedStyles as worked;
 ghost use Rattle.btx_bst.specs.Written.{FaultlessLaw, WrittenLaw};
 
 /// Each token refers to strings, fields and variables of the style and to functions before its own alone; what each command defines or
@@ -24,6 +28,11 @@ pub fn references_are_earlier()
 pub fn no_name_has_two_meanings()
     ensures names { MeaningsLaw }
     ensures one { OneMeaningLaw }
+{}
+
+/// The names that the program means by a number keep their numbers in every style: `crossref`, `sort.key$`, `entry.max$` and `global.max$`.
+pub fn predefined_names_keep_their_numbers()
+    ensures { FirstNamesLaw }
 {}
 
 /// No macro has two meanings: the name of each means its text, and two macros of one name are one.
@@ -80,6 +89,23 @@ pub fn styles_are_spelled()
 pub fn styles_are_read_as_written()
     ensures written { WrittenLaw }
     ensures faultless { FaultlessLaw }
+{}
+
+/// A text has one reading, and is read so. A word of a body is met where it is spelled, and nowhere else; each command, whole or with its fault
+/// and the line of the fault, is what the spelling of commands says; and nothing that stands in a text can be told as anything else.
+pub fn styles_have_one_reading()
+    ensures tokens { TokensLaw }
+    ensures reading { ReadingLaw }
+    ensures one { OneReadingLaw }
+{}
+
+/// Short texts are read as they are worked by hand: each command, each message with its line, bodies with their tokens, and what messages say.
+#[tactic(auto, using(crate::proofs::StyleRows::worked_rows))]
+pub fn worked_styles_are_read_so()
+    ensures commands { worked.AreRead worked.commands }
+    ensures faults { worked.AreRead worked.faults }
+    ensures bodies { worked.AreBodies worked.bodies }
+    ensures messages { worked.AreTexts worked.messages }
 {}
 
 /// Nothing of a text is read twice, and nothing is left out: the text at a place is the white before a command, the command's own, what is

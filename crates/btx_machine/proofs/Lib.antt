@@ -4,6 +4,8 @@ pub mod Tracks
 pub mod Equations
 pub mod Stepped
 pub mod EquationLemmas
+pub mod UniqueLemmas
+pub mod LimitsLemmas
 pub mod OrderLemmas
 pub mod LawLemmas
 pub mod CostLemmas

@@ -1,5 +1,5 @@
 -- Where no function of the style stands on the stack, a step leaves none there; and what it opens or executes comes of its token alone.
-use Rattle.std.proofs.Common.{◌≡◌, ℕ, ℤ, pos, ◌<◌, Bool, true, false, cond, nat_lt, List, [], ◌∷◌, ◌++◌, length, take, replicate, Option, Some, None, refl, arith, sym, subst}
+use Rattle.std.proofs.Common.{◌≡◌, ℕ, ℤ, pos, ◌<◌, Bool, true, false, cond, nat_lt, List, [], ◌∷◌, ◌++◌, length, take, Option, Some, None, refl, arith, sym, subst}
 use Rattle.std.specs.Prelude.{◌+ℤ◌, ◌-ℤ◌, int_lt, slice_get, slice_index_or}
 use Rattle.std.specs.List.{list_all}
 use Rattle.std.specs.Ordering.{int_eq}
@@ -32,8 +32,10 @@ use Rattle.btx_step.specs.declared.stand_in.StandIn.{StandIn}
 use Rattle.btx_step.specs.declared.stand_in.StandIn.TheVariants as stand_in
 use Rattle.btx_step.specs.Jobs.{Job}
 use Rattle.btx_step.specs.Stores.{Store}
-use Rattle.btx_step.specs.Answers.{Answer, answer, done, quiet, says, with_literals, pushes, pushed, pushes_text, pushed_text, complained, complains, lacks, refuses, outside, truth}
-use Rattle.btx_step.specs.Operands.{on_any, on_text, on_integer, on_integers, on_texts}
+use Rattle.btx_step.specs.Answers.{Answer, answer, quiet, says, with_literals, pushes, pushes_text, complained, complains, refuses, outside, truth}
+use Rattle.btx_step.specs.Operands.{Operand, Does, Push, Back, on_operands}
+use Rattle.btx_step.specs.Table.{row, misses_entry, runs_missing}
+use Rattle.btx_step.proofs.RuleLemmas.{Each, Taken, by_rule, pushed_by}
 use Rattle.btx_strings.specs.Positions.{add_period_of, substring_of}
 use Rattle.btx_strings.specs.Case.{change_case_of, case_complaints}
 use Rattle.btx_strings.specs.Purify.{purify_of}
@@ -132,9 +134,6 @@ module _ (r : ℕ) where
   complained_low notes stand_in.Zero s h = integer_low (said.Noted notes) (pos 0) s h
   complained_low notes stand_in.Empty s h = string_low (said.Noted notes) [] s h
 
-  lacks_low : (missing : ℕ) (instead : StandIn) (s : Store) → Low r (lacks missing instead s)
-  lacks_low missing instead s = complained_low (replicate missing note.EmptyStack) instead (with_literals [] s) tt
-
   complains_low : (note : Note) (instead : StandIn) (s : Store) → Free s.literals → Low r (complains note instead s)
   complains_low note instead s h = complained_low (note ∷ []) instead s h
 
@@ -146,95 +145,55 @@ module _ (r : ℕ) where
 
   -- ---- operands
 
-  on_any_low : (go : Literal → Store → Answer) (instead : StandIn) → ((v : Literal) (s : Store) → Free s.literals → Low r (go v s)) → (xs : List Literal) (s : Store) → Free xs → Low r (on_any go instead xs s)
-  on_any_low go instead h [] s f = lacks_low 1 instead s
-  on_any_low go instead h (v ∷ xs) s f = h v (with_literals xs s) f.1
+  abbrev Lowers : Store → Answer → Type 0
+  Lowers s a = Low r a
 
-  on_text_low : (go : List ℕ → Store → Answer) (instead : StandIn) → ((text : List ℕ) (s : Store) → Free s.literals → Low r (go text s)) → (xs : List Literal) (s : Store) → Free xs → Low r (on_text go instead xs s)
-  on_text_low go instead h [] s f = lacks_low 1 instead s
-  on_text_low go instead h (literal.Text text ∷ xs) s f = h text (with_literals xs s) f.1
-  on_text_low go instead h (x ∷ xs) s f = refuses_low x wanted.Text instead (with_literals xs s) f.1
+  -- of a function on operands that fit, all literals below r or none
+  abbrev Each_low : (Literal → Type 0) → (operands : List Operand) → Does operands → Type 0
+  Each_low Q operands does = Each Q Free Lowers operands does
 
-  on_integer_low : (go : ℤ → Store → Answer) (instead : StandIn) → ((n : ℤ) (s : Store) → Free s.literals → Low r (go n s)) → (xs : List Literal) (s : Store) → Free xs → Low r (on_integer go instead xs s)
-  on_integer_low go instead h [] s f = lacks_low 1 instead s
-  on_integer_low go instead h (literal.Integer n ∷ xs) s f = h n (with_literals xs s) f.1
-  on_integer_low go instead h (x ∷ xs) s f = refuses_low x wanted.Integer instead (with_literals xs s) f.1
+  -- so it is by the rule of operands
+  ruled_low : (Q : Literal → Type 0) (operands : List Operand) (instead : StandIn) (does : Does operands) → Each_low Q operands does → (xs : List Literal) (s : Store)
+      → Taken Q Free Lowers operands xs → Low r (on_operands operands (Push instead) does xs s)
+  ruled_low Q operands instead does h xs s t = by_rule Q Free Lowers tt complained_low operands instead does h xs s t
 
-  on_integers_low : (go : ℤ → ℤ → Store → Answer) (instead : StandIn) → ((a b : ℤ) (s : Store) → Free s.literals → Low r (go a b s)) → (xs : List Literal) (s : Store) → Free xs → Low r (on_integers go instead xs s)
-  on_integers_low go instead h [] s f = lacks_low 2 instead s
-  on_integers_low go instead h (x ∷ []) s f = lacks_low 1 instead s
-  on_integers_low go instead h (literal.Integer b ∷ literal.Integer a ∷ xs) s f = h a b (with_literals xs s) f.1.1
-  on_integers_low go instead h (literal.Integer b ∷ y ∷ xs) s f = refuses_low y wanted.Integer instead (with_literals xs s) f.1.1
-  on_integers_low go instead h (x ∷ y ∷ xs) s f = refuses_low x wanted.Integer instead (with_literals xs s) f.1.1
-
-  on_texts_low : (go : List ℕ → List ℕ → Store → Answer) (instead : StandIn) → ((a b : List ℕ) (s : Store) → Free s.literals → Low r (go a b s)) → (xs : List Literal) (s : Store) → Free xs → Low r (on_texts go instead xs s)
-  on_texts_low go instead h [] s f = lacks_low 2 instead s
-  on_texts_low go instead h (x ∷ []) s f = lacks_low 1 instead s
-  on_texts_low go instead h (literal.Text b ∷ literal.Text a ∷ xs) s f = h a b (with_literals xs s) f.1.1
-  on_texts_low go instead h (literal.Text b ∷ y ∷ xs) s f = refuses_low y wanted.Text instead (with_literals xs s) f.1.1
-  on_texts_low go instead h (x ∷ y ∷ xs) s f = refuses_low x wanted.Text instead (with_literals xs s) f.1.1
+  free_taken : (operands : List Operand) (xs : List Literal) → Free xs → Taken (Under 0) Free Lowers operands xs
+  free_taken [] xs f = f
+  free_taken (operand ∷ more) [] f = tt
+  free_taken (operand ∷ more) (x ∷ xs) f = (f.0, free_taken more xs f.1)
 
   -- ---- the functions
 
-  equals_low : (xs : List Literal) (s : Store) → Free xs → Low r (arithmetic.equals xs s)
-  equals_low [] s f = lacks_low 2 stand_in.Zero s
-  equals_low (x ∷ []) s f = lacks_low 1 stand_in.Zero s
-  equals_low (literal.Integer b ∷ literal.Integer a ∷ xs) s f = truth_low (int_eq a b) (with_literals xs s) f.1.1
-  equals_low (literal.Text b ∷ literal.Text a ∷ xs) s f = truth_low (bytes_eq a b) (with_literals xs s) f.1.1
-  equals_low (x ∷ y ∷ xs) s f = complains_low note.Incomparable stand_in.Zero (with_literals xs s) f.1.1
+  equals_low : (x y : Literal) (s : Store) → Free s.literals → Low r (arithmetic.equals x y s)
+  equals_low (literal.Integer b) (literal.Integer a) s h = truth_low (int_eq a b) s h
+  equals_low (literal.Text b) (literal.Text a) s h = truth_low (bytes_eq a b) s h
+  equals_low x y s h = complains_low note.Incomparable stand_in.Zero s h
 
   result_low : (b : Bool) (n : ℤ) (s : Store) → Free s.literals → Low r (arithmetic.result_if b n s)
   result_low true n s h = integer_low said.Nothing n s h
   result_low false n s h = complains_low note.Overflow stand_in.Zero s h
 
-  calculated_low : (c : Calculation) (a b : ℤ) (s : Store) → Free s.literals → Low r (arithmetic.calculated c a b s)
-  calculated_low calculation.Greater a b s h = truth_low (int_lt b a) s h
-  calculated_low calculation.Less a b s h = truth_low (int_lt a b) s h
-  calculated_low calculation.Plus a b s h = result_low (arithmetic.fits (a +ℤ b)) (a +ℤ b) s h
-  calculated_low calculation.Minus a b s h = result_low (arithmetic.fits (a -ℤ b)) (a -ℤ b) s h
+  calculated_low : (c : Calculation) (b a : ℤ) (s : Store) → Free s.literals → Low r (arithmetic.calculated c b a s)
+  calculated_low calculation.Greater b a s h = truth_low (int_lt b a) s h
+  calculated_low calculation.Less b a s h = truth_low (int_lt a b) s h
+  calculated_low calculation.Plus b a s h = result_low (arithmetic.fits (a +ℤ b)) (a +ℤ b) s h
+  calculated_low calculation.Minus b a s h = result_low (arithmetic.fits (a -ℤ b)) (a -ℤ b) s h
 
-  calculates_low : (c : Calculation) (xs : List Literal) (s : Store) → Free xs → Low r (arithmetic.calculates c xs s)
-  calculates_low c xs s f = on_integers_low (arithmetic.calculated c) stand_in.Zero (calculated_low c) xs s f
-
-  code_low : (text : List ℕ) (s : Store) → Free s.literals → Low r (arithmetic.code_of text s)
+  code_low : (text : List ℕ) (s : Store) → Free s.literals → Low r (arithmetic.gives_code text s)
   code_low (b ∷ []) s h = integer_low said.Nothing (pos b) s h
   code_low text s h = complains_low (note.NotOneCharacter text) stand_in.Zero s h
 
-  character_low : (n : ℤ) (s : Store) → Free s.literals → Low r (arithmetic.character_of n s)
+  character_low : (n : ℤ) (s : Store) → Free s.literals → Low r (arithmetic.gives_character n s)
   character_low n s h =
       pick (arithmetic.is_ascii n) (pushes said.Nothing (literal.Text (arithmetic.byte_of n ∷ [])) s) (complains (note.NotAscii n) stand_in.Empty s) (string_low said.Nothing (arithmetic.byte_of n ∷ []) s h) (complains_low (note.NotAscii n) stand_in.Empty s h)
 
-  empty_low : (xs : List Literal) (s : Store) → Free xs → Low r (strings.finds_empty xs s)
-  empty_low [] s f = lacks_low 1 stand_in.Zero s
-  empty_low (literal.Missing ∷ xs) s f = truth_low true (with_literals xs s) f.1
-  empty_low (literal.Text text ∷ xs) s f = truth_low (list_all is_white text) (with_literals xs s) f.1
-  empty_low (x ∷ xs) s f = refuses_low x wanted.TextOrMissing stand_in.Zero (with_literals xs s) f.1
+  empty_low : (field : Option (List ℕ)) (s : Store) → Free s.literals → Low r (strings.finds_empty field s)
+  empty_low None s h = truth_low true s h
+  empty_low (Some text) s h = truth_low (list_all is_white text) s h
 
-  substrings_low : (xs : List Literal) (s : Store) → Free xs → Low r (strings.substrings xs s)
-  substrings_low [] s f = lacks_low 3 stand_in.Empty s
-  substrings_low (x ∷ []) s f = lacks_low 2 stand_in.Empty s
-  substrings_low (x ∷ y ∷ []) s f = lacks_low 1 stand_in.Empty s
-  substrings_low (literal.Integer length ∷ literal.Integer start ∷ literal.Text text ∷ xs) s f = text_low said.Nothing (substring_of text start length) (with_literals xs s) f.1.1.1
-  substrings_low (literal.Integer length ∷ literal.Integer start ∷ z ∷ xs) s f = refuses_low z wanted.Text stand_in.Empty (with_literals xs s) f.1.1.1
-  substrings_low (literal.Integer length ∷ y ∷ z ∷ xs) s f = refuses_low y wanted.Integer stand_in.Empty (with_literals xs s) f.1.1.1
-  substrings_low (x ∷ y ∷ z ∷ xs) s f = refuses_low x wanted.Integer stand_in.Empty (with_literals xs s) f.1.1.1
-
-  prefixes_low : (job : Job) (xs : List Literal) (s : Store) → Free xs → Low r (strings.prefixes job xs s)
-  prefixes_low job [] s f = lacks_low 2 stand_in.Empty s
-  prefixes_low job (x ∷ []) s f = lacks_low 1 stand_in.Empty s
-  prefixes_low job (literal.Integer count ∷ literal.Text text ∷ xs) s f = text_low said.Nothing (text_prefix_of job.mode text count) (with_literals xs s) f.1.1
-  prefixes_low job (literal.Integer count ∷ y ∷ xs) s f = refuses_low y wanted.Text stand_in.Empty (with_literals xs s) f.1.1
-  prefixes_low job (x ∷ y ∷ xs) s f = refuses_low x wanted.Integer stand_in.Empty (with_literals xs s) f.1.1
-
-  names_low : (job : Job) (xs : List Literal) (s : Store) → Free xs → Low r (names.formats_name job xs s)
-  names_low job [] s f = lacks_low 3 stand_in.Empty s
-  names_low job (x ∷ []) s f = lacks_low 2 stand_in.Empty s
-  names_low job (x ∷ y ∷ []) s f = lacks_low 1 stand_in.Empty s
-  names_low job (literal.Text format ∷ literal.Integer number ∷ literal.Text people ∷ xs) s f =
-      text_low (names.name_said (format_name_complaints people number format) people number format) (format_name_text job.mode people number format) (with_literals xs s) f.1.1.1
-  names_low job (literal.Text format ∷ literal.Integer number ∷ z ∷ xs) s f = refuses_low z wanted.Text stand_in.Empty (with_literals xs s) f.1.1.1
-  names_low job (literal.Text format ∷ y ∷ z ∷ xs) s f = refuses_low y wanted.Integer stand_in.Empty (with_literals xs s) f.1.1.1
-  names_low job (x ∷ y ∷ z ∷ xs) s f = refuses_low x wanted.Text stand_in.Empty (with_literals xs s) f.1.1.1
+  missing_low : (field : Option (List ℕ)) (s : Store) → Free s.literals → Low r (entries.finds_missing field s)
+  missing_low None s h = truth_low true s h
+  missing_low (Some text) s h = truth_low false s h
 
   stored_integer_low : (store : ℤ → Store → Store) → ((n : ℤ) (s : Store) → (store n s).literals ≡ s.literals) → (v : Literal) (s : Store) → Free s.literals → Low r (variables.stores_integer store v s)
   stored_integer_low store same (literal.Integer n) s h = (tt, subst Free (sym (same n s)) h)
@@ -248,7 +207,7 @@ module _ (r : ℕ) where
   in_entry_low go None s h each = outside_low s h
   in_entry_low go (Some entry) s h each = each entry
 
-  assigned_low : (job : Job) (f : Callee) (v : Literal) (s : Store) → Free s.literals → Low r (variables.assigns_to job f v s)
+  assigned_low : (job : Job) (f : Callee) (v : Literal) (s : Store) → Free s.literals → Low r (variables.assigns job f v s)
   assigned_low job (callee.GlobalInteger i) v s h = stored_integer_low (variables.with_integer i) (λ n s. refl) v s h
   assigned_low job (callee.GlobalString i) v s h = stored_string_low job.global_max (variables.with_string i) (λ text s. refl) v s h
   assigned_low job (callee.EntryInteger i) v s h =
@@ -256,12 +215,6 @@ module _ (r : ℕ) where
   assigned_low job (callee.EntryString i) v s h =
       in_entry_low (λ entry. variables.stores_string job.entry_max (variables.with_entry_string entry i) v) s.current s h (λ entry. stored_string_low job.entry_max (variables.with_entry_string entry i) (λ text s. refl) v s h)
   assigned_low job f v s h = complains_low (note.NotAssignable f) stand_in.Nothing s h
-
-  assigns_low : (job : Job) (xs : List Literal) (s : Store) → Free xs → Low r (variables.assigns job xs s)
-  assigns_low job [] s f = lacks_low 2 stand_in.Nothing s
-  assigns_low job (x ∷ []) s f = lacks_low 1 stand_in.Nothing s
-  assigns_low job (literal.Function g ∷ v ∷ xs) s f = assigned_low job g v (with_literals xs s) f.1.1
-  assigns_low job (x ∷ v ∷ xs) s f = refuses_low x wanted.Function stand_in.Nothing (with_literals xs s) f.1.1
 
   entry_integer_low : (i : ℕ) (current : Option ℕ) (s : Store) → Free s.literals → Low r (variables.entry_integer i current s)
   entry_integer_low i None s h = outside_low s h
@@ -287,95 +240,92 @@ module _ (r : ℕ) where
   type_low job None s h = outside_low s h
   type_low job (Some entry) s h = text_low said.Nothing (entries.type_name job (kind_of (entries.entry_of job entry))) s h
 
-  missing_low : (current : Option ℕ) (xs : List Literal) (s : Store) → Free xs → Low r (entries.finds_missing current xs s)
-  missing_low None [] s f = (tt, tt)
-  missing_low None (x ∷ xs) s f = outside_low (with_literals xs s) f.1
-  missing_low (Some entry) [] s f = lacks_low 1 stand_in.Zero s
-  missing_low (Some entry) (literal.Missing ∷ xs) s f = truth_low true (with_literals xs s) f.1
-  missing_low (Some entry) (literal.Text text ∷ xs) s f = truth_low false (with_literals xs s) f.1
-  missing_low (Some entry) (x ∷ xs) s f = refuses_low x wanted.TextOrMissing stand_in.Zero (with_literals xs s) f.1
+  without_entry : (xs : List Literal) (s : Store) → Free xs → Low r (misses_entry xs s)
+  without_entry [] s f = (tt, tt)
+  without_entry (x ∷ xs) s f = (tt, f.1)
 
-  duplicates_low : (xs : List Literal) (s : Store) → Free xs → Free s.literals → Low r (stacks.duplicates xs s)
-  duplicates_low [] s f h = lacks_low 1 stand_in.Nothing s
-  duplicates_low (v ∷ xs) s f h = pushes_low said.Nothing v s f.0 h
+  runs_missing_low : (current : Option ℕ) (s : Store) → Free s.literals → Low r (runs_missing current s)
+  runs_missing_low None s h = without_entry s.literals s h
+  runs_missing_low (Some entry) s h =
+      ruled_low (Under 0) (row built_in.Missing).operands stand_in.Zero entries.finds_missing (λ field u s h. missing_low field s h) s.literals s
+      (free_taken (row built_in.Missing).operands s.literals h)
 
-  swaps_low : (xs : List Literal) (s : Store) → Free xs → Free s.literals → Low r (stacks.swaps xs s)
-  swaps_low [] s f h = lacks_low 2 stand_in.Nothing s
-  swaps_low (x ∷ []) s f h = complains_low note.EmptyStack stand_in.Nothing s h
-  swaps_low (x ∷ y ∷ xs) s f h = (tt, (f.1.0, (f.0, f.1.1)))
+  -- `swap$`, which puts the only literal of a stack back
+  swaps_low : (xs : List Literal) (s : Store) → Free xs → Low r (on_operands (row built_in.Swap).operands Back stacks.swaps xs s)
+  swaps_low [] s f = (tt, tt)
+  swaps_low (x ∷ []) s f = (tt, f)
+  swaps_low (x ∷ y ∷ xs) s f = (tt, (f.1.0, (f.0, f.1.1)))
 
   -- ---- choices and loops, whose two functions may be any of the first
 
   -- the two on top may be functions of the style
   abbrev pub TwoUnder : List Literal → Type 0
   TwoUnder [] = Unit {0}
-  TwoUnder (x ∷ []) = Unit {0}
+  TwoUnder (x ∷ []) = Under r x
   TwoUnder (x ∷ y ∷ xs) = Under r x × Under r y × Free xs
-
-  two_under : (xs : List Literal) → Free xs → TwoUnder xs
-  two_under [] f = tt
-  two_under (x ∷ []) f = tt
-  two_under (x ∷ y ∷ xs) f = (under_more r x f.0, under_more r y f.1.0, f.1.1)
 
   chosen_below : (b : Bool) (f g : Callee) → Below r f → Below r g → Below r (control.chosen b f g)
   chosen_below true f g h k = h
   chosen_below false f g h k = k
 
-  pub chooses_low : (xs : List Literal) (s : Store) → TwoUnder xs → Low r (control.chooses xs s)
-  chooses_low [] s u = lacks_low 3 stand_in.Nothing s
-  chooses_low (x ∷ []) s u = lacks_low 2 stand_in.Nothing s
-  chooses_low (x ∷ y ∷ []) s u = lacks_low 1 stand_in.Nothing s
-  chooses_low (literal.Function f ∷ literal.Function g ∷ literal.Integer n ∷ xs) s u = (chosen_below (control.is_positive n) g f u.1 u.0, u.2.1)
-  chooses_low (literal.Function f ∷ literal.Function g ∷ z ∷ xs) s u = refuses_low z wanted.Integer stand_in.Nothing (with_literals xs s) u.2.1
-  chooses_low (literal.Function f ∷ y ∷ z ∷ xs) s u = refuses_low y wanted.Function stand_in.Nothing (with_literals xs s) u.2.1
-  chooses_low (x ∷ y ∷ z ∷ xs) s u = refuses_low x wanted.Function stand_in.Nothing (with_literals xs s) u.2.1
+  choice_taken : (xs : List Literal) → TwoUnder xs → Taken (Under r) Free Lowers (row built_in.If).operands xs
+  choice_taken [] u = tt
+  choice_taken (x ∷ []) u = (u, tt)
+  choice_taken (x ∷ y ∷ []) u = (u.0, (u.1, tt))
+  choice_taken (x ∷ y ∷ z ∷ xs) u = (u.0, (u.1, (under_more r z u.2.0, u.2.1)))
 
-  pub loops_low : (xs : List Literal) (s : Store) → TwoUnder xs → Low r (control.loops xs s)
-  loops_low [] s u = lacks_low 2 stand_in.Nothing s
-  loops_low (x ∷ []) s u = lacks_low 1 stand_in.Nothing s
-  loops_low (literal.Function body ∷ literal.Function test ∷ xs) s u = ((u.1, u.0), u.2)
-  loops_low (literal.Function body ∷ y ∷ xs) s u = refuses_low y wanted.Function stand_in.Nothing (with_literals xs s) u.2
-  loops_low (x ∷ y ∷ xs) s u = refuses_low x wanted.Function stand_in.Nothing (with_literals xs s) u.2
+  loop_taken : (xs : List Literal) → TwoUnder xs → Taken (Under r) Free Lowers (row built_in.While).operands xs
+  loop_taken [] u = tt
+  loop_taken (x ∷ []) u = (u, tt)
+  loop_taken (x ∷ y ∷ xs) u = (u.0, (u.1, u.2))
+
+  -- ---- the table, where no function of the style stands on the stack
+
+  row_low : (job : Job) (f : BuiltIn) → IsCalm f → Each_low (Under 0) (row f).operands ((row f).does job)
+  row_low job built_in.Equals c = λ x u y v s h. equals_low x y s h
+  row_low job built_in.Greater c = λ b u a v s h. calculated_low calculation.Greater b a s h
+  row_low job built_in.Less c = λ b u a v s h. calculated_low calculation.Less b a s h
+  row_low job built_in.Plus c = λ b u a v s h. calculated_low calculation.Plus b a s h
+  row_low job built_in.Minus c = λ b u a v s h. calculated_low calculation.Minus b a s h
+  row_low job built_in.Concatenate c = λ last u first v s h. text_low said.Nothing (first ++ last) s h
+  row_low job built_in.Assign c = λ f u x v s h. assigned_low job f x s h
+  row_low job built_in.AddPeriod c = λ text u s h. text_low said.Nothing (add_period_of text) s h
+  row_low job built_in.CallType c = absurd c
+  row_low job built_in.ChangeCase c = λ letter u text v s h. text_low (strings.conversion_said (case_complaints letter).x9 letter) (change_case_of text letter) s h
+  row_low job built_in.CharacterToInteger c = λ text u s h. code_low text s h
+  row_low job built_in.Cite c = λ s h. cites_low job s.current s h
+  row_low job built_in.Duplicate c = λ x u s h. pushes_low said.Nothing x (with_literals (x ∷ s.literals) s) u (u, h)
+  row_low job built_in.Empty c = λ field u s h. empty_low field s h
+  row_low job built_in.FormatName c = λ format u number v people w s h. text_low (names.name_said (format_name_complaints people number format) people number format) (format_name_text job.mode people number format) s h
+  row_low job built_in.If c = λ f u g v n w s h. (chosen_below (control.is_positive n) g f (below_more r g v) (below_more r f u), h)
+  row_low job built_in.IntegerToCharacter c = λ n u s h. character_low n s h
+  row_low job built_in.IntegerToString c = λ n u s h. string_low said.Nothing (signed_decimal n) s h
+  row_low job built_in.Missing c = λ field u s h. missing_low field s h
+  row_low job built_in.NewLine c = λ s h. (tt, h)
+  row_low job built_in.NumNames c = λ text u s h. integer_low said.Nothing (pos (length (names_of text))) s h
+  row_low job built_in.Pop c = λ x u s h. (tt, h)
+  row_low job built_in.Preamble c = λ s h. string_low said.Nothing job.library.preamble s h
+  row_low job built_in.Purify c = λ text u s h. text_low said.Nothing (purify_of text) s h
+  row_low job built_in.Quote c = λ s h. string_low said.Nothing (34 ∷ []) s h
+  row_low job built_in.Skip c = λ s h. (tt, h)
+  row_low job built_in.Stack c = λ s h. (tt, tt)
+  row_low job built_in.Substring c = λ length u start v text w s h. text_low said.Nothing (substring_of text start length) s h
+  row_low job built_in.Swap c = λ x u y v s h. (tt, (v, (u, h)))
+  row_low job built_in.TextLength c = λ text u s h. integer_low said.Nothing (pos (text_length_of job.mode text)) s h
+  row_low job built_in.TextPrefix c = λ count u text v s h. text_low said.Nothing (text_prefix_of job.mode text count) s h
+  row_low job built_in.Top c = λ x u s h. (tt, h)
+  row_low job built_in.Type c = λ s h. type_low job s.current s h
+  row_low job built_in.Warning c = λ text u s h. (tt, h)
+  row_low job built_in.While c = λ body u test v s h. ((below_more r test v, below_more r body u), h)
+  row_low job built_in.Width c = λ text u s h. integer_low said.Nothing (pos (width_of text)) s h
+  row_low job built_in.Write c = λ text u s h. (tt, h)
 
   built_in_low : (job : Job) (f : BuiltIn) (s : Store) → IsCalm f → Free s.literals → Low r (built_in_run job f s)
   unfolding built_in_run
-  built_in_low job built_in.Equals s c h = equals_low s.literals s h
-  built_in_low job built_in.Greater s c h = calculates_low calculation.Greater s.literals s h
-  built_in_low job built_in.Less s c h = calculates_low calculation.Less s.literals s h
-  built_in_low job built_in.Plus s c h = calculates_low calculation.Plus s.literals s h
-  built_in_low job built_in.Minus s c h = calculates_low calculation.Minus s.literals s h
-  built_in_low job built_in.Concatenate s c h = on_texts_low (λ a b. pushed_text (a ++ b)) stand_in.Empty (λ a b s. text_low said.Nothing (a ++ b) s) s.literals s h
-  built_in_low job built_in.Assign s c h = assigns_low job s.literals s h
-  built_in_low job built_in.AddPeriod s c h = on_text_low (λ text. pushed_text (add_period_of text)) stand_in.Empty (λ text s. text_low said.Nothing (add_period_of text) s) s.literals s h
-  built_in_low job built_in.CallType s c h = absurd c
-  built_in_low job built_in.ChangeCase s c h = on_texts_low strings.cased stand_in.Empty (λ a b s. text_low (strings.conversion_said (case_complaints b).x9 b) (change_case_of a b) s) s.literals s h
-  built_in_low job built_in.CharacterToInteger s c h = on_text_low arithmetic.code_of stand_in.Zero code_low s.literals s h
-  built_in_low job built_in.Cite s c h = cites_low job s.current s h
-  built_in_low job built_in.Duplicate s c h = duplicates_low s.literals s h h
-  built_in_low job built_in.Empty s c h = empty_low s.literals s h
-  built_in_low job built_in.FormatName s c h = names_low job s.literals s h
-  built_in_low job built_in.If s c h = chooses_low s.literals s (two_under s.literals h)
-  built_in_low job built_in.IntegerToCharacter s c h = on_integer_low arithmetic.character_of stand_in.Empty character_low s.literals s h
-  built_in_low job built_in.IntegerToString s c h = on_integer_low (λ n. pushed (literal.Text (signed_decimal n))) stand_in.Empty (λ n s. string_low said.Nothing (signed_decimal n) s) s.literals s h
-  built_in_low job built_in.Missing s c h = missing_low s.current s.literals s h
-  built_in_low job built_in.NewLine s c h = (tt, h)
-  built_in_low job built_in.NumNames s c h = on_text_low (λ text. pushed (literal.Integer (pos (length (names_of text))))) stand_in.Zero (λ text s. integer_low said.Nothing (pos (length (names_of text))) s) s.literals s h
-  built_in_low job built_in.Pop s c h = on_any_low (λ v. done) stand_in.Nothing (λ v s f. (tt, f)) s.literals s h
-  built_in_low job built_in.Preamble s c h = string_low said.Nothing job.library.preamble s h
-  built_in_low job built_in.Purify s c h = on_text_low (λ text. pushed_text (purify_of text)) stand_in.Empty (λ text s. text_low said.Nothing (purify_of text) s) s.literals s h
-  built_in_low job built_in.Quote s c h = string_low said.Nothing (34 ∷ []) s h
-  built_in_low job built_in.Skip s c h = (tt, h)
-  built_in_low job built_in.Stack s c h = (tt, tt)
-  built_in_low job built_in.Substring s c h = substrings_low s.literals s h
-  built_in_low job built_in.Swap s c h = swaps_low s.literals s h h
-  built_in_low job built_in.TextLength s c h = on_text_low (λ text. pushed (literal.Integer (pos (text_length_of job.mode text)))) stand_in.Zero (λ text s. integer_low said.Nothing (pos (text_length_of job.mode text)) s) s.literals s h
-  built_in_low job built_in.TextPrefix s c h = prefixes_low job s.literals s h
-  built_in_low job built_in.Top s c h = on_any_low (λ v. says (said.Noted (note.Shown v ∷ []))) stand_in.Nothing (λ v s f. (tt, f)) s.literals s h
-  built_in_low job built_in.Type s c h = type_low job s.current s h
-  built_in_low job built_in.Warning s c h = on_text_low (λ text. says (said.Noted (note.Warning text ∷ []))) stand_in.Nothing (λ text s f. (tt, f)) s.literals s h
-  built_in_low job built_in.While s c h = loops_low s.literals s (two_under s.literals h)
-  built_in_low job built_in.Width s c h = on_text_low (λ text. pushed (literal.Integer (pos (width_of text)))) stand_in.Zero (λ text s. integer_low said.Nothing (pos (width_of text)) s) s.literals s h
-  built_in_low job built_in.Write s c h = on_text_low (λ text. says (said.Wrote text)) stand_in.Nothing (λ text s f. (tt, f)) s.literals s h
+  built_in_low job built_in.Missing s c h = runs_missing_low s.current s h
+  built_in_low job built_in.Swap s c h = swaps_low s.literals s h
+  built_in_low job f s c h =
+      ruled_low (Under 0) (row f).operands (pushed_by (row f).default) ((row f).does job) (row_low job f c) s.literals s (free_taken (row f).operands s.literals h)
 
   run_low : (job : Job) (f : Callee) (s : Store) → Below r f → Free s.literals → Low r (run_of job f s)
   unfolding run_of
@@ -390,8 +340,11 @@ module _ (r : ℕ) where
   -- an `if$` or a `while$`, over two of the first functions
   pub choice_low : (job : Job) (f : BuiltIn) (s : Store) → So (is_choice (Some (token.Run (callee.BuiltIn f)))) → TwoUnder s.literals → Low r (step_of job (token.Run (callee.BuiltIn f)) s)
   unfolding is_choice step_of run_of built_in_run
-  choice_low job built_in.If s is u = chooses_low s.literals s u
-  choice_low job built_in.While s is u = loops_low s.literals s u
+  choice_low job built_in.If s is u =
+      ruled_low (Under r) (row built_in.If).operands stand_in.Nothing control.chooses (λ f p g q n t s h. (chosen_below (control.is_positive n) g f q p, h)) s.literals s
+      (choice_taken s.literals u)
+  choice_low job built_in.While s is u =
+      ruled_low (Under r) (row built_in.While).operands stand_in.Nothing control.loops (λ body p test q s h. ((q, p), h)) s.literals s (loop_taken s.literals u)
   choice_low job f s is u = absurd is
 
   -- a token that stands alone: what it executes is one of the first functions, and what it quotes executes none

@@ -2,9 +2,10 @@ pub mod States
 pub mod Saying
 pub mod Steps
 pub mod Meaning
+pub mod MeaningBySteps
+pub mod MeaningLaws
 pub mod Goings
 pub mod Budgets
-pub mod Equations
 pub mod Commands
 pub mod Items
 pub mod Reports

@@ -1,14 +1,24 @@
 //! Laws over the meaning of styles, each the contract of a function that does nothing.
 ghost use Rattle.btx_machine.specs.Budgets.{BudgetLaw};
 ghost use Rattle.btx_machine.specs.DirectDepth.{DirectLaw};
-ghost use Rattle.btx_machine.specs.Equations.{MeaningLaw, Turning};
+ghost use Rattle.btx_machine.specs.MeaningLaws.{ExistsLaw, LimitsLaw, UniqueLaw};
 ghost use Rattle.btx_machine.specs.ProductLaws.{DepthLaw, RunLaw};
 ghost use Rattle.btx_machine.specs.StepsNeeded.{NeedsLaw, StoppedLaw};
 
-/// What the meaning of a token is, as equations in the language's own words, and what the turns of a loop are.
-pub fn meaning_law()
-    ensures tokens { MeaningLaw }
-    ensures turns { Turning }
+/// Each style has a meaning: the one that the contracts speak of meets the equations that a style writer knows.
+pub fn meaning_exists()
+    ensures { ExistsLaw }
+{}
+
+/// No style has two meanings: what meets these equations is the same for every token, body and loop, in every state and with any steps left.
+pub fn meaning_is_unique()
+    ensures { UniqueLaw }
+{}
+
+/// In every meaning a function of the style meets the limit of calls at once where 4,096 bodies are open or more, and only there, and `while$`
+/// the limit of loops where 4,096 loops run or more, and only there.
+pub fn limits_law()
+    ensures { LimitsLaw }
 {}
 
 /// With a larger budget a token, and a run, ends alike or, where it was stopped, goes on from what it wrote.

@@ -18,6 +18,8 @@ pub mod work;
 pub use command::Command;
 pub use ending::{Ending, Limit};
 pub use last::tell_end;
-pub use law::{budget_law, depth_law, direct_law, meaning_law, steps_law};
+pub use law::{
+    budget_law, depth_law, direct_law, limits_law, meaning_exists, meaning_is_unique, steps_law,
+};
 pub use report::{End, Report, Told};
 pub use run::execute_style;

@@ -1,20 +1,24 @@
 -- What an assignment leaves.
-use Rattle.std.proofs.Common.{◌≡◌, ◌≢◌, ◌≤◌, ℕ, zero, suc, List, [], ◌∷◌, ◌++◌, length, drop, take, slice_get, slice_set, Option, Some, None, refl, ap, arith}
+use Rattle.std.proofs.Common.{◌≡◌, ◌≢◌, ℕ, zero, suc, List, [], ◌∷◌, drop, take, slice_get, slice_set, Option, Some, None, refl, ap, arith}
+use Rattle.btx_bst.specs.declared.built_in.BuiltIn.TheVariants as built_in
 use Rattle.btx_bst.specs.declared.callee.Callee.{Callee}
 use Rattle.btx_bst.specs.declared.callee.Callee.TheVariants as callee
 use Rattle.btx_step.specs.declared.literal.Literal.{Literal}
-use Rattle.btx_step.specs.declared.literal.Literal.TheVariants.{Integer, Text, Function, Missing}
+use Rattle.btx_step.specs.declared.literal.Literal.TheVariants.{Integer, Text, Function}
 use Rattle.btx_step.specs.declared.said.Said.{Said}
 use Rattle.btx_step.specs.Jobs.{Job}
 use Rattle.btx_step.specs.Stores.{Store, Values}
 use Rattle.btx_step.specs.Answers.{Answer, says, with_literals}
 use Rattle.btx_step.specs.Leaves.{StandUnder, IsOther}
+use Rattle.btx_step.specs.Operands.{on_operands}
+use Rattle.btx_step.specs.Table.{row}
 use Rattle.btx_step.specs.Variables as variables
 
--- these literals stand, this entry is the current one, and all entries but one are these
-pub record Leaves (below : List Literal) (current : Option ℕ) (entries : List Values) (changed : Option ℕ) (a : Answer) : Type 0 where
+-- these literals stand, this entry is the current one, all entries but one are these, and so many bodies were open at once
+pub record Leaves (below : List Literal) (current : Option ℕ) (entries : List Values) (deepest : ℕ) (changed : Option ℕ) (a : Answer) : Type 0 where
   pub stand : StandUnder below a.store.literals
   pub stays : a.store.current ≡ current
+  pub deep : a.store.deepest ≡ deepest
   pub others : (entry : ℕ) → IsOther changed entry → slice_get a.store.entries entry ≡ slice_get entries entry
 
 -- what was written to one place is read at no other
@@ -29,35 +33,35 @@ nothing_above : (below : List Literal) → StandUnder below below
 nothing_above below = record { results = []; few = omega arith; above = refl }
 
 -- entries are as they were
-untouched : (changed : Option ℕ) (words : Said) (s : Store) → Leaves s.literals s.current s.entries changed (says words s)
-untouched changed words s = record { stand = nothing_above s.literals; stays = refl; others = λ entry apart. refl }
+untouched : (changed : Option ℕ) (words : Said) (s : Store) → Leaves s.literals s.current s.entries s.deepest changed (says words s)
+untouched changed words s = record { stand = nothing_above s.literals; stays = refl; deep = refl; others = λ entry apart. refl }
 
 entry_integer : (i entry : ℕ) (v : Literal) (s : Store)
-    → Leaves s.literals s.current s.entries (Some entry) (variables.stores_integer (variables.with_entry_integer entry i) v s)
-entry_integer i entry (Integer n) s = record { stand = nothing_above s.literals; stays = refl; others = λ other apart. read_other s.entries entry other _ apart }
+    → Leaves s.literals s.current s.entries s.deepest (Some entry) (variables.stores_integer (variables.with_entry_integer entry i) v s)
+entry_integer i entry (Integer n) s = record { stand = nothing_above s.literals; stays = refl; deep = refl; others = λ other apart. read_other s.entries entry other _ apart }
 entry_integer i entry v s = untouched (Some entry) _ s
 
 entry_string : (most i entry : ℕ) (v : Literal) (s : Store)
-    → Leaves s.literals s.current s.entries (Some entry) (variables.stores_string most (variables.with_entry_string entry i) v s)
-entry_string most i entry (Text text) s = record { stand = nothing_above s.literals; stays = refl; others = λ other apart. read_other s.entries entry other _ apart }
+    → Leaves s.literals s.current s.entries s.deepest (Some entry) (variables.stores_string most (variables.with_entry_string entry i) v s)
+entry_string most i entry (Text text) s = record { stand = nothing_above s.literals; stays = refl; deep = refl; others = λ other apart. read_other s.entries entry other _ apart }
 entry_string most i entry v s = untouched (Some entry) _ s
 
-in_entry : (go : ℕ → Store → Answer) (current : Option ℕ) (s : Store) → ((entry : ℕ) → Leaves s.literals s.current s.entries (Some entry) (go entry s))
-    → Leaves s.literals s.current s.entries current (variables.in_entry go current s)
+in_entry : (go : ℕ → Store → Answer) (current : Option ℕ) (s : Store) → ((entry : ℕ) → Leaves s.literals s.current s.entries s.deepest (Some entry) (go entry s))
+    → Leaves s.literals s.current s.entries s.deepest current (variables.in_entry go current s)
 in_entry go None s h = untouched None _ s
 in_entry go (Some entry) s h = h entry
 
 global_integer : (i : ℕ) (changed : Option ℕ) (v : Literal) (s : Store)
-    → Leaves s.literals s.current s.entries changed (variables.stores_integer (variables.with_integer i) v s)
+    → Leaves s.literals s.current s.entries s.deepest changed (variables.stores_integer (variables.with_integer i) v s)
 global_integer i changed (Integer n) s = untouched changed _ (variables.with_integer i n s)
 global_integer i changed v s = untouched changed _ s
 
 global_string : (most i : ℕ) (changed : Option ℕ) (v : Literal) (s : Store)
-    → Leaves s.literals s.current s.entries changed (variables.stores_string most (variables.with_string i) v s)
+    → Leaves s.literals s.current s.entries s.deepest changed (variables.stores_string most (variables.with_string i) v s)
 global_string most i changed (Text text) s = untouched changed _ (variables.with_string i (take most text) s)
 global_string most i changed v s = untouched changed _ s
 
-assigned_to : (job : Job) (f : Callee) (v : Literal) (s : Store) → Leaves s.literals s.current s.entries s.current (variables.assigns_to job f v s)
+assigned_to : (job : Job) (f : Callee) (v : Literal) (s : Store) → Leaves s.literals s.current s.entries s.deepest s.current (variables.assigns job f v s)
 assigned_to job (callee.GlobalInteger i) v s = global_integer i s.current v s
 assigned_to job (callee.GlobalString i) v s = global_string job.global_max i s.current v s
 assigned_to job (callee.EntryInteger i) v s =
@@ -66,8 +70,10 @@ assigned_to job (callee.EntryString i) v s =
     in_entry (λ entry. variables.stores_string job.entry_max (variables.with_entry_string entry i) v) s.current s (λ entry. entry_string job.entry_max i entry v s)
 assigned_to job f v s = untouched s.current _ s
 
-pub assigned : (job : Job) (xs : List Literal) (s : Store) → Leaves (drop 2 xs) s.current s.entries s.current (variables.assigns job xs s)
+pub assigned : (job : Job) (xs : List Literal) (s : Store)
+    → Leaves (drop 2 xs) s.current s.entries s.deepest s.current (on_operands (row built_in.Assign).operands (row built_in.Assign).default (variables.assigns job) xs s)
 assigned job [] s = untouched s.current _ (with_literals [] s)
+assigned job (Function f ∷ []) s = untouched s.current _ (with_literals [] s)
 assigned job (x ∷ []) s = untouched s.current _ (with_literals [] s)
 assigned job (Function f ∷ v ∷ xs) s = assigned_to job f v (with_literals xs s)
 assigned job (x ∷ v ∷ xs) s = untouched s.current _ (with_literals xs s)

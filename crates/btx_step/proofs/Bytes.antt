@@ -1,5 +1,5 @@
 -- Comparison of keys, byte by byte.
-use Rattle.std.proofs.Common.{◌≡◌, ℕ, Bool, true, false, cond, List, [], ◌∷◌, nat_lt, nat_cmp, is_lt, Ordering, Less, Equal, Greater, sym, ap, refl, ◌∙◌, ⊎_elim, if◌then◌else◌, ltb-true, ltb-false, arith}
+use Rattle.std.proofs.Common.{◌≡◌, ℕ, Bool, true, false, cond, List, [], ◌∷◌, nat_lt, nat_cmp, is_lt, Ordering, Less, Equal, Greater, sym, ap, refl, ◌∙◌, ⊎_elim, ltb-true, ltb-false, arith}
 use Rattle.std.specs.Cmp.{nat_cmp_is}
 use Rattle.std.specs.Cmp.Lexicographic.{slice_cmp}
 use Rattle.std.specs.Ordering.{ordering_then}

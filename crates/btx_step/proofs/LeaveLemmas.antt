@@ -1,67 +1,42 @@
 -- What a step leaves, over all tokens.
-use Rattle.std.proofs.Common.{◌≡◌, ℕ, true, false, Bool, List, [], drop, slice_get, refl, sym, ap, true≢false}
+use Rattle.std.proofs.Common.{◌≡◌, ℕ, true, false, [], length, drop, slice_get, Option, Some, None, refl, ap, true≢false}
 use Rattle.btx_bst.specs.declared.built_in.BuiltIn.{BuiltIn}
 use Rattle.btx_bst.specs.declared.built_in.BuiltIn.TheVariants as built_in
 use Rattle.btx_bst.specs.declared.callee.Callee.{Callee}
 use Rattle.btx_bst.specs.declared.callee.Callee.TheVariants as callee
 use Rattle.btx_bst.specs.declared.token.Token.{Token}
 use Rattle.btx_bst.specs.declared.token.Token.TheVariants as token
-use Rattle.btx_step.specs.declared.calculation.Calculation.TheVariants as calculation
 use Rattle.btx_step.specs.declared.next.Next.TheVariants as next
 use Rattle.btx_step.specs.declared.said.Said.TheVariants as said
+use Rattle.btx_step.specs.declared.stand_in.StandIn.TheVariants as stand_in
 use Rattle.btx_step.specs.Jobs.{Job}
 use Rattle.btx_step.specs.Stores.{Store}
 use Rattle.btx_step.specs.Answers.{with_literals}
+use Rattle.btx_step.specs.Entries.{finds_missing}
+use Rattle.btx_step.specs.Table.{row, runs_missing}
 use Rattle.btx_step.specs.Steps.{built_in_run, run_of, step_of}
-use Rattle.btx_step.specs.Leaves.{is_assignment, is_listing, operands_of, operands_taken, VariablesStay, OtherEntriesStay, CurrentStays, LowerLiteralsStay, ListingEmpties}
+use Rattle.btx_step.specs.Leaves.{is_assignment, is_listing, operands_taken, VariablesStay, OtherEntriesStay, CurrentStays, DeepestStays, LowerLiteralsStay, ListingEmpties}
 use Rattle.btx_step.proofs.AssignLemmas.{assigned}
+use Rattle.btx_step.proofs.RuleLemmas.{pushed_by}
 use Rattle.btx_step.proofs.KeepLemmas as keep
 use Rattle.btx_step.proofs.KeepLemmas.{Keeps}
 
 no_step : {A : Type 0} → true ≡ false → A
 no_step e = absurd (true≢false e)
 
+missing_kept : (current : Option ℕ) (s : Store) → Keeps (with_literals [] s) (drop 1 s.literals) (runs_missing current s)
+missing_kept None s = keep.without_entry s.literals s
+missing_kept (Some entry) s = keep.by_operands (row built_in.Missing).operands stand_in.Zero finds_missing (λ field p s r. keep.absence field s) s.literals s
+
 built_in_kept : (job : Job) (f : BuiltIn) (s : Store)
     → is_assignment (token.Run (callee.BuiltIn f)) ≡ false → is_listing (token.Run (callee.BuiltIn f)) ≡ false
-    → Keeps (with_literals [] s) (drop (operands_of f) s.literals) (built_in_run job f s)
+    → Keeps (with_literals [] s) (drop (length (row f).operands) s.literals) (built_in_run job f s)
 unfolding built_in_run
-built_in_kept job built_in.Equals s a l = keep.equals s.literals s
-built_in_kept job built_in.Greater s a l = keep.calculates calculation.Greater s.literals s
-built_in_kept job built_in.Less s a l = keep.calculates calculation.Less s.literals s
-built_in_kept job built_in.Plus s a l = keep.calculates calculation.Plus s.literals s
-built_in_kept job built_in.Minus s a l = keep.calculates calculation.Minus s.literals s
-built_in_kept job built_in.Concatenate s a l = keep.joins s.literals s
 built_in_kept job built_in.Assign s a l = no_step a
-built_in_kept job built_in.AddPeriod s a l = keep.ends_sentence s.literals s
-built_in_kept job built_in.CallType s a l = keep.calls_type job s.current s
-built_in_kept job built_in.ChangeCase s a l = keep.changes_case s.literals s
-built_in_kept job built_in.CharacterToInteger s a l = keep.gives_code s.literals s
-built_in_kept job built_in.Cite s a l = keep.cites job s.current s
-built_in_kept job built_in.Duplicate s a l = keep.duplicates s.literals s refl
-built_in_kept job built_in.Empty s a l = keep.finds_empty s.literals s
-built_in_kept job built_in.FormatName s a l = keep.formats_name job s.literals s
-built_in_kept job built_in.If s a l = keep.chooses s.literals s
-built_in_kept job built_in.IntegerToCharacter s a l = keep.gives_character s.literals s
-built_in_kept job built_in.IntegerToString s a l = keep.gives_decimal s.literals s
-built_in_kept job built_in.Missing s a l = keep.finds_missing s.current s.literals s
-built_in_kept job built_in.NewLine s a l = keep.answered next.Nothing said.EndedLine s
-built_in_kept job built_in.NumNames s a l = keep.counts_names s.literals s
-built_in_kept job built_in.Pop s a l = keep.pops s.literals s
-built_in_kept job built_in.Preamble s a l = keep.pushing said.Nothing _ s
-built_in_kept job built_in.Purify s a l = keep.purifies s.literals s
-built_in_kept job built_in.Quote s a l = keep.pushing said.Nothing _ s
-built_in_kept job built_in.Skip s a l = keep.answered next.Nothing said.Nothing s
 built_in_kept job built_in.Stack s a l = no_step l
-built_in_kept job built_in.Substring s a l = keep.substrings s.literals s
-built_in_kept job built_in.Swap s a l = keep.swaps s.literals s refl
-built_in_kept job built_in.TextLength s a l = keep.measures_text job s.literals s
-built_in_kept job built_in.TextPrefix s a l = keep.prefixes job s.literals s
-built_in_kept job built_in.Top s a l = keep.shows_top s.literals s
-built_in_kept job built_in.Type s a l = keep.gives_type job s.current s
-built_in_kept job built_in.Warning s a l = keep.warns s.literals s
-built_in_kept job built_in.While s a l = keep.loops s.literals s
-built_in_kept job built_in.Width s a l = keep.measures_width s.literals s
-built_in_kept job built_in.Write s a l = keep.writes s.literals s
+built_in_kept job built_in.Missing s a l = missing_kept s.current s
+built_in_kept job built_in.Swap s a l = keep.swaps s.literals s
+built_in_kept job f s a l = keep.by_operands (row f).operands (pushed_by (row f).default) ((row f).does job) (keep.row_kept job f tt) s.literals s
 
 run_kept : (job : Job) (f : Callee) (s : Store) → is_assignment (token.Run f) ≡ false → is_listing (token.Run f) ≡ false
     → Keeps (with_literals [] s) (drop (operands_taken (token.Run f)) s.literals) (run_of job f s)
@@ -98,6 +73,11 @@ pub current_stays : CurrentStays
 unfolding step_of run_of built_in_run
 current_stays job (token.Run (callee.BuiltIn built_in.Assign)) s = (assigned job s.literals s).stays
 current_stays job t s = ap (λ (x : Store). x.current) (variables_stay job t s refl)
+
+pub deepest_stays : DeepestStays
+unfolding step_of run_of built_in_run
+deepest_stays job (token.Run (callee.BuiltIn built_in.Assign)) s = (assigned job s.literals s).deep
+deepest_stays job t s = ap (λ (x : Store). x.deepest) (variables_stay job t s refl)
 
 pub lower_literals_stay : LowerLiteralsStay
 unfolding step_of run_of built_in_run

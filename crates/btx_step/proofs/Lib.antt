@@ -5,6 +5,8 @@ pub mod Ascent
 pub mod Bytes
 pub mod Orders
 pub mod RowLemmas
+pub mod RuleLemmas
+pub mod AppliedLemmas
 pub mod KeepLemmas
 pub mod AssignLemmas
 pub mod LeaveLemmas

@@ -1,6 +1,5 @@
 -- The order of keys: `sorted` gives the only list in it.
-use Rattle.std.proofs.Common.{◌≡◌, ◌↔◌, ℕ, Bool, true, false, not, ◌&&◌, List, [], ◌∷◌, filter, Ordering, Less, Equal, Greater, nat_cmp, nat_eq, is_lt, ⊎_elim, sym, ap, subst, refl, ◌∙◌, arith, true≢false}
-use Rattle.std.specs.Cmp.{IsTotalOrder, IsEquivalence}
+use Rattle.std.proofs.Common.{◌≡◌, ℕ, true, false, not, ◌&&◌, List, [], ◌∷◌, filter, Ordering, Less, Equal, Greater, nat_cmp, nat_eq, is_lt, ⊎_elim, sym, ap, subst, refl, ◌∙◌, arith, true≢false}
 use Rattle.std.specs.Cmp.Lexicographic.{slice_cmp, pointwise}
 use Rattle.std.specs.List.{AllByRecursion}
 use Rattle.std.specs.List.Sorted.{ties}
@@ -11,8 +10,8 @@ use Rattle.std.proofs.lemmas.Bool.Decides.{nat_tests}
 use Rattle.std.proofs.lemmas.Cmp.{nat_list_cmp_total, nat_list_eq_equiv, same_from_slice_cmp}
 use Rattle.std.proofs.lemmas.List.Elements.{filter_agree}
 use Rattle.std.proofs.lemmas.Slice.Eq.{bytes_eq-Decides}
-use Rattle.btx_step.specs.Sorting.{precedes, sorted, sorted_by, by_key}
-use Rattle.btx_step.specs.Orders.{comes_first, NoneBefore, Ascends, with_key, IsInOrder, ComparesBytes, SortedOnce}
+use Rattle.btx_step.specs.Sorting.{precedes, sorted, by_key}
+use Rattle.btx_step.specs.Orders.{NoneBefore, Ascends, IsInOrder, ComparesBytes, SortedOnce}
 use Rattle.btx_step.proofs.Bytes.{precedes_reads}
 use Rattle.btx_step.proofs.Order as order
 use Rattle.btx_step.proofs.Ascent.{by_key_order, sorted_ascends, sorted_passes}

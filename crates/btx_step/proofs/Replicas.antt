@@ -1,5 +1,5 @@
 -- Lists of one element many times.
-use Rattle.std.proofs.Common.{◌≡◌, ℕ, ◌+◌, List, [], ◌∷◌, ◌++◌, replicate}
+use Rattle.std.proofs.Common.{◌≡◌, ℕ, ◌+◌, [], ◌∷◌, ◌++◌, replicate}
 use Rattle.std.proofs.lemmas.List.{replicate-append-replicate}
 
 -- one more

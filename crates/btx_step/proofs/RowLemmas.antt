@@ -1,29 +1,31 @@
 -- Steps in a row.
-use Rattle.std.proofs.Common.{◌≡◌, ◌<◌, ◌≤◌, ℕ, ℤ, true, Bool, cond, nat_lt, List, [], ◌∷◌, length, take, Option, Some, None, slice_get, slice_set, refl, sym, ap, ◌∙◌, arith}
+use Rattle.std.proofs.Common.{◌≡◌, ◌<◌, ◌≤◌, ℕ, ℤ, cond, List, ◌∷◌, length, take, Option, Some, None, slice_get, slice_set, refl, sym, ap, subst, ◌∙◌}
 use Rattle.std.proofs.lemmas.Bool.{lt-ltb}
 use Rattle.std.proofs.lemmas.List.{take_all}
 use Rattle.btx_bst.specs.declared.built_in.BuiltIn.TheVariants as built_in
-use Rattle.btx_bst.specs.declared.callee.Callee.{Callee}
 use Rattle.btx_bst.specs.declared.callee.Callee.TheVariants as callee
 use Rattle.btx_step.specs.declared.literal.Literal.{Literal}
-use Rattle.btx_step.specs.declared.literal.Literal.TheVariants.{Integer, Text, Function, Missing}
+use Rattle.btx_step.specs.declared.literal.Literal.TheVariants.{Integer, Text}
 use Rattle.btx_step.specs.declared.next.Limit.TheVariants as limit
 use Rattle.btx_step.specs.declared.next.Next.TheVariants as next
 use Rattle.btx_step.specs.declared.said.Said.TheVariants as said
 use Rattle.btx_step.specs.Jobs.{Job}
 use Rattle.btx_step.specs.Stores.{Store, Values}
 use Rattle.btx_step.specs.Answers.{Answer, answer, done, says, pushed, with_literals}
-use Rattle.btx_step.specs.Stacks.{swaps, duplicates, pops}
+use Rattle.btx_step.specs.Operands.{on_operands}
+use Rattle.btx_step.specs.Table.{row, runs}
+use Rattle.btx_step.specs.Stacks.{swaps, duplicates}
 use Rattle.btx_step.specs.Variables as variables
 use Rattle.btx_step.specs.Steps.{built_in_run, run_of}
-use Rattle.btx_step.specs.Laws.{SwapTwice, DuplicatePop, InEntry, Takes, ReadsBack}
+use Rattle.btx_step.specs.Laws.{SwapTwice, DuplicatePop, InEntry, ReadsBack}
 use Rattle.btx_step.proofs.ValueLemmas.{read_at}
 
 pub swap_twice : SwapTwice
 unfolding built_in_run
 swap_twice job x y xs s e =
-    let again : Answer → Answer = λ a. swaps a.store.literals a.store in
-    ap (λ l. again (swaps l s)) e ∙ ap (λ l. done (with_literals l s)) (sym e)
+    let swap : List Literal → Store → Answer = on_operands (row built_in.Swap).operands (row built_in.Swap).default swaps in
+    let again : Answer → Answer = λ a. swap a.store.literals a.store in
+    ap (λ l. again (swap l s)) e ∙ ap (λ l. done (with_literals l s)) (sym e)
 
 -- a literal that has room is pushed
 pushed_done : (v : Literal) (s : Store) → length s.literals < 1000 → pushed v s ≡ done (with_literals (v ∷ s.literals) s)
@@ -33,8 +35,10 @@ pushed_done v s room =
 pub duplicate_pop : DuplicatePop
 unfolding built_in_run
 duplicate_pop job x xs s e room =
-    let after : Answer → Answer = λ a. pops a.store.literals a.store in
-    ap after (ap (λ l. duplicates l s) e ∙ pushed_done x s room)
+    let inside : length (x ∷ xs) < 1000 = subst (λ l. length l < 1000) e room in
+    let after : Answer → Answer = λ a. runs built_in.Pop (λ v. done) a.store in
+    ap after (ap (λ l. on_operands (row built_in.Duplicate).operands (row built_in.Duplicate).default duplicates l s) e ∙ pushed_done x (with_literals (x ∷ xs) s) inside)
+    ∙ ap (λ l. done (with_literals l s)) (sym e)
 
 -- ---- variables
 
@@ -93,20 +97,24 @@ string_back job i text xs s (Some entry) e room takes =
     ∙ ap (λ t. (variables.entry_string i (Some entry) (variables.with_entry_string entry i t (with_literals xs s))).store.literals) (all_kept job.entry_max text takes.2)
     ∙ entry_string_back job i text xs s entry room takes.0 takes.1
 
+-- `:=` on these literals
+abbrev assigning : Job → List Literal → Store → Answer
+assigning job xs s = on_operands (row built_in.Assign).operands (row built_in.Assign).default (variables.assigns job) xs s
+
 pub reads_back : ReadsBack
 unfolding built_in_run run_of integer_stored string_stored
 reads_back job (callee.GlobalInteger i) (Integer n) xs s e room takes =
-    ap (λ l. (variables.global_integer i (variables.assigns job l s).store).store.literals) e
+    ap (λ l. (variables.global_integer i (assigning job l s).store).store.literals) e
     ∙ on_top _ (variables.with_integer i n (with_literals xs s)) room
     ∙ ap (λ m. Integer m ∷ xs) (ap variables.integer_in (read_at s.integers i n takes))
 reads_back job (callee.GlobalString i) (Text text) xs s e room takes =
-    ap (λ l. (variables.global_string i (variables.assigns job l s).store).store.literals) e
+    ap (λ l. (variables.global_string i (assigning job l s).store).store.literals) e
     ∙ on_top _ (variables.with_string i (take job.global_max text) (with_literals xs s)) room
     ∙ ap (λ t. Text t ∷ xs) (ap variables.string_in (read_at s.strings i (take job.global_max text) takes.0) ∙ all_kept job.global_max text takes.1)
 reads_back job (callee.EntryInteger i) (Integer n) xs s e room takes =
-    ap (λ l. (variables.entry_integer i (variables.assigns job l s).store.current (variables.assigns job l s).store).store.literals) e
+    ap (λ l. (variables.entry_integer i (assigning job l s).store.current (assigning job l s).store).store.literals) e
     ∙ integer_back job i n xs s s.current refl room takes
 reads_back job (callee.EntryString i) (Text text) xs s e room takes =
-    ap (λ l. (variables.entry_string i (variables.assigns job l s).store.current (variables.assigns job l s).store).store.literals) e
+    ap (λ l. (variables.entry_string i (assigning job l s).store.current (assigning job l s).store).store.literals) e
     ∙ string_back job i text xs s s.current refl room takes
 reads_back job f v xs s e room takes = absurd takes

@@ -1,6 +1,5 @@
 -- What a step leaves as it was. Fields, keys, types, the preamble and the style belong to the job, which no step answers: none can change them.
 use Rattle.std.specs.Prelude.{◌≡◌, ◌≢◌, ◌≤◌, ℕ, Bool, true, false, List, [], ◌++◌, length, drop, slice_get, Option, None, Some}
-use Rattle.btx_bst.specs.declared.built_in.BuiltIn.{BuiltIn}
 use Rattle.btx_bst.specs.declared.built_in.BuiltIn.TheVariants as built_in
 use Rattle.btx_bst.specs.declared.callee.Callee.TheVariants as callee
 use Rattle.btx_bst.specs.declared.token.Token.{Token}
@@ -9,6 +8,7 @@ use Rattle.btx_step.specs.declared.literal.Literal.{Literal}
 use Rattle.btx_step.specs.Jobs.{Job}
 use Rattle.btx_step.specs.Stores.{Store}
 use Rattle.btx_step.specs.Answers.{with_literals}
+use Rattle.btx_step.specs.Table.{row}
 use Rattle.btx_step.specs.Steps.{step_of}
 
 -- ---- variables
@@ -36,44 +36,16 @@ OtherEntriesStay = (job : Job) (t : Token) (s : Store) (entry : ℕ) → IsOther
 abbrev pub CurrentStays : Type 0
 CurrentStays = (job : Job) (t : Token) (s : Store) → (step_of job t s).store.current ≡ s.current
 
+-- no step changes the greatest number of bodies that were open at once
+abbrev pub DeepestStays : Type 0
+DeepestStays = (job : Job) (t : Token) (s : Store) → (step_of job t s).store.deepest ≡ s.deepest
+
 -- ---- literals
 
--- how many literals a built-in function takes; `stack$`, which takes all, aside
-abbrev pub operands_of : BuiltIn → ℕ
-operands_of built_in.Equals = 2
-operands_of built_in.Greater = 2
-operands_of built_in.Less = 2
-operands_of built_in.Plus = 2
-operands_of built_in.Minus = 2
-operands_of built_in.Concatenate = 2
-operands_of built_in.Assign = 2
-operands_of built_in.AddPeriod = 1
-operands_of built_in.ChangeCase = 2
-operands_of built_in.CharacterToInteger = 1
-operands_of built_in.Duplicate = 1
-operands_of built_in.Empty = 1
-operands_of built_in.FormatName = 3
-operands_of built_in.If = 3
-operands_of built_in.IntegerToCharacter = 1
-operands_of built_in.IntegerToString = 1
-operands_of built_in.Missing = 1
-operands_of built_in.NumNames = 1
-operands_of built_in.Pop = 1
-operands_of built_in.Purify = 1
-operands_of built_in.Substring = 3
-operands_of built_in.Swap = 2
-operands_of built_in.TextLength = 1
-operands_of built_in.TextPrefix = 2
-operands_of built_in.Top = 1
-operands_of built_in.Warning = 1
-operands_of built_in.While = 2
-operands_of built_in.Width = 1
-operands_of built_in.Write = 1
-operands_of f = 0
-
--- a literal that is pushed takes none, and neither does a field, a variable or a function of the style
+-- how many literals a token takes, `stack$`, which takes all, aside: a built-in function as many as its row of the table says; a literal that
+-- is pushed takes none, and neither does a field, a variable or a function of the style
 abbrev pub operands_taken : Token → ℕ
-operands_taken (token.Run (callee.BuiltIn f)) = operands_of f
+operands_taken (token.Run (callee.BuiltIn f)) = length (row f).operands
 operands_taken t = 0
 
 -- `stack$` that is executed

@@ -11,6 +11,7 @@ pub mod Control
 pub mod Stacks
 pub mod Variables
 pub mod Entries
+pub mod Table
 pub mod Steps
 pub mod Notes
 pub mod Sorting
@@ -18,3 +19,4 @@ pub mod Orders
 pub mod Starts
 pub mod Leaves
 pub mod Laws
+pub mod Applied

@@ -1,5 +1,5 @@
 -- The store before the first command.
-use Rattle.std.specs.Prelude.{ℕ, ℤ, pos, List, [], length, replicate, slice_set, Option, None}
+use Rattle.std.specs.Prelude.{ℤ, pos, List, [], length, replicate, slice_set, None}
 use Rattle.btx_bst.specs.Style.{Style}
 use Rattle.btx_step.specs.Jobs.{Job}
 use Rattle.btx_step.specs.Stores.{Store, Values}

@@ -12,7 +12,7 @@ use Rattle.btx_bib.specs.Grammar.Values.{Part, value_at}
 use Rattle.btx_bib.specs.Grammar.Fields.{Field, more_at}
 use Rattle.btx_bib.specs.Grammar.Items.{Event, Comment, Preamble, Definition, Entry, FieldOf, End, Wrong, Keeping, is_repeated, Step, step_by, ended, field_event, step_of, known_step, next_step, behind_at, command_of, head_of, head_at, events_from}
 use Rattle.btx_bib.specs.Grammar.WholeItems.{PreambleItem, StringItem, EntryItem, other_fields, fields_at, item_of, item_at}
-use Rattle.btx_bib.specs.Grammar.ItemEvents.{read_events, told, Tells}
+use Rattle.btx_bib.specs.Grammar.ItemEvents.{read_events, told, Tells, IsNew}
 use Rattle.btx_bib.proofs.GrammarLemmas.LengthLemmas.{Shrinks, events-some}
 use Rattle.btx_bib.proofs.GrammarLemmas.WholeItemLemmas.{more-shrinks, fields_at-step}
 
@@ -135,37 +135,33 @@ string-tells : {S : Type 0} (keeping : Keeping S) (state : S) (s : List ℕ) (r 
 string-tells keeping state s (Err wrong) e = tells-wrong keeping state wanted.Item s wrong e
 string-tells keeping state s (Ok got) e = string-name keeping state s got.0 (name_at got.1) e
 
--- no entry is a repeated one here
-abbrev pub NoneStored : {S : Type 0} → Keeping S → S → Type 0
-NoneStored keeping state = (key : List ℕ) → keeping.is_stored state key ≡ false
-
-entry-key : {S : Type 0} (keeping : Keeping S) (state : S) (s : List ℕ) (name : List ℕ) (d : Delimiter) (r : Read (List ℕ)) → NoneStored keeping state → StepIs s (followed_by r (λ key rest. Ok ((Entry name key, wanted.Fields d), rest))) →
+entry-key : {S : Type 0} (keeping : Keeping S) (state : S) (s : List ℕ) (name : List ℕ) (d : Delimiter) (r : Read (List ℕ)) → IsNew (keeping.is_stored state) (followed_by r (λ key rest. Ok ((Entry name key, wanted.Fields d), rest))) → StepIs s (followed_by r (λ key rest. Ok ((Entry name key, wanted.Fields d), rest))) →
     Tells keeping state wanted.Item s (read_events (followed_by r (λ key behind. followed_by (fields_at d behind) (λ fields rest. Ok (EntryItem name key fields, rest)))))
 entry-key keeping state s name d (Err wrong) new e = tells-wrong keeping state wanted.Item s wrong e
 entry-key {S} keeping state s name d (Ok got) new e =
-    at (fields_at d got.1) (tells-more keeping state wanted.Item s (Entry name got.0) (wanted.Fields d) got.1 (field_events (fields_at d got.1)) e (new got.0) (fields-tells keeping (keeping.after state (Entry name got.0)) d got.1)) where
+    at (fields_at d got.1) (tells-more keeping state wanted.Item s (Entry name got.0) (wanted.Fields d) got.1 (field_events (fields_at d got.1)) e (new name got.0 got.1 (wanted.Fields d) refl) (fields-tells keeping (keeping.after state (Entry name got.0)) d got.1)) where
       at : (r : Read (List Field)) → Tells keeping state wanted.Item s (with_event (Entry name got.0) (field_events r)) → Tells keeping state wanted.Item s (read_events (followed_by r (λ fields rest. Ok (EntryItem name got.0 fields, rest))))
       at (Ok fields) h = h
       at (Err wrong) h = h
 
-entry-tells : {S : Type 0} (keeping : Keeping S) (state : S) (s : List ℕ) (name : List ℕ) (r : Read Delimiter) → NoneStored keeping state →
+entry-tells : {S : Type 0} (keeping : Keeping S) (state : S) (s : List ℕ) (name : List ℕ) (r : Read Delimiter) → IsNew (keeping.is_stored state) (followed_by r (λ d inner. followed_by (key_at d inner) (λ key rest. Ok ((Entry name key, wanted.Fields d), rest)))) →
     StepIs s (followed_by r (λ d inner. followed_by (key_at d inner) (λ key rest. Ok ((Entry name key, wanted.Fields d), rest)))) →
     Tells keeping state wanted.Item s (read_events (followed_by r (λ d inner. followed_by (key_at d inner) (λ key behind. followed_by (fields_at d behind) (λ fields rest. Ok (EntryItem name key fields, rest))))))
 entry-tells keeping state s name (Err wrong) new e = tells-wrong keeping state wanted.Item s wrong e
 entry-tells keeping state s name (Ok got) new e = entry-key keeping state s name got.0 (key_at got.0 got.1) new e
 
-item_of-tells : {S : Type 0} (keeping : Keeping S) (state : S) (s : List ℕ) (c : Command) (name t : List ℕ) → NoneStored keeping state → StepIs s (head_of c name t) → Tells keeping state wanted.Item s (read_events (item_of c name t))
+item_of-tells : {S : Type 0} (keeping : Keeping S) (state : S) (s : List ℕ) (c : Command) (name t : List ℕ) → IsNew (keeping.is_stored state) (head_of c name t) → StepIs s (head_of c name t) → Tells keeping state wanted.Item s (read_events (item_of c name t))
 unfolding head_of item_of
 item_of-tells keeping state s command.Comment name t new e = tells-one keeping state wanted.Item s Comment t e refl
 item_of-tells keeping state s command.Preamble name t new e = preamble-tells keeping state s (open_at t) e
 item_of-tells keeping state s command.Definition name t new e = string-tells keeping state s (open_at t) e
 item_of-tells keeping state s command.Entry name t new e = entry-tells keeping state s name (open_at t) new e
 
-named-tells : {S : Type 0} (keeping : Keeping S) (state : S) (s : List ℕ) (r : Read (List ℕ)) → NoneStored keeping state → StepIs s (followed_by r (λ name rest. head_of (command_of name) name rest)) →
+named-tells : {S : Type 0} (keeping : Keeping S) (state : S) (s : List ℕ) (r : Read (List ℕ)) → IsNew (keeping.is_stored state) (followed_by r (λ name rest. head_of (command_of name) name rest)) → StepIs s (followed_by r (λ name rest. head_of (command_of name) name rest)) →
     Tells keeping state wanted.Item s (read_events (followed_by r (λ name rest. item_of (command_of name) name rest)))
 named-tells keeping state s (Err wrong) new e = tells-wrong keeping state wanted.Item s wrong e
 named-tells keeping state s (Ok got) new e = item_of-tells keeping state s (command_of got.0) got.0 got.1 new e
 
-pub item-tells : {S : Type 0} (keeping : Keeping S) (state : S) (s t : List ℕ) → behind_at s ≡ Some t → NoneStored keeping state → Tells keeping state wanted.Item s (read_events (item_at t))
+pub item-tells : {S : Type 0} (keeping : Keeping S) (state : S) (s t : List ℕ) → behind_at s ≡ Some t → IsNew (keeping.is_stored state) (head_at t) → Tells keeping state wanted.Item s (read_events (item_at t))
 unfolding item_at head_at step_of
 item-tells keeping state s t e new = named-tells keeping state s (name_at t) new (rw e refl)

@@ -2,13 +2,13 @@
 use Rattle.std.proofs.Common.{◌≡◌, ℕ, zero, suc, ◌+◌, ◌-◌, ◌<◌, ◌≤◌, Bool, true, false, cond, eqb, ◌&&◌, ◌||◌, List, [], ◌∷◌, length, drop, get_or, refl, sym, ◌∙◌, ap, arith, Option, Some, None}
 use Rattle.std.specs.Prelude.{unwrap_or}
 use Rattle.std.proofs.lemmas.Bool.{false_from_ne_true, true≢false}
-use Rattle.std.proofs.lemmas.List.{drop_all, drop_more}
+use Rattle.std.proofs.lemmas.List.{drop_all}
 use Rattle.memchr.specs.Find.{IsFirstByte}
 use Rattle.btx_text.specs.Elements.{depth_after}
 use Rattle.btx_bib.specs.declared.grammar.byte_sets.Enclosure.{Enclosure}
 use Rattle.btx_bib.specs.declared.grammar.byte_sets.Enclosure.TheVariants.{Group, Quotes}
 use Rattle.btx_bib.specs.Grammar.ByteSets.{ends_enclosed, enclosed_len, is_mark, unmarked_len}
-use Rattle.btx_bib.proofs.GrammarLemmas.RunLemmas.{enclosed_next, enclosed_all}
+use Rattle.btx_bib.proofs.GrammarLemmas.RunLemmas.{enclosed_next}
 
 -- ---- the first mark
 

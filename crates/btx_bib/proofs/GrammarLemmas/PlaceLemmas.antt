@@ -31,11 +31,19 @@ take-take-drop zero k s = let e : 0 + k ≡ k = omega arith in rw e refl
 take-take-drop (suc n) k [] = let e : suc n + k ≡ suc (n + k) = omega arith in rw e (sym (take_all k [] (omega arith)))
 take-take-drop (suc n) k (b ∷ bs) = let e : suc n + k ≡ suc (n + k) = omega arith in rw e (ap (λ t. b ∷ t) (take-take-drop n k bs))
 
+-- the line feeds up to a place, and those of the block from it on
+pub feeds-block : (s : List ℕ) (place : ℕ) → feeds_in (take place s) + feeds_in (take 32 (drop place s)) ≡ feeds_in (take (place + 32) s)
+feeds-block s place = sym (feeds-append (take place s) (take 32 (drop place s))) ∙ ap feeds_in (sym (take-take-drop place 32 s))
+
 -- the line feeds up to a place, and those from it to a later one
 pub feeds-on : (s : List ℕ) (counted place : ℕ) → counted ≤ place → feeds_in (take counted s) + feeds_in (take (place - counted) (drop counted s)) ≡ feeds_in (take place s)
 feeds-on s counted place le =
     let e : counted + (place - counted) ≡ place = omega arith in
     sym (feeds-append (take counted s) (take (place - counted) (drop counted s))) ∙ ap feeds_in (sym (take-take-drop counted (place - counted) s)) ∙ ap (λ n. feeds_in (take n s)) e
+
+-- the line feeds up to a place, and all others
+pub feeds-rest : (s : List ℕ) (place : ℕ) → place ≤ length s → feeds_in (take place s) + feeds_in (take (length s - place) (drop place s)) ≡ feeds_in s
+feeds-rest s place le = feeds-on s place (length s) le ∙ ap feeds_in (take_all (length s) s (omega arith))
 
 pub feeds-fit : (s : List ℕ) (n : ℕ) → feeds_in (take n s) ≤ n
 feeds-fit s n = omega (arith, feeds-le (take n s), length-take n s)

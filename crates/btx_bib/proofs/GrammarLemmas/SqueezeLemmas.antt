@@ -201,6 +201,38 @@ shaped-inner s h =
 
 pub ruleset standing = (shaped-stands, shaped-inner)
 
+-- what is squeezed has no white but single spaces
+squeezed_after-squeezed : (white : Bool) (s : List ℕ) → is_squeezed white (squeezed_after white s) ≡ true
+unfolding is_squeezed
+squeezed_after-squeezed white [] = refl
+squeezed_after-squeezed white (b ∷ bs) = at (is_gap b) white refl (squeezed_after-squeezed true bs) (squeezed_after-squeezed false bs) where
+  at : (g w : Bool) → is_gap b ≡ g → is_squeezed true (squeezed_after true bs) ≡ true → is_squeezed false (squeezed_after false bs) ≡ true →
+      is_squeezed w (cond g (cond w (squeezed_after true bs) (32 ∷ squeezed_after true bs)) (b ∷ squeezed_after false bs)) ≡ true
+  at true true is after_white after_other = after_white
+  at true false is after_white after_other = after_white
+  at false w is after_white after_other = rw is after_other
+
+pub squeezed-squeezed : (s : List ℕ) → is_squeezed false (squeezed s) ≡ true
+squeezed-squeezed s = ap (is_squeezed false) (squeezed-from s) ∙ squeezed_after-squeezed false s
+
+-- of a squeezed text the ends alone tell whether it stands
+squeezed-begins : (s : List ℕ) → is_squeezed false s ≡ true → is_squeezed true s ≡ not (begins is_gap s)
+unfolding is_squeezed
+squeezed-begins [] h = refl
+squeezed-begins (b ∷ bs) h = at (is_gap b) (eqb b 32) h where
+  at : (g t : Bool) → cond g ((t && true) && is_squeezed true bs) (is_squeezed false bs) ≡ true → cond g ((t && false) && is_squeezed true bs) (is_squeezed false bs) ≡ not g
+  at true true e = refl
+  at true false e = refl
+  at false t e = e
+
+pub stands-kept : (s : List ℕ) → is_squeezed false s ≡ true → stands Kept s ≡ true
+stands-kept s h = h
+
+pub stands-trimmed : (s : List ℕ) → is_squeezed false s ≡ true → stands Trimmed s ≡ (not (begins is_gap s) && not (ends_in_gap s))
+stands-trimmed s h = ap (λ (b : Bool). b && not (ends_in_gap s)) (squeezed-begins s h)
+
+pub ruleset standing_squeezed = (stands-kept, stands-trimmed)
+
 -- a value of one part
 pub joined-one : (strings : Strings) (part : Part) → joined_text strings (part ∷ []) ≡ text_of_part strings part
 joined-one strings part = append-nil (text_of_part strings part)

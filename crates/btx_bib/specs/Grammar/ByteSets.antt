@@ -1,5 +1,5 @@
 -- The bytes that the words of a database are made of, and the runs of them.
-use Rattle.std.specs.Prelude.{ℕ, suc, ◌==◌, ◌||◌, ◌&&◌, not, nat_le, Bool, false, List, [], ◌∷◌, take, drop, if◌then◌else◌}
+use Rattle.std.specs.Prelude.{ℕ, suc, ◌==◌, ◌||◌, ◌&&◌, not, Bool, false, List, [], ◌∷◌, take, drop, if◌then◌else◌}
 use Rattle.btx_text.specs.Class.{is_white, is_digit, is_name_byte}
 use Rattle.btx_text.specs.Elements.{depth_after}
 use Rattle.btx_bib.specs.declared.grammar.byte_sets.Delimiter.{Delimiter}

@@ -1,5 +1,5 @@
 -- The events that an item comes to.
-use Rattle.std.specs.Prelude.{◌≡◌, ℕ, List, [], ◌∷◌, ◌++◌, map, fold, Ok, Err}
+use Rattle.std.specs.Prelude.{◌≡◌, ℕ, Bool, false, List, [], ◌∷◌, ◌++◌, map, fold, Ok, Err}
 use Rattle.btx_bib.specs.declared.grammar.commands.Wanted.{Wanted}
 use Rattle.btx_bib.specs.declared.grammar.commands.Wanted.TheVariants as wanted
 use Rattle.btx_bib.specs.Grammar.Tokens.{Read}
@@ -30,3 +30,7 @@ Tells keeping state next text (Ok got) =
 Tells keeping state next text (Err wrong) = (begun : List Event) ×
     (told (events_from keeping state next text) ≡
     begun ++ Wrong wrong.0 ∷ told (events_from keeping (fold keeping.after state (begun ++ Wrong wrong.0 ∷ [])) wanted.Item wrong.1))
+
+-- an entry that is read has none of these keys
+abbrev pub IsNew : (List ℕ → Bool) → Read (Event × Wanted) → Type 0
+IsNew is_stored read = (kind key rest : List ℕ) (next : Wanted) → read ≡ Ok ((Entry kind key, next), rest) → is_stored key ≡ false

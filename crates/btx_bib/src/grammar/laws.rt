@@ -3,8 +3,8 @@ ghost use Rattle.std.specs.Prelude.{◌≡◌, ◌++◌, ℕ, [], Bool, false, L
 ghost use Rattle.btx_bib.specs.declared.grammar.slip.Slip.{Slip};
 ghost use Rattle.btx_bib.specs.Grammar.Fields.{Field, field_at};
 ghost use Rattle.btx_bib.specs.Grammar.Spelling.{FieldSpelling, Splits, Value, read_as};
-ghost use Rattle.btx_bib.specs.Grammar.ItemEvents.{Tells, read_events};
-ghost use Rattle.btx_bib.specs.Grammar.Items.{Event, Placed, behind_at, by_history, events_from};
+ghost use Rattle.btx_bib.specs.Grammar.ItemEvents.{IsNew, Tells, read_events};
+ghost use Rattle.btx_bib.specs.Grammar.Items.{Event, Placed, behind_at, by_history, events_from, head_at};
 ghost use Rattle.btx_bib.specs.Grammar.Reading.{IsReading};
 ghost use Rattle.btx_bib.specs.declared.grammar.commands.Wanted.TheVariants as wanted;
 ghost use Rattle.btx_bib.specs.Grammar.Values.{Part, value_at};
@@ -44,6 +44,6 @@ pub fn one_reading()
 /// that item, the fault, and those from its place on. (An entry whose key is stored is a fault by itself.)
 pub fn items_are_told()
     ensures { (is_stored : List Event → List ℕ → Bool) (before : List Event) (text behind : List ℕ) →
-        behind_at text ≡ Some behind → ((key : List ℕ) → is_stored before key ≡ false) →
+        behind_at text ≡ Some behind → IsNew (is_stored before) (head_at behind) →
         Tells (by_history is_stored) before wanted.Item text (read_events (item_at behind)) }
 {}

@@ -1,8 +1,12 @@
 //! The lines of places.
-ghost use Rattle.std.specs.Prelude.{◌≡◌, ◌≤◌, length, take};
+ghost use Rattle.std.specs.Prelude.{◌≡◌, ◌≤◌, ◌+◌, drop, length, take};
 ghost use Rattle.btx_bib.specs.Grammar.PlaceLines as spec;
 
 use std::marker::Model;
+use std::simd::prelude::*;
+
+// Line feeds are counted in so many bytes at once.
+const BLOCK: usize = 32;
 
 /// A text and how far its lines have been counted: each byte is passed once where the places that are asked for ascend.
 #[derive(Drop)]
@@ -23,13 +27,37 @@ impl<'a> Model for LineCounter<'a> {
     ghost invariant = { λ counter. (counter.counted ≤ length counter.text.now) × (counter.feeds ≡ feeds_in (take counter.counted counter.text.now)) };
 }
 
-// How many line feeds a text has.
+// How many line feeds the block has that begins at a place.
+#[inline(always)]
+fn feeds_in_block(text: &[u8], place: usize) -> usize
+    requires within { place + 32 ≤ length text.now }
+    ensures { result ≡ spec.feeds_in (take 32 (drop place text.now)) }
+{
+    let block = u8x32::from_slice(&text[place..]);
+    block.simd_eq(u8x32::splat(b'\n')).to_bitmask().count_ones() as usize
+}
+
+// How many line feeds a short text has.
 #[tactic(auto, using(crate::proofs::GrammarLemmas::PlaceLemmas::feed_counts))]
-fn feeds_in(text: &[u8]) -> usize
+fn feeds_one_by_one(text: &[u8]) -> usize
     ensures value { result ≡ spec.feeds_in text.now }
     ensures bound { result ≤ length text.now }
 {
     text.iter().filter(|byte| **byte == b'\n').count()
+}
+
+// How many line feeds a text has: block by block, and then what is left.
+fn feeds_in(text: &[u8]) -> usize
+    ensures value { result ≡ spec.feeds_in text.now }
+    ensures bound { result ≤ length text.now }
+{
+    let mut feeds = 0;
+    let mut place = 0;
+    while text.len() - place >= BLOCK {
+        feeds += feeds_in_block(text, place);
+        place += BLOCK;
+    }
+    feeds + feeds_one_by_one(&text[place..])
 }
 
 // How many line feeds a text has before a place, where so many stand before another one.

@@ -1,8 +1,8 @@
 //! The text that a value stands for.
-ghost use Rattle.std.specs.Prelude.{◌≡◌, ◌<◌, ◌≤◌, ◌∷◌, ◌++◌, [], length, IfOk, IfSome, OnOk};
+ghost use Rattle.std.specs.Prelude.{◌≡◌, ◌<◌, ◌≤◌, ◌∷◌, ◌++◌, [], true, false, length, IfOk, IfSome, OnOk};
 ghost use Rattle.std.specs.Option.{option_map};
 ghost use Rattle.btx_text.specs.Limits.{greatest_string};
-ghost use Rattle.btx_bib.specs.Grammar.ByteSets.{is_gap};
+ghost use Rattle.btx_bib.specs.Grammar.ByteSets.{begins, is_gap};
 ghost use Rattle.btx_bib.specs.Grammar.PartViews.{part_view};
 ghost use Rattle.btx_bib.specs.Grammar.Squeezing as squeezing;
 ghost use Rattle.btx_bib.specs.Grammar.ValueTexts as spec;
@@ -21,9 +21,10 @@ pub trait Strings<'a> {
 
     ghost values: { Self → List ℕ → Option (List ℕ) };
 
-    /// The value of a name, if it has one.
+    /// The value of a name, if it has one. It is squeezed.
     fn value_of(&self, alloc: Global, name: &[u8]) -> Result<Option<&Text<'a>>, AllocError>
-        ensures { IfOk result (λ found. option_map (λ text. text.now) found ≡ values self.now name.now) };
+        ensures value { IfOk result (λ found. option_map (λ text. text.now) found ≡ values self.now name.now) }
+        ensures squeezed { IfOk result (λ found. IfSome found (λ text. squeezing.is_squeezed false text.now ≡ true)) };
 }
 
 // Whether a text has no white but single spaces, none of them behind white.
@@ -61,6 +62,28 @@ fn stands(ends: Ends, text: &[u8]) -> bool
     match ends {
         Ends::Kept => is_squeezed(false, text),
         Ends::Trimmed => is_squeezed(true, text) && !ends_in_gap(text),
+    }
+}
+
+// Whether a text begins with white.
+fn begins_with_gap(text: &[u8]) -> bool
+    ensures { result ≡ begins is_gap text.now }
+{
+    match text.first() {
+        Some(&first) => is_gap(first),
+        None => false,
+    }
+}
+
+// Whether a squeezed text is the value that it gives: only its ends are looked at.
+#[tactic(auto, using(crate::proofs::GrammarLemmas::SqueezeLemmas::standing_squeezed))]
+fn stands_squeezed(ends: Ends, text: &[u8]) -> bool
+    requires { squeezing.is_squeezed false text.now ≡ true }
+    ensures { result ≡ squeezing.stands ends text.now }
+{
+    match ends {
+        Ends::Kept => true,
+        Ends::Trimmed => !begins_with_gap(text) && !ends_in_gap(text),
     }
 }
 
@@ -104,7 +127,7 @@ fn lone_string<'a, S: Strings<'a>>(
 {
     match strings.value_of(alloc, name)? {
         None => Ok(Some(Text::empty())),
-        Some(text) if stands(ends, text.as_bytes()) => Ok(Some(text.copy(alloc)?)),
+        Some(text) if stands_squeezed(ends, text.as_bytes()) => Ok(Some(text.copy(alloc)?)),
         Some(_) => Ok(None),
     }
 }

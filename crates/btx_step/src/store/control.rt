@@ -1,7 +1,9 @@
 //! Choices and loops.
 ghost use Rattle.std.specs.Prelude.{◌≡◌, IfOk};
+ghost use Rattle.btx_bst.specs.declared.built_in.BuiltIn.TheVariants as built_in;
 ghost use Rattle.btx_step.specs.Answers.{answer, silence};
 ghost use Rattle.btx_step.specs.Control as spec;
+ghost use Rattle.btx_step.specs.Table.{runs};
 
 use super::Store;
 use crate::literal::{Literal, Wanted};
@@ -14,7 +16,7 @@ impl<'a> Store<'a> {
     // `if$`
     pub(super) fn choose(&mut self, said: &mut Said<'a>) -> Result<Next, AllocError>
         requires { said.old ≡ silence }
-        ensures { IfOk result (λ next. answer next said.new self.new ≡ spec.chooses self.old.literals self.old) }
+        ensures { IfOk result (λ next. answer next said.new self.new ≡ runs built_in.If spec.chooses self.old) }
     {
         let otherwise = self.literals.pop();
         let then = self.literals.pop();
@@ -44,7 +46,7 @@ impl<'a> Store<'a> {
     // `while$`
     pub(super) fn start_loop(&mut self, said: &mut Said<'a>) -> Result<Next, AllocError>
         requires { said.old ≡ silence }
-        ensures { IfOk result (λ next. answer next said.new self.new ≡ spec.loops self.old.literals self.old) }
+        ensures { IfOk result (λ next. answer next said.new self.new ≡ runs built_in.While spec.loops self.old) }
     {
         match (self.literals.pop(), self.literals.pop()) {
             (Some(Literal::Function(body)), Some(Literal::Function(test))) => Ok(Next::Loop(

@@ -1,7 +1,9 @@
 //! The current entry.
 ghost use Rattle.std.specs.Prelude.{◌≡◌, IfOk};
+ghost use Rattle.btx_bst.specs.declared.built_in.BuiltIn.TheVariants as built_in;
 ghost use Rattle.btx_step.specs.Answers.{answer, quiet, silence};
 ghost use Rattle.btx_step.specs.Entries as spec;
+ghost use Rattle.btx_step.specs.Table.{runs, runs_missing, misses_entry};
 
 use super::Store;
 use crate::job::Job;
@@ -80,7 +82,7 @@ impl<'a> Store<'a> {
     // `missing$`
     pub(super) fn find_missing(&mut self, said: &mut Said<'a>) -> Result<Next, AllocError>
         requires { said.old ≡ silence }
-        ensures { IfOk result (λ next. answer next said.new self.new ≡ spec.finds_missing self.old.current self.old.literals self.old) }
+        ensures { IfOk result (λ next. answer next said.new self.new ≡ runs_missing self.old.current self.old) }
     {
         match self.current {
             Some(_) => self.find_missing_inside(said),
@@ -90,7 +92,7 @@ impl<'a> Store<'a> {
 
     fn find_missing_inside(&mut self, said: &mut Said<'a>) -> Result<Next, AllocError>
         requires { said.old ≡ silence }
-        ensures { IfOk result (λ next. answer next said.new self.new ≡ spec.finds_missing_inside self.old.literals self.old) }
+        ensures { IfOk result (λ next. answer next said.new self.new ≡ runs built_in.Missing spec.finds_missing self.old) }
     {
         match self.literals.pop() {
             Some(Literal::Missing) => Ok(self.push_truth(true)),
@@ -102,7 +104,7 @@ impl<'a> Store<'a> {
 
     fn find_missing_outside(&mut self, said: &mut Said<'a>) -> Result<Next, AllocError>
         requires { said.old ≡ silence }
-        ensures { IfOk result (λ next. answer next said.new self.new ≡ spec.finds_missing_outside self.old.literals self.old) }
+        ensures { IfOk result (λ next. answer next said.new self.new ≡ misses_entry self.old.literals self.old) }
     {
         match self.literals.pop() {
             Some(_) => self.miss_entry(said),

@@ -1,7 +1,9 @@
 //! Names.
 ghost use Rattle.std.specs.Prelude.{◌≡◌, ◌++◌, IfOk, OnOk};
+ghost use Rattle.btx_bst.specs.declared.built_in.BuiltIn.TheVariants as built_in;
 ghost use Rattle.btx_step.specs.Answers.{answer, silence};
 ghost use Rattle.btx_step.specs.Names as spec;
+ghost use Rattle.btx_step.specs.Table.{runs};
 
 use super::Store;
 use crate::job::Job;
@@ -17,7 +19,7 @@ impl<'a> Store<'a> {
     // `num.names$`
     pub(super) fn count_names(&mut self, said: &mut Said<'a>) -> Result<Next, AllocError>
         requires { said.old ≡ silence }
-        ensures { IfOk result (λ next. answer next said.new self.new ≡ spec.counts_names self.old.literals self.old) }
+        ensures { IfOk result (λ next. answer next said.new self.new ≡ runs built_in.NumNames spec.counts_names self.old) }
     {
         match self.literals.pop() {
             Some(Literal::Text(names)) => {
@@ -36,7 +38,7 @@ impl<'a> Store<'a> {
         said: &mut Said<'a>,
     ) -> Result<Next, AllocError>
         requires { said.old ≡ silence }
-        ensures { IfOk result (λ next. answer next said.new self.new ≡ spec.formats_name job.now self.old.literals self.old) }
+        ensures { IfOk result (λ next. answer next said.new self.new ≡ runs built_in.FormatName (spec.formats_name job.now) self.old) }
     {
         let format = self.literals.pop();
         let number = self.literals.pop();
@@ -75,7 +77,7 @@ impl<'a> Store<'a> {
         said: &mut Said<'a>,
     ) -> Result<Next, AllocError>
         requires { said.old ≡ silence }
-        ensures { IfOk result (λ next. answer next said.new self.new ≡ spec.name_formatted job.now names.entry number format.entry self.old) }
+        ensures { IfOk result (λ next. answer next said.new self.new ≡ spec.formats_name job.now format.entry number names.entry self.old) }
     {
         match btx_names::format_name(
             self.alloc,

@@ -1,8 +1,10 @@
 //! The stack itself, and what is written and shown.
 ghost use Rattle.std.specs.Prelude.{◌≡◌, [], map, IfOk, OnOk};
+ghost use Rattle.btx_bst.specs.declared.built_in.BuiltIn.TheVariants as built_in;
 ghost use Rattle.btx_step.specs.declared.said.Note.TheVariants as note;
-ghost use Rattle.btx_step.specs.Answers.{answer, silence};
+ghost use Rattle.btx_step.specs.Answers.{answer, done, silence};
 ghost use Rattle.btx_step.specs.Stacks as spec;
+ghost use Rattle.btx_step.specs.Table.{runs};
 
 use super::Store;
 use crate::literal::{Literal, Wanted};
@@ -16,7 +18,7 @@ impl<'a> Store<'a> {
     // `duplicate$`
     pub(super) fn duplicate(&mut self, said: &mut Said<'a>) -> Result<Next, AllocError>
         requires { said.old ≡ silence }
-        ensures { IfOk result (λ next. answer next said.new self.new ≡ spec.duplicates self.old.literals self.old) }
+        ensures { IfOk result (λ next. answer next said.new self.new ≡ runs built_in.Duplicate spec.duplicates self.old) }
     {
         match self.literals.pop() {
             Some(value) => {
@@ -32,7 +34,7 @@ impl<'a> Store<'a> {
     // `swap$`
     pub(super) fn swap(&mut self, said: &mut Said<'a>) -> Result<Next, AllocError>
         requires { said.old ≡ silence }
-        ensures { IfOk result (λ next. answer next said.new self.new ≡ spec.swaps self.old.literals self.old) }
+        ensures { IfOk result (λ next. answer next said.new self.new ≡ runs built_in.Swap spec.swaps self.old) }
     {
         match (self.literals.pop(), self.literals.pop()) {
             (Some(top), Some(below)) => {
@@ -51,7 +53,7 @@ impl<'a> Store<'a> {
     // `pop$`
     pub(super) fn drop_top(&mut self, said: &mut Said<'a>) -> Result<Next, AllocError>
         requires { said.old ≡ silence }
-        ensures { IfOk result (λ next. answer next said.new self.new ≡ spec.pops self.old.literals self.old) }
+        ensures { IfOk result (λ next. answer next said.new self.new ≡ runs built_in.Pop (λ value. done) self.old) }
     {
         match self.literals.pop() {
             Some(_) => Ok(Next::Nothing),
@@ -63,7 +65,7 @@ impl<'a> Store<'a> {
     #[inline(always)]
     pub(super) fn show_top(&mut self, said: &mut Said<'a>) -> Result<Next, AllocError>
         requires { said.old ≡ silence }
-        ensures { IfOk result (λ next. answer next said.new self.new ≡ spec.shows_top self.old.literals self.old) }
+        ensures { IfOk result (λ next. answer next said.new self.new ≡ runs built_in.Top spec.shows_top self.old) }
     {
         match self.literals.pop() {
             Some(value) => self.complain(Note::Shown(value), StandIn::Nothing, said),
@@ -74,7 +76,7 @@ impl<'a> Store<'a> {
     // `stack$`
     pub(super) fn show_stack(&mut self, said: &mut Said<'a>) -> Result<Next, AllocError>
         requires { said.old ≡ silence }
-        ensures { IfOk result (λ next. answer next said.new self.new ≡ spec.shows_stack self.old.literals self.old) }
+        ensures { IfOk result (λ next. answer next said.new self.new ≡ spec.shows_stack self.old) }
     {
         *said = Said::Noted(take_shown(self.alloc, &mut self.literals)?);
         Ok(Next::Nothing)
@@ -84,7 +86,7 @@ impl<'a> Store<'a> {
     #[inline(always)]
     pub(super) fn warn(&mut self, said: &mut Said<'a>) -> Result<Next, AllocError>
         requires { said.old ≡ silence }
-        ensures { IfOk result (λ next. answer next said.new self.new ≡ spec.warns self.old.literals self.old) }
+        ensures { IfOk result (λ next. answer next said.new self.new ≡ runs built_in.Warning spec.warns self.old) }
     {
         match self.literals.pop() {
             Some(Literal::Text(text)) => self.complain(Note::Warning(text), StandIn::Nothing, said),
@@ -96,7 +98,7 @@ impl<'a> Store<'a> {
     // `write$`
     pub(super) fn write(&mut self, said: &mut Said<'a>) -> Result<Next, AllocError>
         requires { said.old ≡ silence }
-        ensures { IfOk result (λ next. answer next said.new self.new ≡ spec.writes self.old.literals self.old) }
+        ensures { IfOk result (λ next. answer next said.new self.new ≡ runs built_in.Write spec.writes self.old) }
     {
         match self.literals.pop() {
             Some(Literal::Text(text)) => {

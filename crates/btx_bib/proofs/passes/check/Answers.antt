@@ -1,4 +1,4 @@
-use Rattle.std.proofs.Common.{rules, arith, ◌≡◌, ◌∙◌, ◌<◌, ◌++◌, ap, sym, length, List, ℕ}
+use Rattle.std.proofs.Common.{rules, ◌∙◌, ◌<◌, ◌++◌, ap, sym, length, List}
 use Rattle.std.specs.Prelude.{slice_get}
 use Rattle.btx_bib.specs.declared.message.Message.{Message}
 use Rattle.btx_bib.specs.declared.slots.Slot.{Slot}

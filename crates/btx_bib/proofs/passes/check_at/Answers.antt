@@ -1,11 +1,11 @@
-use Rattle.std.proofs.Common.{rules, ◌≡◌, ◌∙◌, ap, sym, Option, Some, None, ℕ, List, true, false, Bool, if◌then◌else◌, ◌++◌, append-nil, option_copied}
+use Rattle.std.proofs.Common.{rules, ◌≡◌, ◌∙◌, ap, sym, Option, Some, None, List, true, false, Bool, if◌then◌else◌, ◌++◌, append-nil, option_copied}
 use Rattle.std.specs.Prelude.{slice_get}
 use Rattle.std.specs.Str.{bytes_eq}
 use Rattle.btx_text.specs.Keys.{folded}
 use Rattle.btx_bib.specs.declared.message.Message.{Message}
 use Rattle.btx_bib.specs.declared.slots.Slot.{Slot}
-use Rattle.btx_bib.specs.Finding.{place_of, changed_at}
-use Rattle.btx_bib.specs.Passes.{checked, check_told, cut, is_parent, parent_at, parent_told, slot_at}
+use Rattle.btx_bib.specs.Finding.{place_of}
+use Rattle.btx_bib.specs.Passes.{checked, cut, is_parent, parent_at}
 use Rattle.btx_bib.specs.Steps.{slot_by, told_by}
 use Rattle.btx_bib.proofs.PassLemmas.{changed_at-agree, changed_at-keep, changed_at-none, slot_at-by, checked-alone, checked-is, told-alone, told-is}
 use Rattle.btx_bib.proofs.passes.check_at.Goals as goal

@@ -1,4 +1,4 @@
-use Rattle.std.proofs.Common.{rules, arith, ◌≡◌, ◌∙◌, ◌<◌, ap, sym, length, List, ℕ}
+use Rattle.std.proofs.Common.{rules, ◌∙◌, ◌<◌, ap, sym, length, List}
 use Rattle.btx_bib.specs.declared.slots.Slot.{Slot}
 use Rattle.btx_bib.specs.Passes.{inherited}
 use Rattle.btx_bib.specs.Steps.{names_of}

@@ -1,11 +1,11 @@
-use Rattle.std.proofs.Common.{rules, arith, ◌≡◌, ◌≤◌, length, ◌∙◌, ap, sym, Option, Some, None, ℕ, List}
+use Rattle.std.proofs.Common.{rules, arith, ◌≡◌, length, ◌∙◌, ap, sym, Option, Some, None, ℕ, List}
 use Rattle.std.specs.Prelude.{slice_get}
 use Rattle.std.specs.Str.{bytes_eq}
 use Rattle.std.proofs.lemmas.Result.{IfOk-weaker}
 use Rattle.btx_text.specs.Keys.{folded}
 use Rattle.btx_bib.specs.declared.slots.Slot.{Slot}
-use Rattle.btx_bib.specs.Finding.{place_of, changed_at}
-use Rattle.btx_bib.specs.Passes.{inherited, inherited_from, parent_at, slot_at, with_body, with_values}
+use Rattle.btx_bib.specs.Finding.{place_of}
+use Rattle.btx_bib.specs.Passes.{inherited, parent_at, with_body, with_values}
 use Rattle.btx_bib.specs.Steps.{slot_by}
 use Rattle.btx_bib.proofs.PassLemmas.{parent-length, changed_at-agree, changed_at-keep, changed_at-none, slot_at-by, inherited-alone, inherited-by}
 use Rattle.btx_bib.proofs.passes.inherit_at.Goals as goal

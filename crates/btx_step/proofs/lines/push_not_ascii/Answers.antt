@@ -1,4 +1,4 @@
-use Rattle.std.proofs.Common.{◌≡◌, ◌++◌, OnOk, ℤ, List, ℕ, codes, subst, w32}
+use Rattle.std.proofs.Common.{◌≡◌, ◌++◌, OnOk, ℤ, codes, subst, w32}
 use Rattle.std.proofs.lemmas.Int.{to_z-of_z}
 use Rattle.std.specs.Fmt.{signed_decimal}
 use Rattle.btx_step.specs.Notes.{not_ascii_text}

@@ -1,4 +1,4 @@
-use Rattle.std.proofs.Common.{rules, arith, ◌≡◌, ◌∙◌, ◌<◌, ◌≤◌, ap, sym, length, drop, get_or, [], ◌∷◌, List, ℕ}
+use Rattle.std.proofs.Common.{◌≡◌, ◌∙◌, ap, sym, drop, get_or, [], List, ℕ}
 use Rattle.std.proofs.lemmas.List.{drop_all}
 use Rattle.btx_aux.specs.Entries.{Bytes, texts_of}
 use Rattle.btx_bib.specs.Drafts.{cited_all, cited_at, place_in}

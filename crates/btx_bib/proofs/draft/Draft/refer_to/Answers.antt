@@ -1,6 +1,5 @@
-use Rattle.std.proofs.Common.{rules, ◌≡◌, ◌∙◌, ap, sym, false, None, List, ℕ}
+use Rattle.std.proofs.Common.{rules, ◌≡◌, None}
 use Rattle.std.specs.Str.{bytes_eq}
-use Rattle.std.specs.List.{list_any}
 use Rattle.btx_bib.specs.Finding.{place_of}
 use Rattle.btx_bib.proofs.PlaceLemmas.{place_of-none}
 use Rattle.btx_bib.proofs.draft.Draft.refer_to.Goals as goal

@@ -1,6 +1,5 @@
-use Rattle.std.proofs.Common.{◌≡◌, ◌∙◌, ◌+◌, ap, sym, add-one, drop, Some, None}
+use Rattle.std.proofs.Common.{◌∙◌, ◌+◌, ap, sym, add-one, drop}
 use Rattle.std.specs.Option.{option_map}
-use Rattle.std.specs.Prelude.{slice_get}
 use Rattle.btx_bst.specs.NameTables.{macro_pair}
 use Rattle.btx_bib.specs.declared.gathering.Gathering.{Gathering}
 use Rattle.btx_bib.specs.Readings.{kept_macros}

@@ -1,8 +1,7 @@
-use Rattle.std.proofs.Common.{rules, ◌≡◌, ◌∙◌, ◌++◌, ap, sym, length, drop, get_or, [], ◌∷◌, List, append-nil}
+use Rattle.std.proofs.Common.{◌≡◌, ◌∙◌, ◌++◌, ap, sym, drop, [], List, append-nil}
 use Rattle.std.proofs.lemmas.List.{drop_all}
 use Rattle.btx_bib.specs.declared.databases.Source.{Source}
-use Rattle.btx_bib.specs.declared.message.Message.{Message}
-use Rattle.btx_bib.specs.Readings.{database_of, databases_of, kept_by_all, kept_one, told_by_all, told_by_one}
+use Rattle.btx_bib.specs.Readings.{databases_of, kept_by_all, told_by_all}
 use Rattle.btx_bib.specs.Requests.{wanted}
 use Rattle.btx_bib.proofs.AlongLemmas.{all-next, all-told-next}
 use Rattle.btx_bib.proofs.gathering.Gathering.read_all.Goals as goal

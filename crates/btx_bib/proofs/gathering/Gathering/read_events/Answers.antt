@@ -1,10 +1,10 @@
-use Rattle.std.proofs.Common.{rules, ◌≡◌, ◌∙◌, ◌++◌, [], List, ℕ, ap, sym, true, false, append-nil, None}
+use Rattle.std.proofs.Common.{◌∙◌, ◌++◌, List, ℕ, ap, sym, append-nil}
 use Rattle.btx_bib.specs.declared.grammar.commands.Wanted.{Wanted as Next}
 use Rattle.btx_bib.specs.declared.message.Message.{Message}
 use Rattle.btx_bib.specs.declared.site.Site.{Site}
 use Rattle.btx_bib.specs.Gatherings.{events_with, is_kept, kept_along, kept_told, told_of}
 use Rattle.btx_bib.specs.Grammar.EventViews.{event_view}
-use Rattle.btx_bib.specs.Grammar.Items.{Step, next_step}
+use Rattle.btx_bib.specs.Grammar.Items.{Step}
 use Rattle.btx_bib.specs.Known.{goes_on}
 use Rattle.btx_bib.specs.Requests.{wanted}
 use Rattle.btx_bib.specs.Sites.{database}

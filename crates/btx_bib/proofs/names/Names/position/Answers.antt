@@ -1,4 +1,4 @@
-use Rattle.std.proofs.Common.{◌≡◌, ◌∙◌, ap, ℕ, List}
+use Rattle.std.proofs.Common.{◌∙◌, ap, ℕ, List}
 use Rattle.std.specs.Str.{bytes_eq}
 use Rattle.btx_aux.specs.Entries.{Bytes}
 use Rattle.btx_bib.specs.Finding.{place_of}

@@ -1,4 +1,4 @@
-use Rattle.std.proofs.Common.{◌≡◌, ◌∙◌, sym, ap, List, ℕ, Some}
+use Rattle.std.proofs.Common.{◌∙◌, sym, ap, List, ℕ, Some}
 use Rattle.std.specs.Prelude.{slice_get, option_copied}
 use Rattle.std.specs.Option.{option_and_then}
 use Rattle.btx_aux.proofs.KeyLemmas.{listed_at}

@@ -1,5 +1,4 @@
-use Rattle.std.proofs.Common.{rules, arith, ◌≡◌, ◌∙◌, ◌<◌, ap, length, List}
-use Rattle.btx_bib.specs.declared.slots.Slot.{Slot}
+use Rattle.std.proofs.Common.{rules, ◌∙◌, ◌<◌, ap, length}
 use Rattle.btx_bib.specs.Finding.{changed_at}
 use Rattle.btx_bib.specs.Drafts.{with_entry}
 use Rattle.btx_bib.proofs.FillingLemmas.{changed_at-past}

@@ -1,4 +1,4 @@
-use Rattle.std.proofs.Common.{rules, arith, ◌≡◌, ◌∙◌, ◌<◌, ap, length}
+use Rattle.std.proofs.Common.{rules, ◌∙◌, ◌<◌, ap, length}
 use Rattle.btx_bib.specs.declared.slots.Slot.{Slot}
 use Rattle.btx_bib.specs.Finding.{changed_at}
 use Rattle.btx_bib.specs.Passes.{with_body, with_values}

@@ -1,4 +1,4 @@
-use Rattle.std.proofs.Common.{rules, arith, ◌≡◌, ◌∙◌, ◌<◌}
+use Rattle.std.proofs.Common.{arith, ◌∙◌, ◌<◌}
 use Rattle.std.proofs.lemmas.Result.{IfOk-weaker}
 use Rattle.btx_bib.proofs.ValueLemmas.{value_at-later}
 use Rattle.btx_bib.proofs.values.Values.inherited_at.Goals as goal

@@ -1,0 +1,7 @@
+use Rattle.std.proofs.Common.{◌∙◌, ap, false}
+use Rattle.btx_bib.specs.Grammar.Squeezing.{is_squeezed}
+use Rattle.btx_bib.proofs.GrammarLemmas.SqueezeLemmas.{squeezed-squeezed}
+use Rattle.btx_bib.proofs.gathering.Gathering.define.Goals as goal
+
+pub define-requires : goal.define-requires
+define-requires c = ap (is_squeezed false) (c.in_ok-text-in-Ok.ensures ∙ c.in-Ok.ensures.0) ∙ squeezed-squeezed _

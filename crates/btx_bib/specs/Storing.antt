@@ -1,0 +1,66 @@
+-- What databases define and store, in the words of their subject.
+use Rattle.std.specs.Prelude.{◌≡◌, ℕ, ◌||◌, ◌&&◌, not, Bool, true, false, List, [], ◌∷◌, ◌++◌, Some, is_some, if◌then◌else◌}
+use Rattle.std.specs.List.{list_any}
+use Rattle.btx_aux.specs.Names.{is_same_key}
+use Rattle.btx_bib.specs.declared.grammar.commands.Wanted.{Wanted as Next}
+use Rattle.btx_bib.specs.declared.grammar.value_ends.Ends.TheVariants.{Kept}
+use Rattle.btx_bib.specs.Grammar.Items.{Event, Definition, Entry, Placed, as_known}
+use Rattle.btx_bib.specs.Grammar.Values.{Part}
+use Rattle.btx_bib.specs.Grammar.ValueTexts.{squeezed, value_text}
+use Rattle.btx_bib.specs.Wanted.{Wanted}
+use Rattle.btx_bib.specs.Strings.{string_value, other_value}
+use Rattle.btx_bib.specs.Entries.{Given}
+use Rattle.btx_bib.specs.Stored.{is_any_key, keys_in, parents_in}
+use Rattle.btx_bib.specs.Known.{Known, goes_on, stored_in, after, after_all, keeping}
+use Rattle.btx_bib.specs.Databases.{with_macros}
+
+-- ---- strings
+
+-- a `@string` gives this name a value; the case of names is ignored
+abbrev pub defines : List ℕ → Event → Bool
+defines name (Definition other value) = is_same_key name other
+defines name _ = false
+
+abbrev pub is_defined_in : List ℕ → List Placed → Bool
+is_defined_in name events = list_any (λ (placed : Placed). defines name placed.event) events
+
+-- a name that is defined has the value of its last definition, in which the strings have the values that they had before it, and the name
+-- itself has none
+abbrev pub LastDefinitionCounts : Type 0
+LastDefinitionCounts = (wanted : Wanted) (known : Known) (before behind : List Placed) (name own rest : List ℕ) (value : List Part)
+    → is_same_key name own ≡ true → is_defined_in name behind ≡ false
+    → (let ended = after_all wanted known (before ++ record { event = Definition own value; rest = rest } ∷ behind) in goes_on ended.ending ≡ true
+    → string_value ended.strings name ≡ Some (value_text Kept (other_value (after_all wanted known before).strings own) value))
+
+-- a name that isn't defined keeps the value that it had, or that it had none
+abbrev pub OthersKeepTheirs : Type 0
+OthersKeepTheirs = (wanted : Wanted) (known : Known) (events : List Placed) (name : List ℕ)
+    → is_defined_in name events ≡ false → string_value (after_all wanted known events).strings name ≡ string_value known.strings name
+
+-- the same of the style's macros, before the first database: the last one of a name is its value, with its white squeezed
+abbrev pub is_macro_in : List ℕ → List (List ℕ × List ℕ) → Bool
+is_macro_in name macros = list_any (λ (macro : List ℕ × List ℕ). is_same_key name macro.0) macros
+
+abbrev pub LastMacroCounts : Type 0
+LastMacroCounts = (before behind : List (List ℕ × List ℕ)) (name own text : List ℕ) → is_same_key name own ≡ true → is_macro_in name behind ≡ false
+    → (let known = with_macros (before ++ (own, text) ∷ behind) in goes_on known.ending ≡ true → string_value known.strings name ≡ Some (squeezed text))
+
+-- ---- entries
+
+-- an entry of this key is wanted: all entries are, or it was cited, or an entry that is stored refers to it
+abbrev pub is_asked_for : Wanted → List Given → List ℕ → Bool
+is_asked_for wanted stored key = is_some wanted.all || (is_any_key wanted.cited key || is_any_key (parents_in wanted stored) key)
+
+-- an entry that is read is stored, behind the others and without a field yet, exactly if it is wanted and no stored one has its key
+abbrev pub WantedNewAreStored : Type 0
+WantedNewAreStored = (wanted : Wanted) (known : Known) (kind key : List ℕ) (next : Next) → goes_on known.ending ≡ true
+    → (let stored = stored_in known in let read = as_known ((keeping wanted).is_stored known) (Entry kind key, next) in
+    stored_in (after wanted known read.0) ≡ (if is_asked_for wanted stored key && not (is_any_key (keys_in stored) key) then stored ++ record { kind = kind; key = key; fields = [] } ∷ [] else stored))
+
+-- what else is read changes no stored entry's key, and stores none
+abbrev pub is_entry : Event → Bool
+is_entry (Entry kind key) = true
+is_entry _ = false
+
+abbrev pub OthersStoreNone : Type 0
+OthersStoreNone = (wanted : Wanted) (known : Known) (event : Event) → is_entry event ≡ false → keys_in (stored_in (after wanted known event)) ≡ keys_in (stored_in known)

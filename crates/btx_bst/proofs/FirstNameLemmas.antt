@@ -1,0 +1,95 @@
+-- The names before a style keep their numbers.
+use Rattle.std.proofs.Common.{◌≡◌, ℕ, zero, suc, List, [], ◌∷◌, ◌++◌, Option, None, Some}
+use Rattle.std.specs.Prelude.{slice_get, codes}
+use Rattle.btx_text.specs.Keys.{folded}
+use Rattle.btx_bst.specs.declared.callee.Callee.{Callee}
+use Rattle.btx_bst.specs.declared.callee.Kind.{Kind}
+use Rattle.btx_bst.specs.declared.callee.Kind.TheVariants as kind
+use Rattle.btx_bst.specs.Places.{Place, size}
+use Rattle.btx_bst.specs.Reads.{Read, Took, Slip}
+use Rattle.btx_bst.specs.Names.{Names, named, with_name}
+use Rattle.btx_bst.specs.Style.{Style}
+use Rattle.btx_bst.specs.Turns.{Turn}
+use Rattle.btx_bst.specs.Lists.{opening, closing, name_at, Listing, listing, Listed, with_new, name_turn, list_turn_in, list_turn, list_end, list_read, unlisted}
+use Rattle.btx_bst.specs.BodyText.{End, Whole, Broken, body_end}
+use Rattle.btx_bst.specs.Commands.{function_ended, inside_at}
+use Rattle.btx_bst.specs.Predefined.{predefined}
+use Rattle.btx_bst.specs.StyleText.{style_of}
+use Rattle.btx_bst.specs.FirstNames.{FirstNamesLaw}
+use Rattle.btx_bst.proofs.TurnLemmas.{OnTurn, turns-keep}
+use Rattle.btx_bst.proofs.KeepLemmas.{Keeps, kept-style}
+use Rattle.btx_bst.proofs.MeaningLemmas.{clear-style}
+
+-- these names stand first in their lists
+pub record StandFirst (a : Names) : Type 0 where
+  pub parent : slice_get a.fields 0 ≡ Some (codes "crossref")
+  pub sort_key : slice_get a.entry_strings 0 ≡ Some (codes "sort.key$")
+  pub entry_limit : slice_get a.global_integers 0 ≡ Some (codes "entry.max$")
+  pub global_limit : slice_get a.global_integers 1 ≡ Some (codes "global.max$")
+
+pushed : (xs ys : List (List ℕ)) (k : ℕ) (x : List ℕ) → slice_get xs k ≡ Some x → slice_get (xs ++ ys) k ≡ Some x
+pushed [] ys k x e = absurd (cc)
+pushed (y ∷ xs) ys zero x e = e
+pushed (y ∷ xs) ys (suc k) x e = pushed xs ys k x e
+
+first_named : (k : Kind) (name : List ℕ) (a : Names) → StandFirst a → StandFirst (with_name k name a)
+first_named kind.Field name a h = record { parent = pushed a.fields (name ∷ []) 0 _ h.parent; sort_key = h.sort_key; entry_limit = h.entry_limit; global_limit = h.global_limit }
+first_named kind.EntryInteger name a h = record { parent = h.parent; sort_key = h.sort_key; entry_limit = h.entry_limit; global_limit = h.global_limit }
+first_named kind.EntryString name a h = record { parent = h.parent; sort_key = pushed a.entry_strings (name ∷ []) 0 _ h.sort_key; entry_limit = h.entry_limit; global_limit = h.global_limit }
+first_named kind.GlobalInteger name a h = record { parent = h.parent; sort_key = h.sort_key; entry_limit = pushed a.global_integers (name ∷ []) 0 _ h.entry_limit; global_limit = pushed a.global_integers (name ∷ []) 1 _ h.global_limit }
+first_named kind.GlobalString name a h = record { parent = h.parent; sort_key = h.sort_key; entry_limit = h.entry_limit; global_limit = h.global_limit }
+
+abbrev FirstTurn : Turn Listing Listed → Type 0
+FirstTurn t = OnTurn (λ s. StandFirst s.names) (λ r. StandFirst r.listing.names) t
+
+first_new : (k : Kind) (a : Names) (name : List ℕ) (p : Place) (o : Option Callee) → StandFirst a → FirstTurn (with_new k a name p o)
+first_new k a name p None h = first_named k (folded name) a h
+first_new k a name p (Some other) h = h
+
+first_read : (k : Kind) (a : Names) (r : Read (List ℕ)) → StandFirst a → FirstTurn (name_turn k a r)
+first_read k a (Slip c p) h = h
+first_read k a (Took name p) h = first_new k a name p (named a name) h
+
+first_turn : (k : Kind) (a : Names) (r : Read (Unit {0})) → StandFirst a → FirstTurn (list_turn_in k a r)
+first_turn k a (Took x p) h = h
+first_turn k a (Slip c p) h = first_read k a (name_at p) h
+
+first_end : (k : Kind) (s : Listing) → StandFirst s.names → StandFirst (list_end k s).listing.names
+unfolding list_end list_turn
+first_end k s h =
+    turns-keep (λ u. StandFirst u.names) (λ r. StandFirst r.listing.names) (list_turn k) unlisted
+    (λ u f. first_turn k u.names (closing u.place) f) (λ u f. f) (suc (size s.place)) s h
+
+first_list : (k : Kind) (a : Names) (r : Read (Unit {0})) → StandFirst a → StandFirst (list_read k a r).listing.names
+first_list k a (Slip c p) h = h
+first_list k a (Took x p) h = first_end k (listing a p) h
+
+abbrev IsFirstIn : Style → Type 0
+IsFirstIn s = StandFirst s.names
+
+first_ended : (s : Style) (name : List ℕ) (r : End) → IsFirstIn s → IsFirstIn (function_ended s name r).style
+first_ended s name (Broken c i) h = h
+first_ended s name (Whole i) h = record { parent = h.parent; sort_key = h.sort_key; entry_limit = h.entry_limit; global_limit = h.global_limit }
+
+first_keeps : Keeps IsFirstIn
+first_keeps = record {
+  on_message = λ c line s h. h;
+  on_names = λ s k p h. first_list k s.names (opening p) h;
+  on_entry = λ s e h. h;
+  on_read = λ s e f h. h;
+  on_function = λ s name p e h. first_ended s (folded name) (body_end s.names (inside_at s p)) h;
+  on_execute = λ s name c r e h. h;
+  on_iterate = λ s name c r e h. h;
+  on_reverse = λ s name c r e h. h;
+  on_sort = λ s r h. h;
+  on_integers = λ s h. h;
+  on_strings = λ s h. h;
+  on_macro = λ s name text r e h. h;
+}
+
+-- what stands first before a style is found by its number in it
+pub first-names : StandFirst predefined → FirstNamesLaw
+first-names first file text =
+    let told = (clear-style file text).1 in
+    let h : IsFirstIn (style_of file text) = kept-style IsFirstIn first_keeps file text first in
+    record { parent = told.of_fields 0 _ h.parent; sort_key = told.of_entry_strings 0 _ h.sort_key; entry_limit = told.of_global_integers 0 _ h.entry_limit; global_limit = told.of_global_integers 1 _ h.global_limit }

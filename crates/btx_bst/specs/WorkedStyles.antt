@@ -1,0 +1,204 @@
+-- Worked styles: what short texts are read as, and the texts of the messages.
+use Rattle.std.specs.Prelude.{ℕ, ◌≡◌, pos, negsuc, List, [], ◌∷◌, codes}
+use Rattle.btx_bst.specs.declared.built_in.BuiltIn.TheVariants.{If, NewLine, Pop, Skip}
+use Rattle.btx_bst.specs.declared.callee.Callee.TheVariants as callee
+use Rattle.btx_bst.specs.declared.command.Command.TheVariants as command
+use Rattle.btx_bst.specs.declared.token.Token.TheVariants.{Text, Quote, Run}
+use Rattle.btx_bst.specs.declared.token.Token.TheVariants as token
+use Rattle.btx_bst.specs.Bodies.{Body}
+use Rattle.btx_bst.specs.Complaints.{Complaint, NoCommand, NotCommand, NoOpen, NoClose, NoName, Defined, Unknown, BadInteger, TextAfter, NoQuoteEnd, Another, BeforeRead, BeforeEntry, AfterRead, NoQuote, EndOfFile}
+use Rattle.btx_bst.specs.Items.{Item, Message}
+use Rattle.btx_bst.specs.Items as item
+use Rattle.btx_bst.specs.MessageTexts.{text_of}
+use Rattle.btx_bst.specs.StyleText.{style_of}
+
+-- a text, and its commands and messages
+pub record Worked : Type 0 where
+  pub text : List ℕ
+  pub items : List Item
+
+abbrev pub row : List ℕ → List Item → Worked
+row text items = record { text = text; items = items }
+
+-- styles without a fault, and what is read again behind one
+abbrev pub commands : List Worked
+commands =
+    -- nothing, and nothing but a comment
+    row (codes "") []
+    ∷ row (codes "% READ") []
+    -- each command once, in any case of letters
+    ∷ row (codes "ENTRY {title author} {depth} {label}") (item.Entry ∷ [])
+    ∷ row (codes "FUNCTION {f} {skip$}") (item.Function 0 ∷ [])
+    ∷ row (codes "entry {} {} {}\nrEaD") (item.Entry ∷ item.Read ∷ [])
+    ∷ row (codes "ENTRY {} {} {} READ\nEXECUTE {newline$}") (item.Entry ∷ item.Read ∷ item.Execute (callee.BuiltIn NewLine) ∷ [])
+    ∷ row (codes "ENTRY {} {} {} READ\nITERATE {SKIP$}") (item.Entry ∷ item.Read ∷ item.Iterate (callee.BuiltIn Skip) ∷ [])
+    ∷ row (codes "ENTRY {} {} {} READ\nFUNCTION {F} {} REVERSE {f}") (item.Entry ∷ item.Read ∷ item.Function 0 ∷ item.Reverse (callee.User 0) ∷ [])
+    ∷ row (codes "ENTRY {} {} {} READ\nSORT") (item.Entry ∷ item.Read ∷ item.Sort ∷ [])
+    ∷ row (codes "INTEGERS {a b}") (item.Integers ∷ [])
+    ∷ row (codes "STRINGS {s t}") (item.Strings ∷ [])
+    ∷ row (codes "MACRO {jan} {\"January\"}") (item.Macro ∷ [])
+    -- one directly behind another, and with white and comments in the middle
+    ∷ row (codes "INTEGERS{a}STRINGS{b}FUNCTION{f}{}") (item.Integers ∷ item.Strings ∷ item.Function 0 ∷ [])
+    ∷ row (codes "ENTRY % the fields\n\n\t{ title % and }\n} { } {\n}\n") (item.Entry ∷ [])
+    -- a nameless function is defined before the one that it stands in
+    ∷ row (codes "FUNCTION {f} {{skip$} {#1} if$} FUNCTION {g} {f}") (item.Function 2 ∷ item.Function 3 ∷ [])
+    -- the name of a function that broke off is free, and so is ENTRY behind an ENTRY with a fault
+    ∷ row (codes "FUNCTION {f} {\"a\n\nFUNCTION {f} {}") (Message NoQuoteEnd 1 ∷ item.Function 0 ∷ [])
+    ∷ row (codes "ENTRY {a b!#} {} {}\n\nENTRY {c} {} {}") (Message NoName 1 ∷ item.Entry ∷ [])
+    ∷ []
+
+-- each message, with its line
+abbrev pub faults : List Worked
+faults =
+    -- a command is missing
+    row (codes "{") (Message NoCommand 1 ∷ [])
+    ∷ row (codes "\n % first\n 1") (Message NoCommand 3 ∷ [])
+    ∷ row (codes "ENTRY {} {} {} }") (item.Entry ∷ Message NoCommand 1 ∷ [])
+    -- a word is no command
+    ∷ row (codes "bogus") (Message (NotCommand (codes "bogus")) 1 ∷ [])
+    ∷ row (codes "\n\nBoGus {x}") (Message (NotCommand (codes "BoGus")) 3 ∷ [])
+    -- a `{` is missing
+    ∷ row (codes "INTEGERS a") (Message NoOpen 1 ∷ [])
+    ∷ row (codes "FUNCTION f {}") (Message NoOpen 1 ∷ [])
+    ∷ row (codes "FUNCTION {f}\nskip$") (Message NoOpen 2 ∷ [])
+    ∷ row (codes "ENTRY {}\n{} READ") (Message NoOpen 2 ∷ [])
+    ∷ row (codes "ENTRY {} {} {} READ\nEXECUTE skip$") (item.Entry ∷ item.Read ∷ Message NoOpen 2 ∷ [])
+    ∷ row (codes "MACRO jan") (Message NoOpen 1 ∷ [])
+    ∷ row (codes "MACRO {jan} \"January\"") (Message NoOpen 1 ∷ [])
+    -- a `}` is missing
+    ∷ row (codes "FUNCTION {f\ng} {}") (Message NoClose 2 ∷ [])
+    ∷ row (codes "ENTRY {} {} {} READ\nITERATE {skip$ pop$}") (item.Entry ∷ item.Read ∷ Message NoClose 2 ∷ [])
+    ∷ row (codes "MACRO {jan feb} {\"January\"}") (Message NoClose 1 ∷ [])
+    ∷ row (codes "MACRO {jan} {\"January\" #}") (Message NoClose 1 ∷ [])
+    -- a name is missing; none begins with a digit
+    ∷ row (codes "FUNCTION {} {}") (Message NoName 1 ∷ [])
+    ∷ row (codes "INTEGERS {a\n1b}") (Message NoName 2 ∷ [])
+    ∷ row (codes "STRINGS {a, b}") (Message NoName 1 ∷ [])
+    ∷ row (codes "ENTRY {} {} {} READ\nREVERSE {}") (item.Entry ∷ item.Read ∷ Message NoName 2 ∷ [])
+    ∷ row (codes "MACRO {\"jan\"} {}") (Message NoName 1 ∷ [])
+    -- a name is defined already: in the same list, before it, or before the style
+    ∷ row (codes "INTEGERS {a A}") (Message (Defined (codes "A")) 1 ∷ [])
+    ∷ row (codes "FUNCTION {f} {}\nFUNCTION {F} {}") (item.Function 0 ∷ Message (Defined (codes "F")) 2 ∷ [])
+    ∷ row (codes "FUNCTION {skip$} {}") (Message (Defined (codes "skip$")) 1 ∷ [])
+    ∷ row (codes "ENTRY {crossref} {} {}") (Message (Defined (codes "crossref")) 1 ∷ [])
+    ∷ row (codes "MACRO {a} {\"x\"}\nMACRO {A} {\"y\"}") (item.Macro ∷ Message (Defined (codes "A")) 2 ∷ [])
+    -- a name is no function where one is executed, or names nothing in a body; a function doesn't know its own name
+    ∷ row (codes "ENTRY {} {} {} READ\nEXECUTE {nosuch}") (item.Entry ∷ item.Read ∷ Message (Unknown (codes "nosuch")) 2 ∷ [])
+    ∷ row (codes "ENTRY {} {} {} READ\nEXECUTE {Entry.Max$}") (item.Entry ∷ item.Read ∷ Message (Unknown (codes "Entry.Max$")) 2 ∷ [])
+    ∷ row (codes "FUNCTION {f} {NoSuch\nskip$}") (Message (Unknown (codes "NoSuch")) 1 ∷ item.Function 0 ∷ [])
+    ∷ row (codes "FUNCTION {f} {\n'nosuch :=}") (Message (Unknown (codes "nosuch")) 2 ∷ item.Function 0 ∷ [])
+    ∷ row (codes "FUNCTION {f} {f}") (Message (Unknown (codes "f")) 1 ∷ item.Function 0 ∷ [])
+    -- a word of a body goes up to white, `}` or `%`
+    ∷ row (codes "FUNCTION {f} {skip$'pop${% }\n}") (Message (Unknown (codes "skip$'pop${")) 1 ∷ item.Function 0 ∷ [])
+    ∷ row (codes "FUNCTION {f} {' skip$}") (Message (Unknown []) 1 ∷ item.Function 0 ∷ [])
+    -- an integer has no digits, or doesn't fit 32 bits
+    ∷ row (codes "FUNCTION {f} {#}") (Message BadInteger 1 ∷ item.Function 0 ∷ [])
+    ∷ row (codes "FUNCTION {f} {\n#- #x}") (Message BadInteger 2 ∷ Message BadInteger 2 ∷ item.Function 0 ∷ [])
+    ∷ row (codes "FUNCTION {f} {#2147483648}") (Message BadInteger 1 ∷ item.Function 0 ∷ [])
+    ∷ row (codes "FUNCTION {f} {#-2147483649}") (Message BadInteger 1 ∷ item.Function 0 ∷ [])
+    -- something stands directly behind a string or an integer
+    ∷ row (codes "FUNCTION {f} {\"a\"b}") (Message TextAfter 1 ∷ item.Function 0 ∷ [])
+    ∷ row (codes "FUNCTION {f} {\n\n#1x\n}") (Message TextAfter 3 ∷ item.Function 0 ∷ [])
+    -- a string has no end on its line; the messages of the body stay
+    ∷ row (codes "FUNCTION {f} {nosuch\n\"a\n\"}\n\nSORT") (Message (Unknown (codes "nosuch")) 1 ∷ Message NoQuoteEnd 2 ∷ Message (BeforeRead command.Sort) 5 ∷ [])
+    -- a command stands again
+    ∷ row (codes "ENTRY {} {} {}\nENTRY {} {} {}") (item.Entry ∷ Message (Another command.Entry) 2 ∷ [])
+    ∷ row (codes "ENTRY {} {} {} READ\nREAD") (item.Entry ∷ item.Read ∷ Message (Another command.Read) 2 ∷ [])
+    -- a command stands before READ
+    ∷ row (codes "EXECUTE {skip$}") (Message (BeforeRead command.Execute) 1 ∷ [])
+    ∷ row (codes "\nITERATE {skip$}") (Message (BeforeRead command.Iterate) 2 ∷ [])
+    ∷ row (codes "REVERSE\n{skip$}") (Message (BeforeRead command.Reverse) 1 ∷ [])
+    ∷ row (codes "SORT") (Message (BeforeRead command.Sort) 1 ∷ [])
+    -- READ stands before ENTRY, and MACRO after READ
+    ∷ row (codes "\nREAD") (Message BeforeEntry 2 ∷ [])
+    ∷ row (codes "ENTRY {} {} {} READ\nMACRO {a} {\"x\"}") (item.Entry ∷ item.Read ∷ Message AfterRead 2 ∷ [])
+    -- a quote of a macro's text is missing
+    ∷ row (codes "MACRO {a} {x}") (Message NoQuote 1 ∷ [])
+    ∷ row (codes "MACRO {a} {\n\"x\n\"}") (Message NoQuote 2 ∷ [])
+    -- the file ends within a command; the end has the number of the last line
+    ∷ row (codes "INTEGERS") (Message EndOfFile 1 ∷ [])
+    ∷ row (codes "INTEGERS {a\n") (Message EndOfFile 1 ∷ [])
+    ∷ row (codes "ENTRY {} {}\n\n%") (Message EndOfFile 3 ∷ [])
+    ∷ row (codes "FUNCTION {f") (Message EndOfFile 1 ∷ [])
+    ∷ row (codes "FUNCTION {f} {skip$\n\n") (Message EndOfFile 2 ∷ [])
+    ∷ row (codes "FUNCTION {f} {{skip$}") (Message EndOfFile 1 ∷ [])
+    ∷ row (codes "ENTRY {} {} {} READ\nEXECUTE {skip$") (item.Entry ∷ item.Read ∷ Message EndOfFile 2 ∷ [])
+    ∷ row (codes "MACRO {a} {") (Message EndOfFile 1 ∷ [])
+    ∷ row (codes "MACRO {a} {\"x\"") (Message EndOfFile 1 ∷ [])
+    -- behind a fault all is skipped up to the next empty line; one of white alone is empty too
+    ∷ row (codes "bogus SORT }\nSORT\n \t\nSORT") (Message (NotCommand (codes "bogus")) 1 ∷ Message (BeforeRead command.Sort) 4 ∷ [])
+    ∷ row (codes "bogus\nbogus\nbogus") (Message (NotCommand (codes "bogus")) 1 ∷ [])
+    ∷ []
+
+-- a text, the bodies of its functions and its strings
+pub record WorkedBody : Type 0 where
+  pub text : List ℕ
+  pub bodies : List Body
+  pub texts : List (List ℕ)
+
+abbrev pub body_row : List ℕ → List Body → List (List ℕ) → WorkedBody
+body_row text bodies texts = record { text = text; bodies = bodies; texts = texts }
+
+abbrev pub bodies : List WorkedBody
+bodies =
+    -- a body has integers, strings, names behind a quote, and names; strings are numbered through the style
+    body_row (codes "FUNCTION {f} {#10 #-2 #0 \"x\" 'skip$ POP$}") ((token.Integer (pos 10) ∷ token.Integer (negsuc 1) ∷ token.Integer (pos 0) ∷ Text 0 ∷ Quote (callee.BuiltIn Skip) ∷ Run (callee.BuiltIn Pop) ∷ []) ∷ []) ((codes "x") ∷ [])
+    ∷ body_row (codes "FUNCTION {f} {\"a\"} FUNCTION {g} {\"\"}") ((Text 0 ∷ []) ∷ (Text 1 ∷ []) ∷ []) ((codes "a") ∷ [] ∷ [])
+    -- the least and the greatest integer
+    ∷ body_row (codes "FUNCTION {f} {#-2147483648 #2147483647}") ((token.Integer (negsuc 2147483647) ∷ token.Integer (pos 2147483647) ∷ []) ∷ []) []
+    -- nameless functions come innermost first, and stand where they stood as literals
+    ∷ body_row (codes "FUNCTION {f} {{#1} {\"a\" {}} if$}") ((token.Integer (pos 1) ∷ []) ∷ [] ∷ (Text 0 ∷ Quote (callee.User 1) ∷ []) ∷ (Quote (callee.User 0) ∷ Quote (callee.User 2) ∷ Run (callee.BuiltIn If) ∷ []) ∷ []) ((codes "a") ∷ [])
+    -- a function that broke off leaves neither a body nor a string
+    ∷ body_row (codes "FUNCTION {f} {{\"a\"} \"b\n\nFUNCTION {g} {\"c\"}") ((Text 0 ∷ []) ∷ []) ((codes "c") ∷ [])
+    -- names are numbered behind those that are known before the style
+    ∷ body_row (codes "INTEGERS {n} STRINGS {s} ENTRY {t} {i} {l} FUNCTION {f} {n s t i l}") ((Run (callee.GlobalInteger 2) ∷ Run (callee.GlobalString 0) ∷ Run (callee.Field 1) ∷ Run (callee.EntryInteger 0) ∷ Run (callee.EntryString 1) ∷ []) ∷ []) []
+    ∷ body_row (codes "FUNCTION {f} {crossref sort.key$ Entry.Max$ 'global.max$}") ((Run (callee.Field 0) ∷ Run (callee.EntryString 0) ∷ Run (callee.GlobalInteger 0) ∷ Quote (callee.GlobalInteger 1) ∷ []) ∷ []) []
+    -- what is left out of a body leaves no token
+    ∷ body_row (codes "FUNCTION {f} {#1 #2x nosuch \"a\"b #3 % #4\n}") ((token.Integer (pos 1) ∷ token.Integer (pos 3) ∷ []) ∷ []) []
+    ∷ []
+
+-- what is wrong, and the text of its message
+pub record WorkedMessage : Type 0 where
+  pub complaint : Complaint
+  pub text : List ℕ
+
+abbrev pub message_row : Complaint → List ℕ → WorkedMessage
+message_row complaint text = record { complaint = complaint; text = text }
+
+abbrev pub messages : List WorkedMessage
+messages =
+    message_row NoCommand (codes "I was expecting a command")
+    ∷ message_row (NotCommand (codes "Bogus")) (codes "Bogus isn't a command")
+    ∷ message_row NoOpen (codes "I was expecting a {")
+    ∷ message_row NoClose (codes "I was expecting a }")
+    ∷ message_row NoName (codes "I was expecting a name")
+    ∷ message_row (Defined (codes "F")) (codes "F is already defined")
+    ∷ message_row (Unknown (codes "f")) (codes "f is an unknown function")
+    ∷ message_row BadInteger (codes "Illegal integer")
+    ∷ message_row TextAfter (codes "Illegal text after a literal")
+    ∷ message_row NoQuoteEnd (codes "No \" to end string literal")
+    ∷ message_row (Another command.Entry) (codes "Illegal, another ENTRY command")
+    ∷ message_row (Another command.Read) (codes "Illegal, another READ command")
+    ∷ message_row (BeforeRead command.Execute) (codes "Illegal, EXECUTE command before READ")
+    ∷ message_row (BeforeRead command.Iterate) (codes "Illegal, ITERATE command before READ")
+    ∷ message_row (BeforeRead command.Reverse) (codes "Illegal, REVERSE command before READ")
+    ∷ message_row (BeforeRead command.Sort) (codes "Illegal, SORT command before READ")
+    ∷ message_row BeforeEntry (codes "Illegal, READ command before ENTRY")
+    ∷ message_row AfterRead (codes "Illegal, MACRO command after READ")
+    ∷ message_row NoQuote (codes "I was expecting a \"")
+    ∷ message_row EndOfFile (codes "Illegal end of style file")
+    ∷ []
+
+-- each row is so
+
+abbrev pub AreRead : List Worked → Type 0
+AreRead [] = Unit {0}
+AreRead (row ∷ rows) = ((style_of [] row.text).items ≡ row.items) × AreRead rows
+
+abbrev pub AreBodies : List WorkedBody → Type 0
+AreBodies [] = Unit {0}
+AreBodies (row ∷ rows) = ((style_of [] row.text).bodies ≡ row.bodies) × ((style_of [] row.text).texts ≡ row.texts) × AreBodies rows
+
+abbrev pub AreTexts : List WorkedMessage → Type 0
+AreTexts [] = Unit {0}
+AreTexts (row ∷ rows) = (text_of row.complaint ≡ row.text) × AreTexts rows

@@ -1,0 +1,165 @@
+//! A literal as the stack keeps it.
+ghost use Rattle.std.specs.Prelude.{◌≡◌, ◌≤◌, length, IsTrue, drop, take};
+ghost use Rattle.btx_text.specs.Limits.{greatest_string};
+ghost use Rattle.btx_code.specs.Ops.{callee_of};
+ghost use Rattle.btx_stack.specs.Slots.{IsPlain, IsMade, is_text_kind, is_large_kind, are_large_kinds, content_of, text_of};
+ghost use Rattle.btx_stack.specs.Content as content;
+
+use btx_bst::Callee;
+use btx_code::Op;
+use btx_code::op::callee_of;
+
+/// What a slot holds.
+#[derive(Clone, Copy, PartialEq, Eq, Debug)]
+pub enum Kind {
+    Integer,
+    Function,
+    Missing,
+    /// A string that stands in a file.
+    Lent,
+    /// A short string that was made: the pool's bytes from the slot's start to the start of the slot above it.
+    Made,
+    /// A long string that was made, by its index among the long ones.
+    Large,
+}
+
+impl Kind {
+    /// Whether it is a string whose bytes the slot or the pool knows.
+    #[inline(always)]
+    pub fn is_text(self) -> bool
+        ensures { result ≡ is_text_kind self }
+    {
+        matches!(self, Kind::Lent | Kind::Made)
+    }
+
+    /// Whether it is a long string.
+    #[inline(always)]
+    pub fn is_large(self) -> bool
+        ensures { result ≡ is_large_kind self }
+    {
+        self == Kind::Large
+    }
+}
+
+/// Whether both are long strings.
+#[inline(always)]
+pub fn are_large(a: Kind, b: Kind) -> bool
+    ensures { result ≡ are_large_kinds a b }
+{
+    a == Kind::Large && b == Kind::Large
+}
+
+/// A literal, but for the bytes of a string that was made. Each field but `kind` and `start` has a meaning for some kinds alone.
+#[derive(Clone, Copy)]
+pub struct Slot<'a> {
+    pub kind: Kind,
+    /// The op that runs a function.
+    pub op: Op,
+    /// The number of a function among those of its kind, or the index of a long string.
+    pub number: u32,
+    pub integer: i32,
+    /// How many bytes the pool has below this slot.
+    pub start: u32,
+    /// The bytes of a string that stands in a file.
+    pub bytes: &'a [u8],
+}
+
+impl<'a> Slot<'a> {
+    /// A slot that holds no string.
+    pub fn empty() -> Self {
+        Slot {
+            kind: Kind::Missing,
+            op: Op::Skip,
+            number: 0,
+            integer: 0,
+            start: 0,
+            bytes: &[],
+        }
+    }
+
+    /// The function that this slot holds.
+    #[inline(always)]
+    pub fn callee(&self) -> Callee
+        ensures { result ≡ callee_of self.now.op self.now.number }
+    {
+        callee_of(self.op, self.number)
+    }
+
+    /// The bytes of the string that this slot holds, where those of the pool end at `end`.
+    #[tactic(auto, using(crate::proofs::Opens::range_is))]
+    #[inline(always)]
+    pub fn text<'b>(&self, pool: &'b [u8], end: usize) -> &'b [u8]
+    where
+        'a: 'b,
+        requires text { IsTrue (is_text_kind self.now.kind) }
+        requires in_order { self.now.start ≤ end }
+        requires within { end ≤ length pool.now }
+        ensures value { result.now ≡ text_of self.now (drop self.now.start (take end pool.now)) }
+        ensures content { content.Text result.now ≡ content_of self.now (drop self.now.start (take end pool.now)) }
+    {
+        match self.kind {
+            Kind::Lent => self.bytes,
+            _ => &pool[self.start as usize..end],
+        }
+    }
+
+    /// The slot holds an integer from now on.
+    #[inline(always)]
+    pub fn set_integer(&mut self, integer: i32, start: u32)
+        ensures { IsPlain self.new start (content.Integer integer) }
+    {
+        self.kind = Kind::Integer;
+        self.integer = integer;
+        self.start = start;
+    }
+
+    /// The slot holds a function from now on.
+    #[inline(always)]
+    pub fn set_function(&mut self, op: Op, number: u32, start: u32)
+        ensures { IsPlain self.new start (content.Function (callee_of op number)) }
+    {
+        self.kind = Kind::Function;
+        self.op = op;
+        self.number = number;
+        self.start = start;
+    }
+
+    /// The slot holds the value of a missing field from now on.
+    #[inline(always)]
+    pub fn set_missing(&mut self, start: u32)
+        ensures { IsPlain self.new start content.Missing }
+    {
+        self.kind = Kind::Missing;
+        self.start = start;
+    }
+
+    /// The slot holds a string of a file from now on.
+    #[inline(always)]
+    pub fn set_lent(&mut self, bytes: &'a [u8], start: u32)
+        requires { length bytes.now ≤ greatest_string }
+        ensures { IsPlain self.new start (content.Text bytes.now) }
+    {
+        self.kind = Kind::Lent;
+        self.bytes = bytes;
+        self.start = start;
+    }
+
+    /// The slot holds a long string from now on.
+    #[inline(always)]
+    pub fn set_large(&mut self, number: u32, start: u32)
+        ensures { IsPlain self.new start (content.Large number) }
+    {
+        self.kind = Kind::Large;
+        self.number = number;
+        self.start = start;
+    }
+
+    /// The slot holds the pool's bytes from `start` on from now on.
+    #[inline(always)]
+    pub fn set_made(&mut self, start: u32)
+        ensures { IsMade self.new start }
+    {
+        self.kind = Kind::Made;
+        self.start = start;
+    }
+}

@@ -1,0 +1,407 @@
+//! The stack of slots over one pool of bytes, below the layer of long strings.
+ghost use Rattle.std.specs.Prelude.{◌≡◌, ◌≤◌, ◌<◌, ◌+◌, [], ◌∷◌, length, drop, IfOk, IfSome, OnErr, IsSome, is_some, IsTrue};
+ghost use Rattle.btx_text.specs.Limits.{greatest_string};
+ghost use Rattle.btx_code.specs.Ops.{callee_of};
+ghost use Rattle.btx_stack.specs.Slots.{greatest_short};
+ghost use Rattle.btx_stack.specs.Steps.{Steps, Gives, large_on, plain_on, plain_off, pushed, below_top, has_text, joined, swapped, duplicated};
+ghost use Rattle.btx_stack.specs.Content as content;
+
+use crate::literal::Literal;
+use crate::pool::{again, append_two, exchange, put_before};
+use crate::slot::{Kind, Slot, are_large};
+use crate::variable::Variable;
+use btx_code::Op;
+use btx_text::Text;
+use std::alloc::{AllocError, Global};
+use std::marker::Model;
+
+/// The greatest length of a string that was made and whose bytes are in the pool.
+pub const GREATEST_SHORT: usize = 1024;
+
+/// At most 1,000 slots, seen as what they hold, top first.
+#[derive(Drop)]
+pub struct Slots<'a> {
+    // 1,000 slots, of which those from `top` on are in use, top first.
+    all: Vec<Slot<'a>>,
+    top: usize,
+    // The bytes of the strings that were made, those of the top one at the end.
+    pool: Vec<u8>,
+}
+
+impl<'a> Model for Slots<'a> {
+    ghost use Rattle.std.specs.Prelude.{List};
+    ghost use Rattle.btx_stack.specs.Content.{Content};
+
+    ghost Value = { List Content };
+
+    ghost use Rattle.std.specs.Prelude.{drop, ◌≡◌, ◌≤◌, length};
+    ghost use Rattle.btx_stack.specs.Slots.{contents_of, Stand};
+
+    ghost view = { λ s. contents_of (drop s.top s.all.items) s.pool.items };
+
+    ghost invariant = { λ s. (length s.all.items ≡ 1000) × (s.top ≤ 1000) × Stand (drop s.top s.all.items) (length s.pool.items) };
+}
+
+impl<'a> Slots<'a> {
+    /// An empty stack.
+    pub fn new(alloc: Global) -> Result<Self, AllocError>
+        ensures { IfOk result (λ s. s ≡ []) }
+    {
+        Ok(Slots {
+            all: vec![in alloc; Slot::empty(); 1000]?,
+            top: 1000,
+            pool: Vec::new(alloc),
+        })
+    }
+
+    /// How many slots are in use.
+    #[tactic(auto, using(crate::proofs::Pushes::count_is, crate::proofs::Pushes::count_within))]
+    #[inline(always)]
+    pub fn len(&self) -> usize
+        ensures length { result ≡ length self.now }
+        ensures within { length self.now ≤ 1000 }
+    {
+        1000 - self.top
+    }
+
+    /// Pushes an integer and answers true, or answers false where there is no room.
+    #[tactic(auto, using(crate::proofs::Pushes::small, crate::proofs::Pushes::full, crate::proofs::Pushes::push_here))]
+    #[inline(always)]
+    pub fn push_integer(&mut self, integer: i32) -> bool
+        ensures steps { Steps result self.old (pushed (content.Integer integer) self.old) self.new }
+        ensures room { length self.old < 1000 → IsTrue result }
+    {
+        let at = self.top;
+        if at == 0 {
+            return false;
+        }
+        let start = self.pool.len() as u32;
+        self.all[at - 1].set_integer(integer, start);
+        self.top = at - 1;
+        true
+    }
+
+    /// Pushes a function and answers true, or answers false where there is no room.
+    #[tactic(auto, using(crate::proofs::Pushes::small, crate::proofs::Pushes::full, crate::proofs::Pushes::push_here))]
+    #[inline(always)]
+    pub fn push_function(&mut self, op: Op, number: u32) -> bool
+        ensures steps { Steps result self.old (pushed (content.Function (callee_of op number)) self.old) self.new }
+        ensures room { length self.old < 1000 → IsTrue result }
+    {
+        let at = self.top;
+        if at == 0 {
+            return false;
+        }
+        let start = self.pool.len() as u32;
+        self.all[at - 1].set_function(op, number, start);
+        self.top = at - 1;
+        true
+    }
+
+    /// Pushes the value of a missing field and answers true, or answers false where there is no room.
+    #[tactic(auto, using(crate::proofs::Pushes::small, crate::proofs::Pushes::full, crate::proofs::Pushes::push_here))]
+    #[inline(always)]
+    pub fn push_missing(&mut self) -> bool
+        ensures steps { Steps result self.old (pushed content.Missing self.old) self.new }
+        ensures room { length self.old < 1000 → IsTrue result }
+    {
+        let at = self.top;
+        if at == 0 {
+            return false;
+        }
+        let start = self.pool.len() as u32;
+        self.all[at - 1].set_missing(start);
+        self.top = at - 1;
+        true
+    }
+
+    /// Pushes a string of a file and answers true, or answers false where there is no room.
+    #[tactic(auto, using(crate::proofs::Pushes::small, crate::proofs::Pushes::full, crate::proofs::Pushes::push_here))]
+    #[inline(always)]
+    pub fn push_lent(&mut self, bytes: &'a [u8]) -> bool
+        requires { length bytes.now ≤ greatest_string }
+        ensures steps { Steps result self.old (pushed (content.Text bytes.now) self.old) self.new }
+        ensures room { length self.old < 1000 → IsTrue result }
+    {
+        let at = self.top;
+        if at == 0 {
+            return false;
+        }
+        let start = self.pool.len() as u32;
+        self.all[at - 1].set_lent(bytes, start);
+        self.top = at - 1;
+        true
+    }
+
+    /// Pushes a copy of `bytes` and answers true, or answers false where there is no room.
+    #[tactic(auto, using(crate::proofs::Pushes::small, crate::proofs::Pushes::full, crate::proofs::Pushes::push_there))]
+    pub fn push_made(&mut self, bytes: &[u8]) -> Result<bool, AllocError>
+        requires { length bytes.now ≤ greatest_short }
+        ensures steps { IfOk result (λ done. Steps done self.old (pushed (content.Text bytes.now) self.old) self.new) }
+        ensures room { IfOk result (λ done. length self.old < 1000 → IsTrue done) }
+        ensures unchanged { OnErr result (self.new ≡ self.old) }
+    {
+        let at = self.top;
+        if at == 0 {
+            return Ok(false);
+        }
+        let start = self.pool.len() as u32;
+        self.pool.extend_from_slice(bytes)?;
+        self.all[at - 1].set_made(start);
+        self.top = at - 1;
+        Ok(true)
+    }
+
+    /// Pushes a long string, by its index, and answers true, or answers false where there is no room.
+    #[tactic(auto, using(crate::proofs::Pushes::small, crate::proofs::Pushes::full, crate::proofs::Pushes::push_here))]
+    #[inline(always)]
+    pub fn push_large(&mut self, number: u32) -> bool
+        ensures steps { Steps result self.old (pushed (content.Large number) self.old) self.new }
+        ensures room { length self.old < 1000 → IsTrue result }
+    {
+        let at = self.top;
+        if at == 0 {
+            return false;
+        }
+        let start = self.pool.len() as u32;
+        self.all[at - 1].set_large(number, start);
+        self.top = at - 1;
+        true
+    }
+
+    /// The index of the long string on top, if there is one.
+    #[tactic(auto, using(crate::proofs::Pushes::count_within, crate::proofs::Opens::no_large))]
+    #[inline(always)]
+    pub fn top_large(&self) -> Option<u32>
+        ensures place { result ≡ large_on self.now }
+        ensures within { length self.now ≤ 1000 }
+    {
+        let at = self.top;
+        if at == 1000 {
+            return None;
+        }
+        let a = self.all[at];
+        match a.kind {
+            Kind::Large => Some(a.number),
+            _ => None,
+        }
+    }
+
+    /// Pops the top literal, unless it is a long string. The pool's bytes go with it.
+    #[tactic(auto, using(crate::proofs::Pushes::room_below))]
+    pub fn pop(&mut self, alloc: Global) -> Result<Option<Literal<'a>>, AllocError>
+        ensures value { IfOk result (λ value. value ≡ plain_on self.old) }
+        ensures rest { IfOk result (λ _. self.new ≡ plain_off self.old) }
+        ensures room { IfOk result (λ value. IsSome value → length self.new < 1000) }
+        ensures unchanged { OnErr result (self.new ≡ self.old) }
+    {
+        let at = self.top;
+        if at == 1000 {
+            return Ok(None);
+        }
+        let a = self.all[at];
+        let value = match a.kind {
+            Kind::Integer => Literal::Integer(a.integer),
+            Kind::Function => Literal::Function(a.callee()),
+            Kind::Missing => Literal::Missing,
+            Kind::Lent => Literal::Text(Text::borrowed(a.bytes)),
+            Kind::Made => Literal::Text(Text::owned(Vec::from_slice(
+                alloc,
+                &self.pool[a.start as usize..],
+            )?)),
+            Kind::Large => return Ok(None),
+        };
+        self.pool.truncate(a.start as usize);
+        self.top = at + 1;
+        Ok(Some(value))
+    }
+
+    /// Pops what stands on top. The pool's bytes go with it.
+    #[inline(always)]
+    pub fn drop_top(&mut self)
+        requires { 0 < length self.old }
+        ensures { self.new ≡ below_top self.old }
+    {
+        let at = self.top;
+        let start = self.all[at].start as usize;
+        self.pool.truncate(start);
+        self.top = at + 1;
+    }
+
+    /// The bytes of the string `depth` below the top, if one stands there that isn't a long one.
+    #[tactic(auto, using(crate::proofs::Depths::end_top, crate::proofs::Depths::end_above, crate::proofs::Depths::depth_within, crate::proofs::Depths::depth_low, crate::proofs::Depths::depth_text, crate::proofs::Depths::depth_kind, crate::proofs::Depths::no_text_there))]
+    #[inline(always)]
+    pub fn text_at(&self, depth: usize) -> Option<&[u8]>
+        ensures some { is_some result ≡ has_text (drop depth self.now) }
+        ensures text { IfSome result (λ text. drop depth self.now ≡ content.Text text.now ∷ drop (depth + 1) self.now) }
+    {
+        if depth >= 1000 - self.top {
+            return None;
+        }
+        let slot = self.all[self.top + depth];
+        if !slot.kind.is_text() {
+            return None;
+        }
+        if depth == 0 {
+            return Some(slot.text(&self.pool, self.pool.len()));
+        }
+        let end = self.all[self.top + depth - 1].start as usize;
+        Some(slot.text(&self.pool, end))
+    }
+
+    /// The index of the long string `depth` below the top, if one stands there.
+    #[tactic(auto, using(crate::proofs::Depths::depth_large, crate::proofs::Depths::depth_no_large, crate::proofs::Depths::no_large_there))]
+    #[inline(always)]
+    pub fn large_at(&self, depth: usize) -> Option<u32>
+        ensures { result ≡ large_on (drop depth self.now) }
+    {
+        if depth >= 1000 - self.top {
+            return None;
+        }
+        let slot = self.all[self.top + depth];
+        match slot.kind {
+            Kind::Large => Some(slot.number),
+            _ => None,
+        }
+    }
+
+    /// Joins the two strings on top, the lower one first, and answers true; or answers false where they are no two strings, or would be too long for
+    /// the pool.
+    #[tactic(auto, using(crate::proofs::Joins::join_made, crate::proofs::Few::fewer_than_two))]
+    #[inline(always)]
+    pub fn join(&mut self) -> Result<bool, AllocError>
+        ensures steps { IfOk result (λ done. Steps done self.old (joined self.old) self.new) }
+        ensures unchanged { OnErr result (self.new ≡ self.old) }
+    {
+        let at = self.top;
+        if at >= 999 {
+            return Ok(false);
+        }
+        let a = self.all[at];
+        let b = self.all[at + 1];
+        let size = self.pool.len();
+        match (b.kind, a.kind) {
+            (Kind::Made, Kind::Made) => {
+                if size - b.start as usize > GREATEST_SHORT {
+                    return Ok(false);
+                }
+                self.top = at + 1;
+                Ok(true)
+            }
+            (Kind::Made, Kind::Lent) => {
+                if size - b.start as usize + a.bytes.len() > GREATEST_SHORT {
+                    return Ok(false);
+                }
+                self.pool.extend_from_slice(a.bytes)?;
+                self.top = at + 1;
+                Ok(true)
+            }
+            (Kind::Lent, Kind::Made) => {
+                if b.bytes.len() + (size - a.start as usize) > GREATEST_SHORT {
+                    return Ok(false);
+                }
+                put_before(&mut self.pool, a.start as usize, b.bytes)?;
+                self.all[at + 1].set_made(a.start);
+                self.top = at + 1;
+                Ok(true)
+            }
+            (Kind::Lent, Kind::Lent) => {
+                if b.bytes.len() + a.bytes.len() > GREATEST_SHORT {
+                    return Ok(false);
+                }
+                append_two(&mut self.pool, b.bytes, a.bytes)?;
+                self.all[at + 1].set_made(a.start);
+                self.top = at + 1;
+                Ok(true)
+            }
+            _ => Ok(false),
+        }
+    }
+
+    /// Exchanges the two on top and answers true, or answers false where there are fewer, or both are long strings.
+    #[tactic(auto, using(crate::proofs::Swaps::swap_fits, crate::proofs::Swaps::swap_stands, crate::proofs::Swaps::swap_shows, crate::proofs::Swaps::swap_large, crate::proofs::Few::fewer_than_two))]
+    #[inline(always)]
+    pub fn swap(&mut self) -> Result<bool, AllocError>
+        ensures steps { IfOk result (λ done. Steps done self.old (swapped self.old) self.new) }
+        ensures unchanged { OnErr result (self.new ≡ self.old) }
+    {
+        let at = self.top;
+        if at >= 999 {
+            return Ok(false);
+        }
+        let mut a = self.all[at];
+        let mut b = self.all[at + 1];
+        if are_large(a.kind, b.kind) {
+            return Ok(false);
+        }
+        let size = self.pool.len();
+        let above = size - a.start as usize;
+        let below = (a.start - b.start) as usize;
+        exchange(&mut self.pool, b.start as usize, below)?;
+        a.start = b.start;
+        b.start = (b.start as usize + above) as u32;
+        self.all[at] = b;
+        self.all[at + 1] = a;
+        Ok(true)
+    }
+
+    /// Pushes what stands on top once more and answers true, or answers false where nothing does, it is a long string, or there is no room.
+    #[tactic(auto, using(crate::proofs::Pushes::small, crate::proofs::Joins::push_again, crate::proofs::Joins::large_again, crate::proofs::Few::no_room_again))]
+    #[inline(always)]
+    pub fn duplicate(&mut self) -> Result<bool, AllocError>
+        ensures steps { IfOk result (λ done. Steps done self.old (duplicated self.old) self.new) }
+        ensures unchanged { OnErr result (self.new ≡ self.old) }
+    {
+        let at = self.top;
+        if at == 0 {
+            return Ok(false);
+        }
+        if at == 1000 {
+            return Ok(false);
+        }
+        let mut a = self.all[at];
+        if a.kind.is_large() {
+            return Ok(false);
+        }
+        let size = self.pool.len();
+        again(&mut self.pool, a.start as usize)?;
+        a.start = size as u32;
+        self.all[at - 1] = a;
+        self.top = at - 1;
+        Ok(true)
+    }
+
+    /// Moves the string on top into a variable and answers true, or answers false where it is no such string, or has more than `most` bytes.
+    #[inline(always)]
+    pub fn give(&mut self, variable: &mut Variable<'a>, most: usize) -> Result<bool, AllocError>
+        ensures gives { IfOk result (λ done. Gives done most self.old self.new variable.old variable.new) }
+        ensures unchanged { OnErr result (self.new ≡ self.old) }
+    {
+        let at = self.top;
+        if at == 1000 {
+            return Ok(false);
+        }
+        let a = self.all[at];
+        match a.kind {
+            Kind::Lent => {
+                if a.bytes.len() > most {
+                    return Ok(false);
+                }
+                variable.lend(a.bytes);
+                self.top = at + 1;
+                Ok(true)
+            }
+            Kind::Made => {
+                let start = a.start as usize;
+                if self.pool.len() - start > most {
+                    return Ok(false);
+                }
+                variable.keep(&self.pool[start..])?;
+                self.pool.truncate(start);
+                self.top = at + 1;
+                Ok(true)
+            }
+            _ => Ok(false),
+        }
+    }
+}

@@ -1,0 +1,118 @@
+# What becomes of the files that an earlier run left.
+
+old_list='a list of an earlier run, longer than the new one
+'
+no_top_file_log=$'Ended: no top file, warnings 0, errors 0, steps 0\n'
+old_log='a log of an earlier run, with its last line
+Ended: finished, warnings 0, errors 0, steps 4711
+'
+
+# leave_old_files: an earlier run left a list and a log.
+leave_old_files() {
+    printf '%s' "$old_list" >job.bbl
+    printf '%s' "$old_log" >job.blg
+}
+
+# There is no top file: the old list stays, and the log says why.
+begin old_list_without_a_top_file
+leave_old_files
+rm job.aux
+run_program job
+wants_status 3
+wants_error ''
+wants_text job.bbl "$old_list"
+wants_text job.blg "$no_top_file_log"
+wants_output "$no_top_file_log"
+end
+
+# The list is written anew from its first byte.
+begin old_list_behind_a_new_one
+leave_old_files
+run_program job
+wants_job 0 $'a\n' "$first_log"
+end
+
+# goes STATUS WORD..: the job writes nothing of a list, and the old one is gone all the same.
+goes() {
+    run_program "${@:2}" job
+    wants_status "$1"
+    wants_text job.bbl ''
+    end
+}
+
+begin old_list_of_a_style_that_writes_nothing
+leave_old_files
+use_style ''
+goes 0
+
+begin old_list_without_a_style
+leave_old_files
+rm s.bst
+goes 2
+
+begin old_list_of_a_stopped_run
+leave_old_files
+goes 4 --budget 0
+
+# A database can be opened and not be read.
+begin old_list_goes_at_a_fault
+leave_old_files
+rm d.bib
+mkdir d.bib
+goes 6
+
+# An old list may be a pipe or a device: these have nothing to throw away.
+begin old_list_that_is_a_device
+ln -s /dev/null job.bbl
+run_program job
+wants_status 0
+wants_output "$first_log"
+wants_text job.blg "$first_log"
+end
+
+begin old_list_that_is_a_pipe
+mkfifo job.bbl
+cat job.bbl >"$folder/piped" &
+run_program job
+wait $!
+wants_status 0
+wants_text "$folder/piped" $'a\n'
+end
+
+# The run is killed while it writes: no old log stands beside the new list.
+begin no_old_log_beside_a_new_list
+leave_old_files
+use_style 'FUNCTION {f} {{#1} {"a" write$ newline$} while$} EXECUTE {f}'
+"$program" --budget 1000000000000 job </dev/null >/dev/null 2>&1 &
+for _ in $(seq 100); do
+    [ "$(head -c 1 job.bbl)" = a ] && [ "$(stat -c %s job.bbl)" -gt 100 ] && break
+    sleep 0.05
+done
+kill -KILL $!
+wait $! 2>/dev/null || true
+wants_text job.blg ''
+[ "$(head -c 2 job.bbl)" = a ] || complaints+=('the list is not begun anew')
+end
+
+# An old log that can't be emptied, being a folder: nothing is said of it until the log is written.
+begin old_log_that_cannot_be_emptied
+mkdir job.blg
+run_program job
+wants_status 6
+wants_output "$first_log"
+wants_error $'bibtex: device error\n'
+wants_text job.bbl $'a\n'
+end
+
+# In a fresh folder a log isn't made before the run ends.
+begin no_log_before_the_end
+use_style 'FUNCTION {f} {{#1} {"a" write$ newline$} while$} EXECUTE {f}'
+"$program" --budget 1000000000000 job </dev/null >/dev/null 2>&1 &
+for _ in $(seq 100); do
+    [ "$(stat -c %s job.bbl 2>/dev/null || echo 0)" -gt 100 ] && break
+    sleep 0.05
+done
+kill -KILL $!
+wait $! 2>/dev/null || true
+wants_files d.bib job.aux job.bbl s.bst
+end
