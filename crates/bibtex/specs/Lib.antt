@@ -1,6 +1,7 @@
 pub mod Acts
 pub mod CommandLine
 pub mod FileErrors
+pub mod FolderFiles
 pub mod Jobs
 pub mod ListFiles
 pub mod Paths

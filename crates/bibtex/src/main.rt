@@ -18,6 +18,7 @@ mod outputs;
 mod paths;
 #[cfg(test)]
 mod scratch;
+mod system;
 
 use acting::{Performer, SystemPerformer};
 use btx_run::{Report, RunFault};
