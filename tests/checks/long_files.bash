@@ -34,7 +34,7 @@ ln -sf /dev/zero d.bib
 within 1000000 job
 wants_status 5
 wants_error $'bibtex: out of memory\n'
-wants_output "$found_log"
+wants_output "${found_log%Database*}"
 end
 
 # A file of 3 GB without a byte on the disk, in the place of each file.

@@ -6,4 +6,5 @@ pub mod Jobs
 pub mod ListFiles
 pub mod Paths
 pub mod Printing
+pub mod Spelling
 pub mod Status
