@@ -35,6 +35,13 @@ run_program --budget 1000000000000000 job
 wants_job 0 $'a\n' "$first_log"
 end
 
+# Many steps may be taken as well, more than the usual budget has.
+begin more_steps_than_the_usual_budget
+use_style "INTEGERS {i} FUNCTION {f} {#101000000 'i := {i #0 >} {i #1 - 'i :=} while$} EXECUTE {f}"
+run_program --budget 2000000000 job
+wants_found 0 '' 'Ended: finished, warnings 0, errors 0, steps 1010000011'
+end
+
 # How text is read.
 # counts_characters NUMBER WORD..: the title `Élie` has so many characters.
 counts_characters() {
