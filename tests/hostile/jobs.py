@@ -236,6 +236,14 @@ def a_database_of_at_signs(size):
     return {"d.bib": DATABASE + b"@" * size}, Expected(errors=1, log={line: 1})
 
 
+@hostile(size=100_000, small=200)
+def one_long_string_used_again_and_again(size):
+    """The string is as long as may be, and each entry has it as a value by its name alone."""
+    text = b"x" * (size * LONGEST_STRING // 100_000)
+    entries = b"".join(b"@misc{k%d, title = s}\n" % number for number in range(size))
+    return {"job.aux": AUX.replace(b"{k}", b"{*}"), "d.bib": b"@string{s = {" + text + b"}}\n" + entries}, Expected()
+
+
 @hostile(size=160_000, small=500)
 def a_field_of_names(size):
     names = b" and ".join([b"A"] * (size - 1) + [b"Ann Lee"])

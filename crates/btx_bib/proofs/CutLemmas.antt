@@ -1,5 +1,5 @@
 -- A database that is cut in two where no item is open gives the same.
-use Rattle.std.proofs.Common.{◌≡◌, ◌≤◌, ◌+◌, ℕ, zero, suc, nat_lt, arith, Bool, true, false, if◌then◌else◌, List, [], ◌∷◌, ◌++◌, map, fold, length, Option, None, Some, Ok, Err, refl, sym, ap, subst, ◌∙◌, append-nil}
+use Rattle.std.proofs.Common.{◌≡◌, ◌≤◌, ◌+◌, ◌⊎◌, inl, inr, is_some, ℕ, zero, suc, nat_lt, arith, Bool, true, false, if◌then◌else◌, List, [], ◌∷◌, ◌++◌, map, fold, length, Option, None, Some, Ok, Err, refl, sym, ap, subst, ◌∙◌, append-nil}
 use Rattle.std.specs.Option.{option_map}
 use Rattle.std.proofs.lemmas.Bool.Decides.{nat_tests}
 use Rattle.std.proofs.lemmas.Grind.{fold-append}
@@ -23,10 +23,36 @@ use Rattle.btx_bib.specs.Grammar.ValueTexts.{Strings as Named_values, text_of_pa
 use Rattle.btx_bib.specs.Wanted.{Wanted}
 use Rattle.btx_bib.specs.Strings.{string_value, other_value, defined}
 use Rattle.btx_bib.specs.Entries.{Given}
+use Rattle.btx_bib.specs.Stored.{entry_of}
 use Rattle.btx_bib.specs.Known.{Known, goes_on, stored_in, closed, if_fits, after_field, after_key, after_event, after, after_all, keeping, takes, with_field}
 use Rattle.btx_bib.specs.Told.{Database}
 use Rattle.btx_bib.specs.Databases.{library_of, library_by, is_too_long, events_of, read_one, read_all, told_all, with_macros}
-use Rattle.btx_bib.specs.Cuts.{part_alone, event_alone, read_in, IsCutBetweenItems, GivesTheSame, CutGivesTheSame}
+use Rattle.btx_bib.specs.Cuts.{IsCutBetweenItems, GivesTheSame, CutGivesTheSame}
+use Rattle.btx_bib.proofs.GrammarLemmas.LongerLemmas.{part_on, event_on, placed_on, reading-on}
+use Rattle.btx_bib.proofs.GrammarLemmas.ReadingLemmas.{is_reading, one_reading}
+
+-- ---- what is read, without places
+
+-- a part of a value without its place
+abbrev pub part_alone : Part → Part
+part_alone (Braced text) = Braced text
+part_alone (Quoted text) = Quoted text
+part_alone (Digits text) = Digits text
+part_alone (Named string) = Named (record { name = string.name; rest = [] })
+
+-- what was read, without places
+abbrev pub event_alone : Event → Event
+event_alone Comment = Comment
+event_alone (Preamble value) = Preamble (map part_alone value)
+event_alone (Definition name value) = Definition name (map part_alone value)
+event_alone (Entry kind key) = Entry kind key
+event_alone (FieldOf field) = FieldOf (record { name = field.name; value = map part_alone field.value })
+event_alone Close = Close
+event_alone (Wrong slip) = Wrong slip
+
+-- what is read in a database, without places
+abbrev pub read_in : Wanted → Known → Database → List Event
+read_in wanted known database = map (λ (placed : Placed). event_alone placed.event) (events_of wanted known database)
 
 -- ---- places don't matter to what is known
 
@@ -236,6 +262,114 @@ alike wanted (event ∷ events) none known = by_end (goes_on known.ending) refl 
   by_end true on rest = alike-first wanted event events none rest known on
   by_end false over rest = alike-stuck wanted known (event ∷ events) over
 
+-- ---- with more behind it
+
+alone-part : (more : List ℕ) (part : Part) → part_alone (part_on more part) ≡ part_alone part
+alone-part more (Braced text) = refl
+alone-part more (Quoted text) = refl
+alone-part more (Digits text) = refl
+alone-part more (Named string) = refl
+
+alone-parts : (more : List ℕ) (value : List Part) → map part_alone (map (part_on more) value) ≡ map part_alone value
+alone-parts more [] = refl
+alone-parts more (part ∷ value) =
+    ap (λ (p : Part). p ∷ map part_alone (map (part_on more) value)) (alone-part more part) ∙ ap (λ (ps : List Part). part_alone part ∷ ps) (alone-parts more value)
+
+alone-on : (more : List ℕ) (event : Event) → event_alone (event_on more event) ≡ event_alone event
+alone-on more Comment = refl
+alone-on more (Preamble value) = ap (λ (v : List Part). Preamble v) (alone-parts more value)
+alone-on more (Definition name value) = ap (λ (v : List Part). Definition name v) (alone-parts more value)
+alone-on more (Entry kind key) = refl
+alone-on more (FieldOf field) = ap (λ (v : List Part). FieldOf (record { name = field.name; value = v })) (alone-parts more field.value)
+alone-on more Close = refl
+alone-on more (Wrong slip) = refl
+
+after-on : (wanted : Wanted) (more : List ℕ) (known : Known) (event : Event) → after wanted known (event_on more event) ≡ after wanted known event
+after-on wanted more known event = sym (alone-after wanted known (event_on more event)) ∙ ap (after wanted known) (alone-on more event) ∙ alone-after wanted known event
+
+alone-behind : (more : List ℕ) (events behind : List Placed) → alone (map (placed_on more) events ++ behind) ≡ alone events ++ alone behind
+alone-behind more [] behind = refl
+alone-behind more (placed ∷ events) behind =
+    ap (λ (event : Event). event ∷ alone (map (placed_on more) events ++ behind)) (alone-on more placed.event)
+    ∙ ap (λ (others : List Event). event_alone placed.event ∷ others) (alone-behind more events behind)
+
+-- ---- the end of an entry changes nothing of what is read
+
+after-ended : (wanted : Wanted) (known : Known) (event : Event) → goes_on known.ending ≡ false → after wanted known event ≡ known
+after-ended wanted known event over = ap (λ (b : Bool). if b then after_event wanted known event else known) over
+
+-- after what is neither an entry nor a field
+closed-after : (wanted : Wanted) (known : Known) (event : Event) → goes_on known.ending ≡ true → after_event wanted (closed known) event ≡ closed (after_event wanted known event) → after wanted (closed known) event ≡ closed (after wanted known event)
+closed-after wanted known event on same =
+    ap (λ (b : Bool). if b then after_event wanted (closed known) event else closed known) on
+    ∙ same
+    ∙ sym (ap (λ (b : Bool). closed (if b then after_event wanted known event else known)) on)
+
+closed-entry : (wanted : Wanted) (known : Known) (kind key : List ℕ) → goes_on known.ending ≡ true → after wanted (closed known) (Entry kind key) ≡ after wanted known (Entry kind key)
+closed-entry wanted known kind key on =
+    ap (λ (b : Bool). if b then after_key wanted (closed (closed known)) kind key else closed known) on
+    ∙ ap (λ (k : Known). after_key wanted k kind key) (closed-closed known)
+    ∙ sym (ap (λ (b : Bool). if b then after_key wanted (closed known) kind key else known) on)
+
+-- so many events
+abbrev SameEvents : Wanted → ℕ → Type 0
+SameEvents wanted turns = (known : Known) (next : Next) (text : List ℕ) → WantsNone next ⊎ (goes_on known.ending ≡ false)
+    → events_within (keeping wanted) turns (closed known) next text ≡ events_within (keeping wanted) turns known next text
+
+events-after : (wanted : Wanted) (turns : ℕ) (known : Known) (event : Event) (next : Next) (text : List ℕ) → SameEvents wanted turns → goes_on known.ending ≡ true → BeginsNone event next
+    → events_within (keeping wanted) turns (after wanted (closed known) event) next text ≡ events_within (keeping wanted) turns (after wanted known event) next text
+events-after wanted turns known (Entry kind key) next text later on none = ap (λ (k : Known). events_within (keeping wanted) turns k next text) (closed-entry wanted known kind key on)
+events-after wanted turns known (FieldOf field) next text later on none = absurd none
+events-after wanted turns known Comment next text later on none =
+    ap (λ (k : Known). events_within (keeping wanted) turns k next text) (closed-after wanted known Comment on refl) ∙ later (after wanted known Comment) next text (inl none)
+events-after wanted turns known (Preamble value) next text later on none =
+    let whole = known.preamble ++ value_text Kept (string_value known.strings) value in
+    ap (λ (k : Known). events_within (keeping wanted) turns k next text) (closed-after wanted known (Preamble value) on (closed-fits whole known (record known { preamble = whole })))
+    ∙ later (after wanted known (Preamble value)) next text (inl none)
+events-after wanted turns known (Definition name value) next text later on none =
+    let string = value_text Kept (other_value known.strings name) value in
+    ap (λ (k : Known). events_within (keeping wanted) turns k next text) (closed-after wanted known (Definition name value) on (closed-fits string known (record known { strings = defined known.strings name string })))
+    ∙ later (after wanted known (Definition name value)) next text (inl none)
+events-after wanted turns known Close next text later on none =
+    ap (λ (k : Known). events_within (keeping wanted) turns k next text) (closed-after wanted known Close on refl) ∙ later (after wanted known Close) next text (inl none)
+events-after wanted turns known (Wrong slip) next text later on none =
+    ap (λ (k : Known). events_within (keeping wanted) turns k next text) (closed-after wanted known (Wrong slip) on refl) ∙ later (after wanted known (Wrong slip)) next text (inl none)
+
+events-ended : (wanted : Wanted) (turns : ℕ) (known : Known) (event : Event) (next : Next) (text : List ℕ) → SameEvents wanted turns → goes_on known.ending ≡ false
+    → events_within (keeping wanted) turns (after wanted (closed known) event) next text ≡ events_within (keeping wanted) turns (after wanted known event) next text
+events-ended wanted turns known event next text later over =
+    ap (λ (k : Known). events_within (keeping wanted) turns k next text) (after-ended wanted (closed known) event over)
+    ∙ later known next text (inr over)
+    ∙ sym (ap (λ (k : Known). events_within (keeping wanted) turns k next text) (after-ended wanted known event over))
+
+events-behind : (wanted : Wanted) (turns : ℕ) (known : Known) (event : Event) (next : Next) (text : List ℕ) → SameEvents wanted turns → BeginsNone event next ⊎ (goes_on known.ending ≡ false)
+    → events_within (keeping wanted) turns (after wanted (closed known) event) next text ≡ events_within (keeping wanted) turns (after wanted known event) next text
+events-behind wanted turns known event next text later (inr over) = events-ended wanted turns known event next text later over
+events-behind wanted turns known event next text later (inl none) = by_end (goes_on known.ending) refl where
+  by_end : (b : Bool) → goes_on known.ending ≡ b → events_within (keeping wanted) turns (after wanted (closed known) event) next text ≡ events_within (keeping wanted) turns (after wanted known event) next text
+  by_end true on = events-after wanted turns known event next text later on none
+  by_end false over = events-ended wanted turns known event next text later over
+
+events-closed : (wanted : Wanted) (turns : ℕ) → SameEvents wanted turns
+unfolding events_within
+events-closed wanted zero known next text h = refl
+events-closed wanted (suc turns) known next text h =
+    ap (λ (entries : List Given). events_by (keeping wanted) (events_within (keeping wanted) turns) (closed known) (next_step (λ key. is_some (entry_of entries key)) next text)) (append-nil (stored_in known))
+    ∙ by_step (next_step ((keeping wanted).is_stored known) next text) (steps h) (events-closed wanted turns) where
+      steps : WantsNone next ⊎ (goes_on known.ending ≡ false) → StepNone (next_step ((keeping wanted).is_stored known) next text) ⊎ (goes_on known.ending ≡ false)
+      steps (inl none) = inl (known-none ((keeping wanted).is_stored known) (step_of next text) (step-none next text none))
+      steps (inr over) = inr over
+
+      by_step : (o : Option Step) → StepNone o ⊎ (goes_on known.ending ≡ false) → SameEvents wanted turns
+          → events_by (keeping wanted) (events_within (keeping wanted) turns) (closed known) o ≡ events_by (keeping wanted) (events_within (keeping wanted) turns) known o
+      by_step None none later = refl
+      by_step (Some step) none later =
+          ap (λ (events : List Placed). record { event = step.event; rest = step.rest } ∷ events) (events-behind wanted turns known step.event step.wanted step.rest later none)
+
+events_from-closed : (wanted : Wanted) (known : Known) (text : List ℕ) → events_from (keeping wanted) (closed known) Item text ≡ events_from (keeping wanted) known Item text
+unfolding events_from
+events_from-closed wanted known text = events-closed wanted _ known Item text (inl tt)
+
 -- ---- one database or two
 
 is-read : (wanted : Wanted) (known : Known) (database : Database) → goes_on known.ending ≡ true → is_too_long database ≡ false → read_one wanted known database ≡ closed (fold (after wanted) known (read_in wanted known database))
@@ -262,6 +396,22 @@ shorter part whole le short = by_test (nat_lt greatest_file part) refl where
   by_test false h = refl
   by_test true h = absurd (grind (arith, nat_tests))
 
+-- what is read in the whole is what is read in the first and then what is read in the second
+cut-is-read : (wanted : Wanted) (known : Known) (whole first second : Database) → IsCutBetweenItems wanted known whole first second → goes_on known.ending ≡ true → is_too_long first ≡ false
+    → read_in wanted known whole ≡ read_in wanted known first ++ read_in wanted (read_one wanted known first) second
+cut-is-read wanted known whole first second cut on short =
+    let events = events_of wanted known first in
+    let middle = after_all wanted known events in
+    let behind = events_from (keeping wanted) middle Item second.text in
+    let reading = reading-on second.text (keeping wanted) (after-on wanted second.text) events behind known Item first.text cut.1 (is_reading (keeping wanted) known Item first.text) (is_reading (keeping wanted) middle Item second.text) in
+    let is = one_reading (keeping wanted) (map (placed_on second.text) events ++ behind) known Item (first.text ++ second.text) reading in
+    let left : read_one wanted known first ≡ closed middle = is-read wanted known first on short ∙ ap closed (alone-all wanted known events) in
+    ap (λ (text : List ℕ). alone (events_from (keeping wanted) known Item text)) cut.0
+    ∙ ap alone (sym is)
+    ∙ alone-behind second.text events behind
+    ∙ ap (λ (others : List Placed). alone events ++ alone others) (sym (events_from-closed wanted middle second.text))
+    ∙ ap (λ (k : Known). alone events ++ read_in wanted k second) (sym left)
+
 cut-reads : (wanted : Wanted) (known : Known) (whole first second : Database) → IsCutBetweenItems wanted known whole first second → is_too_long whole ≡ false
     → read_one wanted (read_one wanted known first) second ≡ read_one wanted known whole
 cut-reads wanted known whole first second cut short = by_end (goes_on known.ending) refl where
@@ -283,7 +433,7 @@ cut-reads wanted known whole first second cut short = by_end (goes_on known.endi
       ∙ then-read wanted before second second-short
       ∙ ap (λ (k : Known). closed (fold (after wanted) before (read_in wanted k second))) (sym left)
       ∙ ap closed (sym (fold-append (after wanted) known (read_in wanted known first) (read_in wanted (read_one wanted known first) second)))
-      ∙ ap (λ (events : List Event). closed (fold (after wanted) known events)) (sym cut.1)
+      ∙ ap (λ (events : List Event). closed (fold (after wanted) known events)) (sym (cut-is-read wanted known whole first second cut on first-short))
       ∙ sym (is-read wanted known whole on short)
 
 -- ---- the library

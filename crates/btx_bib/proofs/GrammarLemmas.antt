@@ -10,3 +10,4 @@ pub mod PlaceLemmas
 pub mod Rows
 pub mod WholeItemLemmas
 pub mod ItemEventLemmas
+pub mod LongerLemmas

@@ -50,6 +50,16 @@ strings_and_values : read (cited (codes "k" ∷ []) None 2) (codes "@string{s = 
 unfolding read line cited field kind library_of entries_of references_told slot_of inherited checked check_told body_of events_from events_within step_of behind_at head_at head_of command_of more_in after_comma field_at value_at value_within part_in name_in open_in sign_in key_in run_len enclosed_len squeezed lines_begun pieces_of
 strings_and_values = refl
 
+-- an extra field over two lines, and a name that stands for no string: each is told at its last line, which isn't its entry's first
+lines_of_an_entry : read (cited (codes "k" ∷ []) None 2) (codes "@misc{k, title = {A},\n title = {B\nC},\n booktitle = zz}") ≡ record {
+  entries = record { key = codes "k"; kind = Some 0; values = None ∷ Some (codes "A") ∷ Some [] ∷ [] } ∷ [];
+  preamble = [];
+  messages = message.ExtraField (codes "k") (codes "title") (line 3) ∷ message.UndefinedString (codes "zz") (line 4) ∷ [];
+  ending = end.Whole;
+}
+unfolding read line cited field kind library_of entries_of references_told slot_of inherited checked check_told body_of events_from events_within step_of behind_at head_at head_of command_of more_in after_comma field_at value_at value_within part_in name_in open_in sign_in key_in run_len enclosed_len squeezed lines_begun pieces_of
+lines_of_an_entry = refl
+
 -- a value that ends in a fault isn't stored, and its entry is
 unbalanced_value : read (cited (codes "k" ∷ []) None 2) (codes "@misc(k, title = \"a}b\")") ≡ record {
   entries = record { key = codes "k"; kind = Some 0; values = None ∷ None ∷ None ∷ [] } ∷ [];

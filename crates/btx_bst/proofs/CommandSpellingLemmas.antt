@@ -34,6 +34,7 @@ use Rattle.btx_bst.proofs.StyleLemmas.{style_from-again, style_from-ends, item_t
 use Rattle.btx_bst.proofs.SpellingLemmas.{spelled, broken, divided}
 use Rattle.btx_bst.proofs.ItemSpellingLemmas.{end_turn, more_turn, skipped-lines, skipped-to_end}
 use Rattle.btx_bst.proofs.WrittenLemmas.{ink_twice, name_no_brace, listed_name}
+use Rattle.btx_bst.proofs.WordSpellingLemmas.{parts-spelled, spelled-parts, break-spelled, spelled-break}
 use Rattle.btx_bst.proofs.TokenSpellingLemmas.{gap_one, gap_met, Agrees, spaced, sign_agrees, name_agrees, name_slip, text_agrees, letters_agrees}
 
 -- a rule has what a command comes to, and nothing else
@@ -260,19 +261,19 @@ body_broken s name c q items (Broken d i) h =
     ∙ ap (λ (x : List Item). outcome (Some c) (record s { items = x }) q) h.2
 
 body_one : (name : List ℕ) (s : Style) (p : Place) (o : Outcome) → HasBody name s p o → function_ended s (folded name) (body_end s.names (inside_at s p)) ≡ o
-body_one name s p o (inl h) = ap (function_ended s (folded name)) (spelled s.names h.0 p h.1 (made_in s) h.2) ∙ sym h.3
+body_one name s p o (inl h) = ap (function_ended s (folded name)) (spelled s.names h.0 p h.1 (made_in s) (parts-spelled h.0 p h.1 h.2)) ∙ sym h.3
 body_one name s p o (inr h) =
-    body_broken s (folded name) (complaint_in h.0) h.1 (made_till s.names h.0 (made_in s)).items (body_end s.names (inside_at s p)) (broken s.names h.0 p h.1 (made_in s) h.2) ∙ sym h.3
+    body_broken s (folded name) (complaint_in h.0) h.1 (made_till s.names h.0 (made_in s)).items (body_end s.names (inside_at s p)) (broken s.names h.0 p h.1 (made_in s) (break-spelled h.0 p h.1 h.2)) ∙ sym h.3
 
 body_met : (name : List ℕ) (s : Style) (p : Place) → HasBody name s p (function_ended s (folded name) (body_end s.names (inside_at s p)))
 body_met name s p = at (divided p) where
   at : Division p → HasBody name s p (function_ended s (folded name) (body_end s.names (inside_at s p)))
   at (inl h) =
       let o = outcome None (with_body name (made_by s.names h.0 (made_in s)) s) h.1 in
-      let k : HasBody name s p o = inl (h.0, h.1, h.2, refl) in rw (body_one name s p o k) k
+      let k : HasBody name s p o = inl (h.0, h.1, spelled-parts h.0 p h.1 h.2, refl) in rw (body_one name s p o k) k
   at (inr h) =
       let o = outcome (Some (complaint_in h.0)) (record s { items = (made_till s.names h.0 (made_in s)).items }) h.1 in
-      let k : HasBody name s p o = inr (h.0, h.1, h.2, refl) in rw (body_one name s p o k) k
+      let k : HasBody name s p o = inr (h.0, h.1, spelled-break h.0 p h.1 h.2, refl) in rw (body_one name s p o k) k
 
 body_gives : (name : List ℕ) → Gives (HasBody name) (λ s p. function_ended s (folded name) (body_end s.names (inside_at s p)))
 body_gives name = record { met = body_met name; one = body_one name }

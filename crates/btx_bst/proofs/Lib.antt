@@ -35,3 +35,4 @@ pub mod FirstNameLemmas
 pub mod StyleRows
 pub mod TokenSpellingLemmas
 pub mod CommandSpellingLemmas
+pub mod WordSpellingLemmas

@@ -20,10 +20,11 @@ use Rattle.btx_bst.specs.Outcomes.{Outcome, outcome, with_item}
 use Rattle.btx_bst.specs.Commands.{has_read, function_in}
 use Rattle.btx_bst.specs.Predefined.{predefined}
 use Rattle.btx_bst.specs.StyleText.{State, state, start, style_of}
-use Rattle.btx_bst.specs.Spelling.{Parts, Spells, Fragment, Breaks, complaint_in, made_by, made_till}
+use Rattle.btx_bst.specs.Spelling.{Parts, Fragment, complaint_in, made_by, made_till}
 use Rattle.btx_bst.specs.ItemSpelling.{AreFull}
 use Rattle.btx_bst.specs.Written.{AreNew, declared, made_in, with_body}
 use Rattle.btx_bst.specs.TokenSpelling.{Spelling, Gap, Spaced, IsMissing, SignHere, begins_name, NameHere, TextHere, LettersHere}
+use Rattle.btx_bst.specs.WordSpelling.{AreParts, BreakOff}
 
 -- what is known, the place, and what it comes to from there
 abbrev pub Rule : Type 1
@@ -99,8 +100,8 @@ Lists kind rest = Opened (λ style from o.
 -- a body up to its `}`, which defines a function; or one that breaks off, of which the messages stay
 abbrev pub HasBody : List ℕ → Rule
 HasBody name style from o =
-    ((parts : Parts) × (to : Place) × Spells parts from to × (o ≡ outcome None (with_body name (made_by style.names parts (made_in style)) style) to))
-    ⊎ ((fragment : Fragment) × (to : Place) × Breaks fragment from to × (o ≡ outcome (Some (complaint_in fragment)) (record style { items = (made_till style.names fragment (made_in style)).items }) to))
+    ((parts : Parts) × (to : Place) × AreParts parts from to × (o ≡ outcome None (with_body name (made_by style.names parts (made_in style)) style) to))
+    ⊎ ((fragment : Fragment) × (to : Place) × BreakOff fragment from to × (o ≡ outcome (Some (complaint_in fragment)) (record style { items = (made_till style.names fragment (made_in style)).items }) to))
 
 -- ---- the commands
 

@@ -40,4 +40,5 @@ pub mod Passages
 pub mod FirstNames
 pub mod WorkedStyles
 pub mod TokenSpelling
+pub mod WordSpelling
 pub mod CommandSpelling

@@ -10,6 +10,7 @@ ghost use Rattle.btx_bst.specs.Order.{MacroLaw, OnceLaw, OrderLaw};
 ghost use Rattle.btx_bst.specs.Passages.{CommandLaw, InkLaw, SkipLaw};
 ghost use Rattle.btx_bst.specs.References.{ReferencesLaw, ItemsLaw, ExecutedLaw};
 ghost use Rattle.btx_bst.specs.Spelling.{SpelledLaw, BrokenLaw, DividedLaw};
+ghost use Rattle.btx_bst.specs.WordSpelling.{TokensLaw};
 ghost use Rattle.btx_bst.specs.WorkedStyles as worked;
 ghost use Rattle.btx_bst.specs.Written.{FaultlessLaw, WrittenLaw};
 
@@ -90,9 +91,10 @@ pub fn styles_are_read_as_written()
     ensures faultless { FaultlessLaw }
 {}
 
-/// A text has one reading, and is read so: each command, whole or with its fault, and the line of the fault, are what the spelling of commands
-/// says; nothing that stands in a text can be told as anything else.
+/// A text has one reading, and is read so. A word of a body is met where it is spelled, and nowhere else; each command, whole or with its fault
+/// and the line of the fault, is what the spelling of commands says; and nothing that stands in a text can be told as anything else.
 pub fn styles_have_one_reading()
+    ensures tokens { TokensLaw }
     ensures reading { ReadingLaw }
     ensures one { OneReadingLaw }
 {}

@@ -1,5 +1,6 @@
 use Rattle.std.proofs.Common.{rules, subst}
 use Rattle.btx_out.specs.Pieces.{AppendsBeginning}
+use Rattle.btx_run.specs.Files.Answered.{job_answered}
 use Rattle.btx_run.specs.Files.Telling.{Tells, bytes_of_lines}
 use Rattle.btx_run.proofs.ReadingLemmas.{of_any, of_told, reads_behind, reads_part}
 use Rattle.btx_run.proofs.AnsweredLemmas.{no_answers}
@@ -37,5 +38,5 @@ returns-clause-answered g c =
       answers = c.after_job.ensures.answered.answers;
       holds =
           reads_behind c.after_job.result c.args.journal.now c.tell_all.new.self c.after_job.new.journal (sink.received c.args.log.now) (sink.received c.tell_all.new.log) (sink.received c.after_job.new.log)
-          c.args.job.now.log _ told c.after_job.ensures.answered.holds;
+          c.args.job.now.log (job_answered c.args.job.now c.after_job.ensures.answered.answers) told c.after_job.ensures.answered.holds;
     }

@@ -1,5 +1,7 @@
 use Rattle.std.proofs.Common.{rules, ◌≡◌, ◌∙◌, ◌∷◌, [], ap, subst}
 use Rattle.btx_out.specs.Pieces.{AppendsBeginning}
+use Rattle.btx_run.specs.Files.Answered.{databases_answered}
+use Rattle.btx_run.specs.Files.Readings.{style_found}
 use Rattle.btx_run.specs.Files.Telling.{Tells, bytes_of_lines}
 use Rattle.btx_run.specs.Files.Lines.{style_line}
 use Rattle.btx_run.proofs.ReadingLemmas.{of_any, of_told, reads_behind, reads_is, reads_nothing, reads_part, style_is_read}
@@ -46,5 +48,5 @@ returns-clause-answered g c =
       answers = c.with_style.ensures.answered.answers;
       holds =
           reads_behind c.with_style.result c.args.journal.now c.tell.new.self c.with_style.new.journal (sink.received c.args.log.now) (sink.received c.tell.new.log) (sink.received c.with_style.new.log)
-          (style_line c.args.style.name ∷ []) _ told c.with_style.ensures.answered.holds;
+          (style_line c.args.style.name ∷ []) (style_found c.args.style (databases_answered c.with_style.ensures.answered.answers.databases.each)) told c.with_style.ensures.answered.holds;
     }
