@@ -42,7 +42,7 @@ use Rattle.btx_step.specs.Sorting.{sorted_by}
 use Rattle.btx_step.specs.Steps.{built_in_run, run_of, step_of as store_step_of}
 use Rattle.btx_machine.specs.Commands.{command_word, visit}
 use Rattle.btx_machine.specs.Items.{item_of, items_of}
-use Rattle.btx_machine.specs.Meaning.{loop_of, meaning, rest_of}
+use Rattle.btx_machine.specs.MeaningBySteps.{loop_of, meaning}
 use Rattle.btx_machine.specs.Reports.{last_line, word_of}
 use Rattle.btx_machine.specs.Saying.{lines_told, said_on}
 use Rattle.btx_machine.specs.Steps.{step_of as machine_step_of, turn_of}
@@ -51,7 +51,7 @@ use Rattle.btx_run.specs.Files.Readings.{after_job, after_style, style_named, st
 
 -- opens each definition that the rows compute with
 computes : Unit {0}
-unfolding digits cut_into_lines trimmed mark_of place_text said events_of aux_pieces_of aux_command_named words_of job_of_files complaint_text note_text aux_kind_of skip_white till_white from_white last_white break_of cut_within cut_of body_turn body_end built_ins built_in_of style_command_named entry function read style_run sort declare macro_command len_till list_turn list_end before_of shown_of after_of named_lower behind_white ink_from skipped_from lines_size size item_turn style_from style_of turns_within value_of signed integer_at word_front library_of body_of run_len enclosed_len unmarked_len field_at after_comma more_in command_of head_of head_at behind_at bib_step_of events_within events_from lines_begun name_in open_in sign_in key_in squeezed part_in value_within value_at slot_of slip_text bib_text_of inherited checked check_told entries_of references_told form_of not_ascii_text place_of note_text_of note_kind_of has_place line_of sorted_by built_in_run run_of store_step_of command_word visit item_of items_of meaning loop_of rest_of word_of last_line lines_told said_on machine_step_of turn_of style_line no_style_line database_line no_database_line after_style style_read style_named after_job
+unfolding digits cut_into_lines trimmed mark_of place_text said events_of aux_pieces_of aux_command_named words_of job_of_files complaint_text note_text aux_kind_of skip_white till_white from_white last_white break_of cut_within cut_of body_turn body_end built_ins built_in_of style_command_named entry function read style_run sort declare macro_command len_till list_turn list_end before_of shown_of after_of named_lower behind_white ink_from skipped_from lines_size size item_turn style_from style_of turns_within value_of signed integer_at word_front library_of body_of run_len enclosed_len unmarked_len field_at after_comma more_in command_of head_of head_at behind_at bib_step_of events_within events_from lines_begun name_in open_in sign_in key_in squeezed part_in value_within value_at slot_of slip_text bib_text_of inherited checked check_told entries_of references_told form_of not_ascii_text place_of note_text_of note_kind_of has_place line_of sorted_by built_in_run run_of store_step_of command_word visit item_of items_of meaning loop_of word_of last_line lines_told said_on machine_step_of turn_of style_line no_style_line database_line no_database_line after_style style_read style_named after_job
 computes = tt
 
 -- the usual options, with a budget, the least number of references of a parent that isn't cited, and the greatest length of a line
