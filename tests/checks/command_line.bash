@@ -11,6 +11,34 @@ refuses() {
     end
 }
 
+# An option of the original with its one hyphen, also one with a value behind it: a line behind the library's text says how it is spelt here.
+hint="bibtex: options have two hyphens here, as in '--min-crossrefs'; the script bibtex-search takes the original's"
+
+# is_hinted YES_OR_NO WORD..: these words are refused, and that line is told last, or not at all.
+is_hinted() {
+    begin "hint_for_$(printf '%s' "${@:2}" | tr -c 'a-z0-9\n' _)"
+    run_program "${@:2}"
+    wants_status 1
+    wants_output ''
+    wants_error_with "error: "
+    if [ "$1" = yes ]; then
+        [ "$(tail -n 1 "$folder/stderr")" = "$hint" ] || complaints+=('the last line is no hint')
+    elif grep -qF "$hint" "$folder/stderr"; then
+        complaints+=('there is a hint')
+    fi
+    end
+}
+
+is_hinted yes -terse job
+is_hinted yes -min-crossrefs=3 job
+is_hinted yes -min-crossrefs 3 job
+is_hinted yes -version
+is_hinted yes job -terse
+is_hinted no --nope job
+is_hinted no -x job
+is_hinted no --nope -- -terse
+is_hinted no
+
 refuses no_job 'required arguments were not provided'
 refuses two_jobs "unexpected argument 'other'" job other
 refuses unknown_option "unexpected argument '--nope'" --nope job

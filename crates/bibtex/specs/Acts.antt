@@ -19,8 +19,8 @@ pub data Act : Type 0 where
   RanJob : (settings : Settings) (answer : Result Report RunFault) → Act
   -- a text was printed to standard output, or that failed
   ShownText : (text : List ℕ) (printed : Result (Unit {0}) RunFault) → Act
-  -- a text was told on standard error
-  ToldText : (text : List ℕ) → Act
+  -- a text and a hint behind it, which may be empty, were told on standard error
+  ToldText : (text hint : List ℕ) → Act
   -- a fault was told on standard error
   ToldFault : (fault : RunFault) → Act
 
@@ -43,12 +43,12 @@ exit_shown (Ok done) = exit.Shown
 exit_shown (Err fault) = exit.Failed fault
 
 -- words that are not run come to this end: a text that was asked for is printed, and if that fails, the fault is told; of a mistake its
--- text is told; of refused memory that fault
-abbrev pub IsTold : Refusal → Done → Done → Exit → Type 0
-IsTold (refusal.Shown text) before after end =
+-- text is told, with this hint; of refused memory that fault
+abbrev pub IsTold : List ℕ → Refusal → Done → Done → Exit → Type 0
+IsTold hint (refusal.Shown text) before after end =
     (printed : Result (Unit {0}) RunFault) × Does before after (ShownText (string_bytes text) printed ∷ telling printed) × (end ≡ exit_shown printed)
-IsTold (refusal.Mistake text) before after end = Does before after (ToldText (string_bytes text) ∷ []) × (end ≡ exit.Refused)
-IsTold refusal.Memory before after end = Does before after (ToldFault run_fault.Memory ∷ []) × (end ≡ exit.Failed run_fault.Memory)
+IsTold hint (refusal.Mistake text) before after end = Does before after (ToldText (string_bytes text) hint ∷ []) × (end ≡ exit.Refused)
+IsTold hint refusal.Memory before after end = Does before after (ToldFault run_fault.Memory ∷ []) × (end ≡ exit.Failed run_fault.Memory)
 
 -- a job comes to the end of what it answered, whose fault, if it is one, is told
 abbrev pub IsRun : Settings → Done → Done → Exit → Type 0
@@ -56,14 +56,14 @@ IsRun settings before after end =
     (answer : Result Report RunFault) × Does before after (RanJob settings answer ∷ telling answer) × (end ≡ exit_of answer)
 
 -- what was read is run or told
-abbrev pub IsAnswered : Result Settings Refusal → Done → Done → Exit → Type 0
-IsAnswered (Ok settings) before after end = IsRun settings before after end
-IsAnswered (Err refusal) before after end = IsTold refusal before after end
+abbrev pub IsAnswered : List ℕ → Result Settings Refusal → Done → Done → Exit → Type 0
+IsAnswered hint (Ok settings) before after end = IsRun settings before after end
+IsAnswered hint (Err refusal) before after end = IsTold hint refusal before after end
 
 -- the words of a command line, the program's name first, come to this end: the job of their settings is run, once, and nothing else is, or they
--- are refused as they are read
-pub record ComesTo (words : List (List ℕ)) (before after : Done) (end : Exit) : Type 0 where
+-- are refused as they are read; a mistake is told with this hint
+pub record ComesTo (words : List (List ℕ)) (hint : List ℕ) (before after : Done) (end : Exit) : Type 0 where
   pub read : Result Settings Refusal
   pub settings : IfOk read (IsSettingsOf words)
   pub refused : Refuses words read
-  pub answered : IsAnswered read before after end
+  pub answered : IsAnswered hint read before after end

@@ -1,8 +1,10 @@
 pub mod Acts
 pub mod CommandLine
 pub mod FileErrors
+pub mod FolderFiles
 pub mod Jobs
 pub mod ListFiles
 pub mod Paths
 pub mod Printing
+pub mod Spelling
 pub mod Status

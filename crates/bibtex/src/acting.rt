@@ -22,9 +22,9 @@ pub trait Performer {
     fn show(&mut self, text: &str) -> Result<(), RunFault>
         ensures { Does (acts self.old) (acts self.new) (ShownText text.now result ∷ []) };
 
-    /// Tells a text on standard error. Where that can't be done, nothing is said.
-    fn tell(&mut self, text: &str)
-        ensures { Does (acts self.old) (acts self.new) (ToldText text.now ∷ []) };
+    /// Tells a text on standard error, and a hint behind it. Where that can't be done, nothing is said.
+    fn tell(&mut self, text: &str, hint: &str)
+        ensures { Does (acts self.old) (acts self.new) (ToldText text.now hint.now ∷ []) };
 
     /// Tells a fault on standard error. Where that can't be done, nothing is said.
     fn tell_fault(&mut self, fault: RunFault)
@@ -60,8 +60,8 @@ impl<R: Files + Print + Eprint> Performer for SystemPerformer<'_, R> {
         print!(self.rt; "{text}").map_err(|error| output_fault(&error))
     }
 
-    fn tell(&mut self, text: &str) {
-        let _ = eprint!(self.rt; "{text}");
+    fn tell(&mut self, text: &str, hint: &str) {
+        let _ = eprint!(self.rt; "{text}{hint}");
     }
 
     fn tell_fault(&mut self, fault: RunFault) {

@@ -1,60 +1,82 @@
 //! The files of a folder.
-ghost use Rattle.std.specs.Prelude.{◌≡◌, false, None};
+ghost use Rattle.std.specs.Prelude.{◌≡◌, ◌++◌, [], false, IfOk, IfSome, OnOk, take};
 ghost use Rattle.std.specs.IoError.{error_kind};
+ghost use Rattle.std.specs.Option.{option_map};
+ghost use Rattle.btx_aux.specs.Files.{file_of};
 ghost use Rattle.bibtex.specs.FileErrors.{read_fault, unopened};
+ghost use Rattle.bibtex.specs.FolderFiles.{folder_files, most_read};
 
 use crate::paths::path_in;
+use crate::system::System;
 use btx_run::{FetchFault, Finder};
+use btx_text::GREATEST_FILE;
 use std::alloc::Global;
+use std::io;
 use std::io::{ErrorKind, Read};
-use std::rt::Files;
-use std::{fs, io};
 
-/// The files of a folder. It doesn't tell its content, which is the system's.
-pub struct DirectoryFinder<'a, R> {
-    rt: &'a R,
+/// The files of a folder of a system. It tells its content where the system does.
+pub struct DirectoryFinder<'a, S> {
+    system: S,
     directory: &'a str,
     failures: u64,
 }
 
-impl<R> Drop for DirectoryFinder<'_, R> {
+impl<S: Drop> Drop for DirectoryFinder<'_, S> {
     fn drop(self) {
         let Self {
-            rt: _,
+            system: _,
             directory: _,
             failures: _,
         } = self;
     }
 }
 
-impl<'a, R: Files> DirectoryFinder<'a, R> {
+impl<'a, S: System> DirectoryFinder<'a, S> {
     /// A finder that has not failed yet.
-    pub fn new(rt: &'a R, directory: &'a str) -> Self
-        ensures { result.failures ≡ 0 }
+    pub fn new(system: S, directory: &'a str) -> Self
+        ensures system { result.system ≡ system }
+        ensures directory { result.directory ≡ directory.entry }
+        ensures failures { result.failures ≡ 0 }
     {
         DirectoryFinder {
-            rt,
+            system,
             directory,
             failures: 0,
         }
     }
 
-    // Appends the bytes of the file of this name. `Ok(false)`: it can't be opened, or its name isn't UTF-8, and nothing was read.
+    // Appends the bytes of the file of this name, as far as a file is read. `Ok(false)`: it can't be opened, or its name isn't UTF-8, and
+    // nothing was read.
     fn read(&self, alloc: Global, name: &[u8], into: &mut Vec<u8>) -> Result<bool, FetchFault>
-        ensures { result ≡ Ok false → into.new.items ≡ into.old.items }
+        ensures nothing { result ≡ Ok false → into.new.items ≡ into.old.items }
+        ensures found { into.old.items ≡ [] → IfSome (S.content self.now.system) (λ files.
+            IfOk result (λ found. folder_files self.now.directory.now files name.now ≡ file_of found into.new.items)) }
     {
         let Ok(name) = str::from_utf8(name) else {
             return Ok(false);
         };
-        let path = path_in(alloc, self.directory, name).map_err(|_| FetchFault::Memory)?;
-        let mut file = match fs::open(self.rt, path.as_str()) {
+        let Ok(path) = path_in(alloc, self.directory, name) else {
+            return Err(FetchFault::Memory);
+        };
+        let file = match self.system.open(path.as_str()) {
             Ok(file) => file,
             Err(error) => return unopened(&error),
         };
-        match file.read_to_end(into) {
-            Ok(_) => Ok(true),
-            Err(error) => Err(read_fault(&error)),
-        }
+        read_file(file, into)?;
+        Ok(true)
+    }
+}
+
+// The greatest number of bytes that are read of a file.
+const MOST_READ: u64 = GREATEST_FILE as u64 + 1;
+
+// Appends the bytes of a file, as far as one is read.
+fn read_file<R: Read + Drop>(file: R, into: &mut Vec<u8>) -> Result<(), FetchFault>
+    ensures { OnOk result (IfSome (R.remaining file) (λ bytes. into.new.items ≡ into.old.items ++ take most_read bytes)) }
+{
+    match file.take(MOST_READ).read_to_end(into) {
+        Ok(_) => Ok(()),
+        Err(error) => Err(read_fault(&error)),
     }
 }
 
@@ -78,8 +100,8 @@ fn read_fault(error: &io::Error) -> FetchFault
     }
 }
 
-impl<R: Files> Finder for DirectoryFinder<'_, R> {
-    ghost content = { λ _. None };
+impl<S: System> Finder for DirectoryFinder<'_, S> {
+    ghost content = { λ finder. option_map (folder_files finder.directory.now) (S.content finder.system) };
 
     ghost failures = { λ finder. finder.failures };
 
@@ -107,8 +129,11 @@ impl<R: Files> Finder for DirectoryFinder<'_, R> {
 mod tests {
     use super::*;
     use crate::scratch::{make_folder, write_file};
+    use crate::system::RealSystem;
     use std::alloc::AllocError;
+    use std::fs;
     use std::process::Abort;
+    use std::rt::Files;
     use std::test::Fail;
 
     // What a fetch answered, how often the finder failed then, and the bytes.
@@ -121,7 +146,7 @@ mod tests {
         name: &[u8],
     ) -> Result<Fetched, AllocError> {
         let mut into = Vec::from_slice(rt.alloc(), b"what was there")?;
-        let mut finder = DirectoryFinder::new(rt, directory);
+        let mut finder = DirectoryFinder::new(RealSystem::new(rt), directory);
         let answer = finder.fetch(rt.alloc(), name, &mut into);
         Ok((answer, finder.failures, into))
     }

@@ -10,6 +10,7 @@ use crate::given::Settings;
 use crate::list_file::{EmptiedFile, ListFile, open_list};
 use crate::outputs::{LogOutputs, SystemOutputs, empty_old_log};
 use crate::paths::path_of;
+use crate::system::RealSystem;
 use btx_run::{Finder, Over, Report, RunFault, Sink, run};
 use std::alloc::Global;
 use std::rt::Files;
@@ -113,7 +114,7 @@ pub fn run_job(
     let path = path_of(alloc, settings, ".bbl")?;
     let mut list = open_list(rt, path.as_str())?;
     empty_old_log(rt, alloc, settings);
-    let mut finder = DirectoryFinder::new(rt, settings.directory);
+    let mut finder = DirectoryFinder::new(RealSystem::new(rt), settings.directory);
     let mut outputs = SystemOutputs::new(rt, alloc, settings);
     let report = do_job(alloc, settings, &mut finder, &mut list, &mut outputs)?;
     Ok(report)

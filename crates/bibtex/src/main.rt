@@ -4,6 +4,7 @@
 ghost use Rattle.std.specs.Prelude.{◌≡◌, [], ◌∷◌, map, string_bytes};
 ghost use Rattle.bibtex.specs.Acts.{ComesTo, Does, IsTold, ToldFault, telling};
 ghost use Rattle.bibtex.specs.CommandLine.{status_of};
+ghost use Rattle.bibtex.specs.Spelling.{hint_of};
 ghost use Rattle.bibtex.specs.Status.{exit_of, status_at, told_by};
 
 mod acting;
@@ -18,12 +19,15 @@ mod outputs;
 mod paths;
 #[cfg(test)]
 mod scratch;
+mod spelling;
+mod system;
 
 use acting::{Performer, SystemPerformer};
 use btx_run::{Report, RunFault};
 use command_line::settings;
 use given::Refusal;
 use outcome::Exit;
+use spelling::hint;
 use std::alloc::Global;
 use std::io::ErrorKind;
 use std::process::ExitCode;
@@ -45,10 +49,10 @@ fn tell_fault<P: Performer>(performer: &mut P, fault: RunFault) -> Exit
     Exit::Failed(fault)
 }
 
-// Prints or tells why words are not run, and gives the program's end: the refusal's, unless its text can't be printed.
-fn tell_refusal<P: Performer>(performer: &mut P, refusal: &Refusal) -> Exit
+// Prints or tells why words are not run, a mistake with a hint, and gives the program's end: the refusal's, unless its text can't be printed.
+fn tell_refusal<P: Performer>(performer: &mut P, refusal: &Refusal, hint: &str) -> Exit
     ensures status { told_by (status_of refusal.now) (status_at result) }
-    ensures told { IsTold refusal.now (P.acts performer.old) (P.acts performer.new) result }
+    ensures told { IsTold hint.now refusal.now (P.acts performer.old) (P.acts performer.new) result }
 {
     match refusal {
         Refusal::Shown(text) => match performer.show(text.as_str()) {
@@ -56,7 +60,7 @@ fn tell_refusal<P: Performer>(performer: &mut P, refusal: &Refusal) -> Exit
             Err(fault) => tell_fault(performer, fault),
         },
         Refusal::Mistake(text) => {
-            performer.tell(text.as_str());
+            performer.tell(text.as_str(), hint);
             refusal.exit()
         }
         Refusal::Memory => tell_fault(performer, RunFault::Memory),
@@ -76,14 +80,14 @@ fn tell_answer<P: Performer>(performer: &mut P, answer: Result<Report, RunFault>
 
 // Does what the words ask for, and gives the program's end.
 fn answer<P: Performer>(performer: &mut P, alloc: Global, words: &[String]) -> Exit
-    ensures { ComesTo (map (λ word. string_bytes word) words.now) (P.acts performer.old) (P.acts performer.new) result }
+    ensures { ComesTo (map (λ word. string_bytes word) words.now) (hint_of words.now) (P.acts performer.old) (P.acts performer.new) result }
 {
     match settings(alloc, words) {
         Ok(settings) => {
             let answer = performer.run_job(alloc, &settings);
             tell_answer(performer, answer)
         }
-        Err(refusal) => tell_refusal(performer, &refusal),
+        Err(refusal) => tell_refusal(performer, &refusal, hint(words)),
     }
 }
 
@@ -102,7 +106,10 @@ fn main(rt: HostRuntime) -> ExitCode {
             tell_fault(&mut performer, RunFault::Memory)
         }
         Err(_) => {
-            performer.tell("error: invalid UTF-8 was detected in one or more arguments\n");
+            performer.tell(
+                "error: invalid UTF-8 was detected in one or more arguments\n",
+                "",
+            );
             Exit::Refused
         }
     };

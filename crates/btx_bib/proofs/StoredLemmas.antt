@@ -14,13 +14,13 @@ use Rattle.btx_bib.specs.Wanted.{Wanted}
 use Rattle.btx_bib.specs.Strings.{string_value, other_value, defined}
 use Rattle.btx_bib.specs.Entries.{Given, listed}
 use Rattle.btx_bib.specs.Stored.{entry_of, is_any_key, is_wanted, keys_in, parents_in, references_by}
-use Rattle.btx_bib.specs.Known.{Known, goes_on, stored_in, closed, if_fits, after_field, after_key, after_event, after, takes, with_field}
+use Rattle.btx_bib.specs.Known.{Known, goes_on, stored_in, closed, if_fits, after_field, after_key, after_event, after, keeping, takes, with_field}
 use Rattle.btx_bib.specs.Storing.{is_asked_for, is_entry, WantedNewAreStored, OthersStoreNone}
 use Rattle.btx_bib.proofs.ListedKeyLemmas.{is_any_key-append}
 
 -- ---- an entry
 
-is_stored-any : (stored : List Given) (key : List ℕ) → is_some (entry_of stored key) ≡ is_any_key (keys_in stored) key
+pub is_stored-any : (stored : List Given) (key : List ℕ) → is_some (entry_of stored key) ≡ is_any_key (keys_in stored) key
 is_stored-any [] key = refl
 is_stored-any (given ∷ stored) key = by_test (is_same_key key given.key) (is_stored-any stored key) where
   by_test : (b : Bool) → is_some (entry_of stored key) ≡ is_any_key (keys_in stored) key → is_some (if b then Some given else entry_of stored key) ≡ (b || is_any_key (keys_in stored) key)
@@ -41,8 +41,12 @@ and-true : (a : Bool) → (a && true) ≡ a
 and-true true = refl
 and-true false = refl
 
-pub wanted-new-are-stored : WantedNewAreStored
-wanted-new-are-stored wanted known kind key next on = by_stored (is_some (entry_of (stored_in known) key)) (is_stored-any (stored_in known) key) where
+-- the keys that are stored are those of the entries, with the one that is being read
+abbrev pub KnowsStored : Type 0
+KnowsStored = (wanted : Wanted) (known : Known) (key : List ℕ) → (keeping wanted).is_stored known key ≡ is_any_key (keys_in (stored_in known)) key
+
+pub wanted-new-are-stored : KnowsStored → WantedNewAreStored
+wanted-new-are-stored knows wanted known kind key next on = by_stored ((keeping wanted).is_stored known key) (knows wanted known key) where
   stored : List Given
   stored = stored_in known
 

@@ -1,13 +1,14 @@
 -- What stands below the top.
-use Rattle.std.proofs.Common.{ℕ, zero, suc, ◌≡◌, ◌≤◌, ◌<◌, ◌+◌, ◌-◌, List, [], ◌∷◌, false, length, take, drop, get_or, Some, None, refl, sym, ap, subst, ◌∙◌, arith}
+use Rattle.std.proofs.Common.{ℕ, zero, suc, ◌≡◌, ◌≤◌, ◌<◌, ◌+◌, ◌-◌, List, [], ◌∷◌, false, length, take, drop, get_or, Some, None, refl, sym, ap, subst, ◌∙◌, arith, true}
 use Rattle.std.proofs.lemmas.List.{take_all, take-take, drop_all, drop_more, drop-drop, length-take-le}
+use Rattle.btx_code.specs.Ops.{callee_of, Runs}
 use Rattle.btx_stack.specs.declared.slot.Kind.{Kind}
 use Rattle.btx_stack.specs.declared.slot.Kind.TheVariants as kind
 use Rattle.btx_stack.specs.declared.slot.Slot.{Slot}
 use Rattle.btx_stack.specs.Content.{Content}
 use Rattle.btx_stack.specs.Content as content
-use Rattle.btx_stack.specs.Slots.{content_of, content_as, contents_of, Stand, is_text_kind}
-use Rattle.btx_stack.specs.Steps.{has_text, is_text, large_on}
+use Rattle.btx_stack.specs.Slots.{HasBytes, content_of, content_as, contents_of, Stand, is_text_kind}
+use Rattle.btx_stack.specs.Steps.{has_text, is_text, large_on, integer_on, has_function, has_missing}
 use Rattle.btx_stack.proofs.Opens.{from_here, no_large_kind}
 use Rattle.btx_stack.proofs.Pushes.{count_is}
 
@@ -119,3 +120,84 @@ no_text_there slots top pool old d o l h = ap has_text (none_there slots top poo
 
 pub no_large_there : (slots : List Slot) (top : ℕ) (pool : List ℕ) (old : List Content) (d : ℕ) → contents_of (drop top slots) pool ≡ old → length slots ≡ 1000 → 1000 - top ≤ d → None ≡ large_on (drop d old)
 no_large_there slots top pool old d o l h = sym (ap large_on (none_there slots top pool old d o l h))
+
+-- what is told of the content of a depth
+at_kind : {X : Type 0} (f : List Content → X) (slots : List Slot) (top : ℕ) (b : Slot) (pool : List ℕ) (old : List Content) (d : ℕ) → contents_of (drop top slots) pool ≡ old → Stand (drop top slots) (length pool) → top + d < length slots → b ≡ get_or slots (top + d) b → f (drop d old) ≡ f (content_as b.kind b (drop b.start (take (end_of (drop top slots) d (length pool)) pool)) ∷ drop (d + 1) old)
+at_kind f slots top b pool old d o s l e = ap f (at_depth slots top b pool (end_of (drop top slots) d (length pool)) old d o s l e refl).shown
+
+-- integer_on
+integer_kind : (k : Kind) (v : Slot) (made : List ℕ) (xs : List Content) → k ≡ kind.Integer → integer_on (content_as k v made ∷ xs) ≡ Some v.integer
+integer_kind k v made xs e = ap (λ j. integer_on (content_as j v made ∷ xs)) e
+
+no_integer_kind : (k : Kind) (v : Slot) (made : List ℕ) (xs : List Content) → (k ≡ kind.Integer → ⊥) → integer_on (content_as k v made ∷ xs) ≡ None
+no_integer_kind kind.Integer v made xs n = absurd (n refl)
+no_integer_kind kind.Function v made xs n = refl
+no_integer_kind kind.Missing v made xs n = refl
+no_integer_kind kind.Lent v made xs n = refl
+no_integer_kind kind.Made v made xs n = refl
+no_integer_kind kind.Large v made xs n = refl
+
+pub depth_integer : (slots : List Slot) (top : ℕ) (b : Slot) (pool : List ℕ) (old : List Content) (d : ℕ) → contents_of (drop top slots) pool ≡ old → Stand (drop top slots) (length pool) → top + d < length slots → b ≡ get_or slots (top + d) b → b.kind ≡ kind.Integer → Some b.integer ≡ integer_on (drop d old)
+depth_integer slots top b pool old d o s l e k = sym (at_kind integer_on slots top b pool old d o s l e ∙ integer_kind b.kind b _ _ k)
+
+pub depth_no_integer : (slots : List Slot) (top : ℕ) (b : Slot) (pool : List ℕ) (old : List Content) (d : ℕ) → contents_of (drop top slots) pool ≡ old → Stand (drop top slots) (length pool) → top + d < length slots → b ≡ get_or slots (top + d) b → (b.kind ≡ kind.Integer → ⊥) → None ≡ integer_on (drop d old)
+depth_no_integer slots top b pool old d o s l e k = sym (at_kind integer_on slots top b pool old d o s l e ∙ no_integer_kind b.kind b _ _ k)
+
+pub no_integer_there : (slots : List Slot) (top : ℕ) (pool : List ℕ) (old : List Content) (d : ℕ) → contents_of (drop top slots) pool ≡ old → length slots ≡ 1000 → 1000 - top ≤ d → None ≡ integer_on (drop d old)
+no_integer_there slots top pool old d o l h = sym (ap integer_on (none_there slots top pool old d o l h))
+
+-- has_function
+function_kind : (k : Kind) (v : Slot) (made : List ℕ) (xs : List Content) → k ≡ kind.Function → has_function (content_as k v made ∷ xs) ≡ true
+function_kind k v made xs e = ap (λ j. has_function (content_as j v made ∷ xs)) e
+
+no_function_kind : (k : Kind) (v : Slot) (made : List ℕ) (xs : List Content) → (k ≡ kind.Function → ⊥) → has_function (content_as k v made ∷ xs) ≡ false
+no_function_kind kind.Integer v made xs n = refl
+no_function_kind kind.Function v made xs n = absurd (n refl)
+no_function_kind kind.Missing v made xs n = refl
+no_function_kind kind.Lent v made xs n = refl
+no_function_kind kind.Made v made xs n = refl
+no_function_kind kind.Large v made xs n = refl
+
+pub depth_has_function : (slots : List Slot) (top : ℕ) (b : Slot) (pool : List ℕ) (old : List Content) (d : ℕ) → contents_of (drop top slots) pool ≡ old → Stand (drop top slots) (length pool) → top + d < length slots → b ≡ get_or slots (top + d) b → b.kind ≡ kind.Function → true ≡ has_function (drop d old)
+depth_has_function slots top b pool old d o s l e k = sym (at_kind has_function slots top b pool old d o s l e ∙ function_kind b.kind b _ _ k)
+
+pub depth_no_function : (slots : List Slot) (top : ℕ) (b : Slot) (pool : List ℕ) (old : List Content) (d : ℕ) → contents_of (drop top slots) pool ≡ old → Stand (drop top slots) (length pool) → top + d < length slots → b ≡ get_or slots (top + d) b → (b.kind ≡ kind.Function → ⊥) → false ≡ has_function (drop d old)
+depth_no_function slots top b pool old d o s l e k = sym (at_kind has_function slots top b pool old d o s l e ∙ no_function_kind b.kind b _ _ k)
+
+pub no_function_there : (slots : List Slot) (top : ℕ) (pool : List ℕ) (old : List Content) (d : ℕ) → contents_of (drop top slots) pool ≡ old → length slots ≡ 1000 → 1000 - top ≤ d → false ≡ has_function (drop d old)
+no_function_there slots top pool old d o l h = sym (ap has_function (none_there slots top pool old d o l h))
+
+-- has_missing
+missing_kind : (k : Kind) (v : Slot) (made : List ℕ) (xs : List Content) → k ≡ kind.Missing → has_missing (content_as k v made ∷ xs) ≡ true
+missing_kind k v made xs e = ap (λ j. has_missing (content_as j v made ∷ xs)) e
+
+no_missing_kind : (k : Kind) (v : Slot) (made : List ℕ) (xs : List Content) → (k ≡ kind.Missing → ⊥) → has_missing (content_as k v made ∷ xs) ≡ false
+no_missing_kind kind.Integer v made xs n = refl
+no_missing_kind kind.Function v made xs n = refl
+no_missing_kind kind.Missing v made xs n = absurd (n refl)
+no_missing_kind kind.Lent v made xs n = refl
+no_missing_kind kind.Made v made xs n = refl
+no_missing_kind kind.Large v made xs n = refl
+
+pub depth_missing : (slots : List Slot) (top : ℕ) (b : Slot) (pool : List ℕ) (old : List Content) (d : ℕ) → contents_of (drop top slots) pool ≡ old → Stand (drop top slots) (length pool) → top + d < length slots → b ≡ get_or slots (top + d) b → b.kind ≡ kind.Missing → true ≡ has_missing (drop d old)
+depth_missing slots top b pool old d o s l e k = sym (at_kind has_missing slots top b pool old d o s l e ∙ missing_kind b.kind b _ _ k)
+
+pub depth_no_missing : (slots : List Slot) (top : ℕ) (b : Slot) (pool : List ℕ) (old : List Content) (d : ℕ) → contents_of (drop top slots) pool ≡ old → Stand (drop top slots) (length pool) → top + d < length slots → b ≡ get_or slots (top + d) b → (b.kind ≡ kind.Missing → ⊥) → false ≡ has_missing (drop d old)
+depth_no_missing slots top b pool old d o s l e k = sym (at_kind has_missing slots top b pool old d o s l e ∙ no_missing_kind b.kind b _ _ k)
+
+pub no_missing_there : (slots : List Slot) (top : ℕ) (pool : List ℕ) (old : List Content) (d : ℕ) → contents_of (drop top slots) pool ≡ old → length slots ≡ 1000 → 1000 - top ≤ d → false ≡ has_missing (drop d old)
+no_missing_there slots top pool old d o l h = sym (ap has_missing (none_there slots top pool old d o l h))
+
+pub depth_function : (slots : List Slot) (top : ℕ) (b : Slot) (pool : List ℕ) (old : List Content) (d : ℕ) → contents_of (drop top slots) pool ≡ old → Stand (drop top slots) (length pool) → top + d < length slots → b ≡ get_or slots (top + d) b → b.kind ≡ kind.Function → drop d old ≡ content.Function (callee_of b.op b.number) ∷ drop (d + 1) old
+depth_function slots top b pool old d o s l e k =
+    let end = end_of (drop top slots) d (length pool) in
+    (at_depth slots top b pool end old d o s l e refl).shown ∙ ap (λ j. content_as j b (drop b.start (take end pool)) ∷ drop (d + 1) old) k
+
+-- a function has an op that runs it
+pub depth_runs : (slots : List Slot) (top : ℕ) (b : Slot) (pool : List ℕ) (d : ℕ) → Stand (drop top slots) (length pool) → top + d < length slots → b ≡ get_or slots (top + d) b → b.kind ≡ kind.Function → Runs b.op
+depth_runs slots top b pool d s l e k =
+    let end = end_of (drop top slots) d (length pool) in
+    let here : drop d (drop top slots) ≡ b ∷ drop (top + d + 1) slots = drop-drop d top slots ∙ from_here slots (top + d) b l e in
+    let stand : Stand (b ∷ drop (top + d + 1) slots) end = subst (λ vs. Stand vs end) here (under (drop top slots) d pool s).stand in
+    let bytes : HasBytes kind.Function b (end - b.start) = subst (λ j. HasBytes j b (end - b.start)) k stand.0.bytes in
+    bytes.1

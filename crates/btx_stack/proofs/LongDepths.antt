@@ -9,6 +9,8 @@ use Rattle.btx_stack.specs.Steps.{large_on}
 use Rattle.btx_stack.specs.Steps as steps
 use Rattle.btx_stack.specs.LongStrings.{filled, Owns}
 use Rattle.btx_stack.specs.Stacks.{has_text}
+use Rattle.btx_stack.specs.Stacks as stacks
+use Rattle.btx_bst.specs.declared.callee.Callee.{Callee}
 use Rattle.btx_stack.proofs.Depths.{rest_is}
 use Rattle.btx_stack.proofs.LongStrings.{no_text, large_within}
 
@@ -76,3 +78,47 @@ pub deep_none : (old : List Content) (large : List (List ℕ)) (was : List Liter
 deep_none old large was d e f o w =
     let u = under old large d w in
     no_text (drop d old) (take u.count large) (drop d was) e f (sym (sym (ap (drop d) o) ∙ u.shown))
+
+integer_filled : (xs : List Content) (large : List (List ℕ)) → steps.integer_on xs ≡ stacks.integer_on (filled xs large)
+integer_filled [] large = refl
+integer_filled (content.Integer n ∷ xs) large = refl
+integer_filled (content.Text t ∷ xs) large = refl
+integer_filled (content.Function f ∷ xs) large = refl
+integer_filled (content.Missing ∷ xs) large = refl
+integer_filled (content.Large i ∷ xs) large = refl
+
+pub deep_integer : (old : List Content) (large : List (List ℕ)) (was : List Literal) (d : ℕ) → filled old large ≡ was → Owns old (length large) → steps.integer_on (drop d old) ≡ stacks.integer_on (drop d was)
+deep_integer old large was d o w =
+    let u = under old large d w in
+    integer_filled (drop d old) (take u.count large) ∙ ap stacks.integer_on (sym (sym (ap (drop d) o) ∙ u.shown))
+
+has_function_filled : (xs : List Content) (large : List (List ℕ)) → steps.has_function xs ≡ stacks.has_function (filled xs large)
+has_function_filled [] large = refl
+has_function_filled (content.Integer n ∷ xs) large = refl
+has_function_filled (content.Text t ∷ xs) large = refl
+has_function_filled (content.Function f ∷ xs) large = refl
+has_function_filled (content.Missing ∷ xs) large = refl
+has_function_filled (content.Large i ∷ xs) large = refl
+
+pub deep_has_function : (old : List Content) (large : List (List ℕ)) (was : List Literal) (d : ℕ) → filled old large ≡ was → Owns old (length large) → steps.has_function (drop d old) ≡ stacks.has_function (drop d was)
+deep_has_function old large was d o w =
+    let u = under old large d w in
+    has_function_filled (drop d old) (take u.count large) ∙ ap stacks.has_function (sym (sym (ap (drop d) o) ∙ u.shown))
+
+missing_filled : (xs : List Content) (large : List (List ℕ)) → steps.has_missing xs ≡ stacks.has_missing (filled xs large)
+missing_filled [] large = refl
+missing_filled (content.Integer n ∷ xs) large = refl
+missing_filled (content.Text t ∷ xs) large = refl
+missing_filled (content.Function f ∷ xs) large = refl
+missing_filled (content.Missing ∷ xs) large = refl
+missing_filled (content.Large i ∷ xs) large = refl
+
+pub deep_missing : (old : List Content) (large : List (List ℕ)) (was : List Literal) (d : ℕ) → filled old large ≡ was → Owns old (length large) → steps.has_missing (drop d old) ≡ stacks.has_missing (drop d was)
+deep_missing old large was d o w =
+    let u = under old large d w in
+    missing_filled (drop d old) (take u.count large) ∙ ap stacks.has_missing (sym (sym (ap (drop d) o) ∙ u.shown))
+
+pub deep_function : (old : List Content) (large : List (List ℕ)) (was : List Literal) (d : ℕ) (f : Callee) → drop d old ≡ content.Function f ∷ drop (d + 1) old → filled old large ≡ was → Owns old (length large) → drop d was ≡ literal.Function f ∷ drop (d + 1) was
+deep_function old large was d f e o w =
+    let u = under old large d w in
+    rest_is was (filled (drop (d + 1) old) (take u.count large)) (literal.Function f) d (sym (ap (drop d) o) ∙ (u.shown ∙ ap (λ xs. filled xs (take u.count large)) e))

@@ -11,7 +11,7 @@ use Rattle.btx_stack.specs.Steps.{pushed}
 
 few : (k : Kind) (v : Slot) (n : ℕ) → HasBytes k v n → n ≤ 1000000
 few kind.Integer v n h = omega arith
-few kind.Function v n h = omega arith
+few kind.Function v n h = omega (arith, h.0)
 few kind.Missing v n h = omega arith
 few kind.Lent v n h = omega (arith, h.0)
 few kind.Made v n h = omega (arith, h)

@@ -2,7 +2,7 @@
 -- the top slot at the end.
 use Rattle.std.specs.Prelude.{◌≡◌, ◌≤◌, ◌-◌, ℕ, Bool, true, false, List, [], ◌∷◌, length, take, drop, if◌then◌else◌}
 use Rattle.btx_text.specs.Limits.{greatest_string}
-use Rattle.btx_code.specs.Ops.{callee_of}
+use Rattle.btx_code.specs.Ops.{callee_of, Runs}
 use Rattle.btx_stack.specs.Content.{Content}
 use Rattle.btx_stack.specs.Content as content
 use Rattle.btx_stack.specs.declared.slot.Kind.{Kind}
@@ -34,10 +34,11 @@ abbrev pub contents_of : List Slot → List ℕ → List Content
 contents_of [] pool = []
 contents_of (v ∷ below) pool = content_of v (drop v.start pool) ∷ contents_of below (take v.start pool)
 
--- how many bytes of the pool a slot of a kind has, and at most how many of a file: no kind but `Made` has bytes of the pool
+-- how many bytes of the pool a slot of a kind has: no kind but `Made` has any; a string of a file has at most a million bytes, and a function has an
+-- op that runs it
 abbrev pub HasBytes : Kind → Slot → ℕ → Type 0
 HasBytes kind.Integer v n = n ≡ 0
-HasBytes kind.Function v n = n ≡ 0
+HasBytes kind.Function v n = (n ≡ 0) × Runs v.op
 HasBytes kind.Missing v n = n ≡ 0
 HasBytes kind.Lent v n = (n ≡ 0) × (length v.bytes.now ≤ greatest_string)
 HasBytes kind.Made v n = n ≤ greatest_short

@@ -1,7 +1,7 @@
 //! A literal as the stack keeps it.
 ghost use Rattle.std.specs.Prelude.{◌≡◌, ◌≤◌, length, IsTrue, drop, take};
 ghost use Rattle.btx_text.specs.Limits.{greatest_string};
-ghost use Rattle.btx_code.specs.Ops.{callee_of};
+ghost use Rattle.btx_code.specs.Ops.{callee_of, Runs};
 ghost use Rattle.btx_stack.specs.Slots.{IsPlain, IsMade, is_text_kind, is_large_kind, are_large_kinds, content_of, text_of};
 ghost use Rattle.btx_stack.specs.Content as content;
 
@@ -116,6 +116,7 @@ impl<'a> Slot<'a> {
     /// The slot holds a function from now on.
     #[inline(always)]
     pub fn set_function(&mut self, op: Op, number: u32, start: u32)
+        requires { Runs op }
         ensures { IsPlain self.new start (content.Function (callee_of op number)) }
     {
         self.kind = Kind::Function;

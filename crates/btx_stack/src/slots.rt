@@ -1,9 +1,9 @@
 //! The stack of slots over one pool of bytes, below the layer of long strings.
 ghost use Rattle.std.specs.Prelude.{◌≡◌, ◌≤◌, ◌<◌, ◌+◌, [], ◌∷◌, length, drop, IfOk, IfSome, OnErr, IsSome, is_some, IsTrue};
 ghost use Rattle.btx_text.specs.Limits.{greatest_string};
-ghost use Rattle.btx_code.specs.Ops.{callee_of};
+ghost use Rattle.btx_code.specs.Ops.{callee_of, Runs};
 ghost use Rattle.btx_stack.specs.Slots.{greatest_short};
-ghost use Rattle.btx_stack.specs.Steps.{Steps, Gives, large_on, plain_on, plain_off, pushed, below_top, has_text, joined, swapped, duplicated};
+ghost use Rattle.btx_stack.specs.Steps.{Steps, Gives, large_on, integer_on, has_function, has_missing, plain_on, plain_off, pushed, below_top, has_text, joined, swapped, duplicated};
 ghost use Rattle.btx_stack.specs.Content as content;
 
 use crate::literal::Literal;
@@ -11,6 +11,7 @@ use crate::pool::{again, append_two, exchange, put_before};
 use crate::slot::{Kind, Slot, are_large};
 use crate::variable::Variable;
 use btx_code::Op;
+use btx_code::op::Function;
 use btx_text::Text;
 use std::alloc::{AllocError, Global};
 use std::marker::Model;
@@ -85,6 +86,7 @@ impl<'a> Slots<'a> {
     #[tactic(auto, using(crate::proofs::Pushes::small, crate::proofs::Pushes::full, crate::proofs::Pushes::push_here))]
     #[inline(always)]
     pub fn push_function(&mut self, op: Op, number: u32) -> bool
+        requires { Runs op }
         ensures steps { Steps result self.old (pushed (content.Function (callee_of op number)) self.old) self.new }
         ensures room { length self.old < 1000 → IsTrue result }
     {
@@ -247,6 +249,59 @@ impl<'a> Slots<'a> {
         }
         let end = self.all[self.top + depth - 1].start as usize;
         Some(slot.text(&self.pool, end))
+    }
+
+    /// The integer `depth` below the top, if one stands there.
+    #[tactic(auto, using(crate::proofs::Depths::depth_integer, crate::proofs::Depths::depth_no_integer, crate::proofs::Depths::no_integer_there))]
+    #[inline(always)]
+    pub fn integer_at(&self, depth: usize) -> Option<i32>
+        ensures { result ≡ integer_on (drop depth self.now) }
+    {
+        if depth >= 1000 - self.top {
+            return None;
+        }
+        let slot = self.all[self.top + depth];
+        match slot.kind {
+            Kind::Integer => Some(slot.integer),
+            _ => None,
+        }
+    }
+
+    /// The function `depth` below the top, if one stands there.
+    #[tactic(auto, using(crate::proofs::Depths::depth_function, crate::proofs::Depths::depth_has_function, crate::proofs::Depths::depth_no_function, crate::proofs::Depths::no_function_there, crate::proofs::Depths::depth_runs))]
+    #[inline(always)]
+    pub fn function_at(&self, depth: usize) -> Option<Function>
+        ensures some { is_some result ≡ has_function (drop depth self.now) }
+        ensures function { IfSome result (λ f. drop depth self.now ≡ content.Function (callee_of f.op f.number) ∷ drop (depth + 1) self.now) }
+        ensures runs { IfSome result (λ f. Runs f.op) }
+    {
+        if depth >= 1000 - self.top {
+            return None;
+        }
+        let slot = self.all[self.top + depth];
+        match slot.kind {
+            Kind::Function => Some(Function {
+                op: slot.op,
+                number: slot.number,
+            }),
+            _ => None,
+        }
+    }
+
+    /// Whether the value of a missing field stands `depth` below the top.
+    #[tactic(auto, using(crate::proofs::Depths::depth_missing, crate::proofs::Depths::depth_no_missing, crate::proofs::Depths::no_missing_there))]
+    #[inline(always)]
+    pub fn missing_at(&self, depth: usize) -> bool
+        ensures { result ≡ has_missing (drop depth self.now) }
+    {
+        if depth >= 1000 - self.top {
+            return false;
+        }
+        let slot = self.all[self.top + depth];
+        match slot.kind {
+            Kind::Missing => true,
+            _ => false,
+        }
     }
 
     /// The index of the long string `depth` below the top, if one stands there.

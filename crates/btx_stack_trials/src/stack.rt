@@ -1,6 +1,7 @@
 //! Literals pushed, joined, exchanged and popped, by words whose letters are calls.
 use btx_bst::Callee;
 use btx_code::Op;
+use btx_code::op::Function;
 use btx_stack::{Literal, Literals, Variable};
 use btx_text::Text;
 use std::alloc::{AllocError, Global};
@@ -159,6 +160,23 @@ fn strings_below_the_top(rt: HostRuntime) -> Result<(), AllocError> {
     assert!(rt; length_at(&stack, 3) == 3000);
     assert!(rt; length_at(&stack, 4) == 2000);
     assert!(rt; length_at(&stack, 5) == 0);
+    Ok(())
+}
+
+#[test]
+fn literals_below_the_top(rt: HostRuntime) -> Result<(), AllocError> {
+    let mut stack = Literals::new(rt.alloc())?;
+    for letter in b"f-1m" {
+        called(rt.alloc(), &mut stack, *letter)?;
+    }
+    assert!(rt; stack.integer_at(1) == Some(-7));
+    assert!(rt; stack.missing_at(2) == true);
+    assert!(rt; stack.missing_at(1) == false);
+    let function = Function {
+        op: Op::Call,
+        number: 4,
+    };
+    assert!(rt; stack.function_at(3) == Some(function));
     Ok(())
 }
 

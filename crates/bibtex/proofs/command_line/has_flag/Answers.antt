@@ -1,5 +1,4 @@
 use Rattle.std.proofs.Common.{◌∙◌}
-use Rattle.clap.specs.Words.{found_of}
 use Rattle.bibtex.proofs.FlagLemmas.{flag_reads}
 use Rattle.bibtex.proofs.command_line.has_flag.Goals as goal
 

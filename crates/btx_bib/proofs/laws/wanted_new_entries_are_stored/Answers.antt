@@ -1,5 +1,9 @@
-use Rattle.btx_bib.proofs.StoredLemmas.{wanted-new-are-stored, others-store-none}
+use Rattle.btx_bib.specs.Known.{stored_in}
+use Rattle.btx_bib.proofs.StoredLemmas.{KnowsStored, is_stored-any, others-store-none, wanted-new-are-stored}
 use Rattle.btx_bib.proofs.laws.wanted_new_entries_are_stored.Goals as goal
 
+knows : KnowsStored
+knows wanted known key = is_stored-any (stored_in known) key
+
 pub returns : goal.returns
-returns c = record { entry = wanted-new-are-stored; others = others-store-none }
+returns c = record { entry = wanted-new-are-stored knows; others = others-store-none }
