@@ -18,7 +18,7 @@ use Rattle.bibtex.specs.declared.list_file.ListFile.{ListFile}
 
 -- The job that was asked for is run, with all that was asked of it, over a finder of this content, if it tells one: its report, list and
 -- log are the product's, and after a fault the two outputs are beginnings of them. Whatever the finder is, also one over the files of a disk,
--- the same holds of the product of some job by what the finder answered for its style and its databases; and the run keeps to its budget.
+-- the same holds of the product of some job by some answers for its style and its databases; and the run keeps to its budget.
 pub record RunsJob (content : Option Files) (settings : Settings) (before after : Received) (answer : Result Report RunFault) : Type 0 where
   pub report : IfOk answer (λ report. IfSome content (λ files. report ≡ (product files settings.job.now settings.options).report))
   pub list : OnOk answer (IfSome content (λ files. Appends before.0 after.0 (product files settings.job.now settings.options).bbl))

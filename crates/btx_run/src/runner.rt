@@ -187,8 +187,8 @@ pub fn run<F: Finder, W: Sink, L: Sink>(
         AtFault (W.received bbl.old, L.received log.old) (W.received bbl.new, L.received log.new) (product_with files name.now options.now) options.now.budget)) }
     ensures counts { CountsOfRun result (F.failures finder.old, F.failures finder.new) (W.failures bbl.old, W.failures bbl.new) (L.failures log.old, L.failures log.new) }
 
-    // Of every finder, whether it tells its content or not: there are a job and the files that the finder answered such that the report is that of
-    // their product, and both outputs received its bytes. After a fault there are such files that both outputs are beginnings of their product's, and
+    // Of every finder, whether it tells its content or not: there are a job and answers for its files such that the report is that of
+    // their product, and both outputs received its bytes. After a fault there are such answers that both outputs are beginnings of their product's, and
     // keep step.
     ensures answered { IfOk result (CompletesAsAnswered options.now (W.received bbl.old, L.received log.old) (W.received bbl.new, L.received log.new)) }
     ensures begun { OnErr result (FailsAsAnswered options.now (W.received bbl.old, L.received log.old) (W.received bbl.new, L.received log.new)) }

@@ -1,5 +1,5 @@
--- What the reading of a job's files comes to, by what its finder answered when it was asked for each of them. Of a finder that doesn't tell its content,
--- as one over the files of a disk, nothing else is known.
+-- What the reading of a job's files comes to, by an answer for each of them: its bytes, or that there is no such file. Of a finder that doesn't tell its
+-- content, as one over the files of a disk, no more is known than that there are such answers.
 use Rattle.std.specs.Prelude.{◌≡◌, ℕ, ◌+◌, List, [], ◌∷◌, ◌++◌, length, map, Option, None, Some, Result, Ok, Err}
 use Rattle.std.specs.List.{flat_map}
 use Rattle.std.specs.Option.{option_map}
@@ -36,7 +36,7 @@ files_answered answers = flat_map (λ given. as_list (file_answered given)) answ
 abbrev pub database_answered : ℕ → Answer → Reading (Option NamedFile)
 database_answered number given = reading (database_told number given.name (file_answered given) ∷ []) (file_answered given)
 
--- what is told of databases that were looked for, each numbered behind those that were found before it
+-- the log's lines of databases that were looked for, each numbered behind those that were found before it
 abbrev pub lines_answered : List Answer → List Answer → List Line
 lines_answered earlier [] = []
 lines_answered earlier (given ∷ answers) =
@@ -53,7 +53,7 @@ pub record AnswersTo (names : List (List ℕ)) : Type 0 where
   pub each : List Answer
   pub in_turn : map (λ (given : Answer). given.name) each ≡ names
 
--- what a finder answered for the files that a job names: for its style the bytes, or that there is no such file, and for each of its databases
+-- answers for the files that a job names: for its style the bytes, or that there is no such file, and for each of its databases
 pub record Answers (job : Job) : Type 0 where
   pub style : Option (List ℕ)
   pub databases : AnswersTo job.databases
