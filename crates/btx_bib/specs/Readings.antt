@@ -1,7 +1,6 @@
 -- The code's steps: what is kept and told along whole databases.
-use Rattle.std.specs.Prelude.{◌≡◌, ℕ, nat_lt, List, [], ◌∷◌, ◌++◌, length, map, None, if◌then◌else◌}
+use Rattle.std.specs.Prelude.{◌≡◌, ℕ, nat_lt, List, [], ◌∷◌, ◌++◌, length, None, if◌then◌else◌}
 use Rattle.btx_text.specs.Limits.{greatest_string}
-use Rattle.btx_bib.specs.declared.databases.Source.{Source}
 use Rattle.btx_bib.specs.declared.draft.Draft.{Draft}
 use Rattle.btx_bib.specs.declared.end.End.{End}
 use Rattle.btx_bib.specs.declared.end.End.TheVariants as end
@@ -21,13 +20,6 @@ use Rattle.btx_bib.specs.Steps.{names_of}
 use Rattle.btx_bib.specs.Strings.{defined}
 use Rattle.btx_bib.specs.Told.{Database}
 use Rattle.btx_bib.specs.Wanted.{Wanted}
-
--- a source as a database
-abbrev pub database_of : Source → Database
-database_of source = record { file = source.name.now; text = source.bytes.now }
-
-abbrev pub databases_of : List Source → List Database
-databases_of sources = map database_of sources
 
 -- what is kept after a database
 abbrev pub kept_one : Wanted → Gathering → Database → Gathering
