@@ -160,6 +160,7 @@ impl<'a> Gathering<'a> {
         } = self;
         draft.cite_all(alloc, request, request.last_cited())?;
         let Draft { names, slots } = draft;
+        let slots = slots.settled(alloc)?;
         let entries = entries_of(slots, alloc, names, &mut messages)?;
         Ok(Library {
             entries,
