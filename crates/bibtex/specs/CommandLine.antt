@@ -115,7 +115,7 @@ abbrev pub number_or : ℕ → Option Text → ℕ
 number_or usual None = usual
 number_or usual (Some text) = digits_value 10 (without_leading_plus text)
 
--- a flag's text is `true`; it has none where it isn't known at all
+-- a flag has a text, and that is `true`
 abbrev pub is_set : Option Text → Bool
 is_set None = false
 is_set (Some text) = bytes_eq text (codes "true")

@@ -7,6 +7,7 @@ use Rattle.btx_machine.specs.KeepingStep.{AtFault}
 use Rattle.btx_machine.specs.Product.{log_of}
 use Rattle.btx_machine.specs.Written.{Received}
 use Rattle.btx_machine.specs.declared.report.Report.{Report}
+use Rattle.btx_run.specs.Answered.{CompletesAsAnswered, FailsAsAnswered}
 use Rattle.btx_run.specs.Product.{product, product_with}
 use Rattle.btx_run.specs.declared.run_fault.RunFault.{RunFault}
 use Rattle.bibtex.specs.ListFiles.{FinishesList, Held, received_by}
@@ -16,13 +17,16 @@ use Rattle.bibtex.specs.declared.given.Settings.{Settings}
 use Rattle.bibtex.specs.declared.list_file.ListFile.{ListFile}
 
 -- The job that was asked for is run, with all that was asked of it, over a finder of this content, if it tells one: its report, list and
--- log are the product's, and after a fault the two outputs are beginnings of them. Whatever the finder is, the run keeps to its budget.
+-- log are the product's, and after a fault the two outputs are beginnings of them. Whatever the finder is, also one over the files of a disk,
+-- the same holds of the product of some job by what the finder answered for its style and its databases; and the run keeps to its budget.
 pub record RunsJob (content : Option Files) (settings : Settings) (before after : Received) (answer : Result Report RunFault) : Type 0 where
   pub report : IfOk answer (λ report. IfSome content (λ files. report ≡ (product files settings.job.now settings.options).report))
   pub list : OnOk answer (IfSome content (λ files. Appends before.0 after.0 (product files settings.job.now settings.options).bbl))
   pub log : OnOk answer (IfSome content (λ files. Appends before.1 after.1 (log_of (product files settings.job.now settings.options))))
   pub fault : OnErr answer (IfSome content (λ files.
       AtFault before after (product_with files settings.job.now settings.options) settings.options.budget))
+  pub answered : IfOk answer (CompletesAsAnswered settings.options before after)
+  pub begun : OnErr answer (FailsAsAnswered settings.options before after)
   pub within : IfOk answer (λ report. report.steps ≤ settings.options.budget)
 
 -- what is handed to the outputs of a log, with what came of it: it is stored in the job's file, or printed to standard output

@@ -3,6 +3,7 @@ use Rattle.std.specs.Prelude.{ℕ, ◌-◌, List, [], ◌++◌}
 use Rattle.std.specs.List.{flat_map}
 use Rattle.btx_out.specs.Breaking.{wrap, written_of}
 use Rattle.btx_out.specs.Breakers.{finished}
+use Rattle.btx_step.specs.Jobs.{Job}
 use Rattle.btx_step.specs.Starts.{first_store}
 use Rattle.btx_machine.specs.declared.ending.Ending.{Ending}
 use Rattle.btx_machine.specs.declared.ending.Ending.TheVariants as ending
@@ -11,7 +12,7 @@ use Rattle.btx_machine.specs.declared.report.Told.{Told}
 use Rattle.btx_machine.specs.States.{Out, State, state, Outcome, Done, Stopped, Limit}
 use Rattle.btx_machine.specs.Saying.{ended_line}
 use Rattle.btx_machine.specs.Reports.{end_as, told_so, report_of, last_line}
-use Rattle.btx_machine.specs.Items.{Given, items_of}
+use Rattle.btx_machine.specs.Items.{items_of}
 
 -- the list of references, what is told before the log's last line, and the report, which that line tells
 pub record Product : Type 0 where
@@ -51,16 +52,16 @@ abbrev pub no_out : Told → Out
 no_out told = record { lines = []; pending = []; log = []; warnings = told.warnings; errors = told.errors }
 
 -- the first state
-abbrev pub first : Given → Told → State
-first g told = state (first_store g.job) (no_out told)
+abbrev pub first : Job → Told → State
+first job told = state (first_store job) (no_out told)
 
 -- what the items of the style come to
-abbrev pub executed : Given → Told → ℕ → Outcome
-executed g told budget = items_of g g.job.style.items [] budget (first g told)
+abbrev pub executed : Job → Told → ℕ → Outcome
+executed job told budget = items_of job job.style.items [] budget (first job told)
 
 -- the product of the items of the style, for lines of at most so many bytes
-abbrev pub product : Given → Told → ℕ → ℕ → Product
-product g told limit budget = product_of limit budget (executed g told budget)
+abbrev pub product : Job → Told → ℕ → ℕ → Product
+product job told limit budget = product_of limit budget (executed job told budget)
 
 -- the product of a run that ends before its style is executed
 abbrev pub product_early : Report → Product

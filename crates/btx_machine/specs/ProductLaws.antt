@@ -1,10 +1,10 @@
 -- The laws over budgets, for a run.
 use Rattle.std.specs.Prelude.{◌≡◌, ◌≢◌, ℕ, ◌≤◌}
 use Rattle.btx_out.specs.Lengths.{IsLineLength}
+use Rattle.btx_step.specs.Jobs.{Job}
 use Rattle.btx_machine.specs.declared.report.End.TheVariants.{Stopped}
 use Rattle.btx_machine.specs.declared.report.Told.{Told}
 use Rattle.btx_machine.specs.Goings.{Begins}
-use Rattle.btx_machine.specs.Items.{Given}
 use Rattle.btx_machine.specs.Product.{Product, product, log_of}
 
 -- what a run writes begins what one with a larger budget writes, the log's last line aside; where it isn't stopped, that writes and
@@ -15,8 +15,8 @@ pub record Foretells (shorter longer : Product) : Type 0 where
   pub same : shorter.report.end ≢ Stopped → longer ≡ shorter
 
 abbrev pub RunLaw : Type 0
-RunLaw = (g : Given) (told : Told) (limit : ℕ) → IsLineLength limit → (c d : ℕ) → c ≤ d → Foretells (product g told limit c) (product g told limit d)
+RunLaw = (job : Job) (told : Told) (limit : ℕ) → IsLineLength limit → (c d : ℕ) → c ≤ d → Foretells (product job told limit c) (product job told limit d)
 
 -- no run ever has more than 4,096 bodies open at once
 abbrev pub DepthLaw : Type 0
-DepthLaw = (g : Given) (told : Told) (limit budget : ℕ) → (product g told limit budget).report.deepest ≤ 4096
+DepthLaw = (job : Job) (told : Told) (limit budget : ℕ) → (product job told limit budget).report.deepest ≤ 4096

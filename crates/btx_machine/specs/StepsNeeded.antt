@@ -1,8 +1,8 @@
 -- How many steps a run needs.
 use Rattle.std.specs.Prelude.{◌≡◌, ◌≢◌, ℕ, ◌<◌, ◌≤◌}
+use Rattle.btx_step.specs.Jobs.{Job}
 use Rattle.btx_machine.specs.declared.report.End.TheVariants.{Stopped}
 use Rattle.btx_machine.specs.declared.report.Told.{Told}
-use Rattle.btx_machine.specs.Items.{Given}
 use Rattle.btx_machine.specs.Product.{Product, product}
 
 -- a run was stopped, and took all its steps
@@ -25,7 +25,7 @@ StoppedSteps run = (budget : ℕ) → (run budget).report.end ≡ Stopped → (r
 
 -- so it is with every run of a style
 abbrev pub NeedsLaw : Type 0
-NeedsLaw = (g : Given) (told : Told) (limit : ℕ) → NeededSteps (product g told limit)
+NeedsLaw = (job : Job) (told : Told) (limit : ℕ) → NeededSteps (product job told limit)
 
 abbrev pub StoppedLaw : Type 0
-StoppedLaw = (g : Given) (told : Told) (limit : ℕ) → StoppedSteps (product g told limit)
+StoppedLaw = (job : Job) (told : Told) (limit : ℕ) → StoppedSteps (product job told limit)

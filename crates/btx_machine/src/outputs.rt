@@ -1,10 +1,12 @@
 //! What is written and told while a run goes on.
-ghost use Rattle.std.specs.Prelude.{◌≡◌, [], List, ℕ, Option, IsSome, OnErr, OnOk};
+ghost use Rattle.std.specs.Prelude.{◌≡◌, [], List, ℕ, Option, IsSome, OnErr, OnOk, map};
 ghost use Rattle.btx_text.specs.LogLines.{is_error, is_warning};
+ghost use Rattle.btx_bib.specs.MessageTexts.{line_of as message_line};
 ghost use Rattle.btx_step.specs.Answers.{silence};
 ghost use Rattle.btx_machine.specs.Saying.{counted_if, line_told, lines_of, lines_told, said_on};
 
 use crate::report::Told;
+use btx_bib::Message;
 use btx_out::{Breaker, LineLength, Log, Sink};
 use btx_step::lines::line_of;
 use btx_step::{Job, Note, Said};
@@ -108,17 +110,23 @@ impl Outputs {
         Ok(())
     }
 
-    /// Tells lines of the log, one after another.
-    pub fn tell_all<L: Sink>(&mut self, lines: &[LogLine], log: &mut L) -> Result<(), Fault>
+    /// Tells messages of the databases, one after another; no more than one's line is held at a time.
+    pub fn tell_messages<L: Sink>(
+        &mut self,
+        alloc: Global,
+        messages: &[Message<'_>],
+        log: &mut L,
+    ) -> Result<(), Fault>
         ensures ok { OnOk result ((bbl : Option (List ℕ)) → Becomes self.old (bbl, L.received log.old) self.new (bbl, L.received log.new)
-            (λ out. lines_told lines.now out)) }
+            (λ out. lines_told (map message_line messages.now) out)) }
         ensures err { OnErr result ((bbl : Option (List ℕ)) → Stops self.old (bbl, L.received log.old) (bbl, L.received log.new)
-            (λ out. lines_told lines.now out)) }
+            (λ out. lines_told (map message_line messages.now) out)) }
         ensures breaker { self.new.breaker ≡ self.old.breaker }
         ensures counts { CountsOfLog result (L.failures log.old, L.failures log.new) }
     {
-        for line in lines {
-            self.tell(line, log)?;
+        for message in messages {
+            let line = message.log_line(alloc)?;
+            self.tell(&line, log)?;
         }
         Ok(())
     }

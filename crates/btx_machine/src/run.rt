@@ -1,7 +1,6 @@
 //! A run whose files are read.
 ghost use Rattle.std.specs.Prelude.{◌≡◌, ◌≤◌, IfOk, OnErr};
 ghost use Rattle.btx_machine.specs.Faults.{CountsOfOutputs};
-ghost use Rattle.btx_machine.specs.Items.{given};
 ghost use Rattle.btx_machine.specs.KeepingStep.{AtFault, Completes};
 ghost use Rattle.btx_machine.specs.Product.{product};
 
@@ -12,15 +11,14 @@ use crate::report::{Report, Told};
 use crate::work::Work;
 use btx_out::{LineLength, Sink};
 use btx_step::{Job, Store};
-use btx_text::{Fault, LogLine};
+use btx_text::Fault;
 use std::alloc::Global;
 
 /// Executes the style of a job: writes the list of references, in lines of at most so many bytes where white allows a break, and the rest of the
-/// log, of which so much was told before. READ tells `messages`. At most `budget` steps are taken.
+/// log, of which so much was told before. At most `budget` steps are taken.
 pub fn execute_style<'a, W: Sink, L: Sink>(
     alloc: Global,
     job: &Job<'a>,
-    messages: &[LogLine],
     told: Told,
     line: LineLength,
     budget: u64,
@@ -28,10 +26,10 @@ pub fn execute_style<'a, W: Sink, L: Sink>(
     log: &mut L,
 ) -> Result<Report, Fault>
     ensures ok { IfOk result (λ report. Completes report (W.received bbl.old, L.received log.old) (W.received bbl.new, L.received log.new)
-        (product (given job.now messages.now) told line budget)) }
+        (product job.now told line budget)) }
     ensures bound { IfOk result (λ report. report.steps ≤ budget) }
     ensures err { OnErr result (AtFault (W.received bbl.old, L.received log.old) (W.received bbl.new, L.received log.new)
-        (product (given job.now messages.now) told line) budget) }
+        (product job.now told line) budget) }
     ensures counts { CountsOfOutputs result (W.failures bbl.old, W.failures bbl.new) (L.failures log.old, L.failures log.new) }
 {
     let store = Store::new(alloc, job)?;
@@ -42,14 +40,6 @@ pub fn execute_style<'a, W: Sink, L: Sink>(
         outputs,
     };
     let mut left = budget;
-    let end = do_items(
-        &mut work,
-        job,
-        messages,
-        job.style().items(),
-        &mut left,
-        bbl,
-        log,
-    )?;
+    let end = do_items(&mut work, job, job.style().items(), &mut left, bbl, log)?;
     conclude(work, end, budget - left, bbl, log)
 }

@@ -19,14 +19,14 @@ use Rattle.btx_run.specs.Contents.{database_of, style_in, library_in}
 use Rattle.btx_run.specs.DirectStyles.{WhereDirect}
 use Rattle.btx_run.specs.Files.Readings.{job_named, reading_of}
 use Rattle.btx_run.specs.Laws.{DirectLaw}
-use Rattle.btx_run.specs.Product.{given_in, product, product_of_files, told_in}
+use Rattle.btx_run.specs.Product.{product, product_of_files, told_in, work_in}
 use Rattle.btx_run.proofs.KindLemmas.{databases_fit, kind_fits, types_first}
 
 module _ (job : Job) (found : JobFiles) (options : Options) where
   within : RefersWithin (style_in found)
   within = style-refers_within found.style.name found.style.bytes
 
-  kinds : KindsRefer (given_in job found options).job
+  kinds : KindsRefer (work_in job found options)
   kinds entry number e =
       let style = style_in found in
       let n = length style.bodies in
@@ -34,7 +34,7 @@ module _ (job : Job) (found : JobFiles) (options : Options) where
       (databases_fit n (asked style job options.min_crossrefs) (λ name. types_first n (type_of style name) (within.types name)) style.macros (map database_of found.databases)) e
 
   found_within : (told : Told) (budget : ℕ) → IsDirect (style_in found) → StaysWithin (length (style_in found).bodies) (product_of_files job (Found found) options told budget).report
-  found_within told budget direct = machine.holds (given_in job found options) told options.line budget within kinds direct
+  found_within told budget direct = machine.holds (work_in job found options) told options.line budget within kinds direct
 
 files_within : (job : Job) (read : FilesRead) (options : Options) (told : Told) (budget : ℕ) → WhereDirect read (λ functions. StaysWithin functions (product_of_files job read options told budget).report)
 files_within job (Ends end) options told budget = tt

@@ -12,7 +12,7 @@ use Rattle.btx_run.specs.declared.files.found.FilesRead.TheVariants.{Ends, Found
 use Rattle.btx_run.specs.declared.options.Options.{Options}
 use Rattle.btx_run.specs.Files.Readings.{job_named, reading_of}
 use Rattle.btx_run.specs.Laws.{BudgetLaw}
-use Rattle.btx_run.specs.Product.{given_in, product_of_files, told_before, told_in}
+use Rattle.btx_run.specs.Product.{product_of_files, told_before, told_in, work_in}
 use Rattle.btx_run.specs.Files.Telling.{bytes_of_lines}
 
 -- the same lines before both
@@ -30,7 +30,7 @@ always product = record { bbl = ([], sym (append-nil product.bbl)); log = (_, re
 after : (job : Job) (read : FilesRead) (options : Options) (told : Told) → IsLineLength options.line → (few many : ℕ) → few ≤ many
     → Foretells (product_of_files job read options told few) (product_of_files job read options told many)
 after job (Ends end) options told line few many le = always _
-after job (Found found) options told line few many le = machine.holds (given_in job found options) told options.line line few many le
+after job (Found found) options told line few many le = machine.holds (work_in job found options) told options.line line few many le
 
 pub holds : BudgetLaw
 holds = λ files name options line few many le.

@@ -15,11 +15,9 @@ use Rattle.btx_bst.specs.Style.{Style}
 use Rattle.btx_bst.specs.StyleReads.{Reads}
 use Rattle.btx_bib.specs.Databases.{library_of}
 use Rattle.btx_bib.specs.Library.{Library}
-use Rattle.btx_bib.specs.MessageTexts.{line_of}
 use Rattle.btx_bib.specs.Requests.{asked}
-use Rattle.btx_step.specs.Jobs.{Job as Stored}
+use Rattle.btx_step.specs.Jobs.{Job as StyleJob}
 use Rattle.btx_machine.specs.Faults.{CountsOfLog, CountsOfOutputs}
-use Rattle.btx_machine.specs.Items.{Given, given}
 use Rattle.btx_machine.specs.KeepingStep.{AtFault, BothBegin, BothExtend, Completes, KeepsStep, LastLineBehindList}
 use Rattle.btx_machine.specs.Product.{Product, product_early, product as executed}
 use Rattle.btx_machine.specs.Reports.{last_line, told_so}
@@ -36,40 +34,32 @@ use Rattle.btx_run.specs.Files.Counts.{Counts, counts_of}
 use Rattle.btx_run.specs.Files.Readings.{IsRead, Reading, files_read, job_named}
 use Rattle.btx_run.specs.Files.Telling.{Tells, bytes_of_lines}
 use Rattle.btx_run.specs.Contents.{database_of, style_in}
-use Rattle.btx_run.specs.Product.{given_by, given_in, product, product_of_files, product_of_reading, product_with, told_before, told_in}
+use Rattle.btx_run.specs.Product.{product, product_of_files, product_of_reading, product_with, told_before, told_in, work_in, work_of}
 use Rattle.btx_run.proofs.ReadingLemmas.{of_both}
 
 -- ---- what the style works on
 
-pub given_is : (options : Options) (style : Style) (library : Library) (stored : Stored) (lines : List Line)
-    → stored ≡ record { style = style; library = library; mode = options.text; entry_max = options.entry_max; global_max = options.global_max }
-    → lines ≡ map line_of library.messages
-    → given stored lines ≡ given_by style library options
-given_is options style library stored lines is_stored is_lines =
-    ap (λ (stored : Stored). given stored lines) is_stored
-    ∙ ap (given (record { style = style; library = library; mode = options.text; entry_max = options.entry_max; global_max = options.global_max })) is_lines
-
 pub found_is : (job : Job) (found : JobFiles) (options : Options) (style : Style) (library : Library)
     → style ≡ style_in found
     → library ≡ library_of (asked style job options.min_crossrefs) style.macros (map database_of found.databases)
-    → given_by style library options ≡ given_in job found options
+    → work_of style library options ≡ work_in job found options
 found_is job found options style library is_style is_library =
-    ap (λ (library : Library). given_by style library options) is_library
-    ∙ ap (λ (style : Style). given_by style (library_of (asked style job options.min_crossrefs) style.macros (map database_of found.databases)) options) is_style
+    ap (λ (library : Library). work_of style library options) is_library
+    ∙ ap (λ (style : Style). work_of style (library_of (asked style job options.min_crossrefs) style.macros (map database_of found.databases)) options) is_style
 
-pub completes_given : (a b : Received) (told : Told) (limit budget : ℕ) (here there : Given) → here ≡ there → (r : Result Report Fault)
+pub completes_of : (a b : Received) (told : Told) (limit budget : ℕ) (here there : StyleJob) → here ≡ there → (r : Result Report Fault)
     → IfOk r (λ report. Completes report a b (executed here told limit budget)) → IfOk r (λ report. Completes report a b (executed there told limit budget))
-completes_given a b told limit budget here there is r h = subst (λ g. IfOk r (λ report. Completes report a b (executed g told limit budget))) is h
+completes_of a b told limit budget here there is r h = subst (λ work. IfOk r (λ report. Completes report a b (executed work told limit budget))) is h
 
-pub fails_given : (a b : Received) (told : Told) (limit budget : ℕ) (here there : Given) → here ≡ there → (r : Result Report Fault)
+pub fails_of : (a b : Received) (told : Told) (limit budget : ℕ) (here there : StyleJob) → here ≡ there → (r : Result Report Fault)
     → OnErr r (AtFault a b (executed here told limit) budget) → OnErr r (AtFault a b (executed there told limit) budget)
-fails_given a b told limit budget here there is r h = subst (λ g. OnErr r (AtFault a b (executed g told limit) budget)) is h
+fails_of a b told limit budget here there is r h = subst (λ work. OnErr r (AtFault a b (executed work told limit) budget)) is h
 
 -- no more than 4,096 bodies are open at once
-pub never_deeper : (a b : Received) (g : Given) (told : Told) (limit budget : ℕ) (r : Result Report Fault)
-    → IfOk r (λ report. Completes report a b (executed g told limit budget)) → IfOk r (λ report. report.deepest ≤ 4096)
-never_deeper a b g told limit budget =
-    ok_map (λ report completes. subst (λ (report : Report). report.deepest ≤ 4096) (sym completes.report_is) (depth.holds g told limit budget))
+pub never_deeper : (a b : Received) (work : StyleJob) (told : Told) (limit budget : ℕ) (r : Result Report Fault)
+    → IfOk r (λ report. Completes report a b (executed work told limit budget)) → IfOk r (λ report. report.deepest ≤ 4096)
+never_deeper a b work told limit budget =
+    ok_map (λ report completes. subst (λ (report : Report). report.deepest ≤ 4096) (sym completes.report_is) (depth.holds work told limit budget))
 
 -- ---- a run that ends at once
 

@@ -20,7 +20,7 @@ use Rattle.btx_run.specs.Files.Found.{NamedFile, file_at}
 use Rattle.btx_run.specs.Files.Names.{is_too_long}
 use Rattle.btx_run.specs.Files.Readings.{Reading, reading, with_style, databases_read, after_style, style_read, style_named, after_job, job_named, reading_of}
 use Rattle.btx_run.specs.Laws.{NeedsLaw, StoppedLaw}
-use Rattle.btx_run.specs.Product.{given_in, product_of_files, told_before, told_in}
+use Rattle.btx_run.specs.Product.{product_of_files, told_before, told_in, work_in}
 
 -- ---- what a run needs that isn't stopped
 
@@ -32,7 +32,7 @@ behind_lines lines run whole needs = record {
 
 after : (job : Job) (read : FilesRead) (options : Options) (told : Told) → NeededSteps (product_of_files job read options told)
 after job (Ends end) options told budget not = record { fewer = λ budget lt. absurd (omega (arith, lt)); enough = λ budget le. refl }
-after job (Found found) options told budget not = machine.needed (given_in job found options) told options.line budget not
+after job (Found found) options told budget not = machine.needed (work_in job found options) told options.line budget not
 
 pub needed : NeedsLaw
 needed files name options budget not =
@@ -83,7 +83,7 @@ job_goes_on files job aux.FileLimit = other_end (ended.Limit kind.File) refl
 
 after_stopped : (job : Job) (read : FilesRead) (options : Options) (told : Told) → GoesOn read → StoppedSteps (product_of_files job read options told)
 after_stopped job (Ends end) options told goes budget e = absurd (goes e)
-after_stopped job (Found found) options told goes budget e = machine.stopped (given_in job found options) told options.line budget e
+after_stopped job (Found found) options told goes budget e = machine.stopped (work_in job found options) told options.line budget e
 
 pub stopped : StoppedLaw
 stopped files name options budget e =

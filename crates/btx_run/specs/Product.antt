@@ -1,13 +1,12 @@
 -- The product of a job: what a whole run writes and answers. It composes what the reading of the files gives, what the style's text and the
 -- databases hold, and what executing the style then does; each stands in definitions of its own.
-use Rattle.std.specs.Prelude.{ℕ, List, ◌++◌, map}
+use Rattle.std.specs.Prelude.{ℕ, List, ◌++◌}
 use Rattle.btx_text.specs.LogLines.{Line}
 use Rattle.btx_aux.specs.Files.{Files}
 use Rattle.btx_aux.specs.Job.{Job}
 use Rattle.btx_bst.specs.Style.{Style}
 use Rattle.btx_bib.specs.Library.{Library}
-use Rattle.btx_bib.specs.MessageTexts.{line_of}
-use Rattle.btx_machine.specs.Items.{Given, given}
+use Rattle.btx_step.specs.Jobs.{Job as StyleJob}
 use Rattle.btx_machine.specs.Product.{Product, product_early, product as executed}
 use Rattle.btx_machine.specs.Reports.{report_of, told_so}
 use Rattle.btx_machine.specs.declared.report.Told.{Told}
@@ -20,14 +19,13 @@ use Rattle.btx_run.specs.Files.Readings.{Reading, job_named, reading_of}
 use Rattle.btx_run.specs.Contents.{library_in, style_in}
 use Rattle.btx_run.specs.Files.Telling.{bytes_of_lines}
 
--- what a style works on: the style itself, the library, and what is told of the databases at READ
-abbrev pub given_by : Style → Library → Options → Given
-given_by style library options =
-    given (record { style = style; library = library; mode = options.text; entry_max = options.entry_max; global_max = options.global_max }) (map line_of library.messages)
+-- what a style works on: the style itself, the library, and what was asked
+abbrev pub work_of : Style → Library → Options → StyleJob
+work_of style library options = record { style = style; library = library; mode = options.text; entry_max = options.entry_max; global_max = options.global_max }
 
 -- the same of the style and the databases that were found
-abbrev pub given_in : Job → JobFiles → Options → Given
-given_in job found options = given_by (style_in found) (library_in job found options.min_crossrefs) options
+abbrev pub work_in : Job → JobFiles → Options → StyleJob
+work_in job found options = work_of (style_in found) (library_in job found options.min_crossrefs) options
 
 -- the warnings and the errors of these lines
 abbrev pub told_in : List Line → Told
@@ -40,7 +38,7 @@ told_before lines product = record product { told = bytes_of_lines lines ++ prod
 -- what follows the reading of the files, after so much was told, with a budget: the run ends at once, or the style is executed
 abbrev pub product_of_files : Job → FilesRead → Options → Told → ℕ → Product
 product_of_files job (Ends ending) options told budget = product_early (report_of ending 0 0 told)
-product_of_files job (Found found) options told budget = executed (given_in job found options) told options.line budget
+product_of_files job (Found found) options told budget = executed (work_in job found options) told options.line budget
 
 -- the product of a job whose files were read so, with a budget: what was told, and what follows
 abbrev pub product_of_reading : Job → Reading FilesRead → Options → ℕ → Product

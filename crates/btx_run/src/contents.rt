@@ -1,7 +1,6 @@
 //! What the databases that were found hold.
 ghost use Rattle.std.specs.Prelude.{◌≡◌, IfErr, IfOk, map};
 ghost use Rattle.btx_bib.specs.Databases.{library_of};
-ghost use Rattle.btx_bib.specs.MessageTexts.{line_of};
 ghost use Rattle.btx_bib.specs.Requests.{asked};
 ghost use Rattle.btx_bib.specs.Sources.{databases_of};
 ghost use Rattle.btx_run.specs.Contents.{database_of};
@@ -10,7 +9,7 @@ use crate::files::found::FoundFiles;
 use btx_aux::AuxJob;
 use btx_bib::{Library, Source, read_databases};
 use btx_bst::Style;
-use btx_text::{Fault, LogLines};
+use btx_text::Fault;
 use std::alloc::{AllocError, Global};
 
 // The databases that were found, as they are read: nothing of them is copied.
@@ -41,15 +40,4 @@ pub fn read_library<'a>(
 {
     let sources = sources(alloc, found)?;
     read_databases(alloc, style, job, sources.as_slice(), min_crossrefs)
-}
-
-/// The lines of the log that READ tells of the databases.
-pub fn library_lines(alloc: Global, library: &Library<'_>) -> Result<LogLines, AllocError>
-    ensures { IfOk result (λ lines. lines ≡ map line_of library.now.messages) }
-{
-    let mut lines = LogLines::new(alloc);
-    for message in library.messages() {
-        lines.push(message.log_line(alloc)?)?;
-    }
-    Ok(lines)
 }

@@ -11,10 +11,10 @@ ghost use Rattle.btx_run.specs.DirectStyles.{WhereDirect};
 ghost use Rattle.btx_run.specs.Files.Answered.{Answers, BySome};
 ghost use Rattle.btx_run.specs.Files.Faults.{CountsOfThree};
 ghost use Rattle.btx_run.specs.Files.Readings.{StyleFits, files_read, reading_of};
-ghost use Rattle.btx_run.specs.Product.{given_by, given_in, product, product_of_files, product_of_reading, product_with};
+ghost use Rattle.btx_run.specs.Product.{product, product_of_files, product_of_reading, product_with, work_in, work_of};
 ghost use Rattle.btx_run.specs.RunFaults.{CountsOfRun};
 
-use crate::contents::{library_lines, read_library};
+use crate::contents::read_library;
 use crate::files::{FilesRead, JobFiles, Journal, read_files, read_job};
 use crate::options::Options;
 use crate::run_fault::RunFault;
@@ -39,13 +39,12 @@ fn execute<'a, W: Sink, L: Sink>(
     log: &mut L,
 ) -> Result<Report, Fault>
     ensures ok { IfOk result (λ report. Completes report (W.received bbl.old, L.received log.old) (W.received bbl.new, L.received log.new)
-        (executed (given_by style.now library.now options.now) told options.now.line options.now.budget)) }
+        (executed (work_of style.now library.now options.now) told options.now.line options.now.budget)) }
     ensures bound { IfOk result (λ report. report.steps ≤ options.now.budget) }
     ensures err { OnErr result (AtFault (W.received bbl.old, L.received log.old) (W.received bbl.new, L.received log.new)
-        (executed (given_by style.now library.now options.now) told options.now.line) options.now.budget) }
+        (executed (work_of style.now library.now options.now) told options.now.line) options.now.budget) }
     ensures counts { CountsOfOutputs result (W.failures bbl.old, W.failures bbl.new) (L.failures log.old, L.failures log.new) }
 {
-    let messages = library_lines(alloc, library)?;
     let job = Job::new(
         style,
         library,
@@ -53,16 +52,7 @@ fn execute<'a, W: Sink, L: Sink>(
         options.entry_max,
         options.global_max,
     );
-    execute_style(
-        alloc,
-        &job,
-        messages.as_slice(),
-        told,
-        options.line,
-        options.budget,
-        bbl,
-        log,
-    )
+    execute_style(alloc, &job, told, options.line, options.budget, bbl, log)
 }
 
 // Executes a style that was found, after so much was told: its text and the databases are read first.
@@ -77,10 +67,10 @@ fn execute_found<'a, W: Sink, L: Sink>(
 ) -> Result<Report, Fault>
     requires { length found.now.style.bytes ≤ greatest_file }
     ensures ok { IfOk result (λ report. Completes report (W.received bbl.old, L.received log.old) (W.received bbl.new, L.received log.new)
-        (executed (given_in job.now found.now options.now) told options.now.line options.now.budget)) }
+        (executed (work_in job.now found.now options.now) told options.now.line options.now.budget)) }
     ensures bound { IfOk result (λ report. report.steps ≤ options.now.budget) }
     ensures err { OnErr result (AtFault (W.received bbl.old, L.received log.old) (W.received bbl.new, L.received log.new)
-        (executed (given_in job.now found.now options.now) told options.now.line) options.now.budget) }
+        (executed (work_in job.now found.now options.now) told options.now.line) options.now.budget) }
     ensures counts { CountsOfOutputs result (W.failures bbl.old, W.failures bbl.new) (L.failures log.old, L.failures log.new) }
 {
     let style = read_style(alloc, found.style.name(), found.style.bytes())?;

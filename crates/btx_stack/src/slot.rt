@@ -66,7 +66,9 @@ pub struct Slot<'a> {
 
 impl<'a> Slot<'a> {
     /// A slot that holds no string.
-    pub fn empty() -> Self {
+    pub fn empty() -> Self
+        ensures { IsPlain result 0 content.Missing }
+    {
         Slot {
             kind: Kind::Missing,
             op: Op::Skip,

@@ -65,7 +65,7 @@ impl<'a> Variable<'a> {
 
     /// The bytes, if they are a file's.
     #[inline(always)]
-    pub fn lent(&self) -> Option<&'a [u8]>
+    pub(crate) fn lent(&self) -> Option<&'a [u8]>
         ensures value { IfSome result (λ bytes. bytes.now ≡ self.now) }
         ensures within { IfSome result (λ _. length self.now ≤ greatest_string) }
     {
@@ -76,7 +76,7 @@ impl<'a> Variable<'a> {
     }
 
     /// The string once more, if it is shared. No bytes are copied.
-    pub fn large(&self, alloc: Global) -> Result<Option<Text<'a>>, AllocError>
+    pub(crate) fn large(&self, alloc: Global) -> Result<Option<Text<'a>>, AllocError>
         ensures value { IfOk result (λ large. IfSome large (λ text. text ≡ self.now)) }
     {
         match self.source {
@@ -87,7 +87,7 @@ impl<'a> Variable<'a> {
 
     /// The bytes, if they are in room of its own.
     #[inline(always)]
-    pub fn own(&self) -> Option<&[u8]>
+    pub(crate) fn own(&self) -> Option<&[u8]>
         ensures value { IfSome result (λ bytes. bytes.now ≡ self.now) }
         ensures within { IfSome result (λ _. length self.now ≤ greatest_short) }
     {

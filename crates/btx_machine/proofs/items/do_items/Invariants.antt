@@ -2,7 +2,7 @@ use Rattle.std.proofs.Common.{◌≡◌, ◌≤◌, ◌-◌, [], drop}
 use Rattle.btx_bst.specs.Views.{items_view}
 use Rattle.btx_machine.specs.Faults.{Writes}
 use Rattle.btx_machine.specs.Written.{Comes}
-use Rattle.btx_machine.specs.Items.{given, items_of}
+use Rattle.btx_machine.specs.Items.{items_of}
 use Rattle.btx_machine.specs.Progress.{Reached}
 use Rattle.btx_machine.proofs.items.do_items.Given as goal
 
@@ -15,5 +15,5 @@ invariant-loop-item g l = record {
   bbl_counts : g.W.Sink.failures l.bbl ≡ g.W.Sink.failures l.fn.bbl;
   log_counts : g.L.Sink.failures l.log ≡ g.L.Sink.failures l.fn.log;
   same : Comes l.fn.work (g.W.Sink.received l.fn.bbl, g.L.Sink.received l.fn.log) l.work (g.W.Sink.received l.bbl, g.L.Sink.received l.log)
-      (Reached (items_of (given l.job l.messages) (items_view l.items) []) (items_of (given l.job l.messages) (items_view (drop l.item-index l.items)) l.list.items) (l.fn.left - l.left));
+      (Reached (items_of l.job (items_view l.items) []) (items_of l.job (items_view (drop l.item-index l.items)) l.list.items) (l.fn.left - l.left));
 }

@@ -1,5 +1,5 @@
 use Rattle.btx_machine.proofs.ComesLemmas.{err_map}
-use Rattle.btx_run.specs.Product.{given_in}
+use Rattle.btx_run.specs.Product.{work_in}
 use Rattle.btx_run.proofs.ProductLemmas.{completes_early, counts_of_end, fails_early, never_deeper}
 use Rattle.btx_run.proofs.runner.after_files.Goals as goal
 
@@ -18,7 +18,7 @@ returns-in-Ends-clause-counts g c = counts_of_end c.tell_end.result _ _ c.tell_e
 
 pub returns-in-Found-clause-deep : goal.returns-in-Found-clause-deep
 returns-in-Found-clause-deep g c =
-    never_deeper _ _ (given_in c.args.job.now c.in-Found.found c.args.options.now) c.args.told c.args.options.now.line c.args.options.now.budget c.execute_found.result c.execute_found.ensures.ok
+    never_deeper _ _ (work_in c.args.job.now c.in-Found.found c.args.options.now) c.args.told c.args.options.now.line c.args.options.now.budget c.execute_found.result c.execute_found.ensures.ok
 
 pub returns-in-Found-clause-err : goal.returns-in-Found-clause-err
 returns-in-Found-clause-err g c = rw c.in-Found.is c.execute_found.ensures.err
