@@ -15,7 +15,8 @@ use Rattle.btx_bib.specs.Stored.{entry_of}
 use Rattle.btx_bib.specs.Told.{Database, event_told, told_along}
 use Rattle.btx_bib.specs.Wanted.{Wanted}
 use Rattle.btx_bib.specs.Gatherings.{closed, events_with, is_kept, kept_after, kept_along, kept_told}
-use Rattle.btx_bib.specs.Readings.{database_of, databases_of, kept_by_all, kept_one, told_by_all, told_by_one}
+use Rattle.btx_bib.specs.Sources.{database_of, databases_of}
+use Rattle.btx_bib.specs.Readings.{kept_by_all, kept_one, told_by_all, told_by_one}
 use Rattle.btx_bib.proofs.GrammarLemmas.LengthLemmas.{events-none, events-some, events-less, left}
 use Rattle.btx_bib.proofs.GatheringLemmas.{ended-along, ended-told, none-along, none-told, turn-along, turn-told}
 use Rattle.btx_bib.proofs.KeptLemmas.{IsFresh, Sound, closed-kept, closed-sound, event-kept, event-said, event-sound, kept_of, stored-kept}

@@ -19,7 +19,7 @@ use Rattle.btx_bib.specs.Wanted.{Wanted}
 use Rattle.btx_bib.specs.Entries.{Given, Field, values_from, body_of, parent_in}
 use Rattle.btx_bib.specs.Stored.{entry_of}
 use Rattle.btx_bib.specs.Listing.{keys_of, slot_of, slots_of}
-use Rattle.btx_bib.specs.Passes.{checked, checked_by, cut, is_parent, slot_at, parent_at, values_in, with_values, without_parent, after_first, after_second, entries_of, entry_at, entry_by, has_enough}
+use Rattle.btx_bib.specs.Passes.{checked, checked_by, cut, is_parent, slot_at, parent_at, values_in, with_values, without_parent, after_first, after_second, entries_of, entry_at, entry_by}
 use Rattle.btx_bib.specs.Steps.{names_of}
 use Rattle.btx_bib.specs.Known.{Known}
 use Rattle.btx_bib.specs.Databases.{library_of, library_by, read_all, told_all, with_macros}
@@ -88,7 +88,7 @@ second-field slots key field =
 apart-entry : (key : List ℕ) (slots : List Slot) (entry : Entry) → AllByRecursion (λ (other : List ℕ). bytes_eq (folded key) other ≡ false) (names_of slots) → Contains (flat_map entry_at slots) entry → is_same_key key entry.key ≡ false
 apart-entry key [] entry apart there = absurd (none-contained entry there)
 apart-entry key (slot ∷ slots) entry apart there =
-    ⊎_elim (λ (first : Contains (entry_at slot) entry). of_slot (has_enough slot) slot.body first) (λ (later : Contains (flat_map entry_at slots) entry). apart-entry key slots entry apart.1 later)
+    ⊎_elim (λ (first : Contains (entry_at slot) entry). of_slot slot.stays slot.body first) (λ (later : Contains (flat_map entry_at slots) entry). apart-entry key slots entry apart.1 later)
     (Contains-append_cases (entry_at slot) (flat_map entry_at slots) entry there) where
       of_slot : (enough : Bool) (body : Option Body) → Contains (entry_by slot.key enough body) entry → is_same_key key entry.key ≡ false
       of_slot enough None first = absurd (none-contained entry first)
@@ -98,7 +98,7 @@ apart-entry key (slot ∷ slots) entry apart there =
 entry-field : (slots : List Slot) (entry : Entry) (field : ℕ) → IsDistinct bytes_eq (names_of slots) → Contains (flat_map entry_at slots) entry → field_at slots entry.key field ≡ value_at (suc field) entry.values
 entry-field [] entry field distinct there = absurd (none-contained entry there)
 entry-field (slot ∷ slots) entry field distinct there =
-    ⊎_elim (λ (first : Contains (entry_at slot) entry). of_slot (has_enough slot) slot.body refl first)
+    ⊎_elim (λ (first : Contains (entry_at slot) entry). of_slot slot.stays slot.body refl first)
     (λ (later : Contains (flat_map entry_at slots) entry).
     let apart : is_same_key entry.key slot.key ≡ false =
     same_key_equiv.symm entry.key slot.key ∙ apart-entry slot.key slots entry (IsDistinct-head bytes_eq (folded slot.key) (names_of slots) distinct) later in

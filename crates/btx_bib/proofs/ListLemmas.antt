@@ -13,7 +13,7 @@ use Rattle.btx_bib.specs.declared.slots.Slot.{Slot}
 use Rattle.btx_bib.specs.Wanted.{Wanted}
 use Rattle.btx_bib.specs.Entries.{Given}
 use Rattle.btx_bib.specs.Listing.{first_cited, added, last_cited, keys_of, slots_of}
-use Rattle.btx_bib.specs.Passes.{passed, inherited, checked, after_first, after_second, entries_of, entry_at, entry_by, has_enough}
+use Rattle.btx_bib.specs.Passes.{passed, inherited, checked, after_first, after_second, entries_of, entry_at, entry_by}
 use Rattle.btx_bib.specs.Steps.{names_of}
 use Rattle.btx_bib.specs.Known.{Known}
 use Rattle.btx_bib.specs.Databases.{library_of, library_by, read_all, told_all, with_macros}
@@ -58,7 +58,7 @@ kept slots = map (λ (entry : Entry). entry.key) (flat_map entry_at slots)
 
 apart-kept : (key : List ℕ) (slots : List Slot) → AllByRecursion (λ (other : List ℕ). bytes_eq (folded key) other ≡ false) (names_of slots) → AllByRecursion (λ (other : List ℕ). is_same_key key other ≡ false) (kept slots)
 apart-kept key [] h = tt
-apart-kept key (slot ∷ slots) h = by_body (has_enough slot) slot.body (apart-kept key slots h.1) where
+apart-kept key (slot ∷ slots) h = by_body slot.stays slot.body (apart-kept key slots h.1) where
   by_body : (enough : Bool) (body : Option Body) → AllByRecursion (λ (other : List ℕ). is_same_key key other ≡ false) (kept slots)
       → AllByRecursion (λ (other : List ℕ). is_same_key key other ≡ false) (map (λ (entry : Entry). entry.key) (entry_by slot.key enough body ++ flat_map entry_at slots))
   by_body enough None rest = rest
@@ -68,7 +68,7 @@ apart-kept key (slot ∷ slots) h = by_body (has_enough slot) slot.body (apart-k
 distinct-kept : (slots : List Slot) → IsDistinct bytes_eq (names_of slots) → IsDistinct is_same_key (kept slots)
 unfolding IsDistinct
 distinct-kept [] h = tt
-distinct-kept (slot ∷ slots) h = by_body (has_enough slot) slot.body (apart-kept slot.key slots h.0) (distinct-kept slots h.1) where
+distinct-kept (slot ∷ slots) h = by_body slot.stays slot.body (apart-kept slot.key slots h.0) (distinct-kept slots h.1) where
   by_body : (enough : Bool) (body : Option Body) → AllByRecursion (λ (other : List ℕ). is_same_key slot.key other ≡ false) (kept slots) → IsDistinct is_same_key (kept slots)
       → IsDistinct is_same_key (map (λ (entry : Entry). entry.key) (entry_by slot.key enough body ++ flat_map entry_at slots))
   by_body enough None apart rest = rest

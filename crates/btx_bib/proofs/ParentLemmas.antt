@@ -16,7 +16,7 @@ use Rattle.btx_bib.specs.declared.slots.Slot.{Slot}
 use Rattle.btx_bib.specs.Wanted.{Wanted}
 use Rattle.btx_bib.specs.Entries.{parent_in}
 use Rattle.btx_bib.specs.Listing.{slots_of}
-use Rattle.btx_bib.specs.Passes.{passed, inherited, inherited_from, inherited_values, checked, cut, is_parent, slot_at, parent_at, values_in, with_values, without_parent, after_first, after_second, entries_of, entry_at, entry_by, has_enough}
+use Rattle.btx_bib.specs.Passes.{passed, inherited, inherited_from, inherited_values, checked, cut, is_parent, slot_at, parent_at, values_in, with_values, without_parent, after_first, after_second, entries_of, entry_at, entry_by}
 use Rattle.btx_bib.specs.Known.{Known}
 use Rattle.btx_bib.specs.Databases.{library_of, library_by, read_all, told_all, with_macros}
 use Rattle.btx_bib.specs.Laws.{list_of}
@@ -152,7 +152,7 @@ parent-of-entry : (slots : List Slot) (Q : List ℕ → Type 0) → AllByRecursi
     → (key : List ℕ) → parent_in entry.values ≡ Some key → Q key
 parent-of-entry [] Q all entry there key has = absurd (none-contained entry there)
 parent-of-entry (slot ∷ slots) Q all entry there key has =
-    ⊎_elim (λ (first : Contains (entry_at slot) entry). of_slot (has_enough slot) slot.body first all.0) (λ (later : Contains (flat_map entry_at slots) entry). parent-of-entry slots Q all.1 entry later key has)
+    ⊎_elim (λ (first : Contains (entry_at slot) entry). of_slot slot.stays slot.body first all.0) (λ (later : Contains (flat_map entry_at slots) entry). parent-of-entry slots Q all.1 entry later key has)
     (Contains-append_cases (entry_at slot) (flat_map entry_at slots) entry there) where
       of_slot : (enough : Bool) (body : Option Body) → Contains (entry_by slot.key enough body) entry → ((key : List ℕ) → parent_in (values_in body) ≡ Some key → Q key) → Q key
       of_slot enough None first q = absurd (none-contained entry first)

@@ -8,8 +8,8 @@ use Rattle.btx_aux.specs.Names.{is_same_key, listed_as}
 use Rattle.btx_bib.specs.Wanted.{Wanted}
 use Rattle.btx_bib.specs.Entries.{Given}
 use Rattle.btx_bib.specs.Stored.{entry_of, is_any_key, keys_in, parents_in, references}
-use Rattle.btx_bib.specs.Listing.{first_cited, added, last_cited, first_keys, keys_of, spelled}
-use Rattle.btx_bib.specs.Laws.{stored_by, is_due, stays}
+use Rattle.btx_bib.specs.Listing.{first_cited, added, last_cited, first_keys, keys_of, spelled, stays}
+use Rattle.btx_bib.specs.Laws.{keeps_entry, stored_by}
 use Rattle.btx_bib.specs.Parents.{NoParentLeaves}
 use Rattle.btx_bib.proofs.ListedKeyLemmas.{same_key_equiv, entry_of-same, is_any_key-append, is_any_key-fold}
 use Rattle.btx_bib.proofs.StayingLemmas.{list-is-kept}
@@ -70,7 +70,7 @@ zero-least n = by_test (nat_le 0 n) refl where
   by_test true h = refl
   by_test false h = absurd (grind (arith, nat_tests))
 
-due-always : (wanted : Wanted) (stored : List Given) (key : List ℕ) → wanted.fewest ≡ 0 → is_due wanted stored key ≡ true
+due-always : (wanted : Wanted) (stored : List Given) (key : List ℕ) → wanted.fewest ≡ 0 → stays wanted stored key ≡ true
 due-always wanted stored key none = or-right (is_some (listed_as wanted.cited key)) (nat_le wanted.fewest (count_by (is_same_key key) (references wanted stored))) (ap (λ (n : ℕ). nat_le n (count_by (is_same_key key) (references wanted stored))) none ∙ zero-least (count_by (is_same_key key) (references wanted stored)))
 
 both-true : (a b : Bool) → a ≡ true → b ≡ true → (a && b) ≡ true
@@ -79,27 +79,27 @@ both-true true false g h = cc
 both-true false b g h = cc
 
 stays-there : (wanted : Wanted) (stored : List Given) (parent : List ℕ) → wanted.fewest ≡ 0 → is_some (entry_of stored parent) ≡ true → (keys : List (List ℕ)) → is_any_key keys parent ≡ true
-    → is_any_key (map (spelled wanted stored) (filter (stays wanted stored) keys)) parent ≡ true
+    → is_any_key (map (spelled wanted stored) (filter (keeps_entry wanted stored) keys)) parent ≡ true
 stays-there wanted stored parent none has [] there = cc
 stays-there wanted stored parent none has (key ∷ keys) there = by_same (is_same_key parent key) refl there (stays-there wanted stored parent none has keys) where
   others : List (List ℕ)
-  others = map (spelled wanted stored) (filter (stays wanted stored) keys)
+  others = map (spelled wanted stored) (filter (keeps_entry wanted stored) keys)
 
-  first : is_same_key parent key ≡ true → stays wanted stored key ≡ true
-  first same = both-true (is_some (entry_of stored key)) (is_due wanted stored key) (ap (λ (o : Option Given). is_some o) (sym (entry_of-same stored parent key same)) ∙ has) (due-always wanted stored key none)
+  first : is_same_key parent key ≡ true → keeps_entry wanted stored key ≡ true
+  first same = both-true (is_some (entry_of stored key)) (stays wanted stored key) (ap (λ (o : Option Given). is_some o) (sym (entry_of-same stored parent key same)) ∙ has) (due-always wanted stored key none)
 
   shown : Bool → List (List ℕ)
-  shown b = map (spelled wanted stored) (cond b (key ∷ filter (stays wanted stored) keys) (filter (stays wanted stored) keys))
+  shown b = map (spelled wanted stored) (cond b (key ∷ filter (keeps_entry wanted stored) keys) (filter (keeps_entry wanted stored) keys))
 
   more : (b : Bool) → is_any_key others parent ≡ true → is_any_key (shown b) parent ≡ true
   more true rest = or-right (is_same_key parent (spelled wanted stored key)) (is_any_key others parent) rest
   more false rest = rest
 
-  by_same : (b : Bool) → is_same_key parent key ≡ b → (b || is_any_key keys parent) ≡ true → (is_any_key keys parent ≡ true → is_any_key others parent ≡ true) → is_any_key (shown (stays wanted stored key)) parent ≡ true
+  by_same : (b : Bool) → is_same_key parent key ≡ b → (b || is_any_key keys parent) ≡ true → (is_any_key keys parent ≡ true → is_any_key others parent ≡ true) → is_any_key (shown (keeps_entry wanted stored key)) parent ≡ true
   by_same true same there rest =
       ap (λ (b : Bool). is_any_key (shown b) parent) (first same)
       ∙ or-left (is_same_key parent (spelled wanted stored key)) (is_any_key others parent) (same_key_equiv.congr parent key (spelled wanted stored key) same ∙ spelled-same wanted stored key)
-  by_same false differs there rest = more (stays wanted stored key) (rest there)
+  by_same false differs there rest = more (keeps_entry wanted stored key) (rest there)
 
 pub no-parent-leaves : NoParentLeaves
 no-parent-leaves wanted macros databases parent whole none named has =

@@ -1,19 +1,21 @@
 -- The place of the list for a key, after one more entry.
-use Rattle.std.proofs.Common.{◌≡◌, ℕ, arith, ◌+◌, ◌-◌, Bool, true, false, cond, if◌then◌else◌, List, [], ◌∷◌, ◌++◌, Option, None, Some, is_some, refl, sym, ap, ◌∙◌}
+use Rattle.std.proofs.Common.{◌≡◌, ℕ, nat_eq, nat_le, arith, ◌+◌, ◌-◌, Bool, true, false, ◌||◌, cond, if◌then◌else◌, List, [], ◌∷◌, ◌++◌, Option, None, Some, is_some, refl, sym, ap, ◌∙◌}
 use Rattle.std.specs.Prelude.{count_by}
 use Rattle.std.specs.Option.{option_map, option_or, unwrap_or}
 use Rattle.std.specs.List.{sum_by}
+use Rattle.std.proofs.lemmas.Bool.Decides.{nat_tests}
 use Rattle.std.proofs.lemmas.List.Sums.{sum_by-append}
-use Rattle.btx_aux.specs.Names.{is_same_key}
-use Rattle.btx_bib.specs.declared.slots.Slot.{Slot}
+use Rattle.btx_aux.specs.Names.{is_same_key, listed_as}
+use Rattle.btx_bib.specs.declared.draft_slots.DraftSlot.{DraftSlot}
 use Rattle.btx_bib.specs.Wanted.{Wanted}
 use Rattle.btx_bib.specs.Entries.{Given, body_of}
-use Rattle.btx_bib.specs.Stored.{entry_of}
-use Rattle.btx_bib.specs.Drafts.{with_entry, once_more}
+use Rattle.btx_bib.specs.Stored.{entry_of, references}
+use Rattle.btx_bib.specs.Listing.{slot_of, spelled}
+use Rattle.btx_bib.specs.Drafts.{with_entry, once_more, settled}
 use Rattle.btx_bib.proofs.ListedKeyLemmas.{same_key_equiv, entry_of-same}
 
 -- the place for a key, by how it was cited, its entry and the references to it
-abbrev pub slot_by : Wanted → Bool → List ℕ → Option (List ℕ) → Option Given → ℕ → Slot
+abbrev pub slot_by : Wanted → Bool → List ℕ → Option (List ℕ) → Option Given → ℕ → DraftSlot
 slot_by wanted kept key cited entry count = record {
   key = unwrap_or (option_or cited (option_map (λ (entry : Given). entry.key) entry)) key;
   is_cited = kept;
@@ -31,6 +33,23 @@ pub once_more-slot : (wanted : Wanted) (kept : Bool) (key : List ℕ) (cited : O
 once_more-slot wanted kept key cited entry count =
     let slot = slot_by wanted kept key cited entry count in
     ap (λ (wanting : ℕ). record slot { wanting = wanting }) (omega arith)
+
+-- a place stays if it was cited or lacks no reference
+enough-is : (cited : Bool) (fewest count : ℕ) → (cited || nat_eq (fewest - count) 0) ≡ (cited || nat_le fewest count)
+enough-is true fewest count = refl
+enough-is false fewest count = by_tests (nat_eq (fewest - count) 0) (nat_le fewest count) refl refl where
+  by_tests : (a b : Bool) → nat_eq (fewest - count) 0 ≡ a → nat_le fewest count ≡ b → a ≡ b
+  by_tests true true left right = refl
+  by_tests false false left right = refl
+  by_tests true false left right = absurd (grind (arith, nat_tests))
+  by_tests false true left right = absurd (grind (arith, nat_tests))
+
+pub settled-slot : (wanted : Wanted) (stored : List Given) (key : List ℕ)
+    → (let cited = listed_as wanted.cited key in settled (slot_by wanted (is_some cited) key cited (entry_of stored key) (count_by (is_same_key key) (references wanted stored))) ≡ slot_of wanted stored key)
+unfolding slot_of
+settled-slot wanted stored key =
+    ap (λ (stays : Bool). record { key = spelled wanted stored key; stays = stays; body = option_map (body_of wanted) (entry_of stored key) })
+    (enough-is (is_some (listed_as wanted.cited key)) wanted.fewest (count_by (is_same_key key) (references wanted stored)))
 
 or_chosen : (b : Bool) (x : Given) (rest last : Option Given) → cond b (Some x) (option_or rest last) ≡ option_or (cond b (Some x) rest) last
 or_chosen true x rest last = refl

@@ -1,5 +1,5 @@
 -- Which keys of the list stay: the passes change neither the key of a place nor whether it has an entry and enough references.
-use Rattle.std.proofs.Common.{◌≡◌, ℕ, ◌-◌, nat_eq, nat_le, arith, Bool, true, false, ◌||◌, ◌&&◌, cond, if◌then◌else◌, List, [], ◌∷◌, ◌++◌, map, Option, None, Some, is_some, refl, sym, ap, ◌∙◌, append_assoc, append-nil}
+use Rattle.std.proofs.Common.{◌≡◌, ℕ, nat_le, arith, Bool, true, false, ◌||◌, ◌&&◌, cond, if◌then◌else◌, List, [], ◌∷◌, ◌++◌, map, Option, None, Some, is_some, refl, sym, ap, ◌∙◌, append_assoc, append-nil}
 use Rattle.std.specs.Prelude.{count_by}
 use Rattle.std.specs.Option.{option_map}
 use Rattle.std.specs.List.{filter, flat_map}
@@ -13,12 +13,13 @@ use Rattle.btx_bib.specs.declared.slots.Body.{Body}
 use Rattle.btx_bib.specs.declared.slots.Slot.{Slot}
 use Rattle.btx_bib.specs.Wanted.{Wanted}
 use Rattle.btx_bib.specs.Entries.{Given, body_of}
-use Rattle.btx_bib.specs.Stored.{entry_of, references}
-use Rattle.btx_bib.specs.Listing.{keys_of, slot_of, slots_of, spelled}
-use Rattle.btx_bib.specs.Passes.{passed, inherited, inherited_from, checked, checked_by, cut, is_parent, slot_at, parent_at, parent_slot, with_values, after_first, after_second, entries_of, entry_at, entry_by, has_enough}
+use Rattle.btx_bib.specs.Stored.{entry_of, parents_in, references_by}
+use Rattle.btx_bib.specs.Requests.{asked, fewest_of}
+use Rattle.btx_bib.specs.Listing.{keys_of, slot_of, slots_of, spelled, stays}
+use Rattle.btx_bib.specs.Passes.{passed, inherited, inherited_from, checked, checked_by, cut, is_parent, slot_at, parent_at, parent_slot, with_values, after_first, after_second, entries_of, entry_at, entry_by}
 use Rattle.btx_bib.specs.Known.{Known}
 use Rattle.btx_bib.specs.Databases.{library_of, library_by, read_all, told_all, with_macros}
-use Rattle.btx_bib.specs.Laws.{ListIsKept, list_of, is_due, stays}
+use Rattle.btx_bib.specs.Laws.{ListIsKept, StarredCitedOrReferred, keeps_entry, list_of}
 
 -- ---- what the passes leave alone
 
@@ -47,7 +48,7 @@ abbrev pub seen_as : List ℕ → Bool → Bool → List ℕ × Bool
 seen_as key has_entry enough = (key, has_entry && enough)
 
 abbrev pub view : Slot → List ℕ × Bool
-view slot = seen_as slot.key (is_some slot.body) (has_enough slot)
+view slot = seen_as slot.key (is_some slot.body) slot.stays
 
 same-body : (key : List ℕ) (enough : Bool) (body : Option Body) (values : List (Option (List ℕ))) → seen_as key (is_some (with_values body values)) enough ≡ seen_as key (is_some body) enough
 same-body key enough None values = refl
@@ -55,7 +56,7 @@ same-body key enough (Some body) values = refl
 
 view-from : (parent : Option Slot) (slot : Slot) → view (inherited_from parent slot) ≡ view slot
 view-from None slot = refl
-view-from (Some parent) slot = same-body slot.key (has_enough slot) slot.body _
+view-from (Some parent) slot = same-body slot.key slot.stays slot.body _
 
 pub view-inherited : (slots : List Slot) (slot : Slot) → view (inherited slots slot) ≡ view slot
 unfolding inherited
@@ -66,7 +67,7 @@ view-checked_by None slots slot = refl
 view-checked_by (Some key) slots slot = by_test (is_parent (slot_at slots key)) where
   by_test : (b : Bool) → view (if b then slot else cut slot) ≡ view slot
   by_test true = refl
-  by_test false = same-body slot.key (has_enough slot) slot.body _
+  by_test false = same-body slot.key slot.stays slot.body _
 
 pub view-checked : (slots : List Slot) (slot : Slot) → view (checked slots slot) ≡ view slot
 unfolding checked
@@ -89,7 +90,7 @@ kept slots = map (λ (entry : Entry). entry.key) (flat_map entry_at slots)
 
 pub kept-chosen : (slots : List Slot) → kept slots ≡ chosen (map view slots)
 kept-chosen [] = refl
-kept-chosen (slot ∷ slots) = by_body (has_enough slot) slot.body (kept-chosen slots) where
+kept-chosen (slot ∷ slots) = by_body slot.stays slot.body (kept-chosen slots) where
   by_body : (enough : Bool) (body : Option Body) → kept slots ≡ chosen (map view slots)
       → map (λ (entry : Entry). entry.key) (entry_by slot.key enough body ++ flat_map entry_at slots) ≡ chosen_by (seen_as slot.key (is_some body) enough) ++ chosen (map view slots)
   by_body enough None rest = rest
@@ -98,40 +99,27 @@ kept-chosen (slot ∷ slots) = by_body (has_enough slot) slot.body (kept-chosen 
 
 -- ---- the list's keys
 
-enough-is : (cited : Bool) (fewest count : ℕ) → (cited || nat_eq (fewest - count) 0) ≡ (cited || nat_le fewest count)
-enough-is true fewest count = refl
-enough-is false fewest count = by_tests (nat_eq (fewest - count) 0) (nat_le fewest count) refl refl where
-  by_tests : (a b : Bool) → nat_eq (fewest - count) 0 ≡ a → nat_le fewest count ≡ b → a ≡ b
-  by_tests true true left right = refl
-  by_tests false false left right = refl
-  by_tests true false left right = absurd (grind (arith, nat_tests))
-  by_tests false true left right = absurd (grind (arith, nat_tests))
-
 has-body : (wanted : Wanted) (entry : Option Given) → is_some (option_map (body_of wanted) entry) ≡ is_some entry
 has-body wanted None = refl
 has-body wanted (Some given) = refl
 
-stays-is : (wanted : Wanted) (stored : List Given) (key : List ℕ) → view (slot_of wanted stored key) ≡ seen_as (spelled wanted stored key) (is_some (entry_of stored key)) (is_due wanted stored key)
+stays-is : (wanted : Wanted) (stored : List Given) (key : List ℕ) → view (slot_of wanted stored key) ≡ seen_as (spelled wanted stored key) (is_some (entry_of stored key)) (stays wanted stored key)
 unfolding slot_of
-stays-is wanted stored key =
-    let cited = is_some (listed_as wanted.cited key) in
-    let count = count_by (is_same_key key) (references wanted stored) in
-    ap (λ (b : Bool). seen_as (spelled wanted stored key) b (cited || nat_eq (wanted.fewest - count) 0)) (has-body wanted (entry_of stored key))
-    ∙ ap (seen_as (spelled wanted stored key) (is_some (entry_of stored key))) (enough-is cited wanted.fewest count)
+stays-is wanted stored key = ap (λ (b : Bool). seen_as (spelled wanted stored key) b (stays wanted stored key)) (has-body wanted (entry_of stored key))
 
-slots-chosen : (wanted : Wanted) (stored : List Given) (keys : List (List ℕ)) → chosen (map view (map (slot_of wanted stored) keys)) ≡ map (spelled wanted stored) (filter (stays wanted stored) keys)
+slots-chosen : (wanted : Wanted) (stored : List Given) (keys : List (List ℕ)) → chosen (map view (map (slot_of wanted stored) keys)) ≡ map (spelled wanted stored) (filter (keeps_entry wanted stored) keys)
 slots-chosen wanted stored [] = refl
 slots-chosen wanted stored (key ∷ keys) =
     let others = map view (map (slot_of wanted stored) keys) in
-    ap (λ (seen : List ℕ × Bool). chosen_by seen ++ chosen others) (stays-is wanted stored key) ∙ by_test (stays wanted stored key) (slots-chosen wanted stored keys) where
-      by_test : (b : Bool) → chosen (map view (map (slot_of wanted stored) keys)) ≡ map (spelled wanted stored) (filter (stays wanted stored) keys)
-          → (if b then spelled wanted stored key ∷ [] else []) ++ chosen (map view (map (slot_of wanted stored) keys)) ≡ map (spelled wanted stored) (cond b (key ∷ filter (stays wanted stored) keys) (filter (stays wanted stored) keys))
+    ap (λ (seen : List ℕ × Bool). chosen_by seen ++ chosen others) (stays-is wanted stored key) ∙ by_test (keeps_entry wanted stored key) (slots-chosen wanted stored keys) where
+      by_test : (b : Bool) → chosen (map view (map (slot_of wanted stored) keys)) ≡ map (spelled wanted stored) (filter (keeps_entry wanted stored) keys)
+          → (if b then spelled wanted stored key ∷ [] else []) ++ chosen (map view (map (slot_of wanted stored) keys)) ≡ map (spelled wanted stored) (cond b (key ∷ filter (keeps_entry wanted stored) keys) (filter (keeps_entry wanted stored) keys))
       by_test true rest = ap (λ (found : List (List ℕ)). spelled wanted stored key ∷ found) rest
       by_test false rest = rest
 
 -- ---- the library
 
-kept-entries : (wanted : Wanted) (stored : List Given) → map (λ (entry : Entry). entry.key) (entries_of (slots_of wanted stored)) ≡ map (spelled wanted stored) (filter (stays wanted stored) (keys_of wanted stored))
+kept-entries : (wanted : Wanted) (stored : List Given) → map (λ (entry : Entry). entry.key) (entries_of (slots_of wanted stored)) ≡ map (spelled wanted stored) (filter (keeps_entry wanted stored) (keys_of wanted stored))
 unfolding entries_of
 kept-entries wanted stored =
     kept-chosen (after_second (after_first (slots_of wanted stored)))
@@ -139,7 +127,7 @@ kept-entries wanted stored =
     ∙ slots-chosen wanted stored (keys_of wanted stored)
 
 kept-library : (ending : End) (wanted : Wanted) (known : Known) (messages : List Message) → ending ≡ end.Whole
-    → list_of (library_by ending wanted known messages) ≡ map (spelled wanted known.stored) (filter (stays wanted known.stored) (keys_of wanted known.stored))
+    → list_of (library_by ending wanted known messages) ≡ map (spelled wanted known.stored) (filter (keeps_entry wanted known.stored) (keys_of wanted known.stored))
 kept-library end.Whole wanted known messages whole = kept-entries wanted known.stored
 kept-library end.FileLimit wanted known messages whole = cc
 kept-library end.StringLimit wanted known messages whole = cc
@@ -148,3 +136,27 @@ pub list-is-kept : ListIsKept
 unfolding library_of
 list-is-kept wanted macros databases whole =
     let known = read_all wanted (with_macros macros) databases in kept-library known.ending wanted known (told_all wanted (with_macros macros) databases) whole
+
+-- ---- what a job and its style ask
+
+zero-least : (n : ℕ) → nat_le 0 n ≡ true
+zero-least n = by_test (nat_le 0 n) refl where
+  by_test : (b : Bool) → nat_le 0 n ≡ b → b ≡ true
+  by_test true h = refl
+  by_test false h = absurd (grind (arith, nat_tests))
+
+or-true : (a : Bool) → (a || true) ≡ true
+or-true true = refl
+or-true false = refl
+
+pub starred-cited-or-referred : StarredCitedOrReferred
+starred-cited-or-referred style job least stored key = by_star job.all where
+  cited : Bool
+  cited = is_some (listed_as job.keys key)
+
+  parents : List (List ℕ)
+  parents = parents_in (asked style job least) stored
+
+  by_star : (all : Option ℕ) → (cited || nat_le (fewest_of all least) (count_by (is_same_key key) (references_by all (asked style job least) stored))) ≡ (is_some all || (cited || nat_le least (count_by (is_same_key key) parents)))
+  by_star None = refl
+  by_star (Some place) = ap (λ (b : Bool). cited || b) (zero-least 0) ∙ or-true cited

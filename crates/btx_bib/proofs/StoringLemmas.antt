@@ -10,17 +10,18 @@ use Rattle.btx_aux.specs.Names.{is_same_key, listed_as, with_key}
 use Rattle.btx_bib.specs.declared.draft.Draft.{Draft}
 use Rattle.btx_bib.specs.declared.draft.Standing.{Standing}
 use Rattle.btx_bib.specs.declared.draft.Standing.TheVariants as standing
+use Rattle.btx_bib.specs.declared.draft_slots.DraftSlot.{DraftSlot}
 use Rattle.btx_bib.specs.declared.slots.Slot.{Slot}
 use Rattle.btx_bib.specs.Wanted.{Wanted}
 use Rattle.btx_bib.specs.Finding.{place_of, changed_at}
 use Rattle.btx_bib.specs.Entries.{Given, body_of, listed, parent_of}
 use Rattle.btx_bib.specs.Stored.{is_any_key, entry_of, references, references_by, is_wanted}
 use Rattle.btx_bib.specs.Listing.{added, first_cited, keys_of, last_cited, slot_of, slots_of}
-use Rattle.btx_bib.specs.Drafts.{cited_all, cited_at, empty, place_in, open_slot, with_entry, once_more, has_body, late_slot, new_standing, put_at, referred_at, referred_by, standing_at, stored_at}
+use Rattle.btx_bib.specs.Drafts.{cited_all, cited_at, empty, place_in, open_slot, with_entry, once_more, has_body, settled_all, late_slot, new_standing, put_at, referred_at, referred_by, standing_at, stored_at}
 use Rattle.btx_bib.specs.Steps.{names_of}
 use Rattle.btx_bib.proofs.PlaceLemmas.{place_of-none}
 use Rattle.btx_bib.proofs.ListedKeyLemmas.{same_key_equiv, folded-same, is_any_key-same, entry_of-same, is_any_key-append, is_any_key-fold, distinct-fold, distinct-none, changed_key, unchanged, none_same, changed_at-key}
-use Rattle.btx_bib.proofs.SlotLemmas.{slot_by, with_entry-slot, once_more-slot, entry_of-new, count_by-push}
+use Rattle.btx_bib.proofs.SlotLemmas.{slot_by, with_entry-slot, once_more-slot, settled-slot, entry_of-new, count_by-push}
 
 flat_map-push : {A B : Type 0} (f : A → List B) (xs : List A) (x : A) → flat_map f (xs ++ x ∷ []) ≡ flat_map f xs ++ f x
 flat_map-push f [] x = append-nil (f x)
@@ -40,7 +41,7 @@ any-folded (k ∷ keys) key = ap (λ (b : Bool). is_same_key key k || b) (any-fo
 
 -- what stands at the place of a key
 
-at_place : (f : List ℕ → Slot) (keys : List (List ℕ)) (key : List ℕ) (place : ℕ) → place_of (bytes_eq (folded key)) (map folded keys) ≡ Some place
+at_place : (f : List ℕ → DraftSlot) (keys : List (List ℕ)) (key : List ℕ) (place : ℕ) → place_of (bytes_eq (folded key)) (map folded keys) ≡ Some place
     → (other : List ℕ) × ((is_same_key key other ≡ true) × (slice_get (map f keys) place ≡ Some (f other)))
 at_place f [] key place at = cc
 at_place f (k ∷ keys) key place at = by_test (is_same_key key k) refl (place_of (bytes_eq (folded key)) (map folded keys)) refl at (λ before there. at_place f keys key before there) where
@@ -115,7 +116,7 @@ module _ (wanted : Wanted) where
   abbrev pub keys : List Given → List (List ℕ)
   keys stored = fold with_key [] (asked stored)
 
-  abbrev pub slot : List Given → List ℕ → Slot
+  abbrev pub slot : List Given → List ℕ → DraftSlot
   slot stored key =
       let cited = listed_as wanted.cited key in
       slot_by wanted (is_some cited) key cited (entry_of stored key) (count_by (is_same_key key) (references wanted stored))
@@ -189,12 +190,12 @@ module _ (wanted : Wanted) where
   Covered-stored stored entry covered asks absent = Covered-push stored entry covered (asked-wanted stored entry wanted.all refl asks) absent
 
   -- the place for a key, with this entry and these references
-  abbrev slot_with : Option Given → List (List ℕ) → List ℕ → Slot
+  abbrev slot_with : Option Given → List (List ℕ) → List ℕ → DraftSlot
   slot_with entry parents key =
       let cited = listed_as wanted.cited key in
       slot_by wanted (is_some cited) key cited entry (count_by (is_same_key key) parents)
 
-  abbrev slot_counting : Option Given → ℕ → List ℕ → Slot
+  abbrev slot_counting : Option Given → ℕ → List ℕ → DraftSlot
   slot_counting entry count key =
       let cited = listed_as wanted.cited key in
       slot_by wanted (is_some cited) key cited entry count
@@ -206,14 +207,14 @@ module _ (wanted : Wanted) where
     longer = stored ++ entry ∷ []
 
     -- the place for a key with the new entry and these references
-    abbrev by_parents : List (List ℕ) → List ℕ → Slot
+    abbrev by_parents : List (List ℕ) → List ℕ → DraftSlot
     by_parents parents key = slot_with (entry_of longer key) parents key
 
     -- where its reference doesn't count yet
-    abbrev between : List ℕ → Slot
+    abbrev between : List ℕ → DraftSlot
     between = by_parents (references wanted stored)
 
-    abbrev change : Slot → Slot
+    abbrev change : DraftSlot → DraftSlot
     change = with_entry (body_of wanted entry) entry.key
 
     filled-key : (key : List ℕ) → changed_key (slot stored) change entry.key key ≡ between key
@@ -274,18 +275,18 @@ module _ (wanted : Wanted) where
         by_place : (o : Option ℕ) → place_of (bytes_eq (folded parent)) (map folded (keys stored)) ≡ o → referred_at wanted parent (shape (keys stored) (references wanted stored)) o ≡ shape (with_key (keys stored) parent) more
         by_place (Some place) at =
             let listed-there : is_any_key (keys stored) parent ≡ true = place_of-some (keys stored) parent place at in
-            ap (λ (slots : List Slot). record (shape (keys stored) (references wanted stored)) { slots = slots })
+            ap (λ (slots : List DraftSlot). record (shape (keys stored) (references wanted stored)) { slots = slots })
             (changed_at-key between once_more parent (keys stored) place (distinct stored) at ∙ map-same (changed_key between once_more parent) (by_parents more) referred-key (keys stored))
             ∙ ap (λ (b : Bool). shape (if b then keys stored else keys stored ++ parent ∷ []) more) (sym listed-there)
         by_place None at =
             let none : is_any_key (keys stored) parent ≡ false = sym (any-folded (keys stored) parent) ∙ place_of-none (bytes_eq (folded parent)) (map folded (keys stored)) at in
             let names = sym (map-push folded (keys stored) parent) in
             let slots =
-            ap (λ (slots : List Slot). slots ++ open_slot wanted false 1 parent ∷ []) (unchanged between once_more parent (keys stored) (none_same parent (keys stored) none) ∙ map-same (changed_key between once_more parent) (by_parents more) referred-key (keys stored))
-            ∙ ap (λ (slot : Slot). map (by_parents more) (keys stored) ++ slot ∷ []) (open-key covered there none)
+            ap (λ (slots : List DraftSlot). slots ++ open_slot wanted false 1 parent ∷ []) (unchanged between once_more parent (keys stored) (none_same parent (keys stored) none) ∙ map-same (changed_key between once_more parent) (by_parents more) referred-key (keys stored))
+            ∙ ap (λ (slot : DraftSlot). map (by_parents more) (keys stored) ++ slot ∷ []) (open-key covered there none)
             ∙ sym (map-push (by_parents more) (keys stored) parent) in
             ap (λ (ns : List (List ℕ)). record { names = ns; slots = map between (keys stored) ++ open_slot wanted false 1 parent ∷ [] }) names
-            ∙ ap (λ (ss : List Slot). record { names = map folded (keys stored ++ parent ∷ []); slots = ss }) slots
+            ∙ ap (λ (ss : List DraftSlot). record { names = map folded (keys stored ++ parent ∷ []); slots = ss }) slots
             ∙ ap (λ (b : Bool). shape (if b then keys stored else keys stored ++ parent ∷ []) more) (sym none)
 
     referred-parent : wanted.all ≡ None → Covered stored → is_any_key (asked stored) entry.key ≡ true → (parent : Option (List ℕ)) → parent_of wanted entry ≡ parent
@@ -315,7 +316,7 @@ module _ (wanted : Wanted) where
         cc
     stored-plain plain covered asks (Some place) at =
         let same : is_wanted wanted stored entry.key ≡ is_any_key (asked stored) entry.key = rw plain refl in
-        ap (λ (slots : List Slot). referred_by None wanted (record { names = map folded (keys stored); slots = slots }) (parent_of wanted entry)) (filled-at place at)
+        ap (λ (slots : List DraftSlot). referred_by None wanted (record { names = map folded (keys stored); slots = slots }) (parent_of wanted entry)) (filled-at place at)
         ∙ referred-parent plain covered (sym same ∙ asks) (parent_of wanted entry) refl
 
     -- ---- the same with `*`
@@ -347,17 +348,17 @@ module _ (wanted : Wanted) where
       stored-starred (Some place) at =
           let there : is_any_key (keys stored) entry.key ≡ true = place_of-some (keys stored) entry.key place at in
           let are : keys longer ≡ keys stored = keys-starred ∙ ap (λ (b : Bool). if b then keys stored else keys stored ++ entry.key ∷ []) there in
-          ap (λ (slots : List Slot). record { names = map folded (keys stored); slots = slots }) (filled-at place at) ∙ whole (keys stored) are
+          ap (λ (slots : List DraftSlot). record { names = map folded (keys stored); slots = slots }) (filled-at place at) ∙ whole (keys stored) are
       stored-starred None at =
           let none : is_any_key (keys stored) entry.key ≡ false = sym (any-folded (keys stored) entry.key) ∙ place_of-none (bytes_eq (folded entry.key)) (map folded (keys stored)) at in
           let are : keys longer ≡ keys stored ++ entry.key ∷ [] = keys-starred ∙ ap (λ (b : Bool). if b then keys stored else keys stored ++ entry.key ∷ []) none in
           let late = with_entry (body_of wanted entry) entry.key (late_slot wanted entry.key (listed_as wanted.cited entry.key)) in
           let slots : map (slot stored) (keys stored) ++ late ∷ [] ≡ map between (keys stored ++ entry.key ∷ []) =
-          ap (λ (ss : List Slot). ss ++ late ∷ []) (unchanged (slot stored) change entry.key (keys stored) (none_same entry.key (keys stored) none) ∙ map-same (changed_key (slot stored) change entry.key) between filled-key (keys stored))
-          ∙ ap (λ (s : Slot). map between (keys stored) ++ s ∷ []) late-key
+          ap (λ (ss : List DraftSlot). ss ++ late ∷ []) (unchanged (slot stored) change entry.key (keys stored) (none_same entry.key (keys stored) none) ∙ map-same (changed_key (slot stored) change entry.key) between filled-key (keys stored))
+          ∙ ap (λ (s : DraftSlot). map between (keys stored) ++ s ∷ []) late-key
           ∙ sym (map-push between (keys stored) entry.key) in
           ap (λ (ns : List (List ℕ)). record { names = ns; slots = map (slot stored) (keys stored) ++ late ∷ [] }) (sym (map-push folded (keys stored) entry.key))
-          ∙ ap (λ (ss : List Slot). record { names = map folded (keys stored ++ entry.key ∷ []); slots = ss }) slots
+          ∙ ap (λ (ss : List DraftSlot). record { names = map folded (keys stored ++ entry.key ∷ []); slots = ss }) slots
           ∙ whole (keys stored ++ entry.key ∷ []) are
 
     -- ---- the whole entry
@@ -453,8 +454,8 @@ module _ (wanted : Wanted) where
     cited-listing done ks rest key parts begun None at =
         let none : is_any_key ks key ≡ false = sym (any-folded ks key) ∙ place_of-none (bytes_eq (folded key)) (map folded ks) at in
         ap (λ (ns : List (List ℕ)). record { names = ns; slots = map (slot stored) ks ++ open_slot wanted true 0 key ∷ [] }) (sym (map-push folded ks key))
-        ∙ ap (λ (s : Slot). record { names = map folded (ks ++ key ∷ []); slots = map (slot stored) ks ++ s ∷ [] }) (open-cited done ks rest key parts begun none)
-        ∙ ap (λ (ss : List Slot). record { names = map folded (ks ++ key ∷ []); slots = ss }) (sym (map-push (slot stored) ks key))
+        ∙ ap (λ (s : DraftSlot). record { names = map folded (ks ++ key ∷ []); slots = map (slot stored) ks ++ s ∷ [] }) (open-cited done ks rest key parts begun none)
+        ∙ ap (λ (ss : List DraftSlot). record { names = map folded (ks ++ key ∷ []); slots = ss }) (sym (map-push (slot stored) ks key))
         ∙ ap (λ (b : Bool). listing stored (if b then ks else ks ++ key ∷ [])) (sym none)
 
     kept-key : (ks : List (List ℕ)) (new key : List ℕ) → is_any_key ks key ≡ true → is_any_key (with_key ks new) key ≡ true
@@ -501,7 +502,7 @@ module _ (wanted : Wanted) where
     by_case None is (Some entry) at = folded-same key entry.key (entry-same stored key entry at)
     by_case None is None at = refl
 
-  pub names-listing : (stored : List Given) (ks : List (List ℕ)) → map folded ks ≡ names_of (map (slot stored) ks)
+  pub names-listing : (stored : List Given) (ks : List (List ℕ)) → map folded ks ≡ names_of (settled_all (map (slot stored) ks))
   names-listing stored [] = refl
   names-listing stored (k ∷ ks) = ap (λ (f : List ℕ). f ∷ map folded ks) (slot-key stored k) ∙ ap (λ (fs : List (List ℕ)). folded (slot stored k).key ∷ fs) (names-listing stored ks)
 
@@ -549,9 +550,13 @@ module _ (wanted : Wanted) where
   pub last-draft : (stored : List Given) → Covered stored → cited_all wanted (draft stored) (last_cited wanted.all wanted.cited) ≡ listing stored (keys_of wanted stored)
   last-draft stored covered = last-by stored covered wanted.all refl
 
-  pub slots-listing : (stored : List Given) → (listing stored (keys_of wanted stored)).slots ≡ slots_of wanted stored
-  unfolding slot_of
-  slots-listing stored = refl
+  settled-slots : (stored : List Given) (ks : List (List ℕ)) → settled_all (map (slot stored) ks) ≡ map (slot_of wanted stored) ks
+  settled-slots stored [] = refl
+  settled-slots stored (k ∷ ks) =
+      ap (λ (first : Slot). first ∷ settled_all (map (slot stored) ks)) (settled-slot wanted stored k) ∙ ap (λ (rest : List Slot). slot_of wanted stored k ∷ rest) (settled-slots stored ks)
+
+  pub slots-listing : (stored : List Given) → settled_all (listing stored (keys_of wanted stored)).slots ≡ slots_of wanted stored
+  slots-listing stored = settled-slots stored (keys_of wanted stored)
 
   pub covered-none : Covered []
   covered-none key h = absurd (untrue h) where

@@ -9,6 +9,7 @@ use Rattle.btx_bib.specs.declared.gathering.Gathering.{Gathering}
 use Rattle.btx_bib.specs.declared.message.Message.{Message}
 use Rattle.btx_bib.specs.declared.slots.Slot.{Slot}
 use Rattle.btx_bib.specs.Databases.{library_by, library_of, nothing, read_all, with_macro, with_macros}
+use Rattle.btx_bib.specs.Drafts.{settled_all}
 use Rattle.btx_bib.specs.Grammar.ValueTexts.{squeezed}
 use Rattle.btx_bib.specs.Known.{Known, goes_on}
 use Rattle.btx_bib.specs.Listing.{keys_of}
@@ -75,7 +76,7 @@ module _ (wanted : Wanted) where
   library-same : (known : Known) (messages : List Message) → Sound wanted known → (ending : End) → library_kept ending wanted (kept_of wanted known) messages ≡ library_by ending wanted known messages
   library-same known messages sound end.Whole =
       ap (λ (slots : List Slot). record { entries = entries_of slots; preamble = known.preamble; messages = messages ++ references_told slots; ending = end.Whole })
-      (ap (λ (d : Draft). d.slots) (last-draft wanted known.stored sound.0) ∙ slots-listing wanted known.stored)
+      (ap (λ (d : Draft). settled_all d.slots) (last-draft wanted known.stored sound.0) ∙ slots-listing wanted known.stored)
   library-same known messages sound end.FileLimit = refl
   library-same known messages sound end.StringLimit = refl
 

@@ -1,5 +1,5 @@
 -- The code's steps: what an entry adds to the list of keys that is kept while databases are read.
-use Rattle.std.specs.Prelude.{ℕ, ◌-◌, Bool, true, false, List, [], ◌∷◌, ◌++◌, Option, None, Some, is_some, slice_get, if◌then◌else◌}
+use Rattle.std.specs.Prelude.{ℕ, ◌-◌, nat_eq, ◌||◌, Bool, true, false, List, [], ◌∷◌, ◌++◌, map, Option, None, Some, is_some, slice_get, if◌then◌else◌}
 use Rattle.std.specs.Option.{unwrap_or}
 use Rattle.std.specs.Str.{bytes_eq}
 use Rattle.btx_text.specs.Keys.{folded}
@@ -7,6 +7,7 @@ use Rattle.btx_aux.specs.Names.{listed_as}
 use Rattle.btx_bib.specs.declared.draft.Draft.{Draft}
 use Rattle.btx_bib.specs.declared.draft.Standing.{Standing}
 use Rattle.btx_bib.specs.declared.draft.Standing.TheVariants.{Unwanted, Repeated, Wanted}
+use Rattle.btx_bib.specs.declared.draft_slots.DraftSlot.{DraftSlot}
 use Rattle.btx_bib.specs.declared.slots.Body.{Body}
 use Rattle.btx_bib.specs.declared.slots.Slot.{Slot}
 use Rattle.btx_bib.specs.Finding.{place_of, changed_at}
@@ -18,15 +19,15 @@ abbrev pub place_in : Draft → List ℕ → Option ℕ
 place_in draft key = place_of (bytes_eq (folded key)) draft.names
 
 -- the place of a key that has no entry yet
-abbrev pub open_slot : Request → Bool → ℕ → List ℕ → Slot
+abbrev pub open_slot : Request → Bool → ℕ → List ℕ → DraftSlot
 open_slot request is_cited count key = record { key = key; is_cited = is_cited; wanting = request.fewest - count; body = None }
 
 -- a place that gets an entry
-abbrev pub with_entry : Body → List ℕ → Slot → Slot
+abbrev pub with_entry : Body → List ℕ → DraftSlot → DraftSlot
 with_entry body key slot = record { key = if slot.is_cited then slot.key else key; is_cited = slot.is_cited; wanting = slot.wanting; body = Some body }
 
 -- a place that is referred to once more
-abbrev pub once_more : Slot → Slot
+abbrev pub once_more : DraftSlot → DraftSlot
 once_more slot = record slot { wanting = slot.wanting - 1 }
 
 -- no key
@@ -44,7 +45,7 @@ cited_all request draft [] = draft
 cited_all request draft (key ∷ keys) = cited_all request (cited_at request key draft (place_in draft key)) keys
 
 -- there is an entry at a place
-abbrev pub has_body : Option Slot → Bool
+abbrev pub has_body : Option DraftSlot → Bool
 has_body None = false
 has_body (Some slot) = is_some slot.body
 
@@ -77,7 +78,7 @@ abbrev pub referred : Request → Draft → Option (List ℕ) → Draft
 referred request draft parent = referred_by request.all request draft parent
 
 -- the place of a key that isn't in the list yet: it is spelled as it was cited, or as its entry has it
-abbrev pub late_slot : Request → List ℕ → Option (List ℕ) → Slot
+abbrev pub late_slot : Request → List ℕ → Option (List ℕ) → DraftSlot
 late_slot request key cited = open_slot request (is_some cited) 0 (unwrap_or cited key)
 
 -- the list with an entry put where its key has this place, or at a new place
@@ -88,3 +89,12 @@ put_at request key body draft None = record { names = draft.names ++ folded key 
 -- the list after an entry that is stored, whose key has this place
 unfoldable pub stored_at : Request → List ℕ → Body → Draft → Option ℕ → Draft
 stored_at request key body draft place = referred request (put_at request key body draft place) (parent_in body.values)
+
+-- ---- once all databases are read
+
+-- a place of the list: its entry stays if it was cited, or lacks no reference
+abbrev pub settled : DraftSlot → Slot
+settled slot = record { key = slot.key; stays = slot.is_cited || nat_eq slot.wanting 0; body = slot.body }
+
+abbrev pub settled_all : List DraftSlot → List Slot
+settled_all slots = map settled slots

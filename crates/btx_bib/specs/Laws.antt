@@ -1,13 +1,16 @@
 -- Laws of libraries, in the words of their subject.
 use Rattle.std.specs.Prelude.{◌≡◌, ℕ, nat_le, ◌||◌, ◌&&◌, Bool, List, map, count_by, is_some}
 use Rattle.std.specs.List.{filter, IsDistinct}
+use Rattle.btx_aux.specs.Job.{Job}
 use Rattle.btx_aux.specs.Names.{is_same_key, listed_as}
+use Rattle.btx_bst.specs.Style.{Style}
 use Rattle.btx_bib.specs.declared.end.End.TheVariants.{Whole}
 use Rattle.btx_bib.specs.declared.entry.Entry.{Entry}
 use Rattle.btx_bib.specs.Entries.{Given}
-use Rattle.btx_bib.specs.Stored.{entry_of, references}
-use Rattle.btx_bib.specs.Listing.{keys_of, spelled}
+use Rattle.btx_bib.specs.Stored.{entry_of, parents_in}
+use Rattle.btx_bib.specs.Listing.{keys_of, spelled, stays}
 use Rattle.btx_bib.specs.Library.{Library}
+use Rattle.btx_bib.specs.Requests.{asked}
 use Rattle.btx_bib.specs.Wanted.{Wanted}
 use Rattle.btx_bib.specs.Told.{Database}
 use Rattle.btx_bib.specs.Databases.{library_of, read_all, with_macros}
@@ -24,16 +27,18 @@ KeysDiffer = (wanted : Wanted) (macros : List (List ℕ × List ℕ)) (databases
 abbrev pub stored_by : Wanted → List (List ℕ × List ℕ) → List Database → List Given
 stored_by wanted macros databases = (read_all wanted (with_macros macros) databases).stored
 
--- a key was cited, or stored entries refer to it often enough: with `*` no reference is asked for
-abbrev pub is_due : Wanted → List Given → List ℕ → Bool
-is_due wanted stored key = is_some (listed_as wanted.cited key) || nat_le wanted.fewest (count_by (is_same_key key) (references wanted stored))
+-- an entry stays: `*` was cited, or its key was, or so many stored entries refer to it as are asked for
+abbrev pub StarredCitedOrReferred : Type 0
+StarredCitedOrReferred = (style : Style) (job : Job) (least : ℕ) (stored : List Given) (key : List ℕ)
+    → (let wanted = asked style job least in
+    stays wanted stored key ≡ (is_some job.all || (is_some (listed_as job.keys key) || nat_le least (count_by (is_same_key key) (parents_in wanted stored)))))
 
--- a key has an entry and was cited, or is referred to often enough
-abbrev pub stays : Wanted → List Given → List ℕ → Bool
-stays wanted stored key = is_some (entry_of stored key) && is_due wanted stored key
+-- a key has an entry, and it stays
+abbrev pub keeps_entry : Wanted → List Given → List ℕ → Bool
+keeps_entry wanted stored key = is_some (entry_of stored key) && stays wanted stored key
 
 -- the entries of a whole library are those of the list's keys that stay, in the order of the list: without `*` the cited keys in the
 -- order of citation, and after them the parents. Where no reference is asked for, each key that has an entry stays.
 abbrev pub ListIsKept : Type 0
 ListIsKept = (wanted : Wanted) (macros : List (List ℕ × List ℕ)) (databases : List Database) → (read_all wanted (with_macros macros) databases).ending ≡ Whole
-    → (let stored = stored_by wanted macros databases in list_of (library_of wanted macros databases) ≡ map (spelled wanted stored) (filter (stays wanted stored) (keys_of wanted stored)))
+    → (let stored = stored_by wanted macros databases in list_of (library_of wanted macros databases) ≡ map (spelled wanted stored) (filter (keeps_entry wanted stored) (keys_of wanted stored)))

@@ -14,6 +14,7 @@ pub mod Requests
 pub mod Strings
 pub mod Known
 pub mod Told
+pub mod Sources
 pub mod Sites
 pub mod Gatherings
 pub mod Databases

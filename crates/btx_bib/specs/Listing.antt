@@ -1,6 +1,6 @@
 -- The list: the cited keys in order, and after them the parents that their entries name, each once. With `*` the keys cited before
 -- it, then all entries in the order of the databases, then the other cited keys (btxdoc, section 2, and its rules for `crossref`).
-use Rattle.std.specs.Prelude.{ℕ, ◌-◌, List, [], ◌++◌, map, fold, take, drop, count_by, Option, None, Some, is_some}
+use Rattle.std.specs.Prelude.{ℕ, nat_le, ◌||◌, Bool, List, [], ◌++◌, map, fold, take, drop, count_by, Option, None, Some, is_some}
 use Rattle.std.specs.Option.{option_or, option_map, unwrap_or}
 use Rattle.btx_aux.specs.Names.{is_same_key, listed_as, with_key}
 use Rattle.btx_bib.specs.declared.slots.Slot.{Slot}
@@ -34,13 +34,15 @@ keys_of wanted stored = fold with_key (first_keys wanted stored) (last_cited wan
 abbrev pub spelled : Wanted → List Given → List ℕ → List ℕ
 spelled wanted stored key = unwrap_or (option_or (listed_as wanted.cited key) (option_map (λ (given : Given). given.key) (entry_of stored key))) key
 
--- the place of the list for a key: how it is spelled, whether it was cited, how many references it lacks to stay without having
--- been cited, and its entry if one is stored
+-- what the list has of a key stays: it was cited, or so many stored entries refer to it as are asked for, which with `*` are none
+abbrev pub stays : Wanted → List Given → List ℕ → Bool
+stays wanted stored key = is_some (listed_as wanted.cited key) || nat_le wanted.fewest (count_by (is_same_key key) (references wanted stored))
+
+-- the place of the list for a key: how it is spelled, whether its entry stays, and that entry if one is stored
 unfoldable pub slot_of : Wanted → List Given → List ℕ → Slot
 slot_of wanted stored key = record {
   key = spelled wanted stored key;
-  is_cited = is_some (listed_as wanted.cited key);
-  wanting = wanted.fewest - count_by (is_same_key key) (references wanted stored);
+  stays = stays wanted stored key;
   body = option_map (body_of wanted) (entry_of stored key);
 }
 

@@ -1,6 +1,6 @@
 -- Cross-references (btxdoc, section 2.2's `crossref`; the two passes are those of the original). Each pass goes along the list, and
 -- each place is judged by the list as it is then.
-use Rattle.std.specs.Prelude.{ℕ, ◌||◌, ◌&&◌, Bool, false, nat_eq, List, [], ◌∷◌, ◌++◌, Option, None, Some, is_some, if◌then◌else◌}
+use Rattle.std.specs.Prelude.{ℕ, ◌&&◌, Bool, false, List, [], ◌∷◌, ◌++◌, Option, None, Some, is_some, if◌then◌else◌}
 use Rattle.std.specs.List.{find, flat_map}
 use Rattle.std.specs.Option.{option_or}
 use Rattle.btx_aux.specs.Names.{is_same_key}
@@ -72,10 +72,6 @@ abbrev pub without_parent : List (Option (List ℕ)) → List (Option (List ℕ)
 without_parent [] = []
 without_parent (value ∷ values) = None ∷ values
 
--- a place keeps its entry: it was cited, or is referred to often enough
-abbrev pub has_enough : Slot → Bool
-has_enough slot = slot.is_cited || nat_eq slot.wanting 0
-
 -- an entry without its parent
 abbrev pub cut : Slot → Slot
 cut slot = with_body slot (with_values slot.body (without_parent (values_in slot.body)))
@@ -83,7 +79,7 @@ cut slot = with_body slot (with_values slot.body (without_parent (values_in slot
 -- the parent has an entry that stays
 abbrev pub is_parent : Option Slot → Bool
 is_parent None = false
-is_parent (Some parent) = is_some parent.body && has_enough parent
+is_parent (Some parent) = is_some parent.body && parent.stays
 
 -- the second pass: an entry loses its parent if that has no entry or doesn't stay
 abbrev pub checked_by : Option (List ℕ) → List Slot → Slot → Slot
@@ -111,11 +107,11 @@ check_told slots slot = check_told_by (parent_at slot) slots slot
 
 -- the entry at a place, if there is one that stays
 abbrev pub entry_by : List ℕ → Bool → Option Body → List Entry
-entry_by key enough None = []
-entry_by key enough (Some body) = if enough then record { key = key; kind = body.kind; values = body.values } ∷ [] else []
+entry_by key stays None = []
+entry_by key stays (Some body) = if stays then record { key = key; kind = body.kind; values = body.values } ∷ [] else []
 
 abbrev pub entry_at : Slot → List Entry
-entry_at slot = entry_by slot.key (has_enough slot) slot.body
+entry_at slot = entry_by slot.key slot.stays slot.body
 
 -- a key without an entry is told of
 abbrev pub absence_by : List ℕ → Option Body → List Message

@@ -1,7 +1,6 @@
 -- The code's steps: what is kept and told along whole databases.
-use Rattle.std.specs.Prelude.{◌≡◌, ℕ, nat_lt, List, [], ◌∷◌, ◌++◌, length, map, None, if◌then◌else◌}
+use Rattle.std.specs.Prelude.{◌≡◌, ℕ, nat_lt, List, [], ◌∷◌, ◌++◌, length, None, if◌then◌else◌}
 use Rattle.btx_text.specs.Limits.{greatest_string}
-use Rattle.btx_bib.specs.declared.databases.Source.{Source}
 use Rattle.btx_bib.specs.declared.draft.Draft.{Draft}
 use Rattle.btx_bib.specs.declared.end.End.{End}
 use Rattle.btx_bib.specs.declared.end.End.TheVariants as end
@@ -10,7 +9,7 @@ use Rattle.btx_bib.specs.declared.gathering.Gathering.{Gathering}
 use Rattle.btx_bib.specs.declared.grammar.commands.Wanted.TheVariants.{Item}
 use Rattle.btx_bib.specs.declared.message.Message.{Message}
 use Rattle.btx_bib.specs.Databases.{is_too_long}
-use Rattle.btx_bib.specs.Drafts.{cited_all, empty}
+use Rattle.btx_bib.specs.Drafts.{cited_all, empty, settled_all}
 use Rattle.btx_bib.specs.Grammar.ValueTexts.{squeezed}
 use Rattle.btx_bib.specs.Gatherings.{closed, events_with, kept_along, kept_told}
 use Rattle.btx_bib.specs.Known.{goes_on}
@@ -21,13 +20,6 @@ use Rattle.btx_bib.specs.Steps.{names_of}
 use Rattle.btx_bib.specs.Strings.{defined}
 use Rattle.btx_bib.specs.Told.{Database}
 use Rattle.btx_bib.specs.Wanted.{Wanted}
-
--- a source as a database
-abbrev pub database_of : Source → Database
-database_of source = record { file = source.name.now; text = source.bytes.now }
-
-abbrev pub databases_of : List Source → List Database
-databases_of sources = map database_of sources
 
 -- what is kept after a database
 abbrev pub kept_one : Wanted → Gathering → Database → Gathering
@@ -71,14 +63,14 @@ listed_draft wanted draft = cited_all wanted draft (last_cited wanted.all wanted
 
 -- its names are the keys of its places
 abbrev pub IsListed : Draft → Type 0
-IsListed draft = draft.names ≡ names_of draft.slots
+IsListed draft = draft.names ≡ names_of (settled_all draft.slots)
 
 -- the library of what is kept and told
 abbrev pub library_kept : End → Wanted → Gathering → List Message → Library
 library_kept end.Whole wanted kept messages = record {
-  entries = entries_of (listed_draft wanted kept.draft).slots;
+  entries = entries_of (settled_all (listed_draft wanted kept.draft).slots);
   preamble = kept.preamble;
-  messages = messages ++ references_told (listed_draft wanted kept.draft).slots;
+  messages = messages ++ references_told (settled_all (listed_draft wanted kept.draft).slots);
   ending = end.Whole;
 }
 library_kept end.FileLimit wanted kept messages = record { entries = []; preamble = []; messages = messages; ending = end.FileLimit }

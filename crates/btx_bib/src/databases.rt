@@ -31,8 +31,9 @@ impl<'a> Gathering<'a> {
     ghost use Rattle.btx_bib.specs.declared.grammar.commands.Wanted.TheVariants as next;
     ghost use Rattle.btx_bib.specs.Gatherings.{closed, events_with, kept_along, kept_told};
     ghost use Rattle.btx_bib.specs.Known.{goes_on};
-    ghost use Rattle.btx_bib.specs.Readings.{IsListed, kept_macro, kept_macros, beginning, library_kept, listed_draft, database_of, databases_of, kept_by_all, kept_one, told_by_all, told_by_one};
+    ghost use Rattle.btx_bib.specs.Readings.{IsListed, kept_macro, kept_macros, beginning, library_kept, listed_draft, kept_by_all, kept_one, told_by_all, told_by_one};
     ghost use Rattle.btx_bib.specs.Requests.{wanted};
+    ghost use Rattle.btx_bib.specs.Sources.{database_of, databases_of};
 
     // A database that isn't too long.
     fn read_short(
@@ -159,6 +160,7 @@ impl<'a> Gathering<'a> {
         } = self;
         draft.cite_all(alloc, request, request.last_cited())?;
         let Draft { names, slots } = draft;
+        let slots = slots.settled(alloc)?;
         let entries = entries_of(slots, alloc, names, &mut messages)?;
         Ok(Library {
             entries,
@@ -194,8 +196,8 @@ impl<'a> Gathering<'a> {
 ghost use Rattle.std.specs.Prelude.{◌≡◌, IfErr, IfOk};
 ghost use Rattle.btx_text.specs.declared.fault.Fault.TheVariants.{Memory};
 ghost use Rattle.btx_bib.specs.Databases.{library_of};
-ghost use Rattle.btx_bib.specs.Readings.{databases_of};
 ghost use Rattle.btx_bib.specs.Requests.{asked};
+ghost use Rattle.btx_bib.specs.Sources.{databases_of};
 
 /// Reads the databases of a job: what they give to it and its style, where an entry that isn't cited takes so many references to stay.
 /// The library has the bytes of the files and of the cited keys; style and sources are used in the call alone. The only fault is want

@@ -1,8 +1,9 @@
 //! The list of keys, while databases are read.
+use crate::draft_slots::{DraftSlot, DraftSlots};
 use crate::lowering::in_lower_case;
 use crate::names::Names;
 use crate::request::Request;
-use crate::slots::{Body, Slot, Slots};
+use crate::slots::Body;
 use crate::spelling::{Spelling, Word};
 use btx_text::Text;
 use std::alloc::{AllocError, Global};
@@ -11,7 +12,7 @@ use std::alloc::{AllocError, Global};
 #[derive(Drop)]
 pub struct Draft<'a> {
     pub names: Names,
-    pub slots: Slots<'a>,
+    pub slots: DraftSlots<'a>,
 }
 
 /// How an entry stands when its key was read.
@@ -37,7 +38,7 @@ impl<'a> Draft<'a> {
     {
         Draft {
             names: Names::new(alloc),
-            slots: Slots::new(alloc),
+            slots: DraftSlots::new(alloc),
         }
     }
 
@@ -70,7 +71,7 @@ impl<'a> Draft<'a> {
             return Ok(());
         }
         self.names.add(alloc, lowered)?;
-        let slot = Slot {
+        let slot = DraftSlot {
             key: Spelling::of_file(key),
             is_cited: true,
             wanting: request.fewest,
@@ -179,7 +180,7 @@ impl<'a> Draft<'a> {
             return Ok(());
         }
         self.names.add(alloc, lowered)?;
-        let slot = Slot {
+        let slot = DraftSlot {
             key: Spelling::of_value(key),
             is_cited: false,
             wanting: request.fewest.saturating_sub(1),
@@ -208,14 +209,14 @@ impl<'r, 'a> Request<'r, 'a> {
     }
 
     // The place of an entry whose key isn't in the list. It is spelled as it was cited, if it was.
-    fn late_slot(&self, key: &Word<'a>, lowered: &[u8], body: Body<'a>) -> Slot<'a>
+    fn late_slot(&self, key: &Word<'a>, lowered: &[u8], body: Body<'a>) -> DraftSlot<'a>
         requires { lowered.now ≡ folded key.now }
         ensures { result ≡ with_entry body.entry key.now (late_slot (wanted self.now) key.now (listed_as (wanted self.now).cited key.now)) }
     {
         let cited = self.cited_as(lowered);
         let is_cited = cited.is_some();
         let key = Spelling::of_file(cited.unwrap_or(key.as_bytes()));
-        Slot {
+        DraftSlot {
             key,
             is_cited,
             wanting: self.fewest,

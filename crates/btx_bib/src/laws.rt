@@ -8,13 +8,18 @@ ghost use Rattle.btx_bib.specs.Known.{Known, keeping};
 ghost use Rattle.btx_bib.specs.Told.{Database};
 ghost use Rattle.btx_bib.specs.Wanted.{Wanted};
 ghost use Rattle.btx_bib.specs.declared.grammar.commands.Wanted.TheVariants as next;
-ghost use Rattle.btx_bib.specs.Laws.{KeysDiffer, ListIsKept};
+ghost use Rattle.btx_bib.specs.Laws.{KeysDiffer, ListIsKept, StarredCitedOrReferred};
 ghost use Rattle.btx_bib.specs.Parents.{InheritsFromParent, NoParentLeaves, NoReferenceDangles};
 ghost use Rattle.btx_bib.specs.Storing.{LastDefinitionCounts, LastMacroCounts, OthersKeepTheirs, OthersStoreNone, WantedNewAreStored};
 
 /// No two entries of a list have one key, whose case is ignored.
 pub fn keys_differ()
     ensures { KeysDiffer }
+{}
+
+/// An entry of the list stays exactly if `*` was cited, or its key, or so many stored entries refer to it as are asked for.
+pub fn starred_cited_or_referred()
+    ensures { StarredCitedOrReferred }
 {}
 
 /// The entries of a whole library are those of the keys that have an entry and were cited or are referred to often enough, in the order

@@ -3,6 +3,7 @@
 
 pub mod databases;
 mod draft;
+mod draft_slots;
 pub mod end;
 pub mod entry;
 mod gathering;

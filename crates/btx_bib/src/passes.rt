@@ -53,7 +53,7 @@ fn is_parent(parent: Option<&Slot<'_>>) -> bool
     ensures { result ≡ is_parent (option_copied parent.entry) }
 {
     match parent {
-        Some(slot) => slot.body.is_some() && slot.has_enough(),
+        Some(slot) => slot.body.is_some() && slot.stays,
         None => false,
     }
 }
@@ -138,18 +138,12 @@ fn close<'a>(
     ensures entries { OnOk result (entries.new.items ≡ entries.old.items ++ entry_at slot.entry) }
     ensures messages { OnOk result (messages.new ≡ messages.old ++ absence_told slot.entry) }
 {
-    let enough = slot.has_enough();
-    let Slot {
-        key,
-        is_cited: _,
-        wanting: _,
-        body,
-    } = slot;
+    let Slot { key, stays, body } = slot;
     let Some(body) = body else {
         messages.push(Message::NoEntry(key))?;
         return Ok(());
     };
-    if !enough {
+    if !stays {
         return Ok(());
     }
     let Body { kind, values } = body;

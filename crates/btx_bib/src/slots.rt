@@ -1,4 +1,4 @@
-//! The places of the list, while databases are read.
+//! The places of the list, once all databases are read.
 use crate::lowering::in_lower_case;
 use crate::names::Names;
 use crate::spelling::Spelling;
@@ -19,10 +19,8 @@ pub struct Body<'a> {
 pub struct Slot<'a> {
     /// The key, as the list spells it.
     pub key: Spelling<'a>,
-    /// Whether it was cited.
-    pub is_cited: bool,
-    /// How many references it lacks to stay without having been cited.
-    pub wanting: u32,
+    /// Whether its entry stays in the list.
+    pub stays: bool,
     /// Its entry, if there is one.
     pub body: Option<Body<'a>>,
 }
@@ -49,7 +47,6 @@ impl<'a> Slots<'a> {
     ghost use Rattle.btx_bib.specs.Finding.{changed_at, place_of};
     ghost use Rattle.btx_bib.specs.Passes.{cut, with_body, with_values};
     ghost use Rattle.btx_bib.specs.Steps.{slot_by};
-    ghost use Rattle.btx_bib.specs.Drafts.{has_body, once_more, with_entry};
 
     /// No place.
     pub fn new(alloc: Global) -> Self
@@ -73,36 +70,6 @@ impl<'a> Slots<'a> {
     {
         self.list.push(slot)?;
         Ok(())
-    }
-
-    /// Whether there is an entry at a place.
-    pub fn has_body(&self, place: usize) -> bool
-        ensures { result ≡ has_body (slice_get self.now place) }
-    {
-        match self.list.get(place) {
-            Some(slot) => slot.body.is_some(),
-            None => false,
-        }
-    }
-
-    /// Puts an entry at a place.
-    pub fn fill(&mut self, place: usize, key: Spelling<'a>, body: Body<'a>)
-        ensures { self.new ≡ changed_at place (with_entry body.entry key.entry) self.old }
-    {
-        if place < self.list.len() {
-            let slot = &mut self.list[place];
-            slot.fill(key, body);
-        }
-    }
-
-    /// Counts a reference to a place.
-    pub fn refer(&mut self, place: usize)
-        ensures { self.new ≡ changed_at place once_more self.old }
-    {
-        if place < self.list.len() {
-            let slot = &mut self.list[place];
-            slot.wanting = slot.wanting.saturating_sub(1);
-        }
     }
 
     /// The place at an index.
@@ -160,18 +127,7 @@ impl<'a> Slots<'a> {
 impl<'a> Slot<'a> {
     ghost use Rattle.std.specs.Prelude.{◌≡◌, ◌≤◌, [], length, IfOk, OnOk, option_copied};
     ghost use Rattle.btx_text.specs.Limits.{greatest_string};
-    ghost use Rattle.btx_bib.specs.Drafts.{with_entry};
-    ghost use Rattle.btx_bib.specs.Passes.{cut, has_enough, inherited_values, parent_at, values_in, with_body, with_values};
-
-    // Puts an entry here.
-    fn fill(&mut self, key: Spelling<'a>, body: Body<'a>)
-        ensures { self.new ≡ with_entry body.entry key.entry self.old }
-    {
-        if !self.is_cited {
-            self.key = key;
-        }
-        self.body = Some(body);
-    }
+    ghost use Rattle.btx_bib.specs.Passes.{cut, inherited_values, parent_at, values_in, with_body, with_values};
 
     /// The key of the parent.
     pub fn parent(&self) -> Option<&Text<'a>>
@@ -222,12 +178,5 @@ impl<'a> Slot<'a> {
         if let Some(body) = &mut self.body {
             body.values.cut();
         }
-    }
-
-    /// Whether it was cited or is referred to often enough.
-    pub fn has_enough(&self) -> bool
-        ensures { result ≡ has_enough self.now }
-    {
-        self.is_cited || self.wanting == 0
     }
 }

@@ -14,7 +14,7 @@ use Rattle.btx_bib.specs.Entries.{Given, body_of}
 use Rattle.btx_bib.specs.Known.{Known}
 use Rattle.btx_bib.specs.Library.{kind_of}
 use Rattle.btx_bib.specs.Listing.{slot_of, slots_of, keys_of}
-use Rattle.btx_bib.specs.Passes.{with_values, passed, slot_at, parent_at, parent_slot, inherited_from, inherited, is_parent, cut, checked_by, checked, has_enough, entry_by, entry_at, after_first, after_second, entries_of}
+use Rattle.btx_bib.specs.Passes.{with_values, passed, slot_at, parent_at, parent_slot, inherited_from, inherited, is_parent, cut, checked_by, checked, entry_by, entry_at, after_first, after_second, entries_of}
 use Rattle.btx_bib.specs.Stored.{entry_of}
 use Rattle.btx_bib.specs.Told.{Database}
 use Rattle.btx_bib.specs.Wanted.{Wanted}
@@ -85,7 +85,7 @@ module _ (n : ℕ) where
 
   all_fit : (slots : List Slot) → SlotsFit slots → EntriesFit (flat_map entry_at slots)
   all_fit [] h = tt
-  all_fit (slot ∷ slots) h = entries_more (entry_at slot) (flat_map entry_at slots) (entry_fits slot.key (has_enough slot) slot.body h.0) (all_fit slots h.1)
+  all_fit (slot ∷ slots) h = entries_more (entry_at slot) (flat_map entry_at slots) (entry_fits slot.key slot.stays slot.body h.0) (all_fit slots h.1)
 
   entries_fit : (slots : List Slot) → SlotsFit slots → EntriesFit (entries_of slots)
   unfolding entries_of

@@ -1,8 +1,8 @@
 //! What the databases that were found hold.
 ghost use Rattle.std.specs.Prelude.{◌≡◌, IfErr, IfOk, map};
 ghost use Rattle.btx_bib.specs.Databases.{library_of};
-ghost use Rattle.btx_bib.specs.Readings.{databases_of};
 ghost use Rattle.btx_bib.specs.Requests.{asked};
+ghost use Rattle.btx_bib.specs.Sources.{databases_of};
 ghost use Rattle.btx_run.specs.Contents.{database_of};
 
 use crate::files::found::FoundFiles;

@@ -3,7 +3,8 @@ use Rattle.std.proofs.lemmas.Result.{IfOk-weaker}
 use Rattle.btx_bib.specs.declared.gathering.Gathering.{Gathering}
 use Rattle.btx_bib.specs.declared.message.Message.{Message}
 use Rattle.btx_bib.specs.Databases.{library_of}
-use Rattle.btx_bib.specs.Readings.{beginning, databases_of, kept_by_all, kept_macros, told_by_all}
+use Rattle.btx_bib.specs.Sources.{databases_of}
+use Rattle.btx_bib.specs.Readings.{beginning, kept_by_all, kept_macros, told_by_all}
 use Rattle.btx_bib.specs.Requests.{wanted}
 use Rattle.btx_bib.specs.Wanted.{Wanted}
 use Rattle.btx_bib.proofs.WholeLemmas.{is-listed, library-is}

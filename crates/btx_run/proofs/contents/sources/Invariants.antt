@@ -1,5 +1,5 @@
 use Rattle.std.proofs.Common.{◌≡◌, map, take}
-use Rattle.btx_bib.specs.Readings.{databases_of}
+use Rattle.btx_bib.specs.Sources.{databases_of}
 use Rattle.btx_run.specs.Contents.{database_of}
 use Rattle.btx_run.proofs.contents.sources.Given as goal
 

@@ -1,7 +1,8 @@
 use Rattle.std.proofs.Common.{◌≡◌, ◌∙◌, ◌++◌, ap, sym, drop, [], List, append-nil}
 use Rattle.std.proofs.lemmas.List.{drop_all}
 use Rattle.btx_bib.specs.declared.databases.Source.{Source}
-use Rattle.btx_bib.specs.Readings.{databases_of, kept_by_all, told_by_all}
+use Rattle.btx_bib.specs.Sources.{databases_of}
+use Rattle.btx_bib.specs.Readings.{kept_by_all, told_by_all}
 use Rattle.btx_bib.specs.Requests.{wanted}
 use Rattle.btx_bib.proofs.AlongLemmas.{all-next, all-told-next}
 use Rattle.btx_bib.proofs.gathering.Gathering.read_all.Goals as goal

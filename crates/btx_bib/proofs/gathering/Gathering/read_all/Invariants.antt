@@ -1,5 +1,6 @@
 use Rattle.std.proofs.Common.{◌≡◌, ◌++◌, drop}
-use Rattle.btx_bib.specs.Readings.{databases_of, kept_by_all, told_by_all}
+use Rattle.btx_bib.specs.Sources.{databases_of}
+use Rattle.btx_bib.specs.Readings.{kept_by_all, told_by_all}
 use Rattle.btx_bib.specs.Requests.{wanted}
 use Rattle.btx_bib.proofs.gathering.Gathering.read_all.Given as goal
 
