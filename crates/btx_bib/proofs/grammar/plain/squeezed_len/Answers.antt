@@ -1,5 +1,5 @@
-use Rattle.std.proofs.Common.{◌≡◌, ◌∙◌, ◌<◌, ◌+◌, ◌&&◌, ◌||◌, eqb, not, true, false, sym, get_or, length, refl, arith}
-use Rattle.btx_bib.specs.Grammar.ByteSets.{ends_enclosed, is_gap, is_word_byte}
+use Rattle.std.proofs.Common.{◌≡◌, ◌∙◌, ◌<◌, ◌&&◌, eqb, true, false, sym, get_or, length, refl, arith}
+use Rattle.btx_bib.specs.Grammar.ByteSets.{ends_enclosed, is_word_byte}
 use Rattle.btx_bib.specs.Grammar.Squeezing.{stays_squeezed}
 use Rattle.btx_bib.proofs.GrammarLemmas.MarkLemmas.{depth_after-le, enclosed-ends, enclosed-on, enclosed-word, word-gap}
 use Rattle.btx_bib.proofs.GrammarLemmas.SqueezeLemmas.{squeezed-further, squeezed-none}
