@@ -9,6 +9,7 @@ mod item_readers;
 pub mod laws;
 pub mod line_counter;
 pub mod parts;
+mod plain;
 pub mod reader;
 pub mod slip;
 mod tokens;

@@ -1,5 +1,5 @@
 -- Lemmas on the text of a value: white is made one space while the bytes are read.
-use Rattle.std.proofs.Common.{◌≡◌, ℕ, suc, ◌+◌, ◌<◌, ◌≤◌, Bool, true, false, cond, List, [], ◌∷◌, ◌++◌, length, take, drop, get_or, ◌-◌, ◌&&◌, not, eqb, refl, sym, ◌∙◌, ap, arith, append_assoc, Err}
+use Rattle.std.proofs.Common.{◌≡◌, ℕ, suc, ◌+◌, ◌<◌, ◌≤◌, Bool, true, false, cond, List, [], ◌∷◌, ◌++◌, length, take, drop, get_or, ◌-◌, ◌&&◌, ◌||◌, not, eqb, refl, sym, ◌∙◌, ap, arith, append_assoc, Err}
 use Rattle.std.proofs.lemmas.List.{append-nil, drop_all, drop_more, length-append, length-take, take_all, take_at, take_more}
 use Rattle.std.proofs.lemmas.Bool.{and_parts, eqb-true, true≢false}
 use Rattle.btx_text.specs.declared.fault.Fault.{Fault}
@@ -11,7 +11,7 @@ use Rattle.btx_bib.specs.declared.grammar.value_ends.Ends.TheVariants.{Kept, Tri
 use Rattle.btx_bib.specs.Grammar.ByteSets.{is_gap, begins, past, run_len}
 use Rattle.btx_bib.specs.Grammar.Values.{Part}
 use Rattle.btx_bib.specs.Grammar.ValueTexts.{Strings, text_of_part, joined_text, squeezed, shaped, without_first_space, without_last_space, GathersWithin, Makes}
-use Rattle.btx_bib.specs.Grammar.Squeezing.{squeezed_after, white_after, is_squeezed, ends_in_gap, stands, without_last_gap, without_gaps}
+use Rattle.btx_bib.specs.Grammar.Squeezing.{squeezed_after, white_after, stays_squeezed, is_squeezed, ends_in_gap, stands, without_last_gap, without_gaps}
 
 both : (s : List ℕ) → (squeezed_after false s ≡ squeezed s) × (squeezed s ≡ cond (begins is_gap s) (32 ∷ squeezed_after true s) (squeezed_after true s))
 unfolding squeezed
@@ -254,3 +254,43 @@ fault-same Memory s t e h = tt
 fault-same StringLimit s t e h = omega (arith, ap length e)
 fault-same Device s t e h = absurd h
 fault-same FileLimit s t e h = absurd h
+
+-- ---- where what is enclosed ends, in one pass
+
+is_squeezed-snoc : (w : Bool) (s : List ℕ) (b : ℕ) → is_squeezed w (s ++ b ∷ []) ≡ (is_squeezed w s && stays_squeezed (white_after w s) b)
+unfolding is_squeezed
+is_squeezed-snoc w [] b = at (is_gap b) (eqb b 32) w where
+  at : (g t w : Bool) → cond g ((t && not w) && true) true ≡ (true && (not g || (t && not w)))
+  at true true true = refl
+  at true true false = refl
+  at true false w = refl
+  at false t w = refl
+is_squeezed-snoc w (c ∷ cs) b = at (is_gap c) (eqb c 32 && not w) (is_squeezed-snoc true cs b) (is_squeezed-snoc false cs b) where
+  at : (g t : Bool) → is_squeezed true (cs ++ b ∷ []) ≡ (is_squeezed true cs && stays_squeezed (white_after true cs) b) →
+      is_squeezed false (cs ++ b ∷ []) ≡ (is_squeezed false cs && stays_squeezed (white_after false cs) b) →
+      cond g (t && is_squeezed true (cs ++ b ∷ [])) (is_squeezed false (cs ++ b ∷ [])) ≡
+      (cond g (t && is_squeezed true cs) (is_squeezed false cs) && stays_squeezed (white_after g cs) b)
+  at true true h k = h
+  at true false h k = refl
+  at false t h k = k
+
+white_after-snoc : (w : Bool) (s : List ℕ) (b : ℕ) → white_after w (s ++ b ∷ []) ≡ is_gap b
+white_after-snoc w [] b = refl
+white_after-snoc w (c ∷ cs) b = white_after-snoc (is_gap c) cs b
+
+-- the bytes before a place are squeezed, and the last of them is white or not
+pub record IsSqueezedTo (s : List ℕ) (i : ℕ) (white : Bool) : Type 0 where
+  pub squeezed : is_squeezed true (take i s) ≡ true
+  pub last : white_after true (take i s) ≡ white
+
+pub squeezed-none : (s : List ℕ) → IsSqueezedTo s 0 true
+unfolding is_squeezed
+squeezed-none s = record { squeezed = refl; last = refl }
+
+pub squeezed-further : (s : List ℕ) (i : ℕ) (white : Bool) (b : ℕ) → i < length s → get_or s i 0 ≡ b → IsSqueezedTo s i white → stays_squeezed white b ≡ true → IsSqueezedTo s (i + 1) (is_gap b)
+squeezed-further s i white b lt is so stays =
+    let next : take (i + 1) s ≡ take i s ++ b ∷ [] = take_more s i 0 lt ∙ ap (λ c. take i s ++ c ∷ []) is in
+    record {
+      squeezed = rw next (is_squeezed-snoc true (take i s) b ∙ rw (so.squeezed, so.last) stays);
+      last = rw next (white_after-snoc true (take i s) b);
+    }

@@ -1,6 +1,6 @@
 -- The bytes that the words of a database are made of, and the runs of them.
 use Rattle.std.specs.Prelude.{ℕ, suc, ◌==◌, ◌||◌, ◌&&◌, not, Bool, false, List, [], ◌∷◌, take, drop, if◌then◌else◌}
-use Rattle.btx_text.specs.Class.{is_white, is_digit, is_name_byte}
+use Rattle.btx_text.specs.Class.{is_between, is_white, is_digit, is_name_byte}
 use Rattle.btx_text.specs.Elements.{depth_after}
 use Rattle.btx_bib.specs.declared.grammar.byte_sets.Delimiter.{Delimiter}
 use Rattle.btx_bib.specs.declared.grammar.byte_sets.Delimiter.TheVariants.{Braces, Parens}
@@ -64,6 +64,10 @@ enclosed_len enclosure depth (b ∷ bs) =
 abbrev pub is_mark : Enclosure → ℕ → Bool
 is_mark Group b = b == 123 || b == 125
 is_mark Quotes b = b == 123 || b == 125 || b == 34
+
+-- one of the bytes that neither are white nor enclose: from `#` to `z`
+abbrev pub is_word_byte : ℕ → Bool
+is_word_byte = is_between 35 122
 
 -- how many bytes stand before the first that passes a test; all, where there is none
 unfoldable pub unmarked_len : (ℕ → Bool) → List ℕ → ℕ

@@ -1,9 +1,10 @@
 -- White that is made one space while the bytes are read.
-use Rattle.std.specs.Prelude.{ℕ, ◌==◌, ◌&&◌, ◌-◌, not, Bool, true, false, cond, List, [], ◌∷◌, length, slice_index, take, if◌then◌else◌}
+use Rattle.std.specs.Prelude.{◌≡◌, ℕ, ◌==◌, ◌&&◌, ◌||◌, ◌-◌, not, Bool, true, false, cond, List, [], ◌∷◌, length, slice_index, take, if◌then◌else◌}
 use Rattle.btx_bib.specs.declared.grammar.byte_sets.ByteSet.TheVariants.{Gap}
 use Rattle.btx_bib.specs.declared.grammar.value_ends.Ends.{Ends}
 use Rattle.btx_bib.specs.declared.grammar.value_ends.Ends.TheVariants.{Kept, Trimmed}
-use Rattle.btx_bib.specs.Grammar.ByteSets.{is_gap, past}
+use Rattle.btx_bib.specs.declared.grammar.byte_sets.Enclosure.{Enclosure}
+use Rattle.btx_bib.specs.Grammar.ByteSets.{enclosed_len, is_gap, past}
 
 -- bytes after a byte that was white or not: the first byte of a run becomes the space
 abbrev pub squeezed_after : Bool → List ℕ → List ℕ
@@ -21,6 +22,14 @@ white_after white (b ∷ bs) = white_after (is_gap b) bs
 unfoldable pub is_squeezed : Bool → List ℕ → Bool
 is_squeezed white [] = true
 is_squeezed white (b ∷ bs) = if is_gap b then (b == 32 && not white) && is_squeezed true bs else is_squeezed false bs
+
+-- a byte leaves what is before it squeezed, whose last byte was white or not
+abbrev pub stays_squeezed : Bool → ℕ → Bool
+stays_squeezed white b = not (is_gap b) || (b == 32 && not white)
+
+-- what is enclosed is of this length, and squeezed, and doesn't begin with white
+abbrev pub IsSqueezedLen : Enclosure → List ℕ → ℕ → Type 0
+IsSqueezedLen enclosure text len = (len ≡ enclosed_len enclosure 0 text) × (is_squeezed true (take len text) ≡ true)
 
 -- the last byte is white; there is none in an empty text
 abbrev pub ends_in_gap : List ℕ → Bool

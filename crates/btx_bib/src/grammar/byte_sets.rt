@@ -1,6 +1,7 @@
 //! The bytes that the words of a database are made of, and the runs of them.
 ghost use Rattle.std.specs.Prelude.{◌≡◌, ◌≤◌, ◌==◌, ◌&&◌, length};
 ghost use Rattle.btx_bib.specs.Grammar.ByteSets as spec;
+ghost use Rattle.btx_bib.specs.Grammar.Squeezing as squeezing;
 
 use btx_text::classify::{is_name_byte, is_white};
 use btx_text::depths::depth_after;
@@ -45,6 +46,24 @@ pub fn is_gap(byte: u8) -> bool
     is_white(byte) || byte == b'\n'
 }
 
+/// Whether a text ends in white.
+pub fn ends_in_gap(text: &[u8]) -> bool
+    ensures { result ≡ squeezing.ends_in_gap text.now }
+{
+    match text.split_last() {
+        Some((&last, _)) => is_gap(last),
+        None => false,
+    }
+}
+
+/// Whether a byte is one of those that neither are white nor enclose: most are, not all.
+#[inline(always)]
+pub fn is_word_byte(byte: u8) -> bool
+    ensures { result ≡ spec.is_word_byte byte }
+{
+    byte >= b'#' && byte <= b'z'
+}
+
 /// Whether a name can begin with a byte.
 #[inline(always)]
 pub fn begins_name(byte: u8) -> bool
@@ -60,7 +79,7 @@ fn is_in(set: ByteSet, byte: u8) -> bool
 {
     match set {
         ByteSet::Gap => is_gap(byte),
-        ByteSet::NameByte => is_name_byte(byte),
+        ByteSet::NameByte => byte.is_ascii_lowercase() || is_name_byte(byte),
         ByteSet::Digit => byte.is_ascii_digit(),
         ByteSet::KeyByte(Delimiter::Braces) => !(is_gap(byte) || byte == b',' || byte == b'}'),
         ByteSet::KeyByte(Delimiter::Parens) => !(is_gap(byte) || byte == b','),
@@ -82,9 +101,9 @@ pub fn run_len(set: ByteSet, text: &[u8]) -> usize
     text.len()
 }
 
-// Whether what is enclosed ends at a byte at a depth.
+/// Whether what is enclosed ends at a byte at a depth.
 #[inline(always)]
-fn ends_enclosed(enclosure: Enclosure, depth: usize, byte: u8) -> bool
+pub fn ends_enclosed(enclosure: Enclosure, depth: usize, byte: u8) -> bool
     ensures { result ≡ (depth == 0 && spec.ends_enclosed enclosure byte) }
 {
     depth == 0

@@ -12,6 +12,7 @@ use crate::grammar::values::read_value;
 
 // A field: a name, `=` and a value.
 #[tactic(auto, unfolding(crate::specs::Grammar::Fields::field_at))]
+#[inline(never)]
 fn read_field(text: &[u8]) -> Read<'_, Field<'_>>
     ensures { seen field_view result ≡ spec.field_at text.now }
 {

@@ -87,6 +87,7 @@ pub fn read_part(text: &[u8]) -> Read<'_, Part<'_>>
 
 /// The text after the `#` that joins another part, where one stands after white.
 #[tactic(auto, using(crate::proofs::GrammarLemmas::ValueLemmas::part_steps))]
+#[inline(always)]
 pub fn next_part(text: &[u8]) -> Option<&[u8]>
     ensures value { option_map (λ rest. rest.now) result ≡ spec.next_part text.now }
     ensures shorter { IfSome result (λ rest. length rest.now ≤ length text.now) }

@@ -30,6 +30,7 @@ pub fn slip_at(slip: Slip, rest: &[u8]) -> Slip
 
 /// A name.
 #[tactic(auto, unfolding(crate::specs::Grammar::Tokens::name_in))]
+#[inline(always)]
 pub fn name(text: &[u8]) -> Read<'_, &[u8]>
     ensures { spec.seen (λ name. name.now) result ≡ spec.name_at text.now }
 {
@@ -68,6 +69,7 @@ pub fn closing(delimiter: Delimiter) -> u8
 
 /// A sign.
 #[tactic(auto, unfolding(crate::specs::Grammar::Tokens::sign_in))]
+#[inline(always)]
 pub fn sign(sign: u8, slip: Slip, text: &[u8]) -> Read<'_, ()>
     ensures { spec.seen (λ none. none) result ≡ spec.sign_at sign slip text.now }
 {

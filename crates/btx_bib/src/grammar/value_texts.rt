@@ -7,7 +7,7 @@ ghost use Rattle.btx_bib.specs.Grammar.PartViews.{part_view};
 ghost use Rattle.btx_bib.specs.Grammar.Squeezing as squeezing;
 ghost use Rattle.btx_bib.specs.Grammar.ValueTexts as spec;
 
-use crate::grammar::byte_sets::{ByteSet, is_gap};
+use crate::grammar::byte_sets::{ByteSet, ends_in_gap, is_gap};
 use crate::grammar::parts::Part;
 use crate::grammar::tokens::past;
 use crate::grammar::value_ends::Ends;
@@ -43,16 +43,6 @@ fn is_squeezed(was_white: bool, text: &[u8]) -> bool
         }
     }
     true
-}
-
-// Whether a text ends in white.
-fn ends_in_gap(text: &[u8]) -> bool
-    ensures { result ≡ squeezing.ends_in_gap text.now }
-{
-    match text.split_last() {
-        Some((&last, _)) => is_gap(last),
-        None => false,
-    }
 }
 
 // Whether a text is the value that it gives.
@@ -115,6 +105,19 @@ fn lent(ends: Ends, text: &[u8]) -> Option<&[u8]>
     }
 }
 
+// The value that a text gives, where it stands in the text, and is perhaps known to stand as a field's value.
+#[tactic(auto, using(crate::proofs::GrammarLemmas::SqueezeLemmas::standing))]
+fn lent_plain(ends: Ends, is_plain: bool, text: &[u8]) -> Option<&[u8]>
+    requires { is_plain ≡ true → squeezing.stands Ends.Trimmed text.now ≡ true }
+    ensures value { IfSome result (λ lent. lent.now ≡ spec.shaped ends text.now) }
+    ensures within { IfSome result (λ lent. length lent.now ≤ greatest_string) }
+{
+    match ends {
+        Ends::Trimmed if is_plain && text.len() <= GREATEST_STRING => Some(text),
+        _ => lent(ends, text),
+    }
+}
+
 // The value of a name where a value is this name alone, if it needn't be made.
 #[tactic(auto, using(crate::proofs::GrammarLemmas::SqueezeLemmas::standing))]
 fn lone_string<'a, S: Strings<'a>>(
@@ -142,12 +145,16 @@ fn lone_text<'a, S: Strings<'a>>(
 ) -> Result<Option<Text<'a>>, AllocError>
     ensures { IfOk result (λ found. IfSome found (λ text. text ≡ spec.value_text ends (S.values strings.now) value.now)) }
 {
-    let Some(part) = value.lone_part() else {
+    let Some(lone) = value.lone_part() else {
         return Ok(None);
     };
-    match part {
+    match lone.part {
         Part::Named(string) => lone_string(alloc, string.name, strings, ends),
-        Part::Braced(text) | Part::Quoted(text) | Part::Digits(text) => match lent(ends, text) {
+        Part::Braced(text) | Part::Quoted(text) => match lent_plain(ends, lone.is_plain, text) {
+            Some(bytes) => Ok(Some(Text::borrowed(bytes))),
+            None => Ok(None),
+        },
+        Part::Digits(text) => match lent(ends, text) {
             Some(bytes) => Ok(Some(Text::borrowed(bytes))),
             None => Ok(None),
         },
