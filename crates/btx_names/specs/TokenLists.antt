@@ -8,6 +8,6 @@ use Rattle.btx_names.specs.declared.token_list.TokenList.{TokenList}
 
 -- a list has the tokens of a name's sections, one after another, and how many the first two have
 pub record IsListOf (list : TokenList) (sections : Sections) : Type 0 where
-  pub tokens : tokens_in list.bytes.items list.tokens.items ≡ tokens_of (surname_of sections) ++ (tokens_of (jr_of sections) ++ tokens_of (first_of sections))
+  pub tokens : tokens_in list.tokens.items ≡ tokens_of (surname_of sections) ++ (tokens_of (jr_of sections) ++ tokens_of (first_of sections))
   pub surname : list.surname ≡ length (tokens_of (surname_of sections))
   pub jr : list.jr ≡ length (tokens_of (jr_of sections))

@@ -8,25 +8,25 @@ use crate::token_list::TokenList;
 
 /// The parts of a name.
 #[derive(Clone, Copy, Debug)]
-pub struct NameParts<'t> {
+pub struct NameParts<'t, 'a> {
     /// The first names.
-    pub first: Part<'t>,
+    pub first: Part<'t, 'a>,
     /// The particles, as `de la`.
-    pub von: Part<'t>,
+    pub von: Part<'t, 'a>,
     /// The last names.
-    pub last: Part<'t>,
+    pub last: Part<'t, 'a>,
     /// What stands between two commas, as `Jr`.
-    pub jr: Part<'t>,
+    pub jr: Part<'t, 'a>,
 }
 
-impl<'t> NameParts<'t> {
+impl<'t, 'a> NameParts<'t, 'a> {
     ghost use Rattle.btx_names.specs.NameParts as spec;
     ghost use Rattle.btx_names.specs.PartViews.{part_tokens};
     ghost use Rattle.btx_names.specs.SectionViews.{sections_view};
     ghost use Rattle.btx_names.specs.TokenLists.{IsListOf};
 
     /// The parts of a name, of the list of its tokens.
-    pub fn of(list: &'t TokenList, sections: Sections<'_>) -> NameParts<'t>
+    pub fn of(list: &'t TokenList<'a>, sections: Sections<'_>) -> NameParts<'t, 'a>
         requires { IsListOf list.now (sections_view sections) }
         ensures first { part_tokens result.first ≡ (spec.parts_by (sections_view sections.entry)).first }
         ensures von { part_tokens result.von ≡ (spec.parts_by (sections_view sections.entry)).von }
@@ -34,7 +34,6 @@ impl<'t> NameParts<'t> {
         ensures jr { part_tokens result.jr ≡ (spec.parts_by (sections_view sections.entry)).jr }
     {
         let all = Part {
-            bytes: &list.bytes,
             tokens: &list.tokens,
         };
         let (surname, others) = all.split_at(list.surname);
@@ -48,7 +47,7 @@ impl<'t> NameParts<'t> {
     }
 
     // The parts of a name without commas: First von Last.
-    fn without_commas(name: Part<'t>, jr: Part<'t>) -> NameParts<'t>
+    fn without_commas(name: Part<'t, 'a>, jr: Part<'t, 'a>) -> NameParts<'t, 'a>
         ensures first { part_tokens result.first ≡ (spec.unsplit (part_tokens name.entry)).first }
         ensures von { part_tokens result.von ≡ (spec.unsplit (part_tokens name.entry)).von }
         ensures last { part_tokens result.last ≡ (spec.unsplit (part_tokens name.entry)).last }
@@ -66,7 +65,11 @@ impl<'t> NameParts<'t> {
     }
 
     // The parts of a name with commas, by its sections.
-    fn with_commas(surname: Part<'t>, jr: Part<'t>, first: Part<'t>) -> NameParts<'t>
+    fn with_commas(
+        surname: Part<'t, 'a>,
+        jr: Part<'t, 'a>,
+        first: Part<'t, 'a>,
+    ) -> NameParts<'t, 'a>
         ensures first { part_tokens result.first ≡ part_tokens first.entry }
         ensures von { part_tokens result.von ≡ (spec.parted (part_tokens surname.entry) (part_tokens jr.entry) (part_tokens first.entry)).von }
         ensures last { part_tokens result.last ≡ (spec.parted (part_tokens surname.entry) (part_tokens jr.entry) (part_tokens first.entry)).last }

@@ -26,7 +26,6 @@ use crate::said::{Note, Notes, Said};
 use crate::stand_in::StandIn;
 use crate::values::Values;
 use btx_bst::{BuiltIn, Callee, Token};
-use btx_names::NameFormatter;
 use btx_text::{GREATEST_STRING, Text};
 use std::alloc::{AllocError, Global};
 use std::marker::Model;
@@ -44,8 +43,6 @@ pub struct Store<'a> {
     entries: Vec<Values<'a>>,
     current: Option<usize>,
     deepest: usize,
-    // What is kept of the latest name that was formatted. No step tells it.
-    names: NameFormatter,
 }
 
 impl<'a> Model for Store<'a> {

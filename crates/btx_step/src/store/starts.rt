@@ -7,7 +7,6 @@ use crate::job::Job;
 use crate::reserved::Reserved;
 use crate::values::Values;
 use btx_bst::Style;
-use btx_names::NameFormatter;
 use btx_text::Text;
 use std::alloc::{AllocError, Global};
 
@@ -24,7 +23,6 @@ impl<'a> Store<'a> {
             entries: first_entries(alloc, job.style(), job.library().len())?,
             current: None,
             deepest: 0,
-            names: NameFormatter::new(alloc),
         })
     }
 }
