@@ -7,10 +7,10 @@ use Rattle.std.specs.List.{All, flat_map}
 use Rattle.btx_text.specs.declared.element_kind.TextMode.{TextMode}
 use Rattle.btx_names.specs.FormattedNames.{initial_of}
 use Rattle.btx_names.specs.Tokens.{Token, tokens_of}
-use Rattle.btx_names.specs.NameParts.{NameParts, Sections, One, Two, Three, surname_of, parts_by, von_end}
+use Rattle.btx_names.specs.NameParts.{NameParts, Sections, One, Two, Three, surname_of, parts_by, unsplit, von_end}
 use Rattle.btx_names.specs.NameTokens.{Hold, token_of, tokens_in, lettered_in, lettered_of_bare}
 use Rattle.btx_names.specs.Places.{bytes_at}
-use Rattle.btx_names.specs.SectionViews.{jr_of, first_of}
+use Rattle.btx_names.specs.SectionViews.{has_commas, jr_of, first_of}
 use Rattle.btx_names.specs.TokenLists.{IsListOf}
 use Rattle.btx_names.specs.declared.name_token.NameToken.{NameToken}
 use Rattle.btx_names.specs.declared.name_tokens.Joint.TheVariants.{Space}
@@ -198,6 +198,15 @@ sections_split list sections all surname others jr first is kept one two three f
       rw (four, rest) (drop_at b d list.jr (sym is.jr)),
     )
 
+-- one section's parts
+pub parts_when_one : (sections : Sections) → has_commas sections ≡ false →
+    ((parts_by sections).first ≡ (unsplit (tokens_of (surname_of sections))).first)
+    × ((parts_by sections).von ≡ (unsplit (tokens_of (surname_of sections))).von)
+    × ((parts_by sections).last ≡ (unsplit (tokens_of (surname_of sections))).last)
+parts_when_one (One name) none = (refl, refl, refl)
+parts_when_one (Two surname first) none = absurd (true≢false none)
+parts_when_one (Three surname jr first) none = absurd (true≢false none)
+
 -- commas part a name
 abbrev pub AreSplit : Sections → Type 0
 AreSplit (One name) = ⊥
@@ -224,6 +233,11 @@ pub jr_of_sections : (sections : Sections) → (parts_by sections).jr ≡ tokens
 jr_of_sections (One name) = sym tokens_of_nothing
 jr_of_sections (Two surname first) = sym tokens_of_nothing
 jr_of_sections (Three surname jr first) = refl
+
+pub split_by_commas : (sections : Sections) → has_commas sections ≡ true → AreSplit sections
+split_by_commas (One name) some = absurd (true≢false (sym some))
+split_by_commas (Two surname first) some = tt
+split_by_commas (Three surname jr first) some = tt
 
 -- ---- parts with the same tokens
 

@@ -8,18 +8,15 @@ ghost use Rattle.btx_names.specs.Answered as spec;
 ghost use Rattle.btx_names.specs.FormattedNames.{formatted, item_text, tokens_of_part};
 ghost use Rattle.btx_names.specs.ItemViews.{item_view};
 ghost use Rattle.btx_names.specs.KeptNames.{name_in};
-ghost use Rattle.btx_names.specs.NameParts.{ends_in_comma, has_third_comma};
 ghost use Rattle.btx_names.specs.PartViews.{part_tokens, parts_view};
-ghost use Rattle.btx_names.specs.SectionViews.{sections_view};
 
 use crate::format_items::{Item, Items, PartName, is_legal};
 use crate::kept_name::KeptName;
 use crate::name_parts::NameParts;
-use crate::name_sections::{Sections, ends_in_comma};
 use crate::part::Part;
 use crate::pieces::{push_literal, push_piece, push_plain};
 use crate::writer::Writer;
-use btx_strings::{Answer, Complaints};
+use btx_strings::Answer;
 use btx_text::{Fault, TextMode};
 use std::alloc::Global;
 
@@ -32,24 +29,9 @@ pub fn format_one(
 ) -> Result<Answer, Fault>
     ensures { Answers result (spec.one_name_text mode (name_in kept.now) format.now) (spec.one_name_complaints (name_in kept.now) format.now) }
 {
-    let name = kept.name();
-    let sections = Sections::of(name);
-    match legal_text(alloc, NameParts::of(kept.tokens(), sections), format, mode)? {
-        Some(text) => Answer::new(text, complaints_of(name, sections, true)),
-        None => Answer::new(Vec::new(alloc), complaints_of(name, sections, false)),
-    }
-}
-
-// What is wrong with a name and a format.
-fn complaints_of(name: &[u8], sections: Sections<'_>, is_legal: bool) -> Complaints
-    ensures { result ≡ spec.complaints_with (ends_in_comma name.now) (has_third_comma (sections_view sections.entry)) is_legal }
-{
-    Complaints {
-        x9: false,
-        x10: false,
-        x11: ends_in_comma(name),
-        x12: sections.has_third_comma(),
-        x13: !is_legal,
+    match legal_text(alloc, kept.parts(), format, mode)? {
+        Some(text) => Answer::new(text, kept.complaints(true)),
+        None => Answer::new(Vec::new(alloc), kept.complaints(false)),
     }
 }
 

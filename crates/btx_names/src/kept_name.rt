@@ -2,14 +2,16 @@
 ghost use Rattle.std.specs.Prelude.{◌≡◌, ◌≤◌, drop, length, slice_get, IfOk, MatchOption, None, Some, [], IsTrue};
 ghost use Rattle.btx_names.specs.NamesFrom.{names_from};
 ghost use Rattle.btx_names.specs.NameLists.{names_of};
-ghost use Rattle.btx_names.specs.NameParts.{sections_of};
+ghost use Rattle.btx_names.specs.NameParts as spec;
 ghost use Rattle.btx_names.specs.Places.{bytes_at};
 ghost use Rattle.btx_names.specs.TokenLists.{IsListOf};
 
-use crate::name_sections::Sections;
+use crate::name_parts::NameParts;
+use crate::name_sections::{Sections, ends_in_comma};
 use crate::place::Place;
 use crate::separators::name_len;
 use crate::token_list::TokenList;
+use btx_strings::Complaints;
 use std::alloc::{AllocError, Global};
 
 /// A name of a list of names, with its tokens. It owns all of them.
@@ -21,14 +23,22 @@ pub struct KeptName {
     // Its place in the list.
     place: Place,
     list: TokenList,
+    // Whether it ends in a comma.
+    ends_in_comma: bool,
+    // Whether it has a third comma.
+    has_third_comma: bool,
     ghost inside: { place.from ≤ length names.items },
     ghost onwards: { drop before (names_of names.items) ≡ names_from names.items place.from },
     ghost named: { slice_get (names_of names.items) before ≡ Some (bytes_at names.items place) },
-    ghost divided: { IsListOf list (sections_of (bytes_at names.items place)) },
+    ghost divided: { IsListOf list (spec.sections_of (bytes_at names.items place)) },
+    ghost ending: { ends_in_comma ≡ spec.ends_in_comma (bytes_at names.items place) },
+    ghost third: { has_third_comma ≡ spec.has_third_comma (spec.sections_of (bytes_at names.items place)) },
 }
 
 impl KeptName {
+    ghost use Rattle.btx_names.specs.Answered.{complaints_with};
     ghost use Rattle.btx_names.specs.KeptNames.{name_in};
+    ghost use Rattle.btx_names.specs.PartViews.{parts_view};
 
     /// The name of a list that so many others stand before, if there is one.
     #[tactic(auto, using(crate::proofs::KeptLemmas::find_steps))]
@@ -79,27 +89,39 @@ impl KeptName {
         };
         let rest = &names[from..];
         let len = name_len(rest);
-        let list = TokenList::of(alloc, Sections::of(&rest[..len]))?;
+        let name = &rest[..len];
+        let sections = Sections::of(name);
+        let ends_in_comma = ends_in_comma(name);
+        let has_third_comma = sections.has_third_comma();
+        let list = TokenList::of(alloc, sections)?;
         Ok(Some(KeptName {
             names,
             before,
             place: Place { from, len },
             list,
+            ends_in_comma,
+            has_third_comma,
         }))
     }
 
-    /// Its bytes.
-    pub fn name(&self) -> &[u8]
-        ensures { result.now ≡ name_in self.now }
+    /// Its parts.
+    pub fn parts(&self) -> NameParts<'_>
+        ensures { parts_view result ≡ spec.parts_of (name_in self.now) }
     {
-        self.place.of(&self.names)
+        NameParts::of(&self.list)
     }
 
-    /// Its tokens.
-    pub fn tokens(&self) -> &TokenList
-        ensures { IsListOf result.now (sections_of (name_in self.now)) }
+    /// What is wrong with it, and with a format that is legal or not.
+    pub fn complaints(&self, is_legal: bool) -> Complaints
+        ensures { result ≡ complaints_with (spec.ends_in_comma (name_in self.now)) (spec.has_third_comma (spec.sections_of (name_in self.now))) is_legal }
     {
-        &self.list
+        Complaints {
+            x9: false,
+            x10: false,
+            x11: self.ends_in_comma,
+            x12: self.has_third_comma,
+            x13: !is_legal,
+        }
     }
 }
 

@@ -2,7 +2,6 @@
 ghost use Rattle.std.specs.Prelude.{◌≡◌, ◌≤◌, length};
 
 use crate::name_ranges::{Ranges, von_end};
-use crate::name_sections::Sections;
 use crate::part::Part;
 use crate::token_list::TokenList;
 
@@ -21,17 +20,13 @@ pub struct NameParts<'t> {
 
 impl<'t> NameParts<'t> {
     ghost use Rattle.btx_names.specs.NameParts as spec;
-    ghost use Rattle.btx_names.specs.PartViews.{part_tokens};
-    ghost use Rattle.btx_names.specs.SectionViews.{sections_view};
+    ghost use Rattle.btx_names.specs.PartViews.{part_tokens, parts_view};
     ghost use Rattle.btx_names.specs.TokenLists.{IsListOf};
 
     /// The parts of a name, of the list of its tokens.
-    pub fn of(list: &'t TokenList, sections: Sections<'_>) -> NameParts<'t>
-        requires { IsListOf list.now (sections_view sections) }
-        ensures first { part_tokens result.first ≡ (spec.parts_by (sections_view sections.entry)).first }
-        ensures von { part_tokens result.von ≡ (spec.parts_by (sections_view sections.entry)).von }
-        ensures last { part_tokens result.last ≡ (spec.parts_by (sections_view sections.entry)).last }
-        ensures jr { part_tokens result.jr ≡ (spec.parts_by (sections_view sections.entry)).jr }
+    pub fn of(list: &'t TokenList) -> NameParts<'t>
+        requires { (sections : spec.Sections) × IsListOf list.now sections }
+        ensures { (sections : spec.Sections) → IsListOf list.now sections → parts_view result ≡ spec.parts_by sections }
     {
         let all = Part {
             bytes: &list.bytes,
@@ -39,12 +34,10 @@ impl<'t> NameParts<'t> {
         };
         let (surname, others) = all.split_at(list.surname);
         let (jr, first) = others.split_at(list.jr);
-        match sections {
-            Sections::One(_) => NameParts::without_commas(surname, jr),
-            Sections::Two(_, _) | Sections::Three(_, _, _) => {
-                NameParts::with_commas(surname, jr, first)
-            }
+        if list.has_commas {
+            return NameParts::with_commas(surname, jr, first);
         }
+        NameParts::without_commas(surname, jr)
     }
 
     // The parts of a name without commas: First von Last.

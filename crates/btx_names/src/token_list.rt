@@ -23,6 +23,8 @@ pub struct TokenList {
     pub bytes: Vec<u8>,
     /// All tokens.
     pub tokens: Vec<NameToken>,
+    /// Whether commas part the name.
+    pub has_commas: bool,
     /// How many stand in the first section.
     pub surname: usize,
     /// How many stand in the second of three sections.
@@ -39,10 +41,15 @@ impl TokenList {
     pub fn of(alloc: Global, sections: Sections<'_>) -> Result<TokenList, AllocError>
         ensures { IfOk result (λ list. IsListOf list (sections_view sections.entry)) }
     {
+        let has_commas = sections.has_commas();
         let (surname, jr, first) = sections.texts();
+        let size = surname
+            .len()
+            .saturating_add(jr.len())
+            .saturating_add(first.len());
         let before_first = room_for(surname).saturating_add(room_for(jr));
         let mut tokens = Vec::with_capacity(alloc, before_first.saturating_add(room_for(first)))?;
-        let mut bytes = Vec::new(alloc);
+        let mut bytes = Vec::with_capacity(alloc, size)?;
         let surname = push_tokens(&mut bytes, &mut tokens, surname)?;
         let jr = push_tokens(&mut bytes, &mut tokens, jr)?;
         push_tokens(&mut bytes, &mut tokens, first)?;
@@ -50,6 +57,7 @@ impl TokenList {
         Ok(TokenList {
             bytes,
             tokens,
+            has_commas,
             surname,
             jr,
         })

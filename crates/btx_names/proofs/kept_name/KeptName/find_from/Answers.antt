@@ -7,8 +7,8 @@ use Rattle.btx_names.proofs.NameLemmas.{name_len-le}
 use Rattle.btx_names.proofs.KeptLemmas.{found_name, found_rest}
 use Rattle.btx_names.proofs.kept_name.KeptName.find_from.Goals as goal
 
-pub slice_bounds-of-end : goal.slice_bounds-of-end
-slice_bounds-of-end c = sym (length-take-le c.name_len-len.result _ (rw c.name_len-len.ensures (name_len-le 0 _)))
+pub slice_bounds-name-end : goal.slice_bounds-name-end
+slice_bounds-name-end c = sym (length-take-le c.name_len-len.result _ (rw c.name_len-len.ensures (name_len-le 0 _)))
 
 pub invariant_of-result : goal.invariant_of-result
 invariant_of-result c =
@@ -22,5 +22,7 @@ invariant_of-result c =
       inside = found.0;
       onwards = onwards;
       named = rw len (found_name names (names_of names) from c.args.before onwards);
-      divided = rw (c.of.ensures, c.deref-2.ensures.value, take_rest names from) at c.in_ok-list.ensures;
+      divided = rw (c.of-sections.ensures, c.deref-2.ensures.value, take_rest names from) at c.in_ok-list.ensures;
+      ending = rw (c.deref-2.ensures.value, take_rest names from) at c.ends_in_comma-ends_in_comma.ensures;
+      third = rw (c.of-sections.ensures, c.deref-2.ensures.value, take_rest names from) at c.has_third_comma-has_third_comma.ensures;
     }
