@@ -15,6 +15,7 @@ pub mod KeptLemmas
 pub mod AlongLemmas
 pub mod RequestLemmas
 pub mod LineLemmas
+pub mod ToldLemmas
 pub mod WholeLemmas
 pub mod StringLemmas
 pub mod ListLemmas

@@ -91,7 +91,28 @@ fn tell_part<'a>(
 }
 
 /// Tells of the names of a value that stand for no string, where this string is being defined or none.
+#[inline(always)]
+#[tactic(auto, using(crate::proofs::ToldLemmas::one_name))]
 pub fn tell_names<'a>(
+    alloc: Global,
+    value: &Value<'a>,
+    strings: &StringTable<'a>,
+    own: Option<&[u8]>,
+    site: &mut Site<'a>,
+    messages: &mut Messages<'a>,
+) -> Result<(), AllocError>
+    ensures told { OnOk result (messages.new ≡ messages.old ++ spec.names_told (database site.old) strings.now (option_copied own.entry) value.now) }
+    ensures same { OnOk result (site.new ≡ site.old) }
+{
+    let Some(lone) = value.lone_part() else {
+        return tell_parts(alloc, value, strings, own, site, messages);
+    };
+    tell_part(alloc, lone.part, strings, own, site, messages)?;
+    Ok(())
+}
+
+// The same of a value, part by part.
+fn tell_parts<'a>(
     alloc: Global,
     value: &Value<'a>,
     strings: &StringTable<'a>,

@@ -1,7 +1,7 @@
 use Rattle.std.proofs.Common.{◌≡◌, ◌++◌, option_copied}
 use Rattle.btx_bib.specs.Sites.{database}
 use Rattle.btx_bib.specs.Told.{names_told}
-use Rattle.btx_bib.proofs.site.tell_names.Given as goal
+use Rattle.btx_bib.proofs.site.tell_parts.Given as goal
 
 abbrev pub invariant-loop-part : goal.invariant-loop-part
 invariant-loop-part l = record {
