@@ -3,11 +3,14 @@ use Rattle.std.specs.Prelude.{◌≡◌, ◌≤◌, ◌++◌, ℕ, List, [], ◌
 use Rattle.std.specs.Io.KnownBytes.{Appends}
 use Rattle.std.specs.Option.{option_map}
 use Rattle.btx_aux.specs.Files.{Files}
+use Rattle.btx_aux.specs.Job.{Job}
 use Rattle.btx_machine.specs.KeepingStep.{AtFault}
 use Rattle.btx_machine.specs.Product.{log_of}
 use Rattle.btx_machine.specs.Written.{Received}
 use Rattle.btx_machine.specs.declared.report.Report.{Report}
-use Rattle.btx_run.specs.Answered.{CompletesAsAnswered, FailsAsAnswered}
+use Rattle.btx_run.specs.declared.options.Options.{Options}
+use Rattle.btx_run.specs.Answered.{CompletesAsAnswered, FailsAsAnswered, product_answered}
+use Rattle.btx_run.specs.Files.Answered.{Answers}
 use Rattle.btx_run.specs.Product.{product, product_with}
 use Rattle.btx_run.specs.declared.run_fault.RunFault.{RunFault}
 use Rattle.bibtex.specs.ListFiles.{FinishesList, Held, received_by}
@@ -28,6 +31,12 @@ pub record RunsJob (content : Option Files) (settings : Settings) (before after 
   pub answered : IfOk answer (CompletesAsAnswered settings.options before after)
   pub begun : OnErr answer (FailsAsAnswered settings.options before after)
   pub within : IfOk answer (λ report. report.steps ≤ settings.options.budget)
+
+-- A report is that of the product of some job, by some answers for its files, with these options and the whole of their budget.
+pub record IsReportOfSome (options : Options) (report : Report) : Type 0 where
+  pub job : Job
+  pub answers : Answers job
+  pub is : report ≡ (product_answered job answers options options.budget).report
 
 -- what is handed to the outputs of a log, with what came of it: it is stored in the job's file, or printed to standard output
 pub data Handing : Type 0 where

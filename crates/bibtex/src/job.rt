@@ -1,7 +1,9 @@
 //! A job of a folder.
 ghost use Rattle.std.specs.Prelude.{◌≡◌, ◌≤◌, IfOk};
 ghost use Rattle.btx_run.specs.RunFaults.{CountsOfRun};
-ghost use Rattle.bibtex.specs.Jobs.{DoesJob, HandsLog, ListsJob, RunsJob, both_done};
+ghost use Rattle.std.specs.Option.{option_map};
+ghost use Rattle.bibtex.specs.FolderFiles.{folder_files};
+ghost use Rattle.bibtex.specs.Jobs.{DoesJob, HandsLog, IsReportOfSome, ListsJob, RunsJob, both_done};
 ghost use Rattle.bibtex.specs.Printing.{printed_log};
 ghost use Rattle.bibtex.specs.Status.{first_fault};
 
@@ -10,7 +12,7 @@ use crate::given::Settings;
 use crate::list_file::{EmptiedFile, ListFile, open_list};
 use crate::outputs::{LogOutputs, SystemOutputs, empty_old_log};
 use crate::paths::path_of;
-use crate::system::RealSystem;
+use crate::system::{RealSystem, System};
 use btx_run::{Finder, Over, Report, RunFault, Sink, run};
 use std::alloc::Global;
 use std::rt::Files;
@@ -102,6 +104,20 @@ fn do_job<F: Finder, W: EmptiedFile, O: LogOutputs>(
     first_fault(listed, written)
 }
 
+// Does the job over the files of its folder. The first fault is answered.
+fn do_job_in<S: System + Drop, W: EmptiedFile, O: LogOutputs>(
+    alloc: Global,
+    settings: &Settings<'_>,
+    system: S,
+    list: &mut ListFile<W>,
+    outputs: &mut O,
+) -> Result<Report, RunFault>
+    ensures { DoesJob (option_map (folder_files settings.now.directory.now) (S.content system)) W.contents settings.now (list.old, list.new) (O.handed outputs.old) (O.handed outputs.new) result }
+{
+    let mut finder = DirectoryFinder::new(system, settings.directory);
+    do_job(alloc, settings, &mut finder, list, outputs)
+}
+
 /// Runs the job: writes `JOB.bbl`, `JOB.blg` and, where the settings aren't terse, to standard output the log again. The log is written
 /// also after a fault, except where `JOB.bbl` can't be opened. The first fault is answered.
 pub fn run_job(
@@ -109,14 +125,20 @@ pub fn run_job(
     alloc: Global,
     settings: &Settings<'_>,
 ) -> Result<Report, RunFault>
-    ensures { IfOk result (λ report. report.steps ≤ settings.now.options.budget) }
+    ensures bound { IfOk result (λ report. report.steps ≤ settings.now.options.budget) }
+    ensures product { IfOk result (IsReportOfSome settings.now.options) }
 {
     let path = path_of(alloc, settings, ".bbl")?;
     let mut list = open_list(rt, path.as_str())?;
     empty_old_log(rt, alloc, settings);
-    let mut finder = DirectoryFinder::new(RealSystem::new(rt), settings.directory);
     let mut outputs = SystemOutputs::new(rt, alloc, settings);
-    let report = do_job(alloc, settings, &mut finder, &mut list, &mut outputs)?;
+    let report = do_job_in(
+        alloc,
+        settings,
+        RealSystem::new(rt),
+        &mut list,
+        &mut outputs,
+    )?;
     Ok(report)
 }
 
