@@ -27,7 +27,7 @@ KeysDiffer = (wanted : Wanted) (macros : List (List ℕ × List ℕ)) (databases
 abbrev pub stored_by : Wanted → List (List ℕ × List ℕ) → List Database → List Given
 stored_by wanted macros databases = (read_all wanted (with_macros macros) databases).stored
 
--- an entry stays: `*` was cited, or its key was, or so many stored entries refer to it as are asked for
+-- an entry stays: `*` was cited, or its key was, or at least `least` stored entries refer to it
 abbrev pub StarredCitedOrReferred : Type 0
 StarredCitedOrReferred = (style : Style) (job : Job) (least : ℕ) (stored : List Given) (key : List ℕ)
     → (let wanted = asked style job least in

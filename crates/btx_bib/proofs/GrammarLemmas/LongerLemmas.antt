@@ -170,9 +170,9 @@ module _ (more : List ℕ) where
   sign-goes sign wrong (Ok none) front rest h r = r
   sign-goes sign wrong (Err slip) front rest h r = (begins-on (λ b. eqb b sign) rest h ∙ r.0, wrong-goes wrong slip front rest h r.1)
 
-  on_sign-goes : {A : Type 0} (P : A → List ℕ → Type 0) (on : A → A) (sign : ℕ) (R R2 S S2 : Grammar A) → Goes P on R R2 → Goes P on S S2 → Goes P on (OnSign sign R S) (OnSign sign R2 S2)
-  on_sign-goes P on sign R R2 S S2 D E o front rest h (inl (behind, is, r)) = inl (behind, is, D o behind rest h r)
-  on_sign-goes P on sign R R2 S S2 D E o front rest h (inr (other, r)) =
+  on_sign-goes : {A : Type 0} (P : A → List ℕ → Type 0) (on : A → A) (sign : ℕ) (R Longer S Other : Grammar A) → Goes P on R Longer → Goes P on S Other → Goes P on (OnSign sign R S) (OnSign sign Longer Other)
+  on_sign-goes P on sign R Longer S Other D E o front rest h (inl (behind, is, r)) = inl (behind, is, D o behind rest h r)
+  on_sign-goes P on sign R Longer S Other D E o front rest h (inr (other, r)) =
       let there = left-append front rest (if-left P o rest h) in
       inr (ap (begins (λ b. eqb b sign)) (sym (append_assoc front rest more)) ∙ begins-on (λ b. eqb b sign) (front ++ rest) there ∙ other, E o front rest h r)
 

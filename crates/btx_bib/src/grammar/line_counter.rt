@@ -5,7 +5,7 @@ ghost use Rattle.btx_bib.specs.Grammar.PlaceLines as spec;
 use std::marker::Model;
 use std::simd::prelude::*;
 
-// Line feeds are counted in so many bytes at once.
+// Line feeds are counted in blocks of this number of bytes.
 const BLOCK: usize = 32;
 
 /// A text and how far its lines have been counted: each byte is passed once where the places that are asked for ascend.

@@ -3,7 +3,7 @@ use Rattle.btx_bib.specs.MessageTexts.{line_of}
 use Rattle.btx_machine.proofs.SayLemmas.{Tells}
 use Rattle.btx_machine.proofs.outputs.Outputs.tell_messages.Given as goal
 
--- the lines of the messages that are left remain to be told
+-- the lines of the messages that are left are still to be written
 abbrev pub invariant-loop-message : goal.invariant-loop-message
 invariant-loop-message g l = record {
   breaker : l.self.breaker ≡ l.fn.self.breaker;
