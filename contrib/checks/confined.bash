@@ -200,6 +200,28 @@ start_attack() {
     cd "$room"
 }
 
+# list_of NAME: what the attack's whole list is, without end where the style writes without end. Most write nothing.
+list_of() {
+    case $1 in
+    list) yes 'a line of the list' ;;
+    line) yes a | tr -d '\n' ;;
+    style_of_tex_live)
+        # (this one begins alike where the author has a letter)
+        mkdir lettered
+        cp job.aux s.bst lettered
+        echo '@misc{k, author = {A}, title = {A}}' >lettered/d.bib
+        "$program" --dir lettered --terse job
+        cat lettered/job.bbl
+        ;;
+    fewer_zeros | fewer_zeros_as_* | many_databases | one_string_used_again) echo a ;;
+    esac
+}
+
+# wants_list_begun NAME: its list is a beginning of that.
+wants_list_begun() {
+    cmp -s <(list_of "$1" | head -c "$(stat -c %s job.bbl)") job.bbl || complaints+=("the list is no beginning of the right one: $(head -c 200 job.bbl)")
+}
+
 # wants_bounded NAME STATUS..: the attack ended so, within the bounds, and says why. Where the machine has much other work, the seconds of
 # the clock may be up before anything else.
 wants_bounded() {
@@ -212,6 +234,7 @@ wants_bounded() {
     [ "$output" -le 100000000 ] || complaints+=("it wrote $output bytes")
     [ "$status" -eq 0 ] || grep -q '^bibtex-confined: ' stderr || complaints+=("standard error has no reason: $(head -c 500 stderr)")
     [ "$status" -le 1 ] || ! grep -qx 'old log' job.blg || complaints+=('the old log is left')
+    [ "$status" -eq 1 ] || wants_list_begun "$1"
     echo "        status $status, $seconds s, $memory KB, $output bytes; $(tail -n 1 stderr)"
 }
 

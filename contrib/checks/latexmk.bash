@@ -12,6 +12,14 @@ document() {
     printf '@misc{three, author = {Bo Ray}, title = {Another}}\n' >document/more.bib
 }
 
+# document_with_chapter CITED..: the same, with a chapter in a folder of its own, which cites three.
+document_with_chapter() {
+    document "$@"
+    mkdir document/chapters
+    echo 'More.\cite{three}' >document/chapters/first.tex
+    sed -i 's,\\bibliographystyle,\\include{chapters/first}&,' document/paper.tex
+}
+
 # make_list PROGRAM FOLDER WORD..: a copy of the document is made by latexmk with this program under the name of the original.
 make_list() {
     mkdir "$2" "$2/bin"
@@ -27,7 +35,7 @@ same_as_original() {
     make_list "$search" ours "${@:2}" || found=$?
     [ "$wanted" -eq "$found" ] || complaints+=("latexmk ends with $found, and with the original with $wanted")
     cmp -s "original/$1" "ours/$1" || complaints+=("$1 is another than the original's")
-    [ -f "ours/${1%.bbl}.pdf" ] || complaints+=('there is no .pdf')
+    [ -n "$(find ours -name paper.pdf)" ] || complaints+=('there is no .pdf')
     wants_no_links
 }
 
@@ -54,19 +62,19 @@ if has latexmk && has pdflatex && [ -n "$original" ]; then
     end
 
     begin latexmk_outdir_with_chapters
-    document two
-    mkdir document/chapters
-    echo 'More.\cite{three}' >document/chapters/first.tex
-    sed -i 's,\\bibliographystyle,\\include{chapters/first}&,' document/paper.tex
+    document_with_chapter two
     same_as_original out/paper.bbl -outdir=out
     grep -q '^\\bibitem{three}' ours/out/paper.bbl || complaints+=('what the chapter cites is not in the list')
     end
 
+    begin latexmk_auxdir_with_chapters
+    document_with_chapter two
+    same_as_original aux/paper.bbl -auxdir=aux
+    grep -q '^\\bibitem{three}' ours/aux/paper.bbl || complaints+=('what the chapter cites is not in the list')
+    end
+
     begin latexmk_auxdir_in_place_with_chapters
-    document two
-    mkdir document/chapters
-    echo 'More.\cite{three}' >document/chapters/first.tex
-    sed -i 's,\\bibliographystyle,\\include{chapters/first}&,' document/paper.tex
+    document_with_chapter two
     same_as_original out/paper.bbl -outdir=out -nobibtexfudge
     grep -q '^\\bibitem{three}' ours/out/paper.bbl || complaints+=('what the chapter cites is not in the list')
     end

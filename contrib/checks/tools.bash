@@ -162,7 +162,8 @@ if has bibtex; then
     begin tools_find_the_same_in_the_original
     write_jobs commands style dirty empty
     for name in commands style dirty empty; do
-        (cd "$name" && bibtex job >printed)
+        # (its status is not 0: each of these jobs has errors)
+        (cd "$name" && bibtex job >printed) || true
     done
     python3 "$here/checks/parsers.py" commands style dirty empty >found || complaints+=("$(cat found)")
     end

@@ -3,7 +3,8 @@
     python3 check.py
 
 It reads README.md and the .md files of docs/, crates/, tests/, examples/ and contrib/. A table says what its columns hold by their heads. Each
-failure is a line; the last line is 'N passed, M failed', of citations, and the exit status is 0 only where M is 0.
+failure is a line; the last line is 'N passed, M failed', of citations, and the exit status is 0 only where M is 0. The user's reference also has the
+words that people search for.
 
 Not checked: the counts and times of docs/PROOFS.md, which are as they were measured."""
 
@@ -20,6 +21,9 @@ PATH = re.compile(r"(?<![\w./-])(?:crates|docs|tests|examples|contrib|\.ci|specs
 CODE = re.compile(r"`([^`]+)`")
 NAME = re.compile(r"[A-Za-z_]\w*(?:-\w+)*")
 CITED = re.compile(r"[A-Za-z_][\w-]*(?:::[A-Za-z_][\w-]*)*(?:\.antt)?")
+# Words that people search for in the user's reference.
+REFERENCE = ROOT / "docs/RULES.md"
+SEARCHED = ["bibliography", "whitespace", "natbib", "biblatex", "Unicode", "Windows"]
 # The heads of columns that name calls, clauses or definitions, and of those that name wrong bodies.
 OF_NAMES = re.compile(r"public call|carried by|definitions?|rests on|clause|law|function|call")
 OF_BODIES = re.compile(r"wrong bod")
@@ -144,8 +148,17 @@ def unnamed_bodies():
         yield ", ".join(sorted(where)), name, name in named
 
 
+def missing_words():
+    """The words that people search for and that the reference doesn't have."""
+    text = REFERENCE.read_text(encoding="utf-8").lower()
+    return [word for word in SEARCHED if word.lower() not in text]
+
+
 def main():
-    passed = failed = 0
+    missing = missing_words()
+    passed, failed = len(SEARCHED) - len(missing), len(missing)
+    for word in missing:
+        print(f"{REFERENCE.relative_to(ROOT)}: people search for the word `{word}`, which isn't there")
     for path in DOCUMENTS:
         for number, cited, wrong in Document(path).read():
             passed, failed = passed + (wrong is None), failed + (wrong is not None)

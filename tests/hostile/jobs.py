@@ -200,11 +200,30 @@ def fields_of_one_name(size):
     return {"d.bib": b"@misc{k" + fields + b"}\n"}, Expected(warnings=size - 1, log={line: 1})
 
 
+@hostile(size=4_000, small=100)
+def fields_of_one_name_under_a_long_key(size):
+    """The key has 50,000 bytes at the full size. The message of each field but the first has it whole."""
+    key = b"k" * (size * 50_000 // 4_000)
+    line = b'Warning--I\'m ignoring %s\'s extra "title" field--line 2 of file d.bib' % key
+    return ({"job.aux": AUX.replace(b"{k}", b"{*}"), "d.bib": b"@misc{" + key + b",\n" + b"title = {T}, " * size + b"}\n"},
+            Expected(warnings=size - 1, log={line: size - 1}))
+
+
 @hostile(size=100_000, small=200)
 def children_of_one_parent(size):
     files = {"job.aux": AUX.replace(b"{k}", b"{*}"), "s.bst": iterates(b"title write$ newline$"),
              "d.bib": b"".join(b"@misc{c%d, crossref = {k}}\n" % number for number in range(size)) + DATABASE}
     return files, Expected(steps=4 * (size + 1), references=b"T\n" * (size + 1))
+
+
+@hostile(size=200, small=20)
+def children_of_a_missing_parent_of_a_long_name(size):
+    """The parent's name is a string that is as long as may be at the full size. The message of each child has it whole."""
+    parent = b"p" * (size * LONGEST_STRING // 200)
+    children = b"".join(b"@misc{c%d, crossref = p}\n" % number for number in range(size))
+    line = b'Error--A bad cross reference--entry "c%d" refers to entry "%s", which doesn\'t exist' % (size - 1, parent)
+    return ({"job.aux": AUX.replace(b"{k}", b"{*}"), "d.bib": b"@string{p = {" + parent + b"}}\n" + children},
+            Expected(errors=size, log={line: 1}))
 
 
 @hostile(size=100_000, small=200)

@@ -13,8 +13,10 @@ from make_job import MONTHS, TYPES, make_job
 
 HERE = pathlib.Path(__file__).resolve().parent
 EXAMPLES = HERE.parents[1] / "examples"
-ARTICLE, PLAIN, LONG = "article", "plain", "jurabib"
-START, READING_ALONE = "start", "reading"
+ARTICLE, PLAIN, ALPHA, LONG = "article", "plain", "alpha", "jurabib"
+START, READING_ALONE, MESSAGES = "start", "reading", "messages"
+# In the job MESSAGES the database has a mistake for each ten entries.
+ENTRIES_A_MISTAKE = 10
 MOST_ENTRIES_OF_REFERENCE = 1_000
 
 
@@ -50,6 +52,14 @@ READ
        "".join("FUNCTION {%s} {}\n" % kind for kind in sorted({*TYPES, "proceedings"})))
 
 
+def add_mistakes(database):
+    """Puts a mistake before every tenth entry, counted from the last, so that each part of the database has its message."""
+    items = database.read_text().split("\n\n@")
+    for place in range(len(items) - 1, 0, -ENTRIES_A_MISTAKE):
+        items.insert(place, "string{mistake}")
+    database.write_text("\n\n@".join(items))
+
+
 class Job(NamedTuple):
     """`more` is put behind the style's text."""
     name: str
@@ -60,8 +70,10 @@ class Job(NamedTuple):
     def write(self, folder, seed):
         make_job(folder, self.entries, self.style, seed)
         there = folder / f"{self.style}.bst"
-        if self.style == READING_ALONE:
+        if self.style in (READING_ALONE, MESSAGES):
             there.write_text(READING)
+            if self.style == MESSAGES:
+                add_mistakes(folder / "works.bib")
         elif self.more:
             there.write_bytes(style_path(self.style).read_bytes() + self.more.encode())
         else:
@@ -69,7 +81,7 @@ class Job(NamedTuple):
 
 
 def all_jobs(styles, sizes):
-    known = [READING_ALONE] + styles
+    known = [READING_ALONE, MESSAGES] + styles
     yield Job(START, PLAIN if PLAIN in known else known[-1], 1)
     for style in known:
         for size in sizes:

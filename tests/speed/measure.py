@@ -1,11 +1,11 @@
 #!/usr/bin/env python3
 """How fast the program is, beside the original `bibtex` where that is installed.
 
-    python3 tests/speed/measure.py [--sizes N,..] [--counted N] [--styles NAME,..] [--runs N] [--seed N] [PROGRAM]
+    python3 tests/speed/measure.py [--aims] [--sizes N,..] [--counted N] [--styles NAME,..] [--runs N] [--seed N] [PROGRAM]
 
 PROGRAM is crates/bibtex/out/bibtex if none is given. Instructions are counted by valgrind; without valgrind, or a compiler for
-`once.c`, nothing is measured. Prints a table of jobs, one of loops, and the bars. Its last line is 'N bars met, M not'; the exit
-status is 0 only where M is 0."""
+`once.c`, nothing is measured. Prints a table of jobs, one of loops, and the bars; with --aims the aims are bars too. Its last line is
+'N bars met, M not'; the exit status is 0 only where M is 0."""
 
 import argparse
 import math
@@ -18,7 +18,7 @@ import tempfile
 from typing import NamedTuple, Optional
 
 import jobs
-from jobs import ARTICLE, LONG, PLAIN
+from jobs import ALPHA, ARTICLE, LONG, MESSAGES, PLAIN, READING_ALONE
 
 HERE = pathlib.Path(__file__).resolve().parent
 PROGRAM = HERE.parents[1] / "crates/bibtex/out/bibtex"
@@ -32,7 +32,13 @@ MOST_AT_START = 10_000_000
 MOST_GROWTH = 1.05
 # The original on the jobs of seed 1: instructions and MB. The bars where it isn't installed.
 RECORDED = {("article", 10_000): (2_565_800_000, 13.2), ("plain", 10_000): (2_359_200_000, 18.2),
-            ("jurabib", 10_000): (6_698_600_000, 39.0)}
+            ("alpha", 10_000): (2_642_000_000, 28.0), ("jurabib", 10_000): (6_698_600_000, 39.0)}
+# The aims: what the program is to take at 10,000 entries, as a share of what the original takes, and the instructions of the start.
+AIMED_SIZE = 10_000
+INSTRUCTIONS_AIMED = {PLAIN: 0.40, ALPHA: 0.40, LONG: 0.40, ARTICLE: 0.40, READING_ALONE: 0.15, MESSAGES: 0.15}
+SECONDS_AIMED = 0.50
+MEMORY_AIMED = {PLAIN: 0.75, ALPHA: 0.60, LONG: 0.50, ARTICLE: 0.85}
+AIMED_AT_START = 2_000_000
 
 
 class Figures(NamedTuple):
@@ -67,15 +73,6 @@ class Tool:
     def can_run(self, status):
         return status in ((0, 1, 2) if self.is_original else (0, 2))
 
-    def measured(self, folder, entries, runs, is_counted):
-        timed = []
-        for _ in range(runs):
-            timed.append(self.timed(folder, entries))
-            if timed[-1].failure:
-                return timed[-1]
-        best = min(timed, key=lambda figures: figures.cpu)
-        return best._replace(instructions=self.counted(folder, entries)) if is_counted else best
-
     def timed(self, folder, entries):
         note = self.room / "figures"
         status, said = self.start([self.room / "once", note], folder, entries)
@@ -105,15 +102,24 @@ class Tool:
 # ---- what is measured ----
 
 
+def best_of(timed):
+    """The run of least seconds, or one that failed."""
+    return next((figures for figures in timed if figures.failure), None) or min(timed, key=lambda figures: figures.cpu)
+
+
 def measure(tools, job, seed, runs, is_counted, room):
-    """The figures of a job for each tool."""
-    figures = {}
-    for tool in tools:
-        with tempfile.TemporaryDirectory(dir=room) as folder:
-            folder = pathlib.Path(folder)
+    """The figures of a job for each tool. The tools run in turn, so that other work of the machine is met by all of them alike."""
+    with tempfile.TemporaryDirectory(dir=room) as parent:
+        folders = {tool: pathlib.Path(parent, tool.name) for tool in tools}
+        for folder in folders.values():
+            folder.mkdir()
             job.write(folder, seed)
-            figures[tool.name] = tool.measured(folder, job.entries, runs, is_counted)
-    return figures
+        turns = [[tool.timed(folder, job.entries) for tool, folder in folders.items()] for _ in range(runs)]
+        figures = {tool.name: best_of(timed) for tool, timed in zip(tools, zip(*turns))}
+        for tool, folder in folders.items():
+            if is_counted and not figures[tool.name].failure:
+                figures[tool.name] = figures[tool.name]._replace(instructions=tool.counted(folder, job.entries))
+        return figures
 
 
 def measure_loop(tools, loop, seed, room):
@@ -193,7 +199,7 @@ def print_bars(measured, bars):
         told = measured[job]["program"]
         if job.name == jobs.START:
             bars.judge("instructions at the start", told.failure or told.instructions, MOST_AT_START, millions)
-        elif job.entries >= 10_000 and job.name != jobs.READING_ALONE:
+        elif job.entries >= 10_000 and job.name not in (READING_ALONE, MESSAGES):
             instructions, megabytes = of_original(measured, job)
             what = f"{job.name}, {job.entries:,} entries"
             if told.instructions or told.failure:
@@ -201,6 +207,35 @@ def print_bars(measured, bars):
             if job.entries <= MOST_ENTRIES_OF_ORIGINAL:
                 bars.judge(f"{what}, memory of the original", told.failure or told.megabytes, megabytes,
                            lambda size: f"{size:.1f} MB")
+
+
+def aims_of(job):
+    """What is aimed at for this job: a quantity, its figure of a run, and the share of the original's."""
+    yield "instructions", lambda figures: figures.instructions, INSTRUCTIONS_AIMED[job.name]
+    yield "processor seconds", lambda figures: figures.cpu, SECONDS_AIMED
+    if job.name in MEMORY_AIMED:
+        yield "memory", lambda figures: figures.megabytes, MEMORY_AIMED[job.name]
+
+
+def share(figure, program, original):
+    """This figure of the program by that of the original; a text where there is none."""
+    failure = program.failure or original.failure
+    if failure or not figure(program) or not figure(original):
+        return failure or "it wasn't measured"
+    return figure(program) / figure(original)
+
+
+def print_aims(measured, bars):
+    for job, figures in measured.items():
+        program, original = figures["program"], figures.get("original")
+        if job.name == jobs.START:
+            bars.judge("aim: instructions at the start", program.failure or program.instructions, AIMED_AT_START, millions)
+        if job.entries != AIMED_SIZE or job.name not in INSTRUCTIONS_AIMED:
+            continue
+        for what, figure, most in aims_of(job):
+            found = share(figure, program, original) if original else None
+            bars.judge(f"aim: {job.name}, {job.entries:,} entries, share of the original's {what}", found, most if original else None,
+                       lambda number: f"{number:.2f}")
 
 
 def exponent(smaller, larger, start):
@@ -241,10 +276,11 @@ def numbers(text):
 
 def read_arguments():
     parser = argparse.ArgumentParser()
+    parser.add_argument("--aims", action="store_true", help="the aims are bars too")
     parser.add_argument("--sizes", type=numbers, default=[1_000, 10_000], help="numbers of entries, rising")
     parser.add_argument("--counted", type=int, default=10_000, help="instructions are counted up to so many entries")
-    parser.add_argument("--styles", type=lambda text: text.split(","), default=[ARTICLE, PLAIN, LONG])
-    parser.add_argument("--runs", type=int, default=3, help="seconds are the best of so many runs")
+    parser.add_argument("--styles", type=lambda text: text.split(","), default=[ARTICLE, PLAIN, ALPHA, LONG])
+    parser.add_argument("--runs", type=int, default=7, help="seconds are the best of so many runs")
     parser.add_argument("--seed", type=int, default=1)
     parser.add_argument("program", nargs="?", type=pathlib.Path, default=PROGRAM)
     return parser.parse_args()
@@ -306,6 +342,8 @@ def main():
     bars = Bars()
     if any(tool.name == "program" for tool in tools):
         print_bars(measured, bars)
+        if arguments.aims:
+            print_aims(measured, bars)
     else:
         bars.missed += 1
     for tool in tools:

@@ -1,15 +1,22 @@
 """Plants the wrong bodies that the crates keep, and sees that the prover refuses each of them.
 
-    python3 plant.py [--alone] [--jobs N] [CRATE..]
+    python3 plant.py [--alone] [--kept] [--jobs N] [CRATE..]
 
 A wrong body is a file crates/NAME/wrong-bodies/*.edit, or must-fail/*.edit: a line 'function:' with the function that must be refused, a line 'file:', and pairs of
 lines 'old:' and 'new:'; each old text stands in that file once. Further lines 'file:' may follow, with their pairs: so a slip is made in a
 definition and the code alike, with what lemmas say of it, and a law must refuse it; such a body is planted alone. A function is proved from the contracts of those that it calls, never from
 their bodies: so the wrong bodies of one crate are planted together, in as few rounds as have each function once, and only their functions are
 checked. What isn't refused so for a reason of its own (the check may only tell that a function is called that isn't proved) is planted once
-more, alone. With --alone each is from the beginning. For each it prints the goal that refused: its name and what it says, where the check tells.
+more, alone. For each it prints the goal that refused: its name and what it says, where the check tells; and for each crate how many rounds there were,
+and how long they took.
 
-One that changes a definition too, a file of specs/, has a round of its own behind the others, which are to be judged by the definitions that stand.
+For a crate with nothing in must-fail/, which the kit's own gate tries, the kit's judge tries one body here, as a second judge.
+
+With --alone each is planted alone from the beginning. With --kept the first round stands on what `rt check` kept in the crate's folder out/, and takes a
+minute in the place of many: for work on a crate, never for the gate.
+
+One that changes a definition too, a file of specs/, has a round of its own behind the others, which are to be judged by the definitions that stand. Two of
+these in one round could not be told apart: a law that the one breaks may be refused for the other's definition.
 
 Each file also has a line 'witness:', which witnesses.py checks; here it must only be there.
 
@@ -26,6 +33,7 @@ import re
 import shutil
 import sys
 import tempfile
+import time
 
 from witnesses import FOLDERS, ROOT, tell_lacking, witness_of
 
@@ -46,7 +54,7 @@ def load_kit():
 
 class WrongBody:
     def __init__(self, path):
-        self.name, self.text = path.stem, path.read_text(encoding="utf-8")
+        self.path, self.name, self.text = path, path.stem, path.read_text(encoding="utf-8")
         self.function = "".join(re.findall(r"(?m)^function: (\S+)$", self.text))
         self.changes_definitions = re.search(r"(?m)^file: (specs|proofs)/", self.text) is not None
 
@@ -133,20 +141,48 @@ def try_round(kit, crate, bodies, kept):
     return results
 
 
-def try_crate(kit, crate, alone):
+def unrefused_by_kit(kit, crate, bodies, kept):
+    """The kit's own gate tries what stands in must-fail/, each time from nothing. For a crate without such an edit its judge tries one of the bodies here,
+    over what the rounds kept. The body, if it isn't refused."""
+    of_code = [it for it in bodies if not it.changes_definitions]
+    if not of_code or any(it.path.parent.name == "must-fail" for it in bodies):
+        return []
+    refused, said = kit.must_fail(crate, str(of_code[0].path), ["--jobs", "1"], kept)
+    print(f"{crate.name}, by the kit's own judge: {said}", flush=True)
+    return [] if refused else [Judged(of_code[0], said)]
+
+
+def kept_folder(crate, room, is_given):
+    """Where the rounds of a crate keep what they proved: in an empty folder of this run, or in a copy of what `rt check` kept."""
+    kept, given = pathlib.Path(room, "kept"), pathlib.Path(crate.folder, "out/incremental")
+    if is_given and given.is_dir():
+        shutil.copytree(given, kept)
+    else:
+        kept.mkdir()
+    return str(kept)
+
+
+def try_crate(kit, crate, alone, is_given):
     paths = sorted(path for folder in FOLDERS for path in pathlib.Path(crate.folder, folder).glob("*.edit"))
     bodies = [WrongBody(path) for path in paths]
-    with tempfile.TemporaryDirectory() as kept:
-        tried = [it for bodies in in_rounds(bodies, alone) for it in try_round(kit, crate, bodies, kept)]
+    began, rounds = time.monotonic(), in_rounds(bodies, alone)
+    with tempfile.TemporaryDirectory() as room:
+        kept = kept_folder(crate, room, is_given)
+        tried = [it for bodies in rounds for it in try_round(kit, crate, bodies, kept)]
         results = [try_round(kit, crate, [it.body], kept)[0] if it.why else it for it in tried]
+        results += unrefused_by_kit(kit, crate, bodies, kept)
     for it in results:
         print(f"{crate.name}/{it.body.name}: {it.why or f'refused, as it must be, at {it.body.function}, {it.goal}'}", flush=True)
+    if results:
+        again = sum(it.why is not None for it in tried)
+        print(f"{crate.name}: wrong bodies {len(results)}, rounds {len(rounds)}, once more alone {again}, seconds {time.monotonic() - began:.0f}", flush=True)
     return results
 
 
 def main():
     parser = argparse.ArgumentParser()
     parser.add_argument("--alone", action="store_true")
+    parser.add_argument("--kept", action="store_true")
     parser.add_argument("--jobs", type=int, default=len(os.sched_getaffinity(0)))
     parser.add_argument("crates", nargs="*")
     arguments = parser.parse_args()
@@ -155,7 +191,7 @@ def main():
     kit.rtlib.guarded()
     crates = [it for it in kit.rtlib.crates_below(str(ROOT)) if not arguments.crates or it.name in arguments.crates]
     with concurrent.futures.ThreadPoolExecutor(arguments.jobs) as pool:
-        results = [*pool.map(lambda crate: try_crate(kit, crate, arguments.alone), reversed(crates))]
+        results = [*pool.map(lambda crate: try_crate(kit, crate, arguments.alone, arguments.kept), reversed(crates))]
     refused = [not it.why for of_crate in results for it in of_crate]
     lacking = tell_lacking([it.body.name for of_crate in results for it in of_crate if witness_of(it.body.text) is None])
     print(f"{refused.count(True)} passed, {refused.count(False) + lacking} failed")

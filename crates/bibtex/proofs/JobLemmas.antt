@@ -1,16 +1,77 @@
--- A job that is done answers the report of a product.
-use Rattle.std.proofs.Common.{◌≡◌, Option, Result, Ok, Err, IfOk, subst, sym}
+-- What is done for a job, and the report that it answers.
+use Rattle.std.proofs.Common.{◌≡◌, ◌∙◌, ℕ, List, [], ◌∷◌, Bool, true, Option, Some, Result, Ok, Err, IfOk, IsErrAnd, OnOk, MatchBool, ap, subst, sym}
+use Rattle.std.specs.Io.KnownBytes.{Keeps}
 use Rattle.btx_aux.specs.Files.{Files}
 use Rattle.btx_machine.specs.Written.{Received}
 use Rattle.btx_machine.specs.declared.report.Report.{Report}
 use Rattle.btx_run.specs.Answered.{CompletesAsAnswered}
 use Rattle.btx_run.specs.declared.options.Options.{Options}
 use Rattle.btx_run.specs.declared.run_fault.RunFault.{RunFault}
-use Rattle.bibtex.specs.Jobs.{DoesJob, Handed, IsReportOfSome}
-use Rattle.bibtex.specs.ListFiles.{Held}
+use Rattle.bibtex.specs.Acts.{ClosedList, Does, Done, EmptiedLog, OpenedList, Printed, StoredLog}
+use Rattle.bibtex.specs.Jobs.{DoesWith, HandsLog, IsReportOfSome, ListsJob, both_done}
+use Rattle.bibtex.specs.ListFiles.{FinishesList, Held, keeps_old, received_by}
+use Rattle.bibtex.specs.Paths.{list_path, log_path}
+use Rattle.bibtex.specs.Printing.{printed_log}
 use Rattle.bibtex.specs.Status.{first_fault}
 use Rattle.bibtex.specs.declared.given.Settings.{Settings}
 use Rattle.bibtex.specs.declared.list_file.ListFile.{ListFile}
+use Rattle.bibtex.proofs.GrowthLemmas.{one_after_another}
+
+-- ---- an old list that is kept
+
+pub ended_untouched : {W : Type 0} (contents : W → Held) (ran : Result Report RunFault) (before written after : ListFile W) (finished : Result (Unit {0}) RunFault)
+    → (keeps_old ran ≡ true → written ≡ before) → FinishesList contents ran written after finished → keeps_old ran ≡ true → after ≡ before
+ended_untouched contents ran before written after finished untouched finishes kept = stays.0 ∙ untouched kept
+  where
+    stays : (after ≡ written) × (finished ≡ Ok tt)
+    stays =
+        subst (λ (keeps : Bool). MatchBool keeps ((after ≡ written) × (finished ≡ Ok tt)) (OnOk finished (Keeps (received_by contents written) (contents after.file)))) kept finishes
+
+-- ---- what is done, by the values that stand for the job's own
+
+pub lists_from : {W : Type 0} (content : Option Files) (contents : W → Held) (settings : Settings) (here there after : ListFile W) (before log : Held) (answer : Result Report RunFault)
+    → here ≡ there → before ≡ Some [] → ListsJob content contents settings here after (before, log) answer → ListsJob content contents settings there after (Some [], log) answer
+lists_from content contents settings here there after before log answer is none h =
+    subst (λ (list : ListFile _). ListsJob content contents settings list after (Some [], log) answer) is
+    (subst (λ (before : Held). ListsJob content contents settings here after (before, log) answer) none h)
+
+-- the file is closed, and the log handed on
+pub closes_and_hands : {W : Type 0} (settings : Settings) (path text log : List ℕ) (here file : W) (before mid after : Done W) (answer : Result (Unit {0}) RunFault)
+    (h : HandsLog settings path text mid after answer) → here ≡ file → text ≡ log → Does before mid (ClosedList here ∷ [])
+    → Does before after (ClosedList file ∷ StoredLog path log h.stored ∷ Printed (printed_log settings log) h.printed ∷ [])
+closes_and_hands settings path text log here file before mid after answer h is_file is_log closes =
+    subst (λ log. Does before after (ClosedList file ∷ StoredLog path log h.stored ∷ Printed (printed_log settings log) h.printed ∷ [])) is_log
+    (subst (λ file. Does before after (ClosedList file ∷ StoredLog path text h.stored ∷ Printed (printed_log settings text) h.printed ∷ [])) is_file
+    (one_after_another before mid after (ClosedList here ∷ []) (StoredLog path text h.stored ∷ Printed (printed_log settings text) h.printed ∷ []) closes h.does))
+
+-- the list's file is opened, or that fails
+pub opens : {W : Type 0} (settings : Settings) (path : List ℕ) (opened is : Result W RunFault) (before after : Done W)
+    → path ≡ list_path settings → opened ≡ is → Does before after (OpenedList path opened ∷ []) → Does before after (OpenedList (list_path settings) is ∷ [])
+opens settings path opened is before after is_path is_opened h =
+    subst (λ opened. Does before after (OpenedList (list_path settings) opened ∷ [])) is_opened
+    (subst (λ path. Does before after (OpenedList path opened ∷ [])) is_path h)
+
+-- a fault that is passed on unchanged
+pub passed_on : {T : Type 0} (answer : Result T RunFault) (fault : RunFault) → IsErrAnd answer (λ other. other ≡ fault) → answer ≡ Err fault
+passed_on (Ok value) fault h = absurd h
+passed_on (Err other) fault h = ap Err h
+
+-- the list's file is opened, and the old log is emptied
+pub opens_and_empties : {W : Type 0} (settings : Settings) (path : List ℕ) (file : W) (before mid after : Done W)
+    → path ≡ log_path settings → Does before mid (OpenedList (list_path settings) (Ok file) ∷ []) → Does mid after (EmptiedLog path ∷ [])
+    → Does before after (OpenedList (list_path settings) (Ok file) ∷ EmptiedLog (log_path settings) ∷ [])
+opens_and_empties settings path file before mid after is_path opened empties =
+    subst (λ path. Does before after (OpenedList (list_path settings) (Ok file) ∷ EmptiedLog path ∷ [])) is_path
+    (one_after_another before mid after (OpenedList (list_path settings) (Ok file) ∷ []) (EmptiedLog path ∷ []) opened empties)
+
+pub does_with : {W : Type 0} (here there : Option Files) (contents : W → Held) (settings : Settings) (path : List ℕ) (file : W) (before after : Done W) (answer : Result Report RunFault)
+    → here ≡ there → path ≡ log_path settings
+    → DoesWith here contents settings path file before after answer → DoesWith there contents settings (log_path settings) file before after answer
+does_with here there contents settings path file before after answer is is_path h =
+    subst (λ (content : Option Files). DoesWith content contents settings (log_path settings) file before after answer) is
+    (subst (λ path. DoesWith here contents settings path file before after answer) is_path h)
+
+-- ---- the report
 
 -- what holds of the report of a run holds of the one that is answered behind what followed it
 ok_before : (P : Report → Type 0) (ran : Result Report RunFault) (followed : Result (Unit {0}) RunFault) (answer : Result Report RunFault)
@@ -20,18 +81,12 @@ ok_before P (Ok report) (Err fault) answer is h = subst (λ a. IfOk a P) (sym is
 ok_before P (Ok report) (Ok done) answer is h = subst (λ a. IfOk a P) (sym is) h
 
 -- a report that is told as answered is one of some product
-of_some : (options : Options) (before after : Received) (ran : Result Report RunFault) → IfOk ran (CompletesAsAnswered options before after) → IfOk ran (IsReportOfSome options)
+pub of_some : (options : Options) (before after : Received) (ran : Result Report RunFault) → IfOk ran (CompletesAsAnswered options before after) → IfOk ran (IsReportOfSome options)
 of_some options before after (Err fault) h = tt
 of_some options before after (Ok report) h = record { job = h.job; answers = h.answers; is = h.completes.report_is }
 
-pub done_of_some : {W : Type 0} (content : Option Files) (contents : W → Held) (settings : Settings) (old new : ListFile W) (before after : Handed) (answer : Result Report RunFault)
-    → DoesJob content contents settings (old, new) before after answer → IfOk answer (IsReportOfSome settings.options)
-done_of_some content contents settings old new before after answer h =
-    ok_before (IsReportOfSome settings.options) h.listed h.written answer h.first
-    (ok_before (IsReportOfSome settings.options) h.lists.ran h.lists.finished h.listed h.lists.first
-    (of_some settings.options _ _ h.lists.ran h.lists.runs.answered))
-
-pub report_of_some : {W : Type 0} (content : Option Files) (contents : W → Held) (settings : Settings) (old new : ListFile W) (before after : Handed) (answer : Result Report RunFault) (report : Report)
-    → answer ≡ Ok report → DoesJob content contents settings (old, new) before after answer → IsReportOfSome settings.options report
-report_of_some content contents settings old new before after answer report is h =
-    subst (λ a. IfOk a (IsReportOfSome settings.options)) is (done_of_some content contents settings old new before after answer h)
+-- what holds of the report of a run holds of the report of the job that was done with it
+pub report_of_job : {W : Type 0} (content : Option Files) (contents : W → Held) (settings : Settings) (path : List ℕ) (file : W) (before after : Done W) (answer : Result Report RunFault)
+    (P : Report → Type 0) (h : DoesWith content contents settings path file before after answer) → IfOk h.lists.ran P → IfOk answer P
+report_of_job content contents settings path file before after answer P h holds =
+    ok_before P h.listed (both_done h.stored h.printed) answer h.first (ok_before P h.lists.ran h.lists.finished h.listed h.lists.first holds)

@@ -1,5 +1,5 @@
 -- What is done for a job: it is run, and its log is handed on.
-use Rattle.std.specs.Prelude.{◌≡◌, ◌≤◌, ◌++◌, ℕ, List, [], ◌∷◌, Option, Some, Result, Ok, Err, IfOk, IfSome, OnOk, OnErr}
+use Rattle.std.specs.Prelude.{◌≡◌, ◌≤◌, ℕ, true, List, [], ◌∷◌, Option, Some, Result, Ok, Err, IfOk, IfSome, OnOk, OnErr}
 use Rattle.std.specs.Io.KnownBytes.{Appends}
 use Rattle.std.specs.Option.{option_map}
 use Rattle.btx_aux.specs.Files.{Files}
@@ -13,7 +13,11 @@ use Rattle.btx_run.specs.Answered.{CompletesAsAnswered, FailsAsAnswered, product
 use Rattle.btx_run.specs.Files.Answered.{Answers}
 use Rattle.btx_run.specs.Product.{product, product_with}
 use Rattle.btx_run.specs.declared.run_fault.RunFault.{RunFault}
-use Rattle.bibtex.specs.ListFiles.{FinishesList, Held, received_by}
+use Rattle.btx_run.specs.declared.run_fault.RunFault.TheVariants.{Memory}
+use Rattle.bibtex.specs.Acts.{ClosedList, Does, Done, EmptiedLog, OpenedList, Printed, StoredLog}
+use Rattle.bibtex.specs.FolderFiles.{folder_files}
+use Rattle.bibtex.specs.ListFiles.{FinishesList, Held, keeps_old, received_by, unwritten}
+use Rattle.bibtex.specs.Paths.{list_path, log_path}
 use Rattle.bibtex.specs.Printing.{printed_log}
 use Rattle.bibtex.specs.Status.{first_fault}
 use Rattle.bibtex.specs.declared.given.Settings.{Settings}
@@ -38,30 +42,21 @@ pub record IsReportOfSome (options : Options) (report : Report) : Type 0 where
   pub answers : Answers job
   pub is : report ≡ (product_answered job answers options options.budget).report
 
--- what is handed to the outputs of a log, with what came of it: it is stored in the job's file, or printed to standard output
-pub data Handing : Type 0 where
-  Stored : (log : List ℕ) (answer : Result (Unit {0}) RunFault) → Handing
-  Printed : (log : List ℕ) (answer : Result (Unit {0}) RunFault) → Handing
-
--- what was handed on so far, by outputs that tell it
-abbrev pub Handed : Type 0
-Handed = Option (List Handing)
-
 -- of two answers the first fault counts
 abbrev pub both_done : Result (Unit {0}) RunFault → Result (Unit {0}) RunFault → Result (Unit {0}) RunFault
 both_done (Ok done) second = second
 both_done (Err fault) second = Err fault
 
--- A log is handed on: all of it to its file and then, whatever came of that, what is printed of it to standard output; nothing else is. The
--- first fault is answered.
-pub record HandsLog (settings : Settings) (log : List ℕ) (before after : Handed) (answer : Result (Unit {0}) RunFault) : Type 0 where
+-- A log is handed on: all of it to the file of this path and then, whatever came of that, what is printed of it to standard output; nothing else
+-- is done. The first fault is answered.
+pub record HandsLog {W : Type 0} (settings : Settings) (path log : List ℕ) (before after : Done W) (answer : Result (Unit {0}) RunFault) : Type 0 where
   pub stored : Result (Unit {0}) RunFault
   pub printed : Result (Unit {0}) RunFault
-  pub handed : after ≡ option_map (λ handed. handed ++ Stored log stored ∷ Printed (printed_log settings log) printed ∷ []) before
+  pub does : Does before after (StoredLog path log stored ∷ Printed (printed_log settings log) printed ∷ [])
   pub first : answer ≡ both_done stored printed
 
 -- A job's list is written, over this change of its file: the job is run, and then the list's file is ended, also after a fault. The first
--- fault is answered.
+-- fault is answered. Where there is no top file, the list's file isn't touched.
 pub record ListsJob {W : Type 0} (content : Option Files) (contents : W → Held) (settings : Settings) (before after : ListFile W)
     (log : Held × Held) (answer : Result Report RunFault) : Type 0 where
   pub ran : Result Report RunFault
@@ -69,15 +64,30 @@ pub record ListsJob {W : Type 0} (content : Option Files) (contents : W → Held
   pub finished : Result (Unit {0}) RunFault
   pub runs : RunsJob content settings (received_by contents before, log.0) (received_by contents written, log.1) ran
   pub finishes : FinishesList contents ran written after finished
+  pub untouched : keeps_old ran ≡ true → after ≡ before
   pub first : answer ≡ first_fault ran finished
 
--- A job is done, over this change of its list's file: its list is written, and then the log that was kept is handed on, also after a fault.
--- The first fault is answered.
-pub record DoesJob {W : Type 0} (content : Option Files) (contents : W → Held) (settings : Settings) (list : ListFile W × ListFile W)
-    (before after : Handed) (answer : Result Report RunFault) : Type 0 where
+-- A job is done with its list's file, which was opened: its list is written, over a finder of this content, and the file is closed; then the log that
+-- was kept is handed on to the file of this path, also after a fault. Nothing else is done. The first fault is answered.
+pub record DoesWith {W : Type 0} (content : Option Files) (contents : W → Held) (settings : Settings) (path : List ℕ) (file : W) (before after : Done W)
+    (answer : Result Report RunFault) : Type 0 where
   pub listed : Result Report RunFault
+  pub list : ListFile W
   pub log : List ℕ
-  pub written : Result (Unit {0}) RunFault
-  pub lists : ListsJob content contents settings list.0 list.1 (Some [], Some log) listed
-  pub hands : HandsLog settings log before after written
-  pub first : answer ≡ first_fault listed written
+  pub lists : ListsJob content contents settings (unwritten file) list (Some [], Some log) listed
+  pub stored : Result (Unit {0}) RunFault
+  pub printed : Result (Unit {0}) RunFault
+  pub does : Does before after (ClosedList list.file ∷ StoredLog path log stored ∷ Printed (printed_log settings log) printed ∷ [])
+  pub first : answer ≡ first_fault listed (both_done stored printed)
+
+-- A job is done, over a system of these files and lists' files of these contents. The file of its list is opened at the path of its list, an old log is
+-- emptied at the path of its log, and with that file and that path the job is done over the files of its folder. If memory is refused for
+-- the two paths, nothing is done; and if the list's file can't be opened, nothing else.
+pub data DoesJob {W : Type 0} (files : Option Files) (contents : W → Held) (settings : Settings) (before after : Done W)
+    (answer : Result Report RunFault) : Type 0 where
+  HasNoMemory : after ≡ before → answer ≡ Err Memory → DoesJob files contents settings before after answer
+  HasNoList : (fault : RunFault) → Does before after (OpenedList (list_path settings) (Err fault) ∷ []) → answer ≡ Err fault
+      → DoesJob files contents settings before after answer
+  HasList : (file : W) (ready : Done W) → Does before ready (OpenedList (list_path settings) (Ok file) ∷ EmptiedLog (log_path settings) ∷ [])
+      → DoesWith (option_map (folder_files settings.directory.now) files) contents settings (log_path settings) file ready after answer
+      → DoesJob files contents settings before after answer

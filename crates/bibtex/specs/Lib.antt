@@ -1,5 +1,6 @@
 pub mod Acts
 pub mod CommandLine
+pub mod Ends
 pub mod FileErrors
 pub mod FolderFiles
 pub mod Jobs

@@ -16,6 +16,10 @@ Held = Option (List ℕ)
 abbrev pub emptied : Held → Held
 emptied held = option_map (λ bytes. []) held
 
+-- a list's file that was opened, and that this run hasn't written to
+abbrev pub unwritten : {W : Type 0} → W → ListFile W
+unwritten file = record { file = file; is_emptied = false; failures = 0 }
+
 -- what a list's file has received in this run: nothing as long as it holds what an earlier run left, then all that it holds
 abbrev pub received_by : {W : Type 0} → (W → Held) → ListFile W → Held
 received_by contents list = if list.is_emptied then contents list.file else emptied (contents list.file)

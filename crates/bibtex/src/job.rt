@@ -1,21 +1,19 @@
 //! A job of a folder.
-ghost use Rattle.std.specs.Prelude.{◌≡◌, ◌≤◌, IfOk};
+ghost use Rattle.std.specs.Prelude.{◌≡◌, ◌≤◌, IfOk, true};
 ghost use Rattle.btx_run.specs.RunFaults.{CountsOfRun};
-ghost use Rattle.std.specs.Option.{option_map};
-ghost use Rattle.bibtex.specs.FolderFiles.{folder_files};
-ghost use Rattle.bibtex.specs.Jobs.{DoesJob, HandsLog, IsReportOfSome, ListsJob, RunsJob, both_done};
+ghost use Rattle.bibtex.specs.Jobs.{DoesJob, DoesWith, HandsLog, IsReportOfSome, ListsJob, RunsJob, both_done};
+ghost use Rattle.bibtex.specs.ListFiles.{keeps_old};
 ghost use Rattle.bibtex.specs.Printing.{printed_log};
 ghost use Rattle.bibtex.specs.Status.{first_fault};
 
 use crate::directory::DirectoryFinder;
 use crate::given::Settings;
-use crate::list_file::{EmptiedFile, ListFile, open_list};
-use crate::outputs::{LogOutputs, SystemOutputs, empty_old_log};
+use crate::list_file::{EmptiedFile, ListFile};
+use crate::outputs::Outputs;
 use crate::paths::path_of;
-use crate::system::{RealSystem, System};
+use crate::system::System;
 use btx_run::{Finder, Over, Report, RunFault, Sink, run};
 use std::alloc::Global;
-use std::rt::Files;
 
 // Runs the job that the settings ask for.
 fn run_over<F: Finder, W: Sink, L: Sink>(
@@ -27,6 +25,7 @@ fn run_over<F: Finder, W: Sink, L: Sink>(
 ) -> Result<Report, RunFault>
     ensures runs { RunsJob (F.content finder.old) settings.now (W.received bbl.old, L.received log.old) (W.received bbl.new, L.received log.new) result }
     ensures counts { CountsOfRun result (F.failures finder.old, F.failures finder.new) (W.failures bbl.old, W.failures bbl.new) (L.failures log.old, L.failures log.new) }
+    ensures untouched { keeps_old result ≡ true → bbl.new ≡ bbl.old }
 {
     let name = settings.job.as_bytes();
     run(alloc, finder, name, &settings.options, bbl, log)
@@ -48,15 +47,17 @@ fn both_done(first: Result<(), RunFault>, second: Result<(), RunFault>) -> Resul
     Ok(())
 }
 
-// Hands the log to its file and then, also where that failed, what is to be printed to standard output. The first fault is answered.
-fn write_log<O: LogOutputs>(
+// Hands the log to the file of this path and then, also where that failed, what is to be printed to standard output. The first fault is
+// answered.
+fn write_log<O: Outputs>(
     outputs: &mut O,
     settings: &Settings<'_>,
+    path: &str,
     log: &[u8],
 ) -> Result<(), RunFault>
-    ensures { HandsLog settings.now log.now (O.handed outputs.old) (O.handed outputs.new) result }
+    ensures { HandsLog settings.now path.now log.now (O.acts outputs.old) (O.acts outputs.new) result }
 {
-    let stored = outputs.store(log);
+    let stored = outputs.store_log(path, log);
     let printed = outputs.print(printed(settings, log));
     both_done(stored, printed)
 }
@@ -88,66 +89,62 @@ fn list_job<F: Finder, W: EmptiedFile, L: Sink>(
     first_fault(ran, finished)
 }
 
-// Writes the job's list and then, also after a fault, hands on the log. The first fault is answered.
-fn do_job<F: Finder, W: EmptiedFile, O: LogOutputs>(
+// Writes the job's list to its file, which is open, and closes it; and then, also after a fault, hands on the log to the file of this path. The
+// first fault is answered.
+fn do_job<F: Finder, O: Outputs>(
     alloc: Global,
     settings: &Settings<'_>,
     finder: &mut F,
-    list: &mut ListFile<W>,
+    file: O::List,
     outputs: &mut O,
+    log_path: &str,
 ) -> Result<Report, RunFault>
-    ensures { DoesJob (F.content finder.old) W.contents settings.now (list.old, list.new) (O.handed outputs.old) (O.handed outputs.new) result }
+    ensures { DoesWith (F.content finder.old) O.List.contents settings.now log_path.now file (O.acts outputs.old) (O.acts outputs.new) result }
 {
     let mut log = Over::new(Vec::new(alloc));
-    let listed = list_job(alloc, settings, finder, list, &mut log);
-    let written = write_log(outputs, settings, log.writer.as_slice());
+    let mut list = ListFile::new(file);
+    let listed = list_job(alloc, settings, finder, &mut list, &mut log);
+    outputs.close_list(list.into_file());
+    let written = write_log(outputs, settings, log_path, log.writer.as_slice());
     first_fault(listed, written)
 }
 
-// Does the job over the files of its folder. The first fault is answered.
-fn do_job_in<S: System + Drop, W: EmptiedFile, O: LogOutputs>(
+/// Does the job over the files of its folder: writes `JOB.bbl`, `JOB.blg` and, where the settings aren't terse, to standard output the log again.
+/// The log is written also after a fault, except where `JOB.bbl` can't be opened. The first fault is answered.
+pub fn run_job<S: System + Drop, O: Outputs>(
     alloc: Global,
     settings: &Settings<'_>,
     system: S,
-    list: &mut ListFile<W>,
     outputs: &mut O,
 ) -> Result<Report, RunFault>
-    ensures { DoesJob (option_map (folder_files settings.now.directory.now) (S.content system)) W.contents settings.now (list.old, list.new) (O.handed outputs.old) (O.handed outputs.new) result }
-{
-    let mut finder = DirectoryFinder::new(system, settings.directory);
-    do_job(alloc, settings, &mut finder, list, outputs)
-}
-
-/// Runs the job: writes `JOB.bbl`, `JOB.blg` and, where the settings aren't terse, to standard output the log again. The log is written
-/// also after a fault, except where `JOB.bbl` can't be opened. The first fault is answered.
-pub fn run_job(
-    rt: &(impl Files + Print),
-    alloc: Global,
-    settings: &Settings<'_>,
-) -> Result<Report, RunFault>
+    ensures does { DoesJob (S.content system) O.List.contents settings.now (O.acts outputs.old) (O.acts outputs.new) result }
     ensures bound { IfOk result (λ report. report.steps ≤ settings.now.options.budget) }
     ensures product { IfOk result (IsReportOfSome settings.now.options) }
 {
-    let path = path_of(alloc, settings, ".bbl")?;
-    let mut list = open_list(rt, path.as_str())?;
-    empty_old_log(rt, alloc, settings);
-    let mut outputs = SystemOutputs::new(rt, alloc, settings);
-    let report = do_job_in(
+    let list_path = path_of(alloc, settings, ".bbl")?;
+    let log_path = path_of(alloc, settings, ".blg")?;
+    let file = outputs.open_list(list_path.as_str())?;
+    outputs.empty_log(log_path.as_str());
+    let mut finder = DirectoryFinder::new(system, settings.directory);
+    do_job(
         alloc,
         settings,
-        RealSystem::new(rt),
-        &mut list,
-        &mut outputs,
-    )?;
-    Ok(report)
+        &mut finder,
+        file,
+        outputs,
+        log_path.as_str(),
+    )
 }
 
 #[cfg(test)]
 mod tests {
     use super::*;
+    use crate::outputs::SystemOutputs;
     use crate::scratch::{make_folder, write_file};
+    use crate::system::RealSystem;
     use btx_run::{KeptBytes, LineLength, Options, TextMode};
     use std::process::Abort;
+    use std::rt::Files;
     use std::test::Fail;
     use std::{fs, io};
 
@@ -184,8 +181,13 @@ mod tests {
     }
 
     // Runs the job in a folder, and gives its status.
-    fn status_in(rt: &(impl Files + Print + AllocGlobal), directory: &str) -> Result<u8, RunFault> {
-        let report = run_job(rt, rt.alloc(), &settings_in(directory))?;
+    fn status_in(
+        rt: &(impl Files + Print + Eprint + AllocGlobal),
+        directory: &str,
+    ) -> Result<u8, RunFault> {
+        let settings = settings_in(directory);
+        let mut outputs = SystemOutputs::new(rt);
+        let report = run_job(rt.alloc(), &settings, RealSystem::new(rt), &mut outputs)?;
         Ok(report.status)
     }
 

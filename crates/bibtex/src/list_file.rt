@@ -1,14 +1,13 @@
 //! The file of the list of references, which keeps what an earlier run left until something is known of this one.
 ghost use Rattle.std.specs.Prelude.{◌≡◌, true, None, OnOk, OnErr, IfOk, ◌≤◌, length};
 ghost use Rattle.std.specs.Io.KnownBytes.{Keeps, WriteAppends};
-ghost use Rattle.bibtex.specs.ListFiles.{FinishesList, emptied, keeps_old, received_by};
+ghost use Rattle.bibtex.specs.ListFiles.{FinishesList, emptied, keeps_old, received_by, unwritten};
 
 use crate::outcome::output_fault;
 use btx_run::{End, Report, RunFault, Sink, SinkFault};
-use std::fs::{OpenFile, OpenOptions};
+use std::fs::OpenFile;
 use std::io;
 use std::io::{ErrorKind, Write};
-use std::rt::Files;
 
 /// A file that can be emptied as long as nothing is written to it.
 pub trait EmptiedFile: Write {
@@ -29,14 +28,25 @@ pub struct ListFile<W> {
 impl<W: EmptiedFile> ListFile<W> {
     /// A file that this run hasn't written to, and that hasn't failed yet.
     pub fn new(file: W) -> Self
-        ensures received { received_by W.contents result ≡ emptied (W.contents file) }
-        ensures failures { result.failures ≡ 0 }
+        ensures { result ≡ unwritten file }
     {
         ListFile {
             file,
             is_emptied: false,
             failures: 0,
         }
+    }
+
+    /// The file itself.
+    pub fn into_file(self) -> W
+        ensures { result ≡ self.file }
+    {
+        let ListFile {
+            file,
+            is_emptied: _,
+            failures: _,
+        } = self;
+        file
     }
 
     // Throws away what an earlier run left, once.
@@ -79,6 +89,13 @@ pub struct SystemFile<F> {
     file: F,
 }
 
+impl<F> SystemFile<F> {
+    /// One that is open.
+    pub fn new(file: F) -> Self {
+        SystemFile { file }
+    }
+}
+
 impl<F: Write> Write for SystemFile<F> {
     ghost contents = { λ _. None };
 
@@ -99,16 +116,6 @@ impl<F: Write + OpenFile> EmptiedFile for SystemFile<F> {
             answer => answer,
         }
     }
-}
-
-/// Opens the list's file of this path, and makes it where there is none. What it holds stays.
-pub fn open_list<R: Files>(rt: &R, path: &str) -> Result<ListFile<SystemFile<R::File>>, RunFault> {
-    let file = OpenOptions::new()
-        .write(true)
-        .create(true)
-        .open(rt, path)
-        .map_err(|error| output_fault(&error))?;
-    Ok(ListFile::new(SystemFile { file }))
 }
 
 // Whether a run leaves an old list as it is: there is no top file.

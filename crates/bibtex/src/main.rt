@@ -2,12 +2,12 @@
 #![tactic(auto)]
 
 ghost use Rattle.std.specs.Prelude.{◌≡◌, [], ◌∷◌, map, string_bytes};
-ghost use Rattle.bibtex.specs.Acts.{ComesTo, Does, IsTold, ToldFault, telling};
+ghost use Rattle.bibtex.specs.Acts.{Does, ToldFault, telling};
 ghost use Rattle.bibtex.specs.CommandLine.{status_of};
+ghost use Rattle.bibtex.specs.Ends.{ComesTo, IsTold};
 ghost use Rattle.bibtex.specs.Spelling.{hint_of};
 ghost use Rattle.bibtex.specs.Status.{exit_of, status_at, told_by};
 
-mod acting;
 mod command_line;
 mod directory;
 mod given;
@@ -22,17 +22,19 @@ mod scratch;
 mod spelling;
 mod system;
 
-use acting::{Performer, SystemPerformer};
 use btx_run::{Report, RunFault};
 use command_line::settings;
 use given::Refusal;
+use job::run_job;
 use outcome::Exit;
+use outputs::{Outputs, SystemOutputs};
 use spelling::hint;
 use std::alloc::Global;
 use std::io::ErrorKind;
 use std::process::ExitCode;
 use std::rt::{Env, Files};
 use std::{env, fs, io};
+use system::{RealSystem, System};
 
 // The words of the command line, the program's name first.
 fn words(rt: &(impl Env + AllocGlobal)) -> io::Result<Vec<String>> {
@@ -41,53 +43,58 @@ fn words(rt: &(impl Env + AllocGlobal)) -> io::Result<Vec<String>> {
 }
 
 // Tells a fault, and gives the program's end.
-fn tell_fault<P: Performer>(performer: &mut P, fault: RunFault) -> Exit
+fn tell_fault<O: Outputs>(outputs: &mut O, fault: RunFault) -> Exit
     ensures exit { result ≡ Exit.Failed fault }
-    ensures acts { Does (P.acts performer.old) (P.acts performer.new) (ToldFault fault ∷ []) }
+    ensures acts { Does (O.acts outputs.old) (O.acts outputs.new) (ToldFault fault ∷ []) }
 {
-    performer.tell_fault(fault);
+    outputs.tell_fault(fault);
     Exit::Failed(fault)
 }
 
 // Prints or tells why words are not run, a mistake with a hint, and gives the program's end: the refusal's, unless its text can't be printed.
-fn tell_refusal<P: Performer>(performer: &mut P, refusal: &Refusal, hint: &str) -> Exit
+fn tell_refusal<O: Outputs>(outputs: &mut O, refusal: &Refusal, hint: &str) -> Exit
     ensures status { told_by (status_of refusal.now) (status_at result) }
-    ensures told { IsTold hint.now refusal.now (P.acts performer.old) (P.acts performer.new) result }
+    ensures told { IsTold hint.now refusal.now (O.acts outputs.old) (O.acts outputs.new) result }
 {
     match refusal {
-        Refusal::Shown(text) => match performer.show(text.as_str()) {
+        Refusal::Shown(text) => match outputs.print(text.as_bytes()) {
             Ok(()) => refusal.exit(),
-            Err(fault) => tell_fault(performer, fault),
+            Err(fault) => tell_fault(outputs, fault),
         },
         Refusal::Mistake(text) => {
-            performer.tell(text.as_str(), hint);
+            outputs.tell(text.as_str(), hint);
             refusal.exit()
         }
-        Refusal::Memory => tell_fault(performer, RunFault::Memory),
+        Refusal::Memory => tell_fault(outputs, RunFault::Memory),
     }
 }
 
 // Tells the fault of a job that failed, and gives the program's end.
-fn tell_answer<P: Performer>(performer: &mut P, answer: Result<Report, RunFault>) -> Exit
+fn tell_answer<O: Outputs>(outputs: &mut O, answer: Result<Report, RunFault>) -> Exit
     ensures exit { result ≡ exit_of answer }
-    ensures acts { Does (P.acts performer.old) (P.acts performer.new) (telling answer) }
+    ensures acts { Does (O.acts outputs.old) (O.acts outputs.new) (telling answer) }
 {
     if let Err(fault) = answer {
-        performer.tell_fault(fault);
+        outputs.tell_fault(fault);
     }
     Exit::of(answer)
 }
 
-// Does what the words ask for, and gives the program's end.
-fn answer<P: Performer>(performer: &mut P, alloc: Global, words: &[String]) -> Exit
-    ensures { ComesTo (map (λ word. string_bytes word) words.now) (hint_of words.now) (P.acts performer.old) (P.acts performer.new) result }
+// Does what the words ask for, over the files of a system, and gives the program's end.
+fn answer<S: System + Drop, O: Outputs>(
+    alloc: Global,
+    system: S,
+    outputs: &mut O,
+    words: &[String],
+) -> Exit
+    ensures { ComesTo (S.content system) O.List.contents (map (λ word. string_bytes word) words.now) (hint_of words.now) (O.acts outputs.old) (O.acts outputs.new) result }
 {
     match settings(alloc, words) {
         Ok(settings) => {
-            let answer = performer.run_job(alloc, &settings);
-            tell_answer(performer, answer)
+            let answer = run_job(alloc, &settings, system, outputs);
+            tell_answer(outputs, answer)
         }
-        Err(refusal) => tell_refusal(performer, &refusal, hint(words)),
+        Err(refusal) => tell_refusal(outputs, &refusal, hint(words)),
     }
 }
 
@@ -99,14 +106,19 @@ fn hold_places<R: Files>(rt: &R) -> [Option<R::File>; 3] {
 
 fn main(rt: HostRuntime) -> ExitCode {
     let _places = hold_places(&rt);
-    let mut performer = SystemPerformer::new(&rt);
+    let mut outputs = SystemOutputs::new(&rt);
     let exit = match words(&rt) {
-        Ok(words) => answer(&mut performer, rt.alloc(), words.as_slice()),
+        Ok(words) => answer(
+            rt.alloc(),
+            RealSystem::new(&rt),
+            &mut outputs,
+            words.as_slice(),
+        ),
         Err(error) if error.kind() == ErrorKind::OutOfMemory => {
-            tell_fault(&mut performer, RunFault::Memory)
+            tell_fault(&mut outputs, RunFault::Memory)
         }
         Err(_) => {
-            performer.tell(
+            outputs.tell(
                 "error: invalid UTF-8 was detected in one or more arguments\n",
                 "",
             );

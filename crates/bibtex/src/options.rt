@@ -53,7 +53,9 @@ fn text_option<'a>(alloc: Global) -> Arg<'a>
         .value_name("MODE")
         .value_parser(modes)
         .default_value("bytes")
-        .help("How the text of strings is read: byte by byte, or as UTF-8")
+        .help(
+            "How the text of strings is read: byte by byte, or as UTF-8 (no letter outside ASCII has a case)",
+        )
 }
 
 // The word JOB.

@@ -1,82 +1,111 @@
-//! Where a log goes.
-ghost use Rattle.std.specs.Prelude.{◌≡◌, ◌++◌, [], ◌∷◌, None};
-ghost use Rattle.std.specs.Option.{option_map};
-ghost use Rattle.bibtex.specs.Jobs.{Handed, Printed, Stored};
+//! What the program writes: the files of a job, and the two standard streams.
+ghost use Rattle.std.specs.Prelude.{[], ◌∷◌, None};
+ghost use Rattle.bibtex.specs.Acts.{ClosedList, Does, Done, EmptiedLog, OpenedList, Printed, StoredLog, ToldFault, ToldText};
 
-use crate::given::Settings;
+use crate::list_file::{EmptiedFile, SystemFile};
 use crate::outcome::output_fault;
-use crate::paths::path_of;
 use btx_run::RunFault;
-use std::alloc::Global;
 use std::fs::OpenOptions;
 use std::io::Write;
 use std::rt::Files;
 use std::{fs, io};
 
-/// The two places that a job's log goes to. They tell what was handed to them, in order, or don't, as those of the real system.
-pub trait LogOutputs {
-    /// What was handed on so far, by outputs that tell it.
-    ghost handed: { Self → Handed };
+/// All that the program writes to. It tells what was done with it, in order, or doesn't, as the real system.
+pub trait Outputs {
+    /// A list's file that is open.
+    type List: EmptiedFile + Drop;
 
-    /// Stores a log in the job's file.
-    fn store(&mut self, log: &[u8]) -> Result<(), RunFault>
-        ensures { handed self.new ≡ option_map (λ before. before ++ Stored log.now result ∷ []) (handed self.old) };
+    /// What was done so far, by outputs that tell it.
+    ghost acts: { Self → Done Self.List };
 
-    /// Prints to standard output.
-    fn print(&mut self, log: &[u8]) -> Result<(), RunFault>
-        ensures { handed self.new ≡ option_map (λ before. before ++ Printed log.now result ∷ []) (handed self.old) };
+    /// Opens the list's file of this path, and makes it where there is none. What it holds stays.
+    fn open_list(&mut self, path: &str) -> Result<Self::List, RunFault>
+        ensures { Does (acts self.old) (acts self.new) (OpenedList path.now result ∷ []) };
+
+    /// Closes a list's file.
+    fn close_list(&mut self, file: Self::List)
+        ensures { Does (acts self.old) (acts self.new) (ClosedList file ∷ []) };
+
+    /// Empties the log that an earlier run left in the file of this path, so that no old log stands beside a new list. Where there is none, or
+    /// that can't be done, nothing is said: the end of the run tells.
+    fn empty_log(&mut self, path: &str)
+        ensures { Does (acts self.old) (acts self.new) (EmptiedLog path.now ∷ []) };
+
+    /// Stores a log in the file of this path.
+    fn store_log(&mut self, path: &str, log: &[u8]) -> Result<(), RunFault>
+        ensures { Does (acts self.old) (acts self.new) (StoredLog path.now log.now result ∷ []) };
+
+    /// Prints a text to standard output.
+    fn print(&mut self, text: &[u8]) -> Result<(), RunFault>
+        ensures { Does (acts self.old) (acts self.new) (Printed text.now result ∷ []) };
+
+    /// Tells a text on standard error, and a hint behind it. Where that can't be done, nothing is said.
+    fn tell(&mut self, text: &str, hint: &str)
+        ensures { Does (acts self.old) (acts self.new) (ToldText text.now hint.now ∷ []) };
+
+    /// Tells a fault on standard error. Where that can't be done, nothing is said.
+    fn tell_fault(&mut self, fault: RunFault)
+        ensures { Does (acts self.old) (acts self.new) (ToldFault fault ∷ []) };
 }
 
-/// Empties the log's file that an earlier run left, so that no old log stands beside a new list. Where there is none, or that can't be
-/// done, nothing is said: the end of the run tells.
-pub fn empty_old_log(rt: &impl Files, alloc: Global, settings: &Settings<'_>) {
-    if let Ok(path) = path_of(alloc, settings, ".blg") {
-        let _ = OpenOptions::new()
-            .write(true)
-            .truncate(true)
-            .open(rt, path.as_str());
-    }
-}
-
-/// The file `JOB.blg` and the standard output of the real system.
+/// Those of the real system.
 pub struct SystemOutputs<'a, R> {
     rt: &'a R,
-    alloc: Global,
-    settings: &'a Settings<'a>,
 }
 
 impl<R> Drop for SystemOutputs<'_, R> {
     fn drop(self) {
-        let Self {
-            rt: _,
-            alloc: _,
-            settings: _,
-        } = self;
+        let Self { rt: _ } = self;
     }
 }
 
-impl<'a, R: Files + Print> SystemOutputs<'a, R> {
-    /// Those of a job.
-    pub fn new(rt: &'a R, alloc: Global, settings: &'a Settings<'a>) -> Self {
-        SystemOutputs {
-            rt,
-            alloc,
-            settings,
-        }
+impl<'a, R: Files + Print + Eprint> SystemOutputs<'a, R> {
+    /// Those that are reached so.
+    pub fn new(rt: &'a R) -> Self {
+        SystemOutputs { rt }
     }
 }
 
-impl<R: Files + Print> LogOutputs for SystemOutputs<'_, R> {
-    ghost handed = { λ _. None };
+impl<R: Files + Print + Eprint> Outputs for SystemOutputs<'_, R> {
+    type List = SystemFile<R::File>;
 
-    fn store(&mut self, log: &[u8]) -> Result<(), RunFault> {
-        let path = path_of(self.alloc, self.settings, ".blg")?;
-        fs::write(self.rt, path.as_str(), log).map_err(|error| output_fault(&error))
+    ghost acts = { λ _. None };
+
+    fn open_list(&mut self, path: &str) -> Result<SystemFile<R::File>, RunFault> {
+        let file = OpenOptions::new()
+            .write(true)
+            .create(true)
+            .open(self.rt, path)
+            .map_err(|error| output_fault(&error))?;
+        Ok(SystemFile::new(file))
     }
 
-    fn print(&mut self, log: &[u8]) -> Result<(), RunFault> {
+    fn close_list(&mut self, file: SystemFile<R::File>) {
+        drop(file);
+    }
+
+    fn empty_log(&mut self, path: &str) {
+        let _ = OpenOptions::new()
+            .write(true)
+            .truncate(true)
+            .open(self.rt, path);
+    }
+
+    fn store_log(&mut self, path: &str, log: &[u8]) -> Result<(), RunFault> {
+        fs::write(self.rt, path, log).map_err(|error| output_fault(&error))
+    }
+
+    fn print(&mut self, text: &[u8]) -> Result<(), RunFault> {
         io::writer(self.rt)
-            .write_all(log)
+            .write_all(text)
             .map_err(|error| output_fault(&error))
+    }
+
+    fn tell(&mut self, text: &str, hint: &str) {
+        let _ = eprint!(self.rt; "{text}{hint}");
+    }
+
+    fn tell_fault(&mut self, fault: RunFault) {
+        let _ = eprintln!(self.rt; "bibtex: {fault}");
     }
 }

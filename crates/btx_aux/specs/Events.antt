@@ -94,7 +94,7 @@ abbrev pub inside : Bool → Files → Reading → List Event → List ℕ → L
 inside true files reading earlier name text = event_at name 0 TooLong ∷ []
 inside false files reading earlier name text = expanded files reading earlier (said name text)
 
--- the events of a file, where so many of the 20 files that may be open at once are not open yet
+-- the events of a file, where this number of the 20 files that may be open at once are not open yet
 abbrev pub opened : Files → ℕ → Reading
 opened files zero earlier name text = event_at name 0 Full ∷ []
 opened files (suc room) earlier name text =

@@ -56,7 +56,7 @@ command_named name =
     else None)))
 
 -- what is said, or what happens: a piece of a `\citation`, a `\bibdata` line, a `\bibstyle` line, an `\@input` line; and what
--- becomes of a file: it is opened, while so many files are open; it isn't there; it isn't opened since 20 are open; it is too
+-- becomes of a file: it is opened, while this number of files are open; it isn't there; it isn't opened since 20 are open; it is too
 -- long; there is no top file
 pub data Word : Type 0 where
   Cites : (piece : Piece) → Word

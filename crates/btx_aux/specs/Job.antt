@@ -182,7 +182,7 @@ abbrev pub include_complaints : List (List ℕ) → Piece → List Complaint
 include_complaints files (Taken name) = if has_ending (codes ".aux") name then complain_if (is_among files name) (AlreadyMet name) else WrongExtension name ∷ []
 include_complaints files (Cut slip) = Slipped slip ∷ []
 
--- what an opened file is told as
+-- the note of a file that was opened
 abbrev pub file_note : ℕ → List ℕ → Note
 file_note zero name = TopFile name
 file_note (suc level) name = LevelFile (suc level) name
@@ -191,7 +191,7 @@ file_note (suc level) name = LevelFile (suc level) name
 abbrev pub placed : Event → List Complaint → List Note
 placed event complaints = map (λ (complaint : Complaint). Wrong complaint event.line event.file) complaints
 
--- what is told at an event, after these keys, this place of `*`, a `\bibdata` line or none, a `\bibstyle` line or none, these files
+-- the notes of an event, after these keys, this place of `*`, a `\bibdata` line or none, a `\bibstyle` line or none, these files
 abbrev pub notes_by : List (List ℕ) → Option ℕ → Bool → Bool → List (List ℕ) → Event → Word → List Note
 notes_by keys all bibdata bibstyle files event (Cites piece) = placed event (citation_complaints keys all piece)
 notes_by keys all bibdata bibstyle files event (Databases pieces) = placed event (bibdata_complaints bibdata pieces)
@@ -203,7 +203,7 @@ notes_by keys all bibdata bibstyle files event Full = []
 notes_by keys all bibdata bibstyle files event TooLong = []
 notes_by keys all bibdata bibstyle files event NoTop = []
 
--- what is told at an event, after the earlier ones
+-- the notes of an event, after the earlier ones
 abbrev pub notes_at : List Event → Event → List Note
 notes_at earlier event = notes_by (keys_of earlier) (all_of earlier) (is_some (bibdata_of earlier)) (is_some (bibstyle_of earlier)) (files_named earlier) event event.word
 
@@ -229,14 +229,14 @@ abbrev pub missing_notes : List (List ℕ) → Option ℕ → Bool → Bool → 
 missing_notes keys all bibdata bibstyle =
     note_if (is_empty keys && is_none all) NoCitations ++ note_if (not bibdata) NoBibdata ++ note_if (not bibstyle) NoBibstyle
 
--- what is told at the end: what is missing, after a whole reading alone
+-- the notes at the end: what is missing, after a whole reading alone
 abbrev pub closing_notes : End → List (List ℕ) → Option ℕ → Bool → Bool → List Note
 closing_notes end.Whole keys all bibdata bibstyle = missing_notes keys all bibdata bibstyle
 closing_notes end.TooManyOpen keys all bibdata bibstyle = []
 closing_notes end.TopMissing keys all bibdata bibstyle = []
 closing_notes end.FileLimit keys all bibdata bibstyle = []
 
--- all that is told: at each event in turn, and then at the end
+-- all notes: of each event in turn, and then at the end
 abbrev pub notes_of : List Event → List Note
 notes_of events = gathered notes_at [] events ++ closing_notes (end_of events) (keys_of events) (all_of events) (is_some (bibdata_of events)) (is_some (bibstyle_of events))
 

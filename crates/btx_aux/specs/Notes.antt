@@ -37,7 +37,7 @@ complaint_text (AlreadyMet name) = codes "Already encountered file " ++ name
 complaint_text (NotOpened name) = codes "I couldn't open auxiliary file " ++ name
 complaint_text (RepeatedDatabase name) = codes "This database file appears more than once: " ++ name
 
--- what a line of the log tells: a file was found, something is wrong at a place, or something is missing in the whole
+-- what a line of the log is about: a file was found, something is wrong at a place, or something is missing in the whole
 pub data Note : Type 0 where
   TopFile : (name : List ℕ) → Note
   LevelFile : (level : ℕ) (name : List ℕ) → Note
@@ -55,7 +55,7 @@ note_text NoCitations = codes "I found no \\citation commands"
 note_text NoBibdata = codes "I found no \\bibdata command"
 note_text NoBibstyle = codes "I found no \\bibstyle command"
 
--- what a note is: an error, unless it tells of a file that was found
+-- what a note is: an error, unless it is about a file that was found
 unfoldable pub kind_of : Note → LineKind
 kind_of (TopFile name) = Plain
 kind_of (LevelFile level name) = Plain

@@ -37,7 +37,7 @@ unfoldable pub within : Bool → Files → Opening → Draft → List ℕ → Li
 within true files opening draft name text = after draft (event_at name 0 TooLong)
 within false files opening draft name text = run files opening draft (said name text)
 
--- what is known after a file, where so many of the 20 files that may be open at once are not open yet
+-- what is known after a file, where this number of the 20 files that may be open at once are not open yet
 unfoldable pub opened_by : Files → ℕ → Opening
 opened_by files zero draft name text = after draft (event_at name 0 Full)
 opened_by files (suc room) draft name text = within (is_too_long text) files (opened_by files room) (after draft (event_at name 0 (Opens (19 - room)))) name text

@@ -311,7 +311,7 @@ impl Draft {
         }
     }
 
-    /// A file that was found, while so many files were open.
+    /// A file that was found, while this number of files were open.
     pub fn open_file(&mut self, alloc: Global, name: &[u8], level: usize) -> Result<(), AllocError>
         ensures draft { OnOk result (self.new ≡ learned self.old (event_at name.now 0 (Opens level))) }
         ensures ending { OnOk result (self.new.ending ≡ self.old.ending) }

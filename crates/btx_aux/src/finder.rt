@@ -8,9 +8,9 @@ use crate::fetch_fault::FetchFault;
 use std::alloc::Global;
 
 /// A source of files by name. Its content, which no call changes, says for each name the file's bytes or that there is no such
-/// file. A finder tells its content or doesn't, as one over real files.
+/// file. A finder shows its content or doesn't, as one over real files.
 pub trait Finder {
-    /// The content, for a finder that tells it.
+    /// The content, for a finder that shows it.
     ghost content: { Self → Option Files };
 
     /// How often the device has failed; a `u64`, which goes from its greatest value to 0.

@@ -1,4 +1,4 @@
-//! What the log tells of the `.aux` files, and the text of each line.
+//! What the log says of the `.aux` files, and the text of each line.
 ghost use Rattle.std.specs.Prelude.{◌≡◌, ◌++◌, IfOk, OnOk, decimal, codes};
 ghost use Rattle.btx_text.specs.LogLines.{place_text};
 ghost use Rattle.btx_aux.specs.Notes.{complaint_text, kind_of, line_of, note_text, slip_text};
@@ -32,12 +32,12 @@ pub enum Complaint<'a> {
     RepeatedDatabase(&'a [u8]),
 }
 
-/// What a line of the log tells.
+/// What a line of the log is about.
 #[derive(Clone, Copy)]
 pub enum Note<'a> {
     /// The top file was found.
     TopFile(&'a [u8]),
-    /// An included file was found, while so many files were open.
+    /// An included file was found, while this number of files were open.
     LevelFile(usize, &'a [u8]),
     /// Something is wrong at a place.
     Wrong(Complaint<'a>, Place<'a>),

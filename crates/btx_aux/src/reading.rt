@@ -15,7 +15,7 @@ use std::alloc::Global;
 /// How many files may be open at once.
 pub const MOST_OPEN: usize = 20;
 
-// An include of a file at a place, where so many more files may be opened.
+// An include of a file at a place, where this number of further files may be opened.
 #[cycle(reading)]
 fn include<F: Finder>(
     alloc: Global,
@@ -39,7 +39,7 @@ fn include<F: Finder>(
     open_file(alloc, finder, draft, name, text.as_slice(), room)
 }
 
-/// A file that was found, where so many more files may be opened.
+/// A file that was found, where this number of further files may be opened.
 #[cycle(reading)]
 pub fn open_file<F: Finder>(
     alloc: Global,
@@ -74,7 +74,7 @@ fn is_too_long(text: &[u8]) -> bool
     text.len() > GREATEST_FILE
 }
 
-// The lines of an open file, where so many more files may be opened.
+// The lines of an open file, where this number of further files may be opened.
 #[cycle(reading)]
 fn read_lines<F: Finder>(
     alloc: Global,
@@ -106,7 +106,7 @@ fn read_lines<F: Finder>(
     Ok(())
 }
 
-// A line of an open file, where so many more files may be opened.
+// A line of an open file, where this number of further files may be opened.
 #[cycle(reading)]
 fn read_line<F: Finder>(
     alloc: Global,

@@ -10,13 +10,14 @@ use Rattle.btx_bib.specs.declared.grammar.slip.Slip.TheVariants.{Repeated}
 use Rattle.btx_bib.specs.declared.message.Message.{Message}
 use Rattle.btx_bib.specs.Grammar.Items.{Event, Comment, Preamble, Definition, Entry, FieldOf, End, Wrong, Placed, Step, events_from, is_repeated, known_step, next_step, step_of}
 use Rattle.btx_bib.specs.Known.{Known, after, after_all, after_event, closed as closing, goes_on, keeping, stored_in}
-use Rattle.btx_bib.specs.Databases.{is_too_long, read_all, read_one, told_all, told_one}
+use Rattle.btx_bib.specs.Databases.{is_too_long}
 use Rattle.btx_bib.specs.Stored.{entry_of}
-use Rattle.btx_bib.specs.Told.{Database, event_told, told_along}
+use Rattle.btx_bib.specs.Told.{Database, event_told}
 use Rattle.btx_bib.specs.Wanted.{Wanted}
 use Rattle.btx_bib.specs.Gatherings.{closed, events_with, is_kept, kept_after, kept_along, kept_told}
 use Rattle.btx_bib.specs.Sources.{database_of, databases_of}
 use Rattle.btx_bib.specs.Readings.{kept_by_all, kept_one, told_by_all, told_by_one}
+use Rattle.btx_bib.proofs.ApartLemmas.{known_all, known_one, told_all, told_along, told_one}
 use Rattle.btx_bib.proofs.GrammarLemmas.LengthLemmas.{events-none, events-some, events-less, left}
 use Rattle.btx_bib.proofs.GatheringLemmas.{ended-along, ended-told, none-along, none-told, turn-along, turn-told}
 use Rattle.btx_bib.proofs.KeptLemmas.{IsFresh, Sound, closed-kept, closed-sound, event-kept, event-said, event-sound, kept_of, stored-kept}
@@ -150,7 +151,7 @@ module _ (wanted : Wanted) where
 
     -- ---- a whole database
 
-    pub one-kept : (known : Known) → Sound wanted known → kept_one wanted (kept_of wanted known) database ≡ kept_of wanted (read_one wanted known database)
+    pub one-kept : (known : Known) → Sound wanted known → kept_one wanted (kept_of wanted known) database ≡ kept_of wanted (known_one wanted known database)
     one-kept known sound = at (goes_on known.ending) (is_too_long database) where
       along : Agrees known Item database.text
       along = agrees known Item database.text sound
@@ -164,7 +165,7 @@ module _ (wanted : Wanted) where
     pub one-told : (known : Known) → Sound wanted known → told_by_one wanted (kept_of wanted known) database ≡ told_one wanted known database
     one-told known sound = ap (λ (ms : List Message). if goes_on known.ending then (if is_too_long database then [] else ms) else []) (agrees known Item database.text sound).1
 
-    pub one-sound : (known : Known) → Sound wanted known → Sound wanted (read_one wanted known database)
+    pub one-sound : (known : Known) → Sound wanted known → Sound wanted (known_one wanted known database)
     one-sound known sound = at (goes_on known.ending) (is_too_long database) where
       at : (b long : Bool) → Sound wanted (if b then (if long then record known { ending = FileLimit } else closing (after_all wanted known (known_events known Item database.text))) else known)
       at false long = sound
@@ -173,17 +174,17 @@ module _ (wanted : Wanted) where
 
   -- ---- all databases
 
-  pub all-kept : (databases : List Database) (known : Known) → Sound wanted known → kept_by_all wanted (kept_of wanted known) databases ≡ kept_of wanted (read_all wanted known databases)
+  pub all-kept : (databases : List Database) (known : Known) → Sound wanted known → kept_by_all wanted (kept_of wanted known) databases ≡ kept_of wanted (known_all wanted known databases)
   all-kept [] known sound = refl
-  all-kept (d ∷ ds) known sound = ap (λ (k : Gathering). kept_by_all wanted k ds) (one-kept d known sound) ∙ all-kept ds (read_one wanted known d) (one-sound d known sound)
+  all-kept (d ∷ ds) known sound = ap (λ (k : Gathering). kept_by_all wanted k ds) (one-kept d known sound) ∙ all-kept ds (known_one wanted known d) (one-sound d known sound)
 
   pub all-told : (databases : List Database) (known : Known) → Sound wanted known → told_by_all wanted (kept_of wanted known) databases ≡ told_all wanted known databases
   all-told [] known sound = refl
   all-told (d ∷ ds) known sound =
       ap (λ (ms : List Message). ms ++ told_by_all wanted (kept_one wanted (kept_of wanted known) d) ds) (one-told d known sound)
       ∙ ap (λ (k : Gathering). told_one wanted known d ++ told_by_all wanted k ds) (one-kept d known sound)
-      ∙ ap (λ (ms : List Message). told_one wanted known d ++ ms) (all-told ds (read_one wanted known d) (one-sound d known sound))
+      ∙ ap (λ (ms : List Message). told_one wanted known d ++ ms) (all-told ds (known_one wanted known d) (one-sound d known sound))
 
-  pub all-sound : (databases : List Database) (known : Known) → Sound wanted known → Sound wanted (read_all wanted known databases)
+  pub all-sound : (databases : List Database) (known : Known) → Sound wanted known → Sound wanted (known_all wanted known databases)
   all-sound [] known sound = sound
-  all-sound (d ∷ ds) known sound = all-sound ds (read_one wanted known d) (one-sound d known sound)
+  all-sound (d ∷ ds) known sound = all-sound ds (known_one wanted known d) (one-sound d known sound)

@@ -26,8 +26,9 @@ use Rattle.btx_bib.specs.Entries.{Given}
 use Rattle.btx_bib.specs.Stored.{entry_of}
 use Rattle.btx_bib.specs.Known.{Known, goes_on, stored_in, closed, if_fits, after_field, after_key, after_event, after, after_all, keeping, takes, with_field}
 use Rattle.btx_bib.specs.Told.{Database}
-use Rattle.btx_bib.specs.Databases.{library_of, library_by, is_too_long, events_of, read_one, read_all, told_all, with_macros}
+use Rattle.btx_bib.specs.Databases.{library_of, library_by, is_too_long, events_of, read_all, with_macros}
 use Rattle.btx_bib.specs.Cuts.{IsCutBetweenItems, GivesTheSame, CutGivesTheSame}
+use Rattle.btx_bib.proofs.ApartLemmas.{known_one, known_all, known-apart}
 use Rattle.btx_bib.proofs.GrammarLemmas.LongerLemmas.{part_on, event_on, placed_on, reading-on}
 use Rattle.btx_bib.proofs.GrammarLemmas.ReadingLemmas.{is_reading, one_reading}
 
@@ -372,21 +373,21 @@ events_from-closed wanted known text = events-closed wanted _ known Item text (i
 
 -- ---- one database or two
 
-is-read : (wanted : Wanted) (known : Known) (database : Database) → goes_on known.ending ≡ true → is_too_long database ≡ false → read_one wanted known database ≡ closed (fold (after wanted) known (read_in wanted known database))
+is-read : (wanted : Wanted) (known : Known) (database : Database) → goes_on known.ending ≡ true → is_too_long database ≡ false → known_one wanted known database ≡ closed (fold (after wanted) known (read_in wanted known database))
 is-read wanted known database on short =
     ap (λ (b : Bool). if b then (if is_too_long database then record known { ending = end.FileLimit } else closed (after_all wanted known (events_of wanted known database))) else known) on
     ∙ ap (λ (b : Bool). if b then record known { ending = end.FileLimit } else closed (after_all wanted known (events_of wanted known database))) short
     ∙ ap closed (sym (alone-all wanted known (events_of wanted known database)))
 
-is-ended : (wanted : Wanted) (known : Known) (database : Database) → goes_on known.ending ≡ false → read_one wanted known database ≡ known
+is-ended : (wanted : Wanted) (known : Known) (database : Database) → goes_on known.ending ≡ false → known_one wanted known database ≡ known
 is-ended wanted known database ended =
     ap (λ (b : Bool). if b then (if is_too_long database then record known { ending = end.FileLimit } else closed (after_all wanted known (events_of wanted known database))) else known) ended
 
 -- a second database, after what a first one left
 then-read : (wanted : Wanted) (before : Known) (second : Database) → is_too_long second ≡ false
-    → read_one wanted (closed before) second ≡ closed (fold (after wanted) before (read_in wanted (closed before) second))
+    → known_one wanted (closed before) second ≡ closed (fold (after wanted) before (read_in wanted (closed before) second))
 then-read wanted before second short = by_end (goes_on before.ending) refl where
-  by_end : (b : Bool) → goes_on before.ending ≡ b → read_one wanted (closed before) second ≡ closed (fold (after wanted) before (read_in wanted (closed before) second))
+  by_end : (b : Bool) → goes_on before.ending ≡ b → known_one wanted (closed before) second ≡ closed (fold (after wanted) before (read_in wanted (closed before) second))
   by_end true on = is-read wanted (closed before) second on short ∙ alike wanted (read_in wanted (closed before) second) (read-none wanted (closed before) second) before
   by_end false over = is-ended wanted (closed before) second over ∙ sym (ap closed (stuck wanted before (read_in wanted (closed before) second) over))
 
@@ -398,14 +399,14 @@ shorter part whole le short = by_test (nat_lt greatest_file part) refl where
 
 -- what is read in the whole is what is read in the first and then what is read in the second
 cut-is-read : (wanted : Wanted) (known : Known) (whole first second : Database) → IsCutBetweenItems wanted known whole first second → goes_on known.ending ≡ true → is_too_long first ≡ false
-    → read_in wanted known whole ≡ read_in wanted known first ++ read_in wanted (read_one wanted known first) second
+    → read_in wanted known whole ≡ read_in wanted known first ++ read_in wanted (known_one wanted known first) second
 cut-is-read wanted known whole first second cut on short =
     let events = events_of wanted known first in
     let middle = after_all wanted known events in
     let behind = events_from (keeping wanted) middle Item second.text in
     let reading = reading-on second.text (keeping wanted) (after-on wanted second.text) events behind known Item first.text cut.1 (is_reading (keeping wanted) known Item first.text) (is_reading (keeping wanted) middle Item second.text) in
     let is = one_reading (keeping wanted) (map (placed_on second.text) events ++ behind) known Item (first.text ++ second.text) reading in
-    let left : read_one wanted known first ≡ closed middle = is-read wanted known first on short ∙ ap closed (alone-all wanted known events) in
+    let left : known_one wanted known first ≡ closed middle = is-read wanted known first on short ∙ ap closed (alone-all wanted known events) in
     ap (λ (text : List ℕ). alone (events_from (keeping wanted) known Item text)) cut.0
     ∙ ap alone (sym is)
     ∙ alone-behind second.text events behind
@@ -413,7 +414,7 @@ cut-is-read wanted known whole first second cut on short =
     ∙ ap (λ (k : Known). alone events ++ read_in wanted k second) (sym left)
 
 cut-reads : (wanted : Wanted) (known : Known) (whole first second : Database) → IsCutBetweenItems wanted known whole first second → is_too_long whole ≡ false
-    → read_one wanted (read_one wanted known first) second ≡ read_one wanted known whole
+    → known_one wanted (known_one wanted known first) second ≡ known_one wanted known whole
 cut-reads wanted known whole first second cut short = by_end (goes_on known.ending) refl where
   long : length whole.text ≡ length first.text + length second.text
   long = ap (λ (text : List ℕ). length text) cut.0 ∙ length-append first.text second.text
@@ -424,15 +425,15 @@ cut-reads wanted known whole first second cut short = by_end (goes_on known.endi
   second-short : is_too_long second ≡ false
   second-short = shorter (length second.text) (length whole.text) (omega (arith, long)) short
 
-  by_end : (b : Bool) → goes_on known.ending ≡ b → read_one wanted (read_one wanted known first) second ≡ read_one wanted known whole
-  by_end false over = ap (λ (k : Known). read_one wanted k second) (is-ended wanted known first over) ∙ is-ended wanted known second over ∙ sym (is-ended wanted known whole over)
+  by_end : (b : Bool) → goes_on known.ending ≡ b → known_one wanted (known_one wanted known first) second ≡ known_one wanted known whole
+  by_end false over = ap (λ (k : Known). known_one wanted k second) (is-ended wanted known first over) ∙ is-ended wanted known second over ∙ sym (is-ended wanted known whole over)
   by_end true on =
       let before = fold (after wanted) known (read_in wanted known first) in
-      let left : read_one wanted known first ≡ closed before = is-read wanted known first on first-short in
-      ap (λ (k : Known). read_one wanted k second) left
+      let left : known_one wanted known first ≡ closed before = is-read wanted known first on first-short in
+      ap (λ (k : Known). known_one wanted k second) left
       ∙ then-read wanted before second second-short
       ∙ ap (λ (k : Known). closed (fold (after wanted) before (read_in wanted k second))) (sym left)
-      ∙ ap closed (sym (fold-append (after wanted) known (read_in wanted known first) (read_in wanted (read_one wanted known first) second)))
+      ∙ ap closed (sym (fold-append (after wanted) known (read_in wanted known first) (read_in wanted (known_one wanted known first) second)))
       ∙ ap (λ (events : List Event). closed (fold (after wanted) known events)) (sym (cut-is-read wanted known whole first second cut on first-short))
       ∙ sym (is-read wanted known whole on short)
 
@@ -443,19 +444,23 @@ same-by end.Whole wanted known one other = (refl, refl, refl)
 same-by end.FileLimit wanted known one other = (refl, refl, refl)
 same-by end.StringLimit wanted known one other = (refl, refl, refl)
 
-all-append : (wanted : Wanted) (known : Known) (xs ys : List Database) → read_all wanted known (xs ++ ys) ≡ read_all wanted (read_all wanted known xs) ys
+all-append : (wanted : Wanted) (known : Known) (xs ys : List Database) → known_all wanted known (xs ++ ys) ≡ known_all wanted (known_all wanted known xs) ys
 all-append wanted known [] ys = refl
-all-append wanted known (x ∷ xs) ys = all-append wanted (read_one wanted known x) xs ys
+all-append wanted known (x ∷ xs) ys = all-append wanted (known_one wanted known x) xs ys
 
 pub cut-gives-the-same : CutGivesTheSame
 unfolding library_of
 cut-gives-the-same wanted macros before after whole first second cut short =
-    let known = read_all wanted (with_macros macros) before in
-    let parts = read_all wanted (with_macros macros) (before ++ first ∷ second ∷ after) in
-    let one = read_all wanted (with_macros macros) (before ++ whole ∷ after) in
-    let same : parts ≡ one =
-    all-append wanted (with_macros macros) before (first ∷ second ∷ after)
-    ∙ ap (λ (k : Known). read_all wanted k after) (cut-reads wanted known whole first second cut short)
-    ∙ sym (all-append wanted (with_macros macros) before (whole ∷ after)) in
-    subst (λ (k : Known). GivesTheSame (library_by parts.ending wanted parts (told_all wanted (with_macros macros) (before ++ first ∷ second ∷ after))) (library_by k.ending wanted k (told_all wanted (with_macros macros) (before ++ whole ∷ after))))
-    same (same-by parts.ending wanted parts _ _)
+    let start = with_macros macros in
+    let parts = read_all wanted macros (before ++ first ∷ second ∷ after) in
+    let one = read_all wanted macros (before ++ whole ∷ after) in
+    let known = known_all wanted start before in
+    let cut_there : IsCutBetweenItems wanted known whole first second = subst (λ (k : Known). IsCutBetweenItems wanted k whole first second) (known-apart wanted macros before) cut in
+    let same : parts.known ≡ one.known =
+    known-apart wanted macros (before ++ first ∷ second ∷ after)
+    ∙ all-append wanted start before (first ∷ second ∷ after)
+    ∙ ap (λ (k : Known). known_all wanted k after) (cut-reads wanted known whole first second cut_there short)
+    ∙ sym (all-append wanted start before (whole ∷ after))
+    ∙ sym (known-apart wanted macros (before ++ whole ∷ after)) in
+    subst (λ (k : Known). GivesTheSame (library_by parts.known.ending wanted parts.known parts.messages) (library_by k.ending wanted k one.messages))
+    same (same-by parts.known.ending wanted parts.known parts.messages one.messages)

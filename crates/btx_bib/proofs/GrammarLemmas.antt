@@ -7,7 +7,6 @@ pub mod SpellingLemmas
 pub mod SqueezeLemmas
 pub mod ReadingLemmas
 pub mod PlaceLemmas
-pub mod Rows
 pub mod WholeItemLemmas
 pub mod ItemEventLemmas
 pub mod LongerLemmas

@@ -22,7 +22,7 @@ use Rattle.btx_bib.specs.Listing.{keys_of, slot_of, slots_of}
 use Rattle.btx_bib.specs.Passes.{checked, checked_by, cut, is_parent, slot_at, parent_at, values_in, with_values, without_parent, after_first, after_second, entries_of, entry_at, entry_by}
 use Rattle.btx_bib.specs.Steps.{names_of}
 use Rattle.btx_bib.specs.Known.{Known}
-use Rattle.btx_bib.specs.Databases.{library_of, library_by, read_all, told_all, with_macros}
+use Rattle.btx_bib.specs.Databases.{library_of, library_by, read_all}
 use Rattle.btx_bib.specs.Parents.{values_by, field_at, parent_by_key, OwnStands, IsParentsOwn, IsParents, InheritsFromParent}
 use Rattle.btx_bib.proofs.ListedKeyLemmas.{same_key_equiv}
 use Rattle.btx_bib.proofs.StayingLemmas.{view-passed}
@@ -180,4 +180,4 @@ library-inherits end.StringLimit wanted known messages entry field there = absur
 pub inherits-from-parent : InheritsFromParent
 unfolding library_of
 inherits-from-parent wanted macros databases entry field there =
-    let known = read_all wanted (with_macros macros) databases in library-inherits known.ending wanted known (told_all wanted (with_macros macros) databases) entry field there
+    let reading = read_all wanted macros databases in library-inherits reading.known.ending wanted reading.known reading.messages entry field there

@@ -12,6 +12,7 @@ pub mod DraftLemmas
 pub mod StoringLemmas
 pub mod GatheringLemmas
 pub mod KeptLemmas
+pub mod ApartLemmas
 pub mod AlongLemmas
 pub mod RequestLemmas
 pub mod LineLemmas
@@ -27,5 +28,4 @@ pub mod InheritLemmas
 pub mod CutLemmas
 pub mod StoredLemmas
 pub mod DefinitionLemmas
-pub mod CutRows
-pub mod LibraryRows
+pub mod WorkedRows

@@ -16,7 +16,7 @@ use Rattle.btx_bib.specs.Listing.{first_cited, added, last_cited, keys_of, slots
 use Rattle.btx_bib.specs.Passes.{passed, inherited, checked, after_first, after_second, entries_of, entry_at, entry_by}
 use Rattle.btx_bib.specs.Steps.{names_of}
 use Rattle.btx_bib.specs.Known.{Known}
-use Rattle.btx_bib.specs.Databases.{library_of, library_by, read_all, told_all, with_macros}
+use Rattle.btx_bib.specs.Databases.{library_of, library_by, read_all}
 use Rattle.btx_bib.specs.Laws.{KeysDiffer, list_of}
 use Rattle.btx_bib.proofs.ListedKeyLemmas.{distinct-fold, distinct-none}
 use Rattle.btx_bib.proofs.PassLemmas.{key-inherited, key-checked}
@@ -99,4 +99,4 @@ distinct-library end.StringLimit wanted known messages = distinct-none
 pub keys-differ : KeysDiffer
 unfolding library_of
 keys-differ wanted macros databases =
-    let known = read_all wanted (with_macros macros) databases in distinct-library known.ending wanted known (told_all wanted (with_macros macros) databases)
+    let reading = read_all wanted macros databases in distinct-library reading.known.ending wanted reading.known reading.messages

@@ -18,7 +18,7 @@ use Rattle.btx_bib.specs.Entries.{parent_in}
 use Rattle.btx_bib.specs.Listing.{slots_of}
 use Rattle.btx_bib.specs.Passes.{passed, inherited, inherited_from, inherited_values, checked, cut, is_parent, slot_at, parent_at, values_in, with_values, without_parent, after_first, after_second, entries_of, entry_at, entry_by}
 use Rattle.btx_bib.specs.Known.{Known}
-use Rattle.btx_bib.specs.Databases.{library_of, library_by, read_all, told_all, with_macros}
+use Rattle.btx_bib.specs.Databases.{library_of, library_by, read_all}
 use Rattle.btx_bib.specs.Laws.{list_of}
 use Rattle.btx_bib.specs.Parents.{NoReferenceDangles}
 use Rattle.btx_bib.proofs.ListedKeyLemmas.{folded-same}
@@ -188,4 +188,4 @@ library-stands end.StringLimit wanted known messages entry parent there has = ab
 pub no-reference-dangles : NoReferenceDangles
 unfolding library_of
 no-reference-dangles wanted macros databases entry parent there has =
-    let known = read_all wanted (with_macros macros) databases in library-stands known.ending wanted known (told_all wanted (with_macros macros) databases) entry parent there has
+    let reading = read_all wanted macros databases in library-stands reading.known.ending wanted reading.known reading.messages entry parent there has

@@ -18,7 +18,7 @@ use Rattle.btx_bib.specs.Requests.{asked, fewest_of}
 use Rattle.btx_bib.specs.Listing.{keys_of, slot_of, slots_of, spelled, stays}
 use Rattle.btx_bib.specs.Passes.{passed, inherited, inherited_from, checked, checked_by, cut, is_parent, slot_at, parent_at, parent_slot, with_values, after_first, after_second, entries_of, entry_at, entry_by}
 use Rattle.btx_bib.specs.Known.{Known}
-use Rattle.btx_bib.specs.Databases.{library_of, library_by, read_all, told_all, with_macros}
+use Rattle.btx_bib.specs.Databases.{library_of, library_by, read_all}
 use Rattle.btx_bib.specs.Laws.{ListIsKept, StarredCitedOrReferred, keeps_entry, list_of}
 
 -- ---- what the passes leave alone
@@ -135,7 +135,7 @@ kept-library end.StringLimit wanted known messages whole = cc
 pub list-is-kept : ListIsKept
 unfolding library_of
 list-is-kept wanted macros databases whole =
-    let known = read_all wanted (with_macros macros) databases in kept-library known.ending wanted known (told_all wanted (with_macros macros) databases) whole
+    let reading = read_all wanted macros databases in kept-library reading.known.ending wanted reading.known reading.messages whole
 
 -- ---- what a job and its style ask
 

@@ -8,17 +8,18 @@ use Rattle.btx_bib.specs.declared.end.End.TheVariants as end
 use Rattle.btx_bib.specs.declared.gathering.Gathering.{Gathering}
 use Rattle.btx_bib.specs.declared.message.Message.{Message}
 use Rattle.btx_bib.specs.declared.slots.Slot.{Slot}
-use Rattle.btx_bib.specs.Databases.{library_by, library_of, nothing, read_all, with_macro, with_macros}
+use Rattle.btx_bib.specs.Databases.{library_by, library_of, nothing, with_macro, with_macros}
 use Rattle.btx_bib.specs.Drafts.{settled_all}
 use Rattle.btx_bib.specs.Grammar.ValueTexts.{squeezed}
 use Rattle.btx_bib.specs.Known.{Known, goes_on}
 use Rattle.btx_bib.specs.Listing.{keys_of}
 use Rattle.btx_bib.specs.Passes.{entries_of, references_told}
 use Rattle.btx_bib.specs.Strings.{defined}
-use Rattle.btx_bib.specs.Told.{Database}
+use Rattle.btx_bib.specs.Told.{Database, Reading}
 use Rattle.btx_bib.specs.Wanted.{Wanted}
 use Rattle.btx_bib.specs.Readings.{IsListed, beginning, kept_by_all, kept_macro, kept_macros, library_kept, listed_draft, told_by_all}
 use Rattle.btx_bib.proofs.AlongLemmas.{all-kept, all-sound, all-told}
+use Rattle.btx_bib.proofs.ApartLemmas.{known_all, reading-apart}
 use Rattle.btx_bib.proofs.KeptLemmas.{Sound, kept_of}
 use Rattle.btx_bib.proofs.StoringLemmas.{covered-none, first-draft, last-draft, names-listing, slots-listing}
 
@@ -82,7 +83,7 @@ module _ (wanted : Wanted) where
 
   module _ (macros : List (List ℕ × List ℕ)) (databases : List Database) (kept : Gathering) (is : kept ≡ kept_by_all wanted (kept_macros (beginning wanted) macros) databases) where
     abbrev known : Known
-    known = read_all wanted (with_macros macros) databases
+    known = known_all wanted (with_macros macros) databases
 
     before : kept_macros (beginning wanted) macros ≡ kept_of wanted (with_macros macros)
     before = ap (λ (k : Gathering). kept_macros k macros) start-kept ∙ macros-kept macros nothing
@@ -108,3 +109,4 @@ module _ (wanted : Wanted) where
         ap (λ (k : Gathering). library_kept k.ending wanted k messages) kept-known
         ∙ library-same known messages sound known.ending
         ∙ ap (library_by known.ending wanted known) (tells ∙ ap (λ (k : Gathering). told_by_all wanted k databases) before ∙ all-told wanted databases (with_macros macros) sound-before)
+        ∙ ap (λ (reading : Reading). library_by reading.known.ending wanted reading.known reading.messages) (sym (reading-apart wanted macros databases))

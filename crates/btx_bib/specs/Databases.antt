@@ -1,5 +1,5 @@
 -- What some databases give to a job, read one after the other.
-use Rattle.std.specs.Prelude.{ℕ, nat_lt, Bool, List, [], ◌∷◌, ◌++◌, fold, length, None, if◌then◌else◌}
+use Rattle.std.specs.Prelude.{ℕ, nat_lt, Bool, List, [], ◌++◌, fold, length, None, if◌then◌else◌}
 use Rattle.btx_text.specs.Limits.{greatest_file}
 use Rattle.btx_bib.specs.declared.end.End.{End}
 use Rattle.btx_bib.specs.declared.end.End.TheVariants as end
@@ -12,8 +12,8 @@ use Rattle.btx_bib.specs.Wanted.{Wanted}
 use Rattle.btx_bib.specs.Strings.{defined}
 use Rattle.btx_bib.specs.Listing.{slots_of}
 use Rattle.btx_bib.specs.Passes.{entries_of, references_told}
-use Rattle.btx_bib.specs.Known.{Known, goes_on, closed, if_fits, after_all, keeping}
-use Rattle.btx_bib.specs.Told.{Database, told_along}
+use Rattle.btx_bib.specs.Known.{Known, goes_on, closed, if_fits, keeping}
+use Rattle.btx_bib.specs.Told.{Database, Reading, read_next}
 
 -- ---- before the first database
 
@@ -40,26 +40,25 @@ is_too_long database = nat_lt greatest_file (length database.text)
 abbrev pub events_of : Wanted → Known → Database → List Placed
 events_of wanted known database = events_from (keeping wanted) known Item database.text
 
--- what is known after a database, at whose end an entry that was being read is at its end
-abbrev pub read_one : Wanted → Known → Database → Known
-read_one wanted known database =
-    if goes_on known.ending then (if is_too_long database then record known { ending = end.FileLimit } else closed (after_all wanted known (events_of wanted known database))) else known
+-- a database is read event by event; at its end the entry that is being read is at its end too
+abbrev pub read_whole : Wanted → Reading → Database → Reading
+read_whole wanted reading database =
+    let last = fold (read_next wanted database) reading (events_of wanted reading.known database) in record last { known = closed last.known }
 
--- what is told of it
-abbrev pub told_one : Wanted → Known → Database → List Message
-told_one wanted known database =
-    if goes_on known.ending then (if is_too_long database then [] else told_along wanted database known (events_of wanted known database)) else []
+-- a file that is too long ends the reading, and after the end nothing more is read
+abbrev pub read_one : Wanted → Reading → Database → Reading
+read_one wanted reading database =
+    if goes_on reading.known.ending then
+    (if is_too_long database then record reading { known = record reading.known { ending = end.FileLimit } } else read_whole wanted reading database)
+    else reading
 
 -- ---- all databases
 
-abbrev pub read_all : Wanted → Known → List Database → Known
-read_all wanted known databases = fold (read_one wanted) known databases
+-- databases are read one after the other, from the style's macros on
+abbrev pub read_all : Wanted → List (List ℕ × List ℕ) → List Database → Reading
+read_all wanted macros databases = fold (read_one wanted) (record { known = with_macros macros; messages = [] }) databases
 
-abbrev pub told_all : Wanted → Known → List Database → List Message
-told_all wanted known [] = []
-told_all wanted known (database ∷ databases) = told_one wanted known database ++ told_all wanted (read_one wanted known database) databases
-
--- the library of what is known and told at the end of the reading: where it ended at a limit only what was told until then
+-- the library of what is known at the end of the reading, and of the messages: where it ended at a limit only those until then
 abbrev pub library_by : End → Wanted → Known → List Message → Library
 library_by end.Whole wanted known messages = record {
   entries = entries_of (slots_of wanted known.stored);
@@ -73,4 +72,4 @@ library_by end.StringLimit wanted known messages = record { entries = []; preamb
 -- what some databases give to a job, with these macros of its style
 unfoldable pub library_of : Wanted → List (List ℕ × List ℕ) → List Database → Library
 library_of wanted macros databases =
-    let known = read_all wanted (with_macros macros) databases in library_by known.ending wanted known (told_all wanted (with_macros macros) databases)
+    let reading = read_all wanted macros databases in library_by reading.known.ending wanted reading.known reading.messages

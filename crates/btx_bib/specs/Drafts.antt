@@ -1,4 +1,4 @@
--- The code's steps: what an entry adds to the list of keys that is kept while databases are read.
+-- What the code keeps of the list of keys while databases are read, and what an entry adds to it.
 use Rattle.std.specs.Prelude.{ℕ, ◌-◌, nat_eq, ◌||◌, Bool, true, false, List, [], ◌∷◌, ◌++◌, map, Option, None, Some, is_some, slice_get, if◌then◌else◌}
 use Rattle.std.specs.Option.{unwrap_or}
 use Rattle.std.specs.Str.{bytes_eq}

@@ -30,7 +30,7 @@ is_number number (Some other) = nat_eq other number
 abbrev pub value_in : Wanted → List Field → ℕ → Option (List ℕ)
 value_in wanted fields number = option_map (λ (field : Field). field.value) (find (λ (field : Field). is_number number (number_of wanted field)) fields)
 
--- the values from a number on, for so many fields
+-- the values of this number of fields, from a number on
 abbrev pub values_from : Wanted → List Field → ℕ → ℕ → List (Option (List ℕ))
 values_from wanted fields first zero = []
 values_from wanted fields first (suc count) = value_in wanted fields first ∷ values_from wanted fields (suc first) count

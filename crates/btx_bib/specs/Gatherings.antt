@@ -1,4 +1,4 @@
--- The code's steps: what is kept while databases are read.
+-- What the code keeps while databases are read.
 use Rattle.std.specs.Prelude.{ℕ, nat_lt, ◌||◌, Bool, true, false, List, [], ◌∷◌, ◌++◌, length, Option, None, Some, is_some, if◌then◌else◌}
 use Rattle.btx_text.specs.Keys.{folded}
 use Rattle.btx_text.specs.Limits.{greatest_string}
@@ -39,7 +39,7 @@ taken_at strings pending field (Some number) =
 abbrev pub taken_by : Wanted → Strings → Pending → Field → Pending × Bool
 taken_by wanted strings pending field = taken_at strings pending field (wanted.field (folded field.name))
 
--- what is told of a field of this number
+-- the messages of a field of this number
 abbrev pub told_of_number : Database → Strings → Pending → Field → List ℕ → Option ℕ → List Message
 told_of_number database strings pending field rest None = []
 told_of_number database strings pending field rest (Some number) =
@@ -48,7 +48,7 @@ told_of_number database strings pending field rest (Some number) =
 abbrev pub field_told_of : Wanted → Database → Strings → Pending → Field → List ℕ → List Message
 field_told_of wanted database strings pending field rest = told_of_number database strings pending field rest (wanted.field (folded field.name))
 
--- what is told of a field of the entry that is being read, or of none
+-- the messages of a field of the entry that is being read, or of none
 abbrev pub told_of_current : Wanted → Database → Strings → Field → List ℕ → Option Pending → List Message
 told_of_current wanted database strings field rest None = []
 told_of_current wanted database strings field rest (Some pending) = field_told_of wanted database strings pending field rest
@@ -95,7 +95,7 @@ with_preamble kept value =
 abbrev pub entered : Wanted → Gathering → List ℕ → List ℕ → Gathering
 entered wanted kept kind key = let before = closed wanted kept in begun_by wanted before kind key (standing_at wanted before.draft (place_in before.draft key))
 
--- what is told of an entry that stands so
+-- the message of an entry that stands so
 abbrev pub told_of_standing : Wanted → Database → List ℕ → List ℕ → List ℕ → Standing → List Message
 told_of_standing wanted database kind key rest standing.Unwanted = []
 told_of_standing wanted database kind key rest standing.Repeated = []
@@ -126,7 +126,7 @@ kept_after wanted kept (FieldOf field) = fielded_by wanted kept field kept.curre
 kept_after wanted kept End = kept
 kept_after wanted kept (Wrong slip) = kept
 
--- what is told of it
+-- the messages of it
 abbrev pub told_of : Wanted → Database → Gathering → Event → List ℕ → List Message
 told_of wanted database kept Comment rest = []
 told_of wanted database kept (Preamble value) rest = names_told database kept.strings None value
@@ -143,7 +143,7 @@ kept_next wanted kept event = if goes_on kept.ending then kept_after wanted kept
 abbrev pub told_next : Wanted → Database → Gathering → Placed → List Message
 told_next wanted database kept placed = if goes_on kept.ending then told_of wanted database kept placed.event placed.rest else []
 
--- what is kept after some events, and what is told along them
+-- what is kept after some events, and the messages along them
 abbrev pub kept_along : Wanted → Gathering → List Placed → Gathering
 kept_along wanted kept [] = kept
 kept_along wanted kept (placed ∷ events) = kept_along wanted (kept_next wanted kept placed.event) events

@@ -1,3 +1,4 @@
+pub mod Bytes
 pub mod ByteSets
 pub mod Tokens
 pub mod Values
@@ -14,3 +15,4 @@ pub mod Reads
 pub mod PlaceLines
 pub mod WholeItems
 pub mod ItemEvents
+pub mod WorkedTexts

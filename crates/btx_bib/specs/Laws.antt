@@ -13,7 +13,7 @@ use Rattle.btx_bib.specs.Library.{Library}
 use Rattle.btx_bib.specs.Requests.{asked}
 use Rattle.btx_bib.specs.Wanted.{Wanted}
 use Rattle.btx_bib.specs.Told.{Database}
-use Rattle.btx_bib.specs.Databases.{library_of, read_all, with_macros}
+use Rattle.btx_bib.specs.Databases.{library_of, read_all}
 
 -- the keys of a library, in the order of the list
 abbrev pub list_of : Library → List (List ℕ)
@@ -25,7 +25,7 @@ KeysDiffer = (wanted : Wanted) (macros : List (List ℕ × List ℕ)) (databases
 
 -- the entries that some databases store
 abbrev pub stored_by : Wanted → List (List ℕ × List ℕ) → List Database → List Given
-stored_by wanted macros databases = (read_all wanted (with_macros macros) databases).stored
+stored_by wanted macros databases = (read_all wanted macros databases).known.stored
 
 -- an entry stays: `*` was cited, or its key was, or at least `least` stored entries refer to it
 abbrev pub StarredCitedOrReferred : Type 0
@@ -40,5 +40,6 @@ keeps_entry wanted stored key = is_some (entry_of stored key) && stays wanted st
 -- the entries of a whole library are those of the list's keys that stay, in the order of the list: without `*` the cited keys in the
 -- order of citation, and after them the parents. Where no reference is asked for, each key that has an entry stays.
 abbrev pub ListIsKept : Type 0
-ListIsKept = (wanted : Wanted) (macros : List (List ℕ × List ℕ)) (databases : List Database) → (read_all wanted (with_macros macros) databases).ending ≡ Whole
-    → (let stored = stored_by wanted macros databases in list_of (library_of wanted macros databases) ≡ map (spelled wanted stored) (filter (keeps_entry wanted stored) (keys_of wanted stored)))
+ListIsKept = (wanted : Wanted) (macros : List (List ℕ × List ℕ)) (databases : List Database) → (read_all wanted macros databases).known.ending ≡ Whole
+    → (let stored = stored_by wanted macros databases in
+    list_of (library_of wanted macros databases) ≡ map (spelled wanted stored) (filter (keeps_entry wanted stored) (keys_of wanted stored)))

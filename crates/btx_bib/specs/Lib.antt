@@ -10,6 +10,7 @@ pub mod Stored
 pub mod Listing
 pub mod Passes
 pub mod Drafts
+pub mod KnownFields
 pub mod Requests
 pub mod Strings
 pub mod Known
@@ -26,3 +27,4 @@ pub mod Storing
 pub mod Steps
 pub mod MessageTexts
 pub mod Wordings
+pub mod WorkedLibraries

@@ -5,7 +5,7 @@ use Rattle.btx_bib.specs.declared.entry.Entry.{Entry}
 use Rattle.btx_bib.specs.declared.message.Message.{Message}
 use Rattle.btx_bib.specs.Values.{value_at}
 
--- the entries in the order of the list, the values of all `@preamble`s joined, what is told in order, and how the reading ended
+-- the entries in the order of the list, the values of all `@preamble`s joined, the messages in order, and how the reading ended
 pub record Library : Type 0 where
   pub entries : List Entry
   pub preamble : List ℕ

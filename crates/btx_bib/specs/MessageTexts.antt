@@ -1,4 +1,4 @@
--- The lines of the log that tell messages. Names and keys stand as the databases spell them, those of the list as the list does. The
+-- The lines of the log for messages. Names and keys stand as the databases spell them, those of the list as the list does. The
 -- text for a key without an entry is the original's, the other texts are this project's own.
 use Rattle.std.specs.Prelude.{ℕ, List, [], ◌++◌, Option, None, Some, codes}
 use Rattle.btx_text.specs.declared.log_line.LineKind.{LineKind}
@@ -58,6 +58,6 @@ abbrev pub spot_text : Option Spot → List ℕ
 spot_text None = []
 spot_text (Some spot) = place_text spot.line spot.file
 
--- the line of the log that tells a message
+-- the line of the log for a message
 abbrev pub line_of : Message → Line
 line_of message = record { text = mark_of (kind_of message) ++ text_of message ++ spot_text (spot_of message); kind = kind_of message }

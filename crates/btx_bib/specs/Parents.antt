@@ -10,7 +10,7 @@ use Rattle.btx_bib.specs.Listing.{slots_of}
 use Rattle.btx_bib.specs.Passes.{values_in, slot_at, after_first}
 use Rattle.btx_bib.specs.Wanted.{Wanted}
 use Rattle.btx_bib.specs.Told.{Database}
-use Rattle.btx_bib.specs.Databases.{library_of, read_all, with_macros}
+use Rattle.btx_bib.specs.Databases.{library_of, read_all}
 use Rattle.btx_bib.specs.Laws.{list_of, stored_by}
 
 -- ---- what an entry refers to
@@ -23,7 +23,7 @@ NoReferenceDangles = (wanted : Wanted) (macros : List (List ℕ × List ℕ)) (d
 -- where no reference is asked for, a parent that has an entry stays
 abbrev pub NoParentLeaves : Type 0
 NoParentLeaves = (wanted : Wanted) (macros : List (List ℕ × List ℕ)) (databases : List Database) (parent : List ℕ)
-    → (read_all wanted (with_macros macros) databases).ending ≡ Whole → wanted.fewest ≡ 0 → is_any_key (parents_in wanted (stored_by wanted macros databases)) parent ≡ true
+    → (read_all wanted macros databases).known.ending ≡ Whole → wanted.fewest ≡ 0 → is_any_key (parents_in wanted (stored_by wanted macros databases)) parent ≡ true
     → is_some (entry_of (stored_by wanted macros databases) parent) ≡ true → is_any_key (list_of (library_of wanted macros databases)) parent ≡ true
 
 -- ---- what an entry takes from its parent

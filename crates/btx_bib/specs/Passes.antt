@@ -16,7 +16,7 @@ abbrev pub passed : (List Slot → Slot → Slot) → List Slot → List Slot �
 passed judge done [] = done
 passed judge done (slot ∷ slots) = passed judge (done ++ judge (done ++ slot ∷ slots) slot ∷ []) slots
 
--- what a pass tells
+-- the messages of a pass
 abbrev pub told_in : (List Slot → Slot → Slot) → (List Slot → Slot → List Message) → List Slot → List Slot → List Message
 told_in judge tell done [] = []
 told_in judge tell done (slot ∷ slots) = tell (done ++ slot ∷ slots) slot ++ told_in judge tell (done ++ judge (done ++ slot ∷ slots) slot ∷ []) slots
@@ -89,11 +89,11 @@ checked_by (Some key) slots slot = if is_parent (slot_at slots key) then slot el
 unfoldable pub checked : List Slot → Slot → Slot
 checked slots slot = checked_by (parent_at slot) slots slot
 
--- something that is told if something is so
+-- a message, where something is so
 abbrev pub told_if : Bool → Message → List Message
 told_if b message = if b then message ∷ [] else []
 
--- what is told of a parent: that it has no entry, or that it has a parent
+-- the message of a parent: that it has no entry, or that it has a parent
 abbrev pub parent_told : List ℕ → List ℕ → Option Slot → List Message
 parent_told child key None = BadReference child key ∷ []
 parent_told child key (Some parent) = if is_some parent.body then told_if (is_some (parent_at parent)) (NestedReference child key) else BadReference child key ∷ []
@@ -113,7 +113,7 @@ entry_by key stays (Some body) = if stays then record { key = key; kind = body.k
 abbrev pub entry_at : Slot → List Entry
 entry_at slot = entry_by slot.key slot.stays slot.body
 
--- a key without an entry is told of
+-- the message of a key without an entry
 abbrev pub absence_by : List ℕ → Option Body → List Message
 absence_by key None = NoEntry key ∷ []
 absence_by key (Some body) = []
@@ -132,6 +132,6 @@ after_second slots = passed checked [] slots
 unfoldable pub entries_of : List Slot → List Entry
 entries_of slots = flat_map entry_at (after_second (after_first slots))
 
--- what the passes tell: of parents, and then of keys that have no entry
+-- the messages of the passes: of parents, and then of keys that have no entry
 unfoldable pub references_told : List Slot → List Message
 references_told slots = told_in checked check_told [] (after_first slots) ++ flat_map absence_told (after_second (after_first slots))

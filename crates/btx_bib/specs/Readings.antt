@@ -1,4 +1,4 @@
--- The code's steps: what is kept and told along whole databases.
+-- What the code keeps along whole databases, and the messages.
 use Rattle.std.specs.Prelude.{◌≡◌, ℕ, nat_lt, List, [], ◌∷◌, ◌++◌, length, None, if◌then◌else◌}
 use Rattle.btx_text.specs.Limits.{greatest_string}
 use Rattle.btx_bib.specs.declared.draft.Draft.{Draft}
@@ -24,9 +24,11 @@ use Rattle.btx_bib.specs.Wanted.{Wanted}
 -- what is kept after a database
 abbrev pub kept_one : Wanted → Gathering → Database → Gathering
 kept_one wanted kept database =
-    if goes_on kept.ending then (if is_too_long database then record kept { ending = FileLimit } else closed wanted (kept_along wanted kept (events_with wanted kept Item database.text))) else kept
+    if goes_on kept.ending then
+    (if is_too_long database then record kept { ending = FileLimit } else closed wanted (kept_along wanted kept (events_with wanted kept Item database.text)))
+    else kept
 
--- what is told of it
+-- the messages of it
 abbrev pub told_by_one : Wanted → Gathering → Database → List Message
 told_by_one wanted kept database =
     if goes_on kept.ending then (if is_too_long database then [] else kept_told wanted database kept (events_with wanted kept Item database.text)) else []
@@ -49,7 +51,9 @@ beginning wanted = record { draft = cited_all wanted empty (first_cited wanted.a
 -- what is kept after a macro of the style
 abbrev pub kept_macro : Gathering → List ℕ × List ℕ → Gathering
 kept_macro kept macro =
-    if goes_on kept.ending then (let text = squeezed macro.1 in if nat_lt greatest_string (length text) then record kept { ending = end.StringLimit } else record kept { strings = defined kept.strings macro.0 text }) else kept
+    if goes_on kept.ending then
+    (let text = squeezed macro.1 in if nat_lt greatest_string (length text) then record kept { ending = end.StringLimit } else record kept { strings = defined kept.strings macro.0 text })
+    else kept
 
 abbrev pub kept_macros : Gathering → List (List ℕ × List ℕ) → Gathering
 kept_macros kept [] = kept
@@ -65,7 +69,7 @@ listed_draft wanted draft = cited_all wanted draft (last_cited wanted.all wanted
 abbrev pub IsListed : Draft → Type 0
 IsListed draft = draft.names ≡ names_of (settled_all draft.slots)
 
--- the library of what is kept and told
+-- the library of what is kept, with these messages
 abbrev pub library_kept : End → Wanted → Gathering → List Message → Library
 library_kept end.Whole wanted kept messages = record {
   entries = entries_of (settled_all (listed_draft wanted kept.draft).slots);

@@ -9,9 +9,9 @@ abbrev pub wanted : Request → Wanted
 wanted request = record {
   cited = request.job.now.keys;
   all = request.all;
-  field = field_of request.style.now;
-  count = length request.style.now.names.fields;
-  kind = type_of request.style.now;
+  field = field_of request.style;
+  count = length request.style.names.fields;
+  kind = type_of request.style;
   fewest = request.fewest;
 }
 
@@ -20,7 +20,7 @@ abbrev pub fewest_of : Option ℕ → ℕ → ℕ
 fewest_of None least = least
 fewest_of (Some place) least = 0
 
--- what a job and its style ask, where an entry that isn't cited takes so many references to stay
+-- what a job and its style ask, where an entry that isn't cited takes at least this number of references to stay
 abbrev pub asked : Style → Job → ℕ → Wanted
 asked style job least = record {
   cited = job.keys;

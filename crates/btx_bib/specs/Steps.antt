@@ -26,7 +26,7 @@ abbrev pub slot_by : List Slot → Option ℕ → Option Slot
 slot_by slots None = None
 slot_by slots (Some place) = slice_get slots place
 
--- what the second pass tells at a place
+-- the messages of the second pass at a place
 abbrev pub told_by : List Slot → Option Slot → List Message
 told_by slots None = []
 told_by slots (Some slot) = check_told slots slot

@@ -55,7 +55,8 @@ is_asked_for wanted stored key = is_some wanted.all || (is_any_key wanted.cited 
 abbrev pub WantedNewAreStored : Type 0
 WantedNewAreStored = (wanted : Wanted) (known : Known) (kind key : List ℕ) (next : Next) → goes_on known.ending ≡ true
     → (let stored = stored_in known in let read = as_known ((keeping wanted).is_stored known) (Entry kind key, next) in
-    stored_in (after wanted known read.0) ≡ (if is_asked_for wanted stored key && not (is_any_key (keys_in stored) key) then stored ++ record { kind = kind; key = key; fields = [] } ∷ [] else stored))
+    stored_in (after wanted known read.0) ≡
+    (if is_asked_for wanted stored key && not (is_any_key (keys_in stored) key) then stored ++ record { kind = kind; key = key; fields = [] } ∷ [] else stored))
 
 -- what else is read changes no stored entry's key, and stores none
 abbrev pub is_entry : Event → Bool

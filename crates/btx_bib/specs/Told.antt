@@ -1,6 +1,6 @@
--- What is told while a database is read, each message with its line: faults, names that stand for no string, types that the style
--- doesn't have, and fields that an entry has already. Names and keys are told as they are spelled there. What isn't stored is told
--- nothing of but its faults.
+-- The messages of a database, each with its line: faults, names that stand for no string, types that the style doesn't have, and fields
+-- that an entry has already. They have names and keys as these are spelled there. Of what isn't stored only the faults have messages. The
+-- reading goes from event to event: what is known, and the messages so far.
 use Rattle.std.specs.Prelude.{ℕ, Bool, false, List, [], ◌∷◌, ◌++◌, Option, None, Some, is_some, is_none, if◌then◌else◌}
 use Rattle.std.specs.List.{flat_map}
 use Rattle.btx_text.specs.Keys.{folded}
@@ -35,7 +35,7 @@ abbrev pub is_own : Option (List ℕ) → List ℕ → Bool
 is_own None name = false
 is_own (Some own) name = is_same_key own name
 
--- a name that stands for no string is told of, where this string is being defined or none
+-- the message of a name that stands for no string, where this string is being defined or none
 abbrev pub name_told : Database → Strings → Option (List ℕ) → Part → List Message
 name_told database strings own (Braced text) = []
 name_told database strings own (Quoted text) = []
@@ -44,23 +44,23 @@ name_told database strings own (Named string) =
     if is_own own string.name then message.OwnString string.name (spot_at database string.rest) ∷ []
     else if is_none (string_value strings string.name) then message.UndefinedString string.name (spot_at database string.rest) ∷ [] else []
 
--- the names of a value that stand for no string
+-- the messages of a value's names that stand for no string
 abbrev pub names_told : Database → Strings → Option (List ℕ) → List Part → List Message
 names_told database strings own value = flat_map (name_told database strings own) value
 
--- a type that is none of the style is told of
+-- the message of a type that is none of the style
 abbrev pub kind_told : List ℕ → Option ℕ → Spot → List Message
 kind_told key None spot = message.UnknownKind key spot ∷ []
 kind_told key (Some kind) spot = []
 
--- what is told of a field of the stored entry that is being read, or of none
+-- the messages of a field of the stored entry that is being read, or of none
 abbrev pub field_told : Wanted → Database → Strings → Option Given → Read → List ℕ → List Message
 field_told wanted database strings None field rest = []
 field_told wanted database strings (Some given) field rest =
     if has_value wanted given field.name then message.ExtraField given.key field.name (spot_before database rest) ∷ []
     else if is_some (wanted.field (folded field.name)) then names_told database strings None field.value else []
 
--- what is told of something that was read
+-- the messages of something that was read
 abbrev pub event_told : Wanted → Database → Known → Event → List ℕ → List Message
 event_told wanted database known Comment rest = []
 event_told wanted database known (Preamble value) rest = names_told database known.strings None value
@@ -75,7 +75,16 @@ event_told wanted database known (Wrong slip) rest = message.Wrong slip (spot_at
 abbrev pub told_at : Wanted → Database → Known → Placed → List Message
 told_at wanted database known placed = if goes_on known.ending then event_told wanted database known placed.event placed.rest else []
 
--- what is told along some events of a database
-abbrev pub told_along : Wanted → Database → Known → List Placed → List Message
-told_along wanted database known [] = []
-told_along wanted database known (placed ∷ events) = told_at wanted database known placed ++ told_along wanted database (after wanted known placed.event) events
+-- ---- along a database
+
+-- how far the reading of databases has come: what is known, and the messages so far
+pub record Reading : Type 0 where
+  pub known : Known
+  pub messages : List Message
+
+-- after something that was read
+abbrev pub read_next : Wanted → Database → Reading → Placed → Reading
+read_next wanted database reading placed = record {
+  known = after wanted reading.known placed.event;
+  messages = reading.messages ++ told_at wanted database reading.known placed;
+}

@@ -26,6 +26,6 @@ text_by texts (Some number) = slice_get texts number
 abbrev pub text_at : List (List ℕ) → Place → Option (List ℕ)
 text_at texts place = text_by texts (number_in place)
 
--- a place has none, or one of so many texts
+-- a place has none, or one of this number of texts
 abbrev pub IsWithin : ℕ → Place → Type 0
 IsWithin count place = IfSome (number_in place) (λ number. number < count)

@@ -225,7 +225,7 @@ fn library_read<'a>(
 ) -> Result<Library<'a>, AllocError>
     ensures { IfOk result (λ library. library ≡ library_of (asked style.now job.now min_crossrefs) style.now.macros (databases_of sources.now)) }
 {
-    let request = Request::of(style, job, min_crossrefs);
+    let request = Request::of(alloc, style, job, min_crossrefs)?;
     let mut messages = Messages::new(alloc);
     let mut gathering = Gathering::new(alloc, &request)?;
     gathering.define_macros(alloc, style.macros())?;

@@ -44,21 +44,13 @@ pub struct Gathering<'a> {
 impl<'a> Pending<'a> {
     ghost use Rattle.std.specs.Prelude.{◌≡◌, ◌++◌, IfOk, OnOk};
     ghost use Rattle.btx_bib.specs.Grammar.FieldViews.{field_view};
-    ghost use Rattle.btx_bib.specs.Gatherings.{field_told_of, taken_by, with_text};
+    ghost use Rattle.btx_bib.specs.Gatherings.{field_told_of, taken_by};
     ghost use Rattle.btx_bib.specs.Requests.{wanted};
     ghost use Rattle.btx_bib.specs.Sites.{database};
 
-    // The entry with the value of a field.
-    fn with_text(mut self, field: usize, text: Text<'a>) -> Result<Pending<'a>, AllocError>
-        ensures { IfOk result (λ pending. pending ≡ with_text self.entry field text.entry) }
-    {
-        self.body.values.put(field, text)?;
-        Ok(self)
-    }
-
-    // Takes a field, if it is declared and the entry has no value for it yet. Answers also whether its value is short enough.
-    fn taken(
-        self,
+    // Takes a field, if it is declared and the entry has no value for it yet. Answers whether its value is short enough.
+    fn take(
+        &mut self,
         alloc: Global,
         request: &Request<'_, 'a>,
         strings: &StringTable<'a>,
@@ -66,24 +58,27 @@ impl<'a> Pending<'a> {
         rest: &[u8],
         site: &mut Site<'a>,
         messages: &mut Messages<'a>,
-    ) -> Result<(Pending<'a>, bool), AllocError>
-        ensures entry { IfOk result (λ taken. taken ≡ taken_by (wanted request.now) strings.now self.entry (field_view field.now)) }
-        ensures told { OnOk result (messages.new ≡ messages.old ++ field_told_of (wanted request.now) (database site.old) strings.now self.entry (field_view field.now) rest.now) }
+    ) -> Result<bool, AllocError>
+        ensures entry { IfOk result (λ fits. (self.new, fits) ≡ taken_by (wanted request.now) strings.now self.old (field_view field.now)) }
+        ensures told { OnOk result (messages.new ≡ messages.old ++ field_told_of (wanted request.now) (database site.old) strings.now self.old (field_view field.now) rest.now) }
         ensures same { OnOk result (site.new ≡ site.old) }
     {
         let Some(number) = request.field(alloc, field.name)? else {
-            return Ok((self, true));
+            return Ok(true);
         };
         if self.body.values.has(number) {
             let spot = site.spot_before(rest);
             let message = Message::ExtraField(self.key.copy(), Word::new(field.name), spot);
             messages.push(message)?;
-            return Ok((self, true));
+            return Ok(true);
         }
         tell_names(alloc, &field.value, strings, None, site, messages)?;
         match value_text(alloc, &field.value, strings, Ends::Trimmed) {
-            Ok(text) => Ok((self.with_text(number, text.share()?)?, true)),
-            Err(Fault::StringLimit) => Ok((self, false)),
+            Ok(text) => {
+                self.body.values.put(number, text.share()?)?;
+                Ok(true)
+            }
+            Err(Fault::StringLimit) => Ok(false),
             Err(Fault::Memory) => Err(AllocError),
             Err(Fault::Device | Fault::FileLimit) => unreachable!(),
         }
@@ -124,7 +119,7 @@ impl<'a> Gathering<'a> {
     ) -> Result<(), AllocError>
         ensures { OnOk result (self.new ≡ begun (wanted request.now) self.old kind key.entry.now) }
     {
-        let values = Values::missing(alloc, request.style.fields())?;
+        let values = Values::missing(alloc, request.style.style().fields())?;
         self.current = Some(Pending {
             key: Word::new(key),
             body: Body { kind, values },
@@ -188,23 +183,13 @@ impl<'a> Gathering<'a> {
         ensures told { OnOk result (messages.new ≡ messages.old ++ told_of_current (wanted request.now) (database site.old) self.old.strings (field_view field.now) rest.now self.old.current) }
         ensures same { OnOk result (site.new ≡ site.old) }
     {
-        let Some(pending) = self.current.take() else {
+        let Some(pending) = &mut self.current else {
             return Ok(());
         };
-        let (pending, fits) = pending.taken(
-            alloc,
-            request,
-            &self.strings,
-            field,
-            rest,
-            site,
-            messages,
-        )?;
-        self.current = Some(pending);
-        if fits {
-            return Ok(());
+        let fits = pending.take(alloc, request, &self.strings, field, rest, site, messages)?;
+        if !fits {
+            self.ending = End::StringLimit;
         }
-        self.ending = End::StringLimit;
         Ok(())
     }
 

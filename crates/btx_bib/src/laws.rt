@@ -10,6 +10,8 @@ ghost use Rattle.btx_bib.specs.Wanted.{Wanted};
 ghost use Rattle.btx_bib.specs.declared.grammar.commands.Wanted.TheVariants as next;
 ghost use Rattle.btx_bib.specs.Laws.{KeysDiffer, ListIsKept, StarredCitedOrReferred};
 ghost use Rattle.btx_bib.specs.Parents.{InheritsFromParent, NoParentLeaves, NoReferenceDangles};
+ghost use Rattle.btx_bib.specs.Grammar.WorkedTexts as texts;
+ghost use Rattle.btx_bib.specs.WorkedLibraries as worked;
 ghost use Rattle.btx_bib.specs.Storing.{LastDefinitionCounts, LastMacroCounts, OthersKeepTheirs, OthersStoreNone, WantedNewAreStored};
 
 /// No two entries of a list have one key, whose case is ignored.
@@ -17,7 +19,7 @@ pub fn keys_differ()
     ensures { KeysDiffer }
 {}
 
-/// An entry of the list stays exactly if `*` was cited, or its key, or so many stored entries refer to it as are asked for.
+/// An entry of the list stays exactly if `*` was cited, or its key, or as many stored entries refer to it as are asked for.
 pub fn starred_cited_or_referred()
     ensures { StarredCitedOrReferred }
 {}
@@ -44,12 +46,13 @@ pub fn inherits_from_parent()
     ensures { InheritsFromParent }
 {}
 
-/// A database that is no longer than a file may be gives the same entries, preamble and end where it is cut in two and no item is open there.
+/// A database that is no longer than a file may be gives the same entries, preamble and end where it is cut in two and no item is open there:
+/// the last that was read before is the end of an item, or something stands behind it, or it is an `@comment` whose name doesn't go on.
 pub fn cut_gives_the_same()
     ensures { CutGivesTheSame }
 {}
 
-/// The events along which a library is known and told are the one reading of each database.
+/// The events along which a library is read are the one reading of each database.
 pub fn libraries_read_the_one_reading()
     ensures reads { (wanted : Wanted) (known : Known) (database : Database) →
         IsReading (keeping wanted) known next.Item database.text (events_of wanted known database) }
@@ -70,4 +73,17 @@ pub fn last_definition_counts()
 pub fn wanted_new_entries_are_stored()
     ensures entry { WantedNewAreStored }
     ensures others { OthersStoreNone }
+{}
+
+/// Short databases are read as they are worked by hand: what stands in them and each fault, the texts of values, the entries, the list
+/// with its references, where a database may be cut, and the line of each message.
+#[tactic(auto, using(crate::proofs::WorkedRows::worked_rows))]
+pub fn worked_databases_are_read_so()
+    ensures texts { texts.AreRead texts.texts }
+    ensures values { texts.AreTexts texts.values }
+    ensures entries { worked.AreGiven worked.entries }
+    ensures references { worked.AreGiven worked.references }
+    ensures cuts { worked.AreCuts worked.cuts }
+    ensures no_cuts { worked.AreNoCuts worked.no_cuts }
+    ensures messages { worked.AreLines worked.messages }
 {}

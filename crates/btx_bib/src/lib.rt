@@ -21,6 +21,7 @@ mod site;
 mod slots;
 pub mod spelling;
 mod strings;
+mod style_fields;
 pub mod values;
 
 pub use databases::{Source, read_databases};

@@ -1,5 +1,6 @@
 //! What is asked of the databases.
 use crate::lowering::in_lower_case;
+use crate::style_fields::StyleFields;
 use btx_aux::AuxJob;
 use btx_bst::Style;
 use std::alloc::{AllocError, Global};
@@ -12,7 +13,7 @@ pub struct Request<'r, 'a> {
     /// The number of keys that were cited before `*`, if it was cited.
     pub all: Option<usize>,
     /// The style, which declares the fields and the types.
-    pub style: &'r Style<'a>,
+    pub style: StyleFields<'r, 'a>,
     /// How many references keep an entry that wasn't cited.
     pub fewest: u32,
 }
@@ -26,20 +27,25 @@ impl<'r, 'a> Request<'r, 'a> {
     ghost use Rattle.btx_aux.specs.KeyTable.{listed_by};
 
     /// What a job and its style ask, where an entry that isn't cited takes so many references to stay. With `*` it takes none.
-    pub fn of(style: &'r Style<'a>, job: &'a AuxJob, min_crossrefs: u32) -> Request<'r, 'a>
-        ensures { wanted result ≡ asked style.entry.now job.entry.now min_crossrefs }
+    pub fn of(
+        alloc: Global,
+        style: &'r Style<'a>,
+        job: &'a AuxJob,
+        min_crossrefs: u32,
+    ) -> Result<Request<'r, 'a>, AllocError>
+        ensures { IfOk result (λ request. wanted request ≡ asked style.entry.now job.entry.now min_crossrefs) }
     {
         let all = job.all();
         let fewest = match all {
             Some(_) => 0,
             None => min_crossrefs,
         };
-        Request {
+        Ok(Request {
             job,
             all,
-            style,
+            style: StyleFields::of(alloc, style)?,
             fewest,
-        }
+        })
     }
 
     /// The cited keys with which the list begins: those before `*`, if it was cited.
@@ -70,11 +76,7 @@ impl<'r, 'a> Request<'r, 'a> {
     pub fn field(&self, alloc: Global, name: &[u8]) -> Result<Option<usize>, AllocError>
         ensures { IfOk result (λ number. number ≡ (wanted self.now).field (folded name.now)) }
     {
-        let lowered = in_lower_case(alloc, name)?;
-        match self.style.field(lowered.as_bytes()) {
-            Some(number) => Ok(Some(number as usize)),
-            None => Ok(None),
-        }
+        self.style.number(alloc, name)
     }
 
     /// The number of the style's function for a type.
@@ -82,7 +84,7 @@ impl<'r, 'a> Request<'r, 'a> {
         ensures { IfOk result (λ number. number ≡ (wanted self.now).kind (folded name.now)) }
     {
         let lowered = in_lower_case(alloc, name)?;
-        Ok(self.style.type_function(lowered.as_bytes()))
+        Ok(self.style.style().type_function(lowered.as_bytes()))
     }
 
     /// How the key was cited whose lowered form this is.

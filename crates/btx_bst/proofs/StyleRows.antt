@@ -12,7 +12,7 @@ use Rattle.btx_bst.specs.BodyText.{body_turn, body_end}
 use Rattle.btx_bst.specs.Commands.{command_named, entry, function, read, run, sort, declare, macro_command}
 use Rattle.btx_bst.specs.MessageTexts.{before_of, shown_of, after_of}
 use Rattle.btx_bst.specs.StyleText.{item_turn, style_from, style_of}
-use Rattle.btx_bst.specs.WorkedStyles.{commands, faults, bodies, messages, AreRead, AreBodies, AreTexts}
+use Rattle.btx_bst.specs.WorkedStyles.{commands, faults, bodies, words, messages, AreRead, AreBodies, AreWords, AreTexts}
 
 pub commands-worked : AreRead commands
 unfolding style_of style_from item_turn turns_within behind_white ink_from skipped_from size lines_size len_till value_of signed integer_at word_front list_turn list_end body_turn body_end command_named entry function read run sort declare macro_command named_lower built_in_of built_ins pieces_of trimmed
@@ -26,8 +26,12 @@ pub bodies-worked : AreBodies bodies
 unfolding style_of style_from item_turn turns_within behind_white ink_from skipped_from size lines_size len_till value_of signed integer_at word_front list_turn list_end body_turn body_end command_named entry function read run sort declare macro_command named_lower built_in_of built_ins pieces_of trimmed
 bodies-worked = (refl, refl, (refl, refl, (refl, refl, (refl, refl, (refl, refl, (refl, refl, (refl, refl, (refl, refl, tt))))))))
 
+pub words-worked : AreWords words
+unfolding style_of style_from item_turn turns_within behind_white ink_from skipped_from size lines_size len_till value_of signed integer_at word_front list_turn list_end body_turn body_end command_named entry function read run sort declare macro_command named_lower built_in_of built_ins pieces_of trimmed
+words-worked = (refl, refl, (refl, refl, (refl, refl, (refl, refl, (refl, refl, (refl, refl, (refl, refl, (refl, refl, (refl, refl, (refl, refl, (refl, refl, (refl, refl, (refl, refl, (refl, refl, (refl, refl, (refl, refl, (refl, refl, (refl, refl, (refl, refl, (refl, refl, (refl, refl, (refl, refl, (refl, refl, (refl, refl, (refl, refl, (refl, refl, (refl, refl, (refl, refl, (refl, refl, (refl, refl, (refl, refl, (refl, refl, (refl, refl, (refl, refl, (refl, refl, (refl, refl, (refl, refl, tt)))))))))))))))))))))))))))))))))))))
+
 pub messages-worked : AreTexts messages
 unfolding before_of shown_of after_of
 messages-worked = (refl, (refl, (refl, (refl, (refl, (refl, (refl, (refl, (refl, (refl, (refl, (refl, (refl, (refl, (refl, (refl, (refl, (refl, (refl, (refl, tt))))))))))))))))))))
 
-pub ruleset worked_rows = (commands-worked, faults-worked, bodies-worked, messages-worked)
+pub ruleset worked_rows = (commands-worked, faults-worked, bodies-worked, words-worked, messages-worked)

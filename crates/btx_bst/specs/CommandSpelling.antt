@@ -1,6 +1,7 @@
 -- How the commands of a style are spelled, with their faults: a relation between what is known at a place and what a command comes to from there.
 -- A command is its word and its arguments; the first thing that is wrong ends it, and then all is skipped up to the next empty line.
 use Rattle.std.specs.Prelude.{ℕ, ◌+◌, ◌≡◌, ◌⊎◌, ◌||◌, ◌==◌, Bool, true, false, List, [], ◌∷◌, ◌++◌, length, Option, None, Some}
+use Rattle.btx_text.specs.Bytes.{open_brace, close_brace}
 use Rattle.btx_text.specs.Keys.{folded}
 use Rattle.btx_bst.specs.declared.callee.Callee.{Callee}
 use Rattle.btx_bst.specs.declared.callee.Kind.{Kind}
@@ -40,11 +41,11 @@ Then {A} R rest style from o =
 
 -- a `{`, and the rest
 abbrev pub Opened : Rule → Rule
-Opened rest = Then (Spaced (SignHere 123 NoOpen)) (λ none. rest)
+Opened rest = Then (Spaced (SignHere open_brace NoOpen)) (λ none. rest)
 
 -- a `}`, and the rest
 abbrev pub Closed : Rule → Rule
-Closed rest = Then (Spaced (SignHere 125 NoClose)) (λ none. rest)
+Closed rest = Then (Spaced (SignHere close_brace NoClose)) (λ none. rest)
 
 -- where this is so, the rest stands, and else this is wrong
 abbrev pub Where : (Style → Bool) → Complaint → Rule → Rule
@@ -76,12 +77,12 @@ AreNames [] from to = from ≡ to
 AreNames (name ∷ names) from to = (next : Place) × Spaced NameHere from (Took name next) × AreNames names next to
 
 abbrev pub goes_on : ℕ → Bool
-goes_on b = b == 125 || begins_name b
+goes_on b = b == close_brace || begins_name b
 
 -- what ends a list: its `}`; something that is neither that nor a name; or a name that has a meaning
 abbrev pub EndsList : Names → Place → Listed → Type 0
 EndsList known from l =
-    ((to : Place) × Spaced (SignHere 125 NoClose) from (Took tt to) × (l ≡ listed None known to))
+    ((to : Place) × Spaced (SignHere close_brace NoClose) from (Took tt to) × (l ≡ listed None known to))
     ⊎ (((complaint : Complaint) × (to : Place) × Gap from to × IsMissing goes_on NoName complaint to.line × (l ≡ listed (Some complaint) known to))
     ⊎ ((name : List ℕ) × (to : Place) × (old : Callee) × Spaced NameHere from (Took name to) × (named known name ≡ Some old) × (l ≡ listed (Some (Defined name)) known to)))
 
@@ -93,7 +94,8 @@ InList kind known from l = (names : List (List ℕ)) × (end : Place) × AreName
 abbrev pub Lists : Kind → Rule → Rule
 Lists kind rest = Opened (λ style from o.
     ((known : Names) × (to : Place) × InList kind style.names from (listed None known to) × rest (record style { names = known }) to o)
-    ⊎ ((complaint : Complaint) × (known : Names) × (to : Place) × InList kind style.names from (listed (Some complaint) known to) × (o ≡ outcome (Some complaint) (record style { names = known }) to)))
+    ⊎ ((complaint : Complaint) × (known : Names) × (to : Place) × InList kind style.names from (listed (Some complaint) known to)
+    × (o ≡ outcome (Some complaint) (record style { names = known }) to)))
 
 -- ---- bodies
 
@@ -101,7 +103,8 @@ Lists kind rest = Opened (λ style from o.
 abbrev pub HasBody : List ℕ → Rule
 HasBody name style from o =
     ((parts : Parts) × (to : Place) × AreParts parts from to × (o ≡ outcome None (with_body name (made_by style.names parts (made_in style)) style) to))
-    ⊎ ((fragment : Fragment) × (to : Place) × BreakOff fragment from to × (o ≡ outcome (Some (complaint_in fragment)) (record style { items = (made_till style.names fragment (made_in style)).items }) to))
+    ⊎ ((fragment : Fragment) × (to : Place) × BreakOff fragment from to
+    × (o ≡ outcome (Some (complaint_in fragment)) (record style { items = (made_till style.names fragment (made_in style)).items }) to))
 
 -- ---- the commands
 
@@ -150,7 +153,7 @@ Skips from to = (lines : List (List ℕ)) × AreFull lines ×
     (((after : List (List ℕ)) × (from.after ≡ lines ++ [] ∷ after) × (to ≡ place_at (from.number + length lines + 1) [] after))
     ⊎ ((from.after ≡ lines) × (to ≡ place_at (from.number + length lines) [] [])))
 
--- what is known where the next command is looked for: a fault is told at the line where it is met
+-- what is known where the next command is looked for: a fault is reported at the line where it is met
 abbrev pub GoesOn : Option Complaint → Style → Place → State → Type 0
 GoesOn None style place next = next ≡ state style place
 GoesOn (Some complaint) style place next = (to : Place) × Skips place to × (next ≡ state (with_item (item.Message complaint place.number) style) to)
@@ -158,7 +161,9 @@ GoesOn (Some complaint) style place next = (to : Place) × Skips place to × (ne
 -- from what is known at a place on, the text is commands that come to this, one after another, and its end, and then this style is known
 abbrev pub IsStyle : List Outcome → State → Style → Type 0
 IsStyle [] from end = (to : Place) × Gap from.place to × (to.line ≡ []) × (from.style ≡ end)
-IsStyle (o ∷ more) from end = (here : Place) × (next : State) × Gap from.place here × (here.line ≡ [] → ⊥) × CommandHere from.style here o × GoesOn o.complaint o.style o.place next × IsStyle more next end
+IsStyle (o ∷ more) from end =
+    (here : Place) × (next : State) × Gap from.place here × (here.line ≡ [] → ⊥) × CommandHere from.style here o
+    × GoesOn o.complaint o.style o.place next × IsStyle more next end
 
 -- ---- the laws
 
@@ -166,6 +171,6 @@ IsStyle (o ∷ more) from end = (here : Place) × (next : State) × Gap from.pla
 abbrev pub ReadingLaw : Type 0
 ReadingLaw = (file text : List ℕ) → (commands : List Outcome) × IsStyle commands (state (start file predefined) (beginning text)) (style_of file text)
 
--- A text has one reading: nothing that stands in it can be told as anything else.
+-- A text has one reading: nothing that stands in it can be read as anything else.
 abbrev pub OneReadingLaw : Type 0
 OneReadingLaw = (from : State) (first second : List Outcome) (a b : Style) → IsStyle first from a → IsStyle second from b → (first ≡ second) × (a ≡ b)

@@ -4,7 +4,7 @@ use Rattle.std.specs.Prelude.{◌≡◌, ℕ, suc, Bool, true, false, List, [], 
 use Rattle.btx_bst.specs.Items.{Item, Function, Read}
 use Rattle.btx_bst.specs.StyleText.{style_of}
 
--- how many functions there are behind an item, where there were so many before it
+-- how many functions there are behind an item, given how many there were before it
 abbrev pub functions_behind : ℕ → Item → ℕ
 functions_behind count (Function number) = suc number
 functions_behind count _ = count
@@ -17,7 +17,7 @@ abbrev pub is_read : Item → Bool
 is_read Read = true
 is_read _ = false
 
--- how many functions stand before the first READ, where there were so many before these items
+-- how many functions stand before the first READ, given how many there were before these items
 unfoldable pub before_read_in : ℕ → List Item → Option ℕ
 before_read_in count [] = None
 before_read_in count (item ∷ items) = if is_read item then Some count else before_read_in (functions_behind count item) items

@@ -21,7 +21,9 @@ IsEnd place = (ink place).line ≡ []
 abbrev pub Gives : List Step → State → Style → Type 0
 Gives [] from end = IsEnd from.place × (from.style ≡ end)
 Gives (Whole ∷ more) from end = (next : State) × (IsEnd from.place → ⊥) × (command_outcome from.style (ink from.place) ≡ outcome None next.style next.place) × Gives more next end
-Gives (Faulty complaint line ∷ more) from end = (next : State) × (IsEnd from.place → ⊥) × (command_outcome from.style (ink from.place) ≡ outcome (Some complaint) next.style next.place) × (line ≡ next.place.number) × Gives more (state (with_item (Message complaint line) next.style) (skipped next.place)) end
+Gives (Faulty complaint line ∷ more) from end =
+    (next : State) × (IsEnd from.place → ⊥) × (command_outcome from.style (ink from.place) ≡ outcome (Some complaint) next.style next.place)
+    × (line ≡ next.place.number) × Gives more (state (with_item (Message complaint line) next.style) (skipped next.place)) end
 
 -- A text is read as its commands give it.
 abbrev pub GivenLaw : Type 0

@@ -1,5 +1,6 @@
 -- Arguments of commands: braces, names and lists of names.
 use Rattle.std.specs.Prelude.{ℕ, zero, suc, ◌==◌, List, [], ◌∷◌, take, drop, Option, None, Some, if◌then◌else◌}
+use Rattle.btx_text.specs.Bytes.{double_quote, open_brace, close_brace}
 use Rattle.btx_text.specs.Keys.{folded}
 use Rattle.btx_bst.specs.declared.callee.Callee.{Callee}
 use Rattle.btx_bst.specs.declared.callee.Kind.{Kind}
@@ -17,13 +18,13 @@ brace_in brace complaint place (b ∷ bs) = if b == brace then Took tt (further 
 
 -- a `{`
 abbrev pub opening : Place → Read (Unit {0})
-opening place = brace_in 123 NoOpen (ink place) (ink place).line
+opening place = brace_in open_brace NoOpen (ink place) (ink place).line
 
 -- a `}`
 abbrev pub closing : Place → Read (Unit {0})
-closing place = brace_in 125 NoClose (ink place) (ink place).line
+closing place = brace_in close_brace NoClose (ink place) (ink place).line
 
--- the first bytes of a line, so many, or what is wrong if there are none
+-- the first bytes of a line, as many as a number says, or what is wrong if it is 0
 abbrev pub front_of : Complaint → Place → List ℕ → ℕ → Read (List ℕ)
 front_of complaint place line zero = Slip complaint place
 front_of complaint place line (suc n) = Took (take (suc n) line) (further place (drop (suc n) line))
@@ -49,7 +50,7 @@ text_of place text (quote ∷ rest) = Took text (further place rest)
 -- a text in quotes at a place without white
 abbrev pub quoted_in : Place → List ℕ → Read (List ℕ)
 quoted_in place [] = Slip EndOfFile place
-quoted_in place (b ∷ bs) = if b == 34 then text_of place (take (quote_len bs) bs) (drop (quote_len bs) bs) else Slip NoQuote place
+quoted_in place (b ∷ bs) = if b == double_quote then text_of place (take (quote_len bs) bs) (drop (quote_len bs) bs) else Slip NoQuote place
 
 -- a text in quotes
 abbrev pub quoted_at : Place → Read (List ℕ)

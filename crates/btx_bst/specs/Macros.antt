@@ -5,8 +5,10 @@ use Rattle.btx_bst.specs.StyleText.{style_of}
 
 -- The name of a macro means its text.
 abbrev pub MacroTextsLaw : Type 0
-MacroTextsLaw = (file text : List ℕ) (place : ℕ) (name meaning : List ℕ) → slice_get (style_of file text).macros place ≡ Some (name, meaning) → macro_lower (style_of file text).macros name ≡ Some meaning
+MacroTextsLaw = (file text : List ℕ) (place : ℕ) (name meaning : List ℕ) → slice_get (style_of file text).macros place ≡ Some (name, meaning)
+    → macro_lower (style_of file text).macros name ≡ Some meaning
 
 -- Two macros of one name are one.
 abbrev pub OneMacroLaw : Type 0
-OneMacroLaw = (file text : List ℕ) (j k : ℕ) (name first second : List ℕ) → slice_get (style_of file text).macros j ≡ Some (name, first) → slice_get (style_of file text).macros k ≡ Some (name, second) → j ≡ k
+OneMacroLaw = (file text : List ℕ) (j k : ℕ) (name first second : List ℕ) → slice_get (style_of file text).macros j ≡ Some (name, first)
+    → slice_get (style_of file text).macros k ≡ Some (name, second) → j ≡ k

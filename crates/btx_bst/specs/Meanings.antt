@@ -18,8 +18,10 @@ HasName names (GlobalString number) = number < length names.global_strings
 
 -- The name of anything names it.
 abbrev pub MeaningsLaw : Type 0
-MeaningsLaw = (file text : List ℕ) (callee : Callee) → HasName (style_of file text).names callee → named_lower (style_of file text).names (name_of (style_of file text).names callee) ≡ Some callee
+MeaningsLaw = (file text : List ℕ) (callee : Callee) → HasName (style_of file text).names callee
+    → named_lower (style_of file text).names (name_of (style_of file text).names callee) ≡ Some callee
 
 -- Two things of one name are one.
 abbrev pub OneMeaningLaw : Type 0
-OneMeaningLaw = (file text : List ℕ) (a b : Callee) → HasName (style_of file text).names a → HasName (style_of file text).names b → name_of (style_of file text).names a ≡ name_of (style_of file text).names b → a ≡ b
+OneMeaningLaw = (file text : List ℕ) (a b : Callee) → HasName (style_of file text).names a → HasName (style_of file text).names b
+    → name_of (style_of file text).names a ≡ name_of (style_of file text).names b → a ≡ b

@@ -45,6 +45,6 @@ after_of _ = []
 abbrev pub text_of : Complaint → List ℕ
 text_of complaint = before_of complaint ++ (shown_of complaint ++ after_of complaint)
 
--- the line of the log that tells it, with its place in the file of this name
+-- the line of the log, with the place of what is wrong in the file of this name
 abbrev pub line_of : Complaint → ℕ → List ℕ → Line
 line_of complaint line file = message_at Error (text_of complaint) line file

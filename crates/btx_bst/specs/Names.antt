@@ -88,7 +88,7 @@ with_name kind.EntryString name names = record names { entry_strings = names.ent
 with_name kind.GlobalInteger name names = record names { global_integers = names.global_integers ++ name ∷ [] }
 with_name kind.GlobalString name names = record names { global_strings = names.global_strings ++ name ∷ [] }
 
--- functions and then nameless ones, so many in all
+-- functions, and then nameless ones up to this count in all
 abbrev pub padded : ℕ → List (Option (List ℕ)) → List (Option (List ℕ))
 padded count functions = functions ++ replicate (count - length functions) None
 

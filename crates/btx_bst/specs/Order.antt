@@ -24,7 +24,8 @@ OnceLaw = (file text : List ℕ) (item : Item) (j k : ℕ) → IsOnce item → s
 
 -- READ takes effect only after ENTRY, and what is executed only after READ.
 abbrev pub OrderLaw : Type 0
-OrderLaw = (file text : List ℕ) (item first : Item) (k : ℕ) → slice_get (style_of file text).items k ≡ Some item → needs item ≡ Some first → (j : ℕ) × (j < k) × (slice_get (style_of file text).items j ≡ Some first)
+OrderLaw = (file text : List ℕ) (item first : Item) (k : ℕ) → slice_get (style_of file text).items k ≡ Some item → needs item ≡ Some first
+    → (j : ℕ) × (j < k) × (slice_get (style_of file text).items j ≡ Some first)
 
 -- MACRO takes effect only before READ.
 abbrev pub MacroLaw : Type 0

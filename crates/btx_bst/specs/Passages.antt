@@ -1,5 +1,6 @@
 -- What stands between two places of a text: nothing is read twice, and nothing is left out.
 use Rattle.std.specs.Prelude.{◌≡◌, ℕ, ◌+◌, List, [], ◌∷◌, ◌++◌, length}
+use Rattle.btx_text.specs.Bytes.{line_feed}
 use Rattle.btx_bst.specs.Places.{Place, ink, skipped}
 use Rattle.btx_bst.specs.Style.{Style}
 use Rattle.btx_bst.specs.StyleText.{command_outcome}
@@ -7,7 +8,7 @@ use Rattle.btx_bst.specs.StyleText.{command_outcome}
 -- lines that follow others, each behind a line's end
 abbrev pub lines_text : List (List ℕ) → List ℕ
 lines_text [] = []
-lines_text (line ∷ lines) = 10 ∷ (line ++ lines_text lines)
+lines_text (line ∷ lines) = line_feed ∷ (line ++ lines_text lines)
 
 -- what is left of a text at a place
 abbrev pub text_from : Place → List ℕ

@@ -11,7 +11,7 @@ use Rattle.btx_bst.specs.Names.{Names, named_lower}
 use Rattle.btx_bst.specs.Style.{Style, type_of}
 use Rattle.btx_bst.specs.StyleText.{style_of}
 
--- a built-in function, one of the style's first functions, so many, or a field or a variable that is declared
+-- a built-in function, a function of the style whose number lies below a count, or a field or a variable that is declared
 abbrev pub IsKnown : Names → ℕ → Callee → Type 0
 IsKnown names functions (callee.BuiltIn built_in) = Unit {0}
 IsKnown names functions (User number) = number < functions
@@ -21,20 +21,20 @@ IsKnown names functions (EntryString number) = number < length names.entry_strin
 IsKnown names functions (GlobalInteger number) = number < length names.global_integers
 IsKnown names functions (GlobalString number) = number < length names.global_strings
 
--- a token is an integer, or refers to one of so many strings, or to what is known where so many functions are defined
+-- a token is an integer, or refers to a string whose number lies below a count, or to what is known where this number of functions is defined
 abbrev pub Refers : Names → ℕ → ℕ → Token → Type 0
 Refers names texts functions (Text number) = number < texts
 Refers names texts functions (token.Integer value) = Unit {0}
 Refers names texts functions (Quote callee) = IsKnown names functions callee
 Refers names texts functions (Run callee) = IsKnown names functions callee
 
--- a built-in function, or one of the style's first functions, so many
+-- a built-in function, or a function of the style whose number lies below a count
 abbrev pub IsFunction : ℕ → Callee → Type 0
 IsFunction functions (callee.BuiltIn built_in) = Unit {0}
 IsFunction functions (User number) = number < functions
 IsFunction functions _ = ⊥
 
--- a command defines or executes a function that is known where so many functions are defined
+-- a command defines or executes a function that is known where this number of functions is defined
 abbrev pub IsKnownItem : ℕ → Item → Type 0
 IsKnownItem functions (Function number) = number < functions
 IsKnownItem functions (Execute callee) = IsFunction functions callee
@@ -82,4 +82,5 @@ executed_by _ = None
 
 -- A function of the style is executed only behind the FUNCTION that defines it.
 abbrev pub ExecutedLaw : Type 0
-ExecutedLaw = (file text : List ℕ) (item : Item) (number k : ℕ) → slice_get (style_of file text).items k ≡ Some item → executed_by item ≡ Some (User number) → (j : ℕ) × (j < k) × (slice_get (style_of file text).items j ≡ Some (Function number))
+ExecutedLaw = (file text : List ℕ) (item : Item) (number k : ℕ) → slice_get (style_of file text).items k ≡ Some item → executed_by item ≡ Some (User number)
+    → (j : ℕ) × (j < k) × (slice_get (style_of file text).items j ≡ Some (Function number))

@@ -112,7 +112,8 @@ inside_made place around made = record { place = place; tokens = made.tokens; ar
 
 -- a body that is spelled is read as what its parts come to
 abbrev pub SpelledLaw : Type 0
-SpelledLaw = (names : Names) (parts : Parts) (from to : Place) (made : Made) → Spells parts from to → body_end names (inside_made from [] made) ≡ Whole (inside_made to [] (made_by names parts made))
+SpelledLaw = (names : Names) (parts : Parts) (from to : Place) (made : Made) → Spells parts from to
+    → body_end names (inside_made from [] made) ≡ Whole (inside_made to [] (made_by names parts made))
 
 -- the complaint, the place and the items of the end of a body that broke off
 abbrev pub IsBroken : Complaint → Place → List Item → End → Type 0
@@ -121,7 +122,8 @@ IsBroken complaint place items (Broken other inside) = (other ≡ complaint) × 
 
 -- a body that breaks off is read as far as it goes
 abbrev pub BrokenLaw : Type 0
-BrokenLaw = (names : Names) (fragment : Fragment) (from to : Place) (made : Made) → Breaks fragment from to → IsBroken (complaint_in fragment) to (made_till names fragment made).items (body_end names (inside_made from [] made))
+BrokenLaw = (names : Names) (fragment : Fragment) (from to : Place) (made : Made) → Breaks fragment from to
+    → IsBroken (complaint_in fragment) to (made_till names fragment made).items (body_end names (inside_made from [] made))
 
 -- every text begins with a body or breaks off
 abbrev pub DividedLaw : Type 0

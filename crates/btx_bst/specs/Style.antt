@@ -34,7 +34,7 @@ as_field (Some _) = None
 abbrev pub field_of : Style → List ℕ → Option ℕ
 field_of style name = as_field (named_lower style.names name)
 
--- the number of a function, if this names one and so many functions stood before READ
+-- the number of a function, if this names one that stands before READ, given how many functions stand there
 abbrev pub as_type : Option ℕ → Option Callee → Option ℕ
 as_type None callee = None
 as_type (Some count) None = None

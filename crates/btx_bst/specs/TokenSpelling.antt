@@ -1,6 +1,7 @@
 -- How the words of a style are spelled: relations between two places of a text. What stands at the first is this, and the text goes on at the
 -- second; or this is wrong, and it is met at the second.
 use Rattle.std.specs.Prelude.{ℕ, ◌+◌, ◌≡◌, ◌==◌, ◌||◌, ◌&&◌, ◌⊎◌, Bool, true, false, not, List, [], ◌∷◌, ◌++◌}
+use Rattle.btx_text.specs.Bytes.{double_quote, percent}
 use Rattle.btx_text.specs.Class.{is_white, is_digit, is_name_byte}
 use Rattle.btx_bst.specs.Places.{Place, place_at, further}
 use Rattle.btx_bst.specs.Complaints.{Complaint, NoCommand, NoName, NoQuote, EndOfFile}
@@ -39,10 +40,10 @@ pub record IsUpTo (test : ℕ → Bool) (text line rest : List ℕ) : Type 0 whe
 -- a line has nothing but white, and perhaps a comment, which goes from a `%` to its end
 abbrev pub IsBlank : List ℕ → Type 0
 IsBlank [] = Unit {0}
-IsBlank (b ∷ bs) = (b ≡ 37) ⊎ ((is_white b ≡ true) × IsBlank bs)
+IsBlank (b ∷ bs) = (b ≡ percent) ⊎ ((is_white b ≡ true) × IsBlank bs)
 
 abbrev pub is_blank : ℕ → Bool
-is_blank b = is_white b || b == 37
+is_blank b = is_white b || b == percent
 
 abbrev pub is_ink : ℕ → Bool
 is_ink b = not (is_blank b)
@@ -94,7 +95,7 @@ IsNoText complaint [] = complaint ≡ EndOfFile
 IsNoText complaint (b ∷ bs) = (complaint ≡ NoQuote) × ((is_quote b ≡ false) ⊎ NoneIn is_quote bs)
 
 abbrev pub TextHere : Spelling (List ℕ)
-TextHere from (Took text to) = (rest : List ℕ) × (from.line ≡ 34 ∷ (text ++ 34 ∷ rest)) × NoneIn is_quote text × (to ≡ further from rest)
+TextHere from (Took text to) = (rest : List ℕ) × (from.line ≡ double_quote ∷ (text ++ double_quote ∷ rest)) × NoneIn is_quote text × (to ≡ further from rest)
 TextHere from (Slip complaint to) = (to ≡ from) × IsNoText complaint from.line
 
 -- the letters of a command

@@ -1,9 +1,10 @@
 -- How the words of a body are spelled, and bodies of them.
-use Rattle.std.specs.Prelude.{ℕ, zero, suc, ◌<◌, ◌≤◌, ◌≡◌, ◌==◌, ◌||◌, ◌⊎◌, ℤ, pos, negsuc, if◌then◌else◌, Bool, true, false, not, List, [], ◌∷◌, ◌++◌, Some}
+use Rattle.std.specs.Prelude.{ℕ, zero, suc, ◌^◌, ◌<◌, ◌≤◌, ◌≡◌, ◌==◌, ◌||◌, ◌⊎◌, ℤ, pos, negsuc, if◌then◌else◌, Bool, true, false, not, List, [], ◌∷◌, ◌++◌, Some}
+use Rattle.btx_text.specs.Bytes.{double_quote, hash, single_quote, open_brace, close_brace}
 use Rattle.btx_bst.specs.Places.{Place, further}
 use Rattle.btx_bst.specs.Complaints.{BadInteger, TextAfter}
 use Rattle.btx_bst.specs.Fronts.{ends_word, is_no_digit, is_quote}
-use Rattle.btx_bst.specs.Words.{Word, Open, Close, String, Integer, Quoted, Name, Faulty, Unended, Ended, value_of, met, met_at}
+use Rattle.btx_bst.specs.Words.{Word, Open, Close, String, Integer, Quoted, Name, Faulty, Unended, Ended, minus_sign, value_of, met, met_at}
 use Rattle.btx_bst.specs.Spelling.{Parts, Nothing, Plain, Group, IsPlain, Fragment, Here, After, AfterGroup, Inner, breaks}
 use Rattle.btx_bst.specs.TokenSpelling.{NoneIn, Begins, IsUpTo, Gap}
 
@@ -14,14 +15,14 @@ IsWord = IsUpTo ends_word
 -- a word is digits, with or without a minus, and more
 pub record IsNumeral (minus : Bool) (digits more word : List ℕ) : Type 0 where
   pub unsigned : List ℕ
-  pub signed : if◌then◌else◌ minus (45 ∷ unsigned) unsigned ≡ word
+  pub signed : if◌then◌else◌ minus (minus_sign ∷ unsigned) unsigned ≡ word
   pub digits_first : IsUpTo is_no_digit digits unsigned more
   pub some : digits ≡ [] → ⊥
 
 -- it fits 32 bits
 abbrev pub Fits : Bool → ℕ → Type 0
-Fits false n = n < 2147483648
-Fits true n = n ≤ 2147483648
+Fits false n = n < 2 ^ 31
+Fits true n = n ≤ 2 ^ 31
 
 abbrev pub number_of : Bool → ℕ → ℤ
 number_of false n = pos n
@@ -42,28 +43,28 @@ IsNoInteger word = (minus : Bool) (digits more : List ℕ) → IsNumeral minus d
 
 -- a string, and a word directly behind it
 abbrev pub IsString : List ℕ → List ℕ → List ℕ → List ℕ → Type 0
-IsString text more line rest = (behind : List ℕ) × (line ≡ 34 ∷ (text ++ 34 ∷ behind)) × NoneIn is_quote text × IsWord more behind rest
+IsString text more line rest = (behind : List ℕ) × (line ≡ double_quote ∷ (text ++ double_quote ∷ behind)) × NoneIn is_quote text × IsWord more behind rest
 
 -- a word behind a `#`
 abbrev pub HasNumber : (List ℕ → Type 0) → List ℕ → List ℕ → Type 0
-HasNumber Is line rest = (word : List ℕ) × (behind : List ℕ) × (line ≡ 35 ∷ behind) × IsWord word behind rest × Is word
+HasNumber Is line rest = (word : List ℕ) × (behind : List ℕ) × (line ≡ hash ∷ behind) × IsWord word behind rest × Is word
 
 -- no `{`, `"`, `#` or `'`
 abbrev pub begins_plainly : ℕ → Bool
-begins_plainly b = not (b == 123 || b == 34 || b == 35 || b == 39)
+begins_plainly b = not (b == open_brace || b == double_quote || b == hash || b == single_quote)
 
 -- a word of a body, at the head of a line without white, and the rest of the line
 abbrev pub IsToken : Word → List ℕ → List ℕ → Type 0
-IsToken Open line rest = line ≡ 123 ∷ rest
-IsToken Close line rest = line ≡ 125 ∷ rest
+IsToken Open line rest = line ≡ open_brace ∷ rest
+IsToken Close line rest = line ≡ close_brace ∷ rest
 IsToken (String text) line rest = IsString text [] line rest
 IsToken (Integer value) line rest = HasNumber (IsInteger value) line rest
-IsToken (Quoted name) line rest = (behind : List ℕ) × (line ≡ 39 ∷ behind) × IsWord name behind rest
+IsToken (Quoted name) line rest = (behind : List ℕ) × (line ≡ single_quote ∷ behind) × IsWord name behind rest
 IsToken (Name name) line rest = IsWord name line rest × Begins begins_plainly name
 IsToken (Faulty BadInteger) line rest = HasNumber IsNoInteger line rest
 IsToken (Faulty TextAfter) line rest = ((text : List ℕ) × (more : List ℕ) × IsString text more line rest × (more ≡ [] → ⊥)) ⊎ HasNumber IsOverlong line rest
 IsToken (Faulty _) line rest = ⊥
-IsToken Unended line rest = (line ≡ 34 ∷ rest) × NoneIn is_quote rest
+IsToken Unended line rest = (line ≡ double_quote ∷ rest) × NoneIn is_quote rest
 IsToken Ended line rest = (line ≡ []) × (rest ≡ [])
 
 -- the next word of a body

@@ -1,5 +1,6 @@
 -- The words of a body.
-use Rattle.std.specs.Prelude.{ℕ, zero, suc, ◌+◌, ◌-◌, ◌*◌, ◌==◌, ℤ, pos, negsuc, nat_lt, fold, Option, None, Some, Bool, true, false, List, [], ◌∷◌, take, drop, if◌then◌else◌}
+use Rattle.std.specs.Prelude.{ℕ, zero, suc, ◌+◌, ◌-◌, ◌*◌, ◌^◌, ◌==◌, ℤ, pos, negsuc, nat_lt, fold, Option, None, Some, Bool, true, false, List, [], ◌∷◌, take, drop, if◌then◌else◌}
+use Rattle.btx_text.specs.Bytes.{double_quote, hash, single_quote, open_brace, close_brace}
 use Rattle.btx_bst.specs.Places.{Place, ink, further}
 use Rattle.btx_bst.specs.Fronts.{word_len, quote_len, digits_len, is_word_end}
 use Rattle.btx_bst.specs.Complaints.{Complaint, BadInteger, TextAfter}
@@ -47,16 +48,20 @@ value_of digits = fold with_digit 0 digits
 
 -- a number with or without a minus, if it is one of 32 bits
 unfoldable pub signed : Bool → ℕ → Option ℤ
-signed false n = if nat_lt n 2147483648 then Some (pos n) else None
+signed false n = if nat_lt n (2 ^ 31) then Some (pos n) else None
 signed true zero = Some (pos 0)
-signed true (suc n) = if nat_lt n 2147483648 then Some (negsuc n) else None
+signed true (suc n) = if nat_lt n (2 ^ 31) then Some (negsuc n) else None
+
+-- `-`
+abbrev pub minus_sign : ℕ
+minus_sign = 45
 
 -- an integer, and what stands behind its digits
 abbrev pub integer_before : List ℕ → List ℕ → Option ℤ → Front
 integer_before line rest None = front (Faulty BadInteger) (drop (word_len line) line)
 integer_before line rest (Some value) = if is_word_end rest then front (Integer value) rest else front (Faulty TextAfter) (drop (word_len rest) rest)
 
--- an integer of so many digits, of which there must be some
+-- an integer by the number of its digits, of which there must be some
 abbrev pub integer_of : List ℕ → Bool → List ℕ → ℕ → Front
 integer_of line minus rest zero = front (Faulty BadInteger) (drop (word_len line) line)
 integer_of line minus rest (suc n) = integer_before line (drop (suc n) rest) (signed minus (value_of (take (suc n) rest)))
@@ -64,16 +69,16 @@ integer_of line minus rest (suc n) = integer_before line (drop (suc n) rest) (si
 -- the integer that begins behind a `#`: a minus may stand before its digits
 unfoldable pub integer_at : List ℕ → Front
 integer_at [] = front (Faulty BadInteger) []
-integer_at (b ∷ bs) = if b == 45 then integer_of (b ∷ bs) true bs (digits_len bs) else integer_of (b ∷ bs) false (b ∷ bs) (digits_len (b ∷ bs))
+integer_at (b ∷ bs) = if b == minus_sign then integer_of (b ∷ bs) true bs (digits_len bs) else integer_of (b ∷ bs) false (b ∷ bs) (digits_len (b ∷ bs))
 
 -- the word that a line begins with, where its first byte is no white and no `%`
 unfoldable pub word_front : ℕ → List ℕ → Front
 word_front b bs =
-    if b == 123 then front Open bs
-    else if b == 125 then front Close bs
-    else if b == 34 then string_at bs
-    else if b == 35 then integer_at bs
-    else if b == 39 then front (Quoted (take (word_len bs) bs)) (drop (word_len bs) bs)
+    if b == open_brace then front Open bs
+    else if b == close_brace then front Close bs
+    else if b == double_quote then string_at bs
+    else if b == hash then integer_at bs
+    else if b == single_quote then front (Quoted (take (word_len bs) bs)) (drop (word_len bs) bs)
     else front (Name (b ∷ take (word_len bs) bs)) (drop (word_len bs) bs)
 
 -- a word and the place behind it

@@ -1,6 +1,8 @@
 -- Worked styles: what short texts are read as, and the texts of the messages.
-use Rattle.std.specs.Prelude.{ℕ, ◌≡◌, pos, negsuc, List, [], ◌∷◌, codes}
+use Rattle.std.specs.Prelude.{ℕ, ◌≡◌, pos, negsuc, List, [], ◌∷◌, ◌++◌, codes}
+use Rattle.btx_bst.specs.declared.built_in.BuiltIn.{BuiltIn}
 use Rattle.btx_bst.specs.declared.built_in.BuiltIn.TheVariants.{If, NewLine, Pop, Skip}
+use Rattle.btx_bst.specs.declared.built_in.BuiltIn.TheVariants as built_in
 use Rattle.btx_bst.specs.declared.callee.Callee.TheVariants as callee
 use Rattle.btx_bst.specs.declared.command.Command.TheVariants as command
 use Rattle.btx_bst.specs.declared.token.Token.TheVariants.{Text, Quote, Run}
@@ -142,19 +144,73 @@ body_row text bodies texts = record { text = text; bodies = bodies; texts = text
 abbrev pub bodies : List WorkedBody
 bodies =
     -- a body has integers, strings, names behind a quote, and names; strings are numbered through the style
-    body_row (codes "FUNCTION {f} {#10 #-2 #0 \"x\" 'skip$ POP$}") ((token.Integer (pos 10) ∷ token.Integer (negsuc 1) ∷ token.Integer (pos 0) ∷ Text 0 ∷ Quote (callee.BuiltIn Skip) ∷ Run (callee.BuiltIn Pop) ∷ []) ∷ []) ((codes "x") ∷ [])
+    body_row (codes "FUNCTION {f} {#10 #-2 #0 \"x\" 'skip$ POP$}")
+    ((token.Integer (pos 10) ∷ token.Integer (negsuc 1) ∷ token.Integer (pos 0) ∷ Text 0 ∷ Quote (callee.BuiltIn Skip) ∷ Run (callee.BuiltIn Pop) ∷ []) ∷ []) ((codes "x") ∷ [])
     ∷ body_row (codes "FUNCTION {f} {\"a\"} FUNCTION {g} {\"\"}") ((Text 0 ∷ []) ∷ (Text 1 ∷ []) ∷ []) ((codes "a") ∷ [] ∷ [])
     -- the least and the greatest integer
     ∷ body_row (codes "FUNCTION {f} {#-2147483648 #2147483647}") ((token.Integer (negsuc 2147483647) ∷ token.Integer (pos 2147483647) ∷ []) ∷ []) []
     -- nameless functions come innermost first, and stand where they stood as literals
-    ∷ body_row (codes "FUNCTION {f} {{#1} {\"a\" {}} if$}") ((token.Integer (pos 1) ∷ []) ∷ [] ∷ (Text 0 ∷ Quote (callee.User 1) ∷ []) ∷ (Quote (callee.User 0) ∷ Quote (callee.User 2) ∷ Run (callee.BuiltIn If) ∷ []) ∷ []) ((codes "a") ∷ [])
+    ∷ body_row (codes "FUNCTION {f} {{#1} {\"a\" {}} if$}")
+    ((token.Integer (pos 1) ∷ []) ∷ [] ∷ (Text 0 ∷ Quote (callee.User 1) ∷ []) ∷ (Quote (callee.User 0) ∷ Quote (callee.User 2) ∷ Run (callee.BuiltIn If) ∷ []) ∷ []) ((codes "a") ∷ [])
     -- a function that broke off leaves neither a body nor a string
     ∷ body_row (codes "FUNCTION {f} {{\"a\"} \"b\n\nFUNCTION {g} {\"c\"}") ((Text 0 ∷ []) ∷ []) ((codes "c") ∷ [])
     -- names are numbered behind those that are known before the style
-    ∷ body_row (codes "INTEGERS {n} STRINGS {s} ENTRY {t} {i} {l} FUNCTION {f} {n s t i l}") ((Run (callee.GlobalInteger 2) ∷ Run (callee.GlobalString 0) ∷ Run (callee.Field 1) ∷ Run (callee.EntryInteger 0) ∷ Run (callee.EntryString 1) ∷ []) ∷ []) []
-    ∷ body_row (codes "FUNCTION {f} {crossref sort.key$ Entry.Max$ 'global.max$}") ((Run (callee.Field 0) ∷ Run (callee.EntryString 0) ∷ Run (callee.GlobalInteger 0) ∷ Quote (callee.GlobalInteger 1) ∷ []) ∷ []) []
+    ∷ body_row (codes "INTEGERS {n} STRINGS {s} ENTRY {t} {i} {l} FUNCTION {f} {n s t i l}")
+    ((Run (callee.GlobalInteger 2) ∷ Run (callee.GlobalString 0) ∷ Run (callee.Field 1) ∷ Run (callee.EntryInteger 0) ∷ Run (callee.EntryString 1) ∷ []) ∷ []) []
+    ∷ body_row (codes "FUNCTION {f} {crossref sort.key$ Entry.Max$ 'global.max$}")
+    ((Run (callee.Field 0) ∷ Run (callee.EntryString 0) ∷ Run (callee.GlobalInteger 0) ∷ Quote (callee.GlobalInteger 1) ∷ []) ∷ []) []
     -- what is left out of a body leaves no token
     ∷ body_row (codes "FUNCTION {f} {#1 #2x nosuch \"a\"b #3 % #4\n}") ((token.Integer (pos 1) ∷ token.Integer (pos 3) ∷ []) ∷ []) []
+    ∷ []
+
+-- a word of a body, and the built-in function that it names
+pub record WorkedWord : Type 0 where
+  pub word : List ℕ
+  pub function : BuiltIn
+
+abbrev pub word_row : List ℕ → BuiltIn → WorkedWord
+word_row word function = record { word = word; function = function }
+
+-- the 37 built-in functions
+abbrev pub words : List WorkedWord
+words =
+    word_row (codes "=") built_in.Equals
+    ∷ word_row (codes ">") built_in.Greater
+    ∷ word_row (codes "<") built_in.Less
+    ∷ word_row (codes "+") built_in.Plus
+    ∷ word_row (codes "-") built_in.Minus
+    ∷ word_row (codes "*") built_in.Concatenate
+    ∷ word_row (codes ":=") built_in.Assign
+    ∷ word_row (codes "add.period$") built_in.AddPeriod
+    ∷ word_row (codes "call.type$") built_in.CallType
+    ∷ word_row (codes "change.case$") built_in.ChangeCase
+    ∷ word_row (codes "chr.to.int$") built_in.CharacterToInteger
+    ∷ word_row (codes "cite$") built_in.Cite
+    ∷ word_row (codes "duplicate$") built_in.Duplicate
+    ∷ word_row (codes "empty$") built_in.Empty
+    ∷ word_row (codes "format.name$") built_in.FormatName
+    ∷ word_row (codes "if$") built_in.If
+    ∷ word_row (codes "int.to.chr$") built_in.IntegerToCharacter
+    ∷ word_row (codes "int.to.str$") built_in.IntegerToString
+    ∷ word_row (codes "missing$") built_in.Missing
+    ∷ word_row (codes "newline$") built_in.NewLine
+    ∷ word_row (codes "num.names$") built_in.NumNames
+    ∷ word_row (codes "pop$") built_in.Pop
+    ∷ word_row (codes "preamble$") built_in.Preamble
+    ∷ word_row (codes "purify$") built_in.Purify
+    ∷ word_row (codes "quote$") built_in.Quote
+    ∷ word_row (codes "skip$") built_in.Skip
+    ∷ word_row (codes "stack$") built_in.Stack
+    ∷ word_row (codes "substring$") built_in.Substring
+    ∷ word_row (codes "swap$") built_in.Swap
+    ∷ word_row (codes "text.length$") built_in.TextLength
+    ∷ word_row (codes "text.prefix$") built_in.TextPrefix
+    ∷ word_row (codes "top$") built_in.Top
+    ∷ word_row (codes "type$") built_in.Type
+    ∷ word_row (codes "warning$") built_in.Warning
+    ∷ word_row (codes "while$") built_in.While
+    ∷ word_row (codes "width$") built_in.Width
+    ∷ word_row (codes "write$") built_in.Write
     ∷ []
 
 -- what is wrong, and the text of its message
@@ -198,6 +254,17 @@ AreRead (row ∷ rows) = ((style_of [] row.text).items ≡ row.items) × AreRead
 abbrev pub AreBodies : List WorkedBody → Type 0
 AreBodies [] = Unit {0}
 AreBodies (row ∷ rows) = ((style_of [] row.text).bodies ≡ row.bodies) × ((style_of [] row.text).texts ≡ row.texts) × AreBodies rows
+
+-- a function with this word alone, `FUNCTION {f} {WORD}`
+abbrev pub function_of : List ℕ → List ℕ
+function_of word = codes "FUNCTION {f} {" ++ word ++ codes "}"
+
+-- it executes that built-in function, and nothing else is read
+abbrev pub AreWords : List WorkedWord → Type 0
+AreWords [] = Unit {0}
+AreWords (row ∷ rows) =
+    ((style_of [] (function_of row.word)).items ≡ item.Function 0 ∷ [])
+    × ((style_of [] (function_of row.word)).bodies ≡ (Run (callee.BuiltIn row.function) ∷ []) ∷ []) × AreWords rows
 
 abbrev pub AreTexts : List WorkedMessage → Type 0
 AreTexts [] = Unit {0}

@@ -137,7 +137,11 @@ Does (Entry fields integers strings) style end =
     × AreNew kind.Field fields style.names
     × AreNew kind.EntryInteger integers (declared kind.Field fields style.names)
     × AreNew kind.EntryString strings (declared kind.EntryInteger integers (declared kind.Field fields style.names))
-    × (with_item item.Entry (record style { names = declared kind.EntryString strings (declared kind.EntryInteger integers (declared kind.Field fields style.names)); has_entry = true }) ≡ end)
+    × (with_item item.Entry (record style {
+      names = declared kind.EntryString strings
+          (declared kind.EntryInteger integers (declared kind.Field fields style.names));
+      has_entry = true;
+    }) ≡ end)
 Does (Function name body) style end =
     (named style.names name ≡ None) × IsGoodBody style.names body × (with_body name (made_by style.names body (made_in style)) style ≡ end)
 Does Read style end = (has_read style ≡ false) × (style.has_entry ≡ true) × (with_item item.Read (record style { before_read = Some (length style.bodies) }) ≡ end)
@@ -177,4 +181,5 @@ kind_of item.Macro = Some command.Macro
 
 -- It gives each of its commands, in order, and no message.
 abbrev pub FaultlessLaw : Type 0
-FaultlessLaw = (commands : List Written) (from : State) (end : Style) → IsWritten commands from end → map kind_of end.items ≡ map kind_of from.style.items ++ map (λ (written : Written). Some (command_of written)) commands
+FaultlessLaw = (commands : List Written) (from : State) (end : Style) → IsWritten commands from end
+    → map kind_of end.items ≡ map kind_of from.style.items ++ map (λ (written : Written). Some (command_of written)) commands

@@ -92,19 +92,21 @@ pub fn styles_are_read_as_written()
 {}
 
 /// A text has one reading, and is read so. A word of a body is met where it is spelled, and nowhere else; each command, whole or with its fault
-/// and the line of the fault, is what the spelling of commands says; and nothing that stands in a text can be told as anything else.
+/// and the line of the fault, is what the spelling of commands says; and nothing that stands in a text can be read as anything else.
 pub fn styles_have_one_reading()
     ensures tokens { TokensLaw }
     ensures reading { ReadingLaw }
     ensures one { OneReadingLaw }
 {}
 
-/// Short texts are read as they are worked by hand: each command, each message with its line, bodies with their tokens, and what messages say.
+/// Short texts are read as they are worked by hand: each command, each message with its line, bodies with their tokens, the word of each
+/// built-in function, and what messages say.
 #[tactic(auto, using(crate::proofs::StyleRows::worked_rows))]
 pub fn worked_styles_are_read_so()
     ensures commands { worked.AreRead worked.commands }
     ensures faults { worked.AreRead worked.faults }
     ensures bodies { worked.AreBodies worked.bodies }
+    ensures words { worked.AreWords worked.words }
     ensures messages { worked.AreTexts worked.messages }
 {}
 

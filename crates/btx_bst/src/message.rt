@@ -20,7 +20,7 @@ pub struct Message<'a> {
 }
 
 impl<'a> Message<'a> {
-    /// The line of the log that tells it, with its place in the file of this name.
+    /// The line of the log, with the place of what is wrong in the file of this name.
     #[tactic(auto, using(crate::proofs::LineLemmas::line_steps))]
     pub fn log_line(&self, alloc: Global, file: &[u8]) -> Result<LogLine, AllocError>
         ensures { IfOk result (λ line. line ≡ line_of (complaint_view self.now.complaint) self.now.line file.now) }
@@ -39,7 +39,7 @@ impl<'a> Message<'a> {
     }
 }
 
-/// The item that tells what is wrong.
+/// The item for a message.
 pub fn told(complaint: Complaint<'_>, line: usize) -> Item<'_>
     ensures { item_view result ≡ spec.Message (complaint_view complaint.entry) line }
 {

@@ -68,7 +68,7 @@ pub fn put<T: Drop>(
     Ok(())
 }
 
-/// Adds nameless functions, up to so many functions. Where memory is refused some of them may have been added.
+/// Adds nameless functions, up to this count of functions. Where memory is refused some of them may have been added.
 #[tactic(auto, using(crate::proofs::PaddingLemmas::pad_steps))]
 pub fn pad<'a>(functions: &mut Vec<Option<Name<'a>>>, count: usize) -> Result<(), AllocError>
     ensures ok { OnOk result (functions.new.items ≡ padded count functions.old.items) }

@@ -18,6 +18,7 @@ pub mod Resume
 pub mod Moves
 pub mod Grows
 pub mod Counts
+pub mod PlaceLemmas
 pub mod LookLemmas
 pub mod StepLemmas
 pub mod ExecuteLemmas

@@ -1,5 +1,5 @@
--- What a fault says of the two sinks: want of memory changes no count of failures, and the device's fault is told exactly where one of
--- their two counts rose, by one. No other fault is told.
+-- What a fault says of the two sinks: want of memory changes no count of failures, and the device's fault is answered exactly where one of
+-- their two counts rose, by one. No other fault is answered.
 use Rattle.std.specs.Prelude.{Result, Ok, Err, IsSome}
 use Rattle.btx_text.specs.Counts.{Change, Stays, Rises, OneOfTwoRises}
 use Rattle.btx_text.specs.declared.fault.Fault.{Fault}

@@ -1,4 +1,4 @@
--- How what was written and told goes on.
+-- How what was written and logged goes on.
 use Rattle.std.specs.Prelude.{◌≡◌, ℕ, List, ◌∷◌, ◌++◌, ◌⊎◌}
 use Rattle.btx_machine.specs.States.{Out}
 
@@ -14,6 +14,6 @@ Grown s t = (more : List ℕ) × (t.lines ≡ s.lines) × (t.pending ≡ s.pendi
 abbrev pub Ended : Out → Out → Type 0
 Ended s t = (more : List ℕ) × (others : List (List ℕ)) × (t.lines ≡ s.lines ++ (s.pending ++ more) ∷ others)
 
--- what was written and told in the first is a beginning of that in the second
+-- what was written and logged in the first is a prefix of that in the second
 abbrev pub Starts : Out → Out → Type 0
 Starts s t = (Grown s t ⊎ Ended s t) × Begins s.log t.log

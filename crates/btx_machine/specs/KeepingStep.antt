@@ -22,7 +22,7 @@ pub record BothExtend (before after : Received) (product : Product) : Type 0 whe
   pub bbl_extends : AppendsAtLeast before.0 after.0 product.bbl
   pub log_extends : AppendsAtLeast before.1 after.1 product.told
 
--- there is a number of steps below the budget, the same for both outputs, such that each begins with what a run of so many steps
+-- there is a number of steps below the budget, the same for both outputs, such that each begins with what a run of that number of steps
 -- writes, and is a beginning of what a run of one step more writes
 pub record WithinOneStep (before after : Received) (make : ℕ → Product) (budget : ℕ) : Type 0 where
   pub steps : ℕ

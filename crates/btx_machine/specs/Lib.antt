@@ -4,6 +4,7 @@ pub mod Steps
 pub mod Meaning
 pub mod MeaningBySteps
 pub mod MeaningLaws
+pub mod WorkedBodies
 pub mod Goings
 pub mod Budgets
 pub mod Commands
@@ -15,7 +16,11 @@ pub mod StepsNeeded
 pub mod DirectDepth
 pub mod Faults
 pub mod Written
+pub mod Running
+pub mod Frame
 pub mod Frames
+pub mod Marks
+pub mod Positions
 pub mod Progress
 pub mod Closing
 pub mod KeepingStep

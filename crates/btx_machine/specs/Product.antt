@@ -14,7 +14,7 @@ use Rattle.btx_machine.specs.Saying.{ended_line}
 use Rattle.btx_machine.specs.Reports.{end_as, told_so, report_of, last_line}
 use Rattle.btx_machine.specs.Items.{items_of}
 
--- the list of references, what is told before the log's last line, and the report, which that line tells
+-- the list of references, the log before its last line, and the report, which that line gives
 pub record Product : Type 0 where
   pub bbl : List ℕ
   pub told : List ℕ
@@ -24,7 +24,7 @@ pub record Product : Type 0 where
 abbrev pub log_of : Product → List ℕ
 log_of product = product.told ++ ended_line (last_line product.report)
 
--- what is sure of the list of references, for lines of at most so many bytes: the lines that ended, and what of the pending one can't change
+-- what is sure of the list of references, for lines of at most this number of bytes: the lines that ended, and what of the pending one can't change
 abbrev pub so_far : ℕ → Out → List ℕ
 so_far limit out = written_of limit out.lines out.pending
 
@@ -47,7 +47,7 @@ product_of limit budget (Done s left) = product_at limit ending.Finished (budget
 product_of limit budget (Stopped s) = product_at limit ending.Stopped budget s
 product_of limit budget (Limit kind s left) = product_at limit (ending.Limit kind) (budget - left) s
 
--- nothing was written or told here, but so much was told before
+-- nothing was written or logged here, but these lines were logged before
 abbrev pub no_out : Told → Out
 no_out told = record { lines = []; pending = []; log = []; warnings = told.warnings; errors = told.errors }
 
@@ -59,7 +59,7 @@ first job told = state (first_store job) (no_out told)
 abbrev pub executed : Job → Told → ℕ → Outcome
 executed job told budget = items_of job job.style.items [] budget (first job told)
 
--- the product of the items of the style, for lines of at most so many bytes
+-- the product of the items of the style, for lines of at most this number of bytes
 abbrev pub product : Job → Told → ℕ → ℕ → Product
 product job told limit budget = product_of limit budget (executed job told budget)
 

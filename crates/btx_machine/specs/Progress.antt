@@ -7,7 +7,7 @@ use Rattle.btx_machine.specs.Goings.{Starts}
 use Rattle.btx_machine.specs.Written.{Received, Start, Stands, Between, Within, Runs}
 use Rattle.btx_machine.specs.Commands.{Doing}
 
--- with so many steps the run is stopped, and what it wrote begins what stands now
+-- with this number of steps the run is stopped, and what it wrote begins what stands now
 pub record StoppedAt (whole : Doing) (n : ℕ) (s t : State) : Type 0 where
   pub least : State
   pub stopped : whole n s ≡ Stopped least
@@ -17,13 +17,13 @@ pub record StoppedAt (whole : Doing) (n : ℕ) (s t : State) : Type 0 where
 abbrev pub StoppedBefore : Doing → ℕ → State → State → Type 0
 StoppedBefore whole taken s t = (n : ℕ) → taken ≡ suc n → StoppedAt whole n s t
 
--- a run has taken so many steps, and the rest remains to be done
+-- a run has taken this number of steps, and the rest remains to be done
 pub record Reached (whole rest : Doing) (taken : ℕ) (s t : State) : Type 0 where
   pub goes_on : (n : ℕ) → rest n t ≡ whole (n + taken) s
   pub before : StoppedBefore whole taken s t
   pub adds : Starts s.out t.out
 
--- a run has ended, with so many steps taken
+-- a run has ended, with this number of steps taken
 pub record Ended (whole : Doing) (taken : ℕ) (end : Ending) (s t : State) : Type 0 where
   pub runs : Runs whole taken end s t
   pub before : StoppedBefore whole taken s t

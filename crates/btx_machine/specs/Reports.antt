@@ -26,7 +26,7 @@ word_of (ended.Limit File) = codes "limit file"
 word_of (ended.Limit Files) = codes "limit files"
 word_of ended.NoTopFile = codes "no top file"
 
--- the status of a run that ended so, with so many error messages
+-- the status of a run that ended so, with this number of error messages
 abbrev pub status_of : End → ℕ → ℕ
 status_of ended.Finished errors = if errors == 0 then 0 else 2
 status_of ended.Stopped errors = 4

@@ -1,4 +1,4 @@
--- What is written and told.
+-- What is written and logged.
 use Rattle.std.specs.Prelude.{ℕ, Bool, true, false, ◌+◌, ◌-◌, ◌^◌, min, List, [], ◌∷◌, ◌++◌, Option, map, option_map}
 use Rattle.btx_text.specs.LogLines.{Line, is_error, is_warning}
 use Rattle.btx_bib.specs.Library.{key_of}
@@ -23,7 +23,7 @@ abbrev pub counted_if : Bool → ℕ → ℕ
 counted_if true n = counted n
 counted_if false n = n
 
--- a line is told: it is the log's next one, and counts as a warning, as an error or not at all
+-- a line is logged: it is the log's next one, and counts as a warning, as an error or not at all
 abbrev pub line_told : Line → Out → Out
 line_told line out = record out {
   log = out.log ++ ended_line line.text;
@@ -31,7 +31,7 @@ line_told line out = record out {
   errors = counted_if (is_error line.kind) out.errors;
 }
 
--- lines are told one after another
+-- lines are logged one after another
 unfoldable pub lines_told : List Line → Out → Out
 lines_told [] out = out
 lines_told (line ∷ lines) out = lines_told lines (line_told line out)
@@ -57,7 +57,7 @@ wrote text out = record out { pending = out.pending ++ text }
 abbrev pub ended : Out → Out
 ended out = record out { lines = out.lines ++ out.pending ∷ []; pending = [] }
 
--- what a function of this name says is written and told
+-- what a function of this name says is written and logged
 unfoldable pub said_on : Job → List ℕ → Option ℕ → Said → Out → Out
 said_on job executed current said.Nothing out = out
 said_on job executed current (said.Wrote text) out = wrote text out

@@ -10,7 +10,7 @@ pub record StopsAt (product : Product) (budget : ℕ) : Type 0 where
   pub stopped : product.report.end ≡ Stopped
   pub all_taken : product.report.steps ≡ budget
 
--- A run needs just the steps that its report tells: with fewer it is stopped, and with so many or more it writes and answers just this.
+-- A run needs just the steps of its report: with fewer it is stopped, and with as many or more it writes and answers just this.
 pub record NeedsSteps (run : ℕ → Product) (whole : Product) : Type 0 where
   pub fewer : (budget : ℕ) → budget < whole.report.steps → StopsAt (run budget) budget
   pub enough : (budget : ℕ) → whole.report.steps ≤ budget → run budget ≡ whole

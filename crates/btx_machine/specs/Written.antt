@@ -1,4 +1,4 @@
--- What the sinks have received of what was written and told.
+-- What the sinks have received of the list and the log.
 use Rattle.std.specs.Prelude.{◌≡◌, ℕ, ◌+◌, ◌<◌, List, Option}
 use Rattle.std.specs.Io.KnownBytes.{Appends}
 use Rattle.btx_out.specs.Breaking.{left}
@@ -60,7 +60,7 @@ Comes old before new after claim = (start : Start) (out : Out) → Stands start 
 abbrev pub Fails : Work → Received → Received → (State → State) → Type 0
 Fails old before after most = (start : Start) (out : Out) → Stands start old.outputs before out → Between start after out (most (state old.store out)).out
 
--- for some number of steps below the budget, the same for both sinks: a run of so many steps is stopped, they have received at least
+-- for some number of steps below the budget, the same for both sinks: a run of that number of steps is stopped, they have received at least
 -- what it writes, and no more than what a run of one step more writes
 pub record Within (start : Start) (now : Received) (budget : ℕ) (run : ℕ → Outcome) : Type 0 where
   pub taken : ℕ

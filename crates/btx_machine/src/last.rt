@@ -33,7 +33,7 @@ fn last_line(alloc: Global, report: &Report) -> Result<Vec<u8>, AllocError>
     Ok(line)
 }
 
-/// Writes the last line of the log, and answers the report that it tells: the whole end of a run whose style isn't executed.
+/// Writes the last line of the log, and answers the report that it gives: the whole end of a run whose style isn't executed.
 pub fn tell_end<L: Sink>(alloc: Global, report: Report, log: &mut L) -> Result<Report, Fault>
     ensures report { IfOk result (λ answer. answer ≡ report) }
     ensures ok { OnOk result (Appends (L.received log.old) (L.received log.new) (ended_line (last_line report))) }

@@ -4,6 +4,7 @@ ghost use Rattle.btx_machine.specs.DirectDepth.{DirectLaw};
 ghost use Rattle.btx_machine.specs.MeaningLaws.{ExistsLaw, LimitsLaw, UniqueLaw};
 ghost use Rattle.btx_machine.specs.ProductLaws.{DepthLaw, RunLaw};
 ghost use Rattle.btx_machine.specs.StepsNeeded.{NeedsLaw, StoppedLaw};
+ghost use Rattle.btx_machine.specs.WorkedBodies.{WorkedBodies};
 
 /// Each style has a meaning: the one that the contracts speak of meets the equations that a style writer knows.
 pub fn meaning_exists()
@@ -32,7 +33,7 @@ pub fn depth_law()
     ensures { DepthLaw }
 {}
 
-/// A run that isn't stopped needs just the steps that its report tells: with fewer it is stopped, and with so many or more it writes and
+/// A run that isn't stopped needs just the steps of its report: with fewer it is stopped, and with as many or more it writes and
 /// answers the same. A stopped run took all its steps.
 pub fn steps_law()
     ensures needed { NeedsLaw }
@@ -43,4 +44,9 @@ pub fn steps_law()
 /// bodies open at once than the style has functions, so with at most 4,096 functions none meets the limit of calls.
 pub fn direct_law()
     ensures { DirectLaw }
+{}
+
+/// What short bodies come to: how many steps they take, how many bodies are open at once, and which limits they meet.
+pub fn worked_bodies_come_to_this()
+    ensures { WorkedBodies }
 {}

@@ -3,14 +3,13 @@
 
 pub mod command;
 pub mod ending;
-pub mod frames;
 pub mod items;
 pub mod last;
 pub mod law;
 pub mod machine;
+pub mod marks;
 pub mod outputs;
 pub mod report;
-pub mod rest;
 pub mod run;
 pub mod visits;
 pub mod work;
@@ -20,6 +19,7 @@ pub use ending::{Ending, Limit};
 pub use last::tell_end;
 pub use law::{
     budget_law, depth_law, direct_law, limits_law, meaning_exists, meaning_is_unique, steps_law,
+    worked_bodies_come_to_this,
 };
 pub use report::{End, Report, Told};
 pub use run::execute_style;

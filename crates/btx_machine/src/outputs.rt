@@ -1,4 +1,4 @@
-//! What is written and told while a run goes on.
+//! What is written and logged while a run goes on.
 ghost use Rattle.std.specs.Prelude.{◌≡◌, [], List, ℕ, Option, IsSome, OnErr, OnOk, map};
 ghost use Rattle.btx_text.specs.LogLines.{is_error, is_warning};
 ghost use Rattle.btx_bib.specs.MessageTexts.{line_of as message_line};
@@ -29,7 +29,7 @@ impl Outputs {
     ghost use Rattle.btx_machine.specs.Saying.{key_at};
     ghost use Rattle.btx_machine.specs.Written.{Becomes, Stops};
 
-    /// Outputs with nothing pending, for lines of at most so many bytes, after so much was told.
+    /// Outputs with nothing pending, for lines of at most this number of bytes, after this state of the log.
     pub fn new(line: LineLength, told: Told) -> Self
         ensures breaker { result.breaker ≡ holding line (Collecting []) }
         ensures range { IsLineLength line }
@@ -55,7 +55,7 @@ impl Outputs {
         }
     }
 
-    /// Writes and tells what is said while a function of this name is executed.
+    /// Writes and logs what is said while a function of this name is executed.
     pub fn say<W: Sink, L: Sink>(
         &mut self,
         alloc: Global,

@@ -70,7 +70,7 @@ impl End {
         }
     }
 
-    /// The status of a run that ended so, with so many error messages.
+    /// The status of a run that ended so, with this number of error messages.
     pub fn status(self, errors: u64) -> u8
         ensures { result ≡ status_of self errors }
     {

@@ -14,8 +14,8 @@ use btx_step::{Job, Store};
 use btx_text::Fault;
 use std::alloc::Global;
 
-/// Executes the style of a job: writes the list of references, in lines of at most so many bytes where white allows a break, and the rest of the
-/// log, of which so much was told before. At most `budget` steps are taken.
+/// Executes the style of a job: writes the list of references, in lines of at most this number of bytes where white allows a break, and the
+/// rest of the log, which goes on from what was logged before. At most `budget` steps are taken.
 pub fn execute_style<'a, W: Sink, L: Sink>(
     alloc: Global,
     job: &Job<'a>,

@@ -1,5 +1,5 @@
 -- Lemmas on a name in a format.
-use Rattle.std.proofs.Common.{Err, Bool, true, false, ◌≡◌, ℕ, zero, suc, ◌-◌, ℤ, pos, Some, None, List, [], ◌∷◌, refl, sym, arith}
+use Rattle.std.proofs.Common.{Err, Bool, true, false, ◌≡◌, ℕ, zero, suc, ◌-◌, ℤ, pos, Some, None, List, [], refl, sym, arith}
 use Rattle.std.specs.Prelude.{slice_get}
 use Rattle.btx_names.specs.NameLists.{names_of}
 use Rattle.btx_text.specs.declared.element_kind.TextMode.{TextMode}
@@ -7,24 +7,11 @@ use Rattle.btx_text.specs.declared.fault.Fault.{Fault}
 use Rattle.btx_text.specs.declared.fault.Fault.TheVariants.{Memory, Device, FileLimit, StringLimit}
 use Rattle.btx_strings.specs.declared.answers.Complaints.{Complaints}
 use Rattle.btx_strings.specs.Answers.{Answers}
-use Rattle.btx_names.specs.Becomes.{MakesLegal}
+use Rattle.btx_names.specs.Becomes.{WritesLegal}
 use Rattle.btx_names.specs.NameParts.{NameParts, Sections, sections_of, ends_in_comma, has_third_comma, parts_by}
 use Rattle.btx_names.specs.Formats.{is_legal}
 use Rattle.btx_names.specs.FormattedNames.{formatted}
 use Rattle.btx_names.specs.Answered.{names_before, nth_name, one_name_text, one_name_complaints, complaints_with}
-
-pub slice_get_first : (names : List (List ℕ)) (name : List ℕ) (n : ℕ) → n ≡ 0 → slice_get (name ∷ names) n ≡ Some name
-slice_get_first names name n is = rw is refl
-
-pub slice_get_later : (names : List (List ℕ)) (name : List ℕ) (n : ℕ) → (n ≡ 0 → ⊥) → slice_get (name ∷ names) n ≡ slice_get names (n - 1)
-slice_get_later names name zero some = absurd (some refl)
-slice_get_later names name (suc n) some = let e : suc n - 1 ≡ n = omega arith in rw e refl
-
-pub slice_get_none : (n : ℕ) (names : List (List ℕ)) → names ≡ [] → slice_get names n ≡ None
-slice_get_none n names none = rw none (at n) where
-  at : (n : ℕ) → let none : List (List ℕ) = [] in slice_get none n ≡ None
-  at zero = refl
-  at (suc n) = refl
 
 pub nth_name_none : (names : List ℕ) (number : ℤ) → names_before number ≡ None → nth_name names number ≡ None
 unfolding nth_name
@@ -34,7 +21,7 @@ pub nth_name_some : (names : List ℕ) (number : ℤ) (n : ℕ) → names_before
 unfolding nth_name
 nth_name_some names number n is = rw is refl
 
-pub ruleset nth_steps = (slice_get_first, slice_get_later, slice_get_none, nth_name_none, nth_name_some)
+pub ruleset nth_steps = (nth_name_none, nth_name_some)
 
 pub names_before_some : (number : ℤ) (n : ℕ) → number ≡ pos n → (n ≡ 0 → ⊥) → names_before number ≡ Some (n - 1)
 unfolding names_before
@@ -60,10 +47,10 @@ one_legal mode name format sections legal parts complaints cut asked is_so made 
     (rw (sym asked, is_so, made, cut) refl, rw (are, cut, asked) refl)
 
 -- a fault on the way is the fault of the whole
-pub answers_fault : (mode : TextMode) (name format : List ℕ) (sections : Sections) (parts : NameParts) (fault : Fault) → sections ≡ sections_of name → parts ≡ parts_by sections →
-    MakesLegal 1000000 (is_legal format) (Err fault) (formatted mode parts format) → Answers (Err fault) (one_name_text mode name format) (one_name_complaints name format)
+pub answers_fault : (mode : TextMode) (name format text : List ℕ) (sections : Sections) (parts : NameParts) (fault : Fault) → sections ≡ sections_of name → parts ≡ parts_by sections →
+    WritesLegal 1000000 (is_legal format) (Err fault) text (formatted mode parts format) → Answers (Err fault) (one_name_text mode name format) (one_name_complaints name format)
 unfolding one_name_text one_name_complaints
-answers_fault mode name format sections parts Memory cut made h = tt
-answers_fault mode name format sections parts StringLimit cut made h = rw (h.0, sym cut, sym made) h.1
-answers_fault mode name format sections parts Device cut made h = h
-answers_fault mode name format sections parts FileLimit cut made h = h
+answers_fault mode name format text sections parts Memory cut made h = tt
+answers_fault mode name format text sections parts StringLimit cut made h = rw (h.0, sym cut, sym made) h.1
+answers_fault mode name format text sections parts Device cut made h = h
+answers_fault mode name format text sections parts FileLimit cut made h = h

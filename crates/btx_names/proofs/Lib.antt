@@ -5,13 +5,17 @@ pub mod VonLemmas
 pub mod CountLemmas
 pub mod SectionLemmas
 pub mod RangeLemmas
+pub mod PlaceLemmas
 pub mod PartLemmas
 pub mod FormatLemmas
 pub mod InitialLemmas
 pub mod ShortLemmas
 pub mod TieLemmas
+pub mod TokenListLemmas
 pub mod PieceLemmas
 pub mod FormattedLemmas
+pub mod KeptLemmas
+pub mod KeptItemLemmas
 mod WorkedNames
 pub mod SplitLemmas
 pub mod LawLemmas

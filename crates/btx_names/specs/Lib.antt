@@ -3,6 +3,7 @@ pub mod Runs
 pub mod Tokens
 pub mod TokenViews
 pub mod Lettered
+pub mod Places
 pub mod NameTokens
 pub mod TokenLists
 pub mod VonTokens
@@ -20,3 +21,6 @@ pub mod FormattedNames
 pub mod Becomes
 pub mod Answered
 pub mod Gaps
+pub mod NamesFrom
+pub mod KeptNames
+pub mod KeptItems

@@ -8,7 +8,7 @@ use Rattle.btx_names.specs.declared.part.Part.{Part}
 
 -- the tokens of a part
 abbrev pub part_tokens : Part → List Token
-part_tokens part = tokens_in part.tokens.now
+part_tokens part = tokens_in part.bytes.now part.tokens.now
 
 -- the parts of a name, as lists of tokens
 abbrev pub parts_view : NameParts → spec.NameParts

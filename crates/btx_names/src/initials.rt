@@ -2,17 +2,21 @@
 ghost use Rattle.std.specs.Prelude.{◌≡◌};
 ghost use Rattle.btx_names.specs.FormattedNames as spec;
 ghost use Rattle.btx_names.specs.Lettered.{lettered_of};
+ghost use Rattle.btx_names.specs.NameTokens.{Hold};
+ghost use Rattle.btx_names.specs.Places.{bytes_at};
 
 use crate::name_token::NameToken;
 use btx_text::classify::is_alpha;
 use btx_text::{Elements, TextMode};
 
-/// What stands for a token that is abbreviated: its first letter or special character, at any depth. It may be nothing.
+/// What stands for a token that is abbreviated: its first letter or special character, at any depth. It may be nothing. The bytes of all
+/// tokens are given.
 #[tactic(auto, using(crate::proofs::InitialLemmas::initial_steps))]
-pub fn initial_of<'a>(token: &NameToken<'a>, mode: TextMode) -> &'a [u8]
-    ensures { result.now ≡ spec.initial_of mode token.now.text.now }
+pub fn initial_of<'a>(bytes: &'a [u8], token: &NameToken, mode: TextMode) -> &'a [u8]
+    requires { Hold bytes.now token.now }
+    ensures { result.now ≡ spec.initial_of mode (bytes_at bytes.now token.now.text) }
 {
-    match Elements::of_text(token.lettered, mode).next() {
+    match Elements::of_text(token.lettered.of(bytes), mode).next() {
         Some(element) => element.text,
         None => &[],
     }

@@ -79,8 +79,8 @@ pub fn first_control_sequence_decides()
 {}
 
 /// How many commas count in a name says its form: without one it is First von Last, with one it is von Last, First, and with two or more it is
-/// von Last, Jr, First; a third one is told. And a name is told to end in a comma exactly where it has a comma at depth 0 that no token
-/// follows.
+/// von Last, Jr, First; of a third one there is a complaint. That a name ends in a comma is complained of exactly where it has a comma at
+/// depth 0 that no token follows.
 #[tactic(auto, using(crate::proofs::CommaLemmas::comma_laws, crate::proofs::EndingLemmas::ending_by_commas))]
 pub fn commas_give_the_form()
     ensures form { (name : List ℕ) → commas_in (sections_of name) ≡ min (length (commas_of name)) 2 }

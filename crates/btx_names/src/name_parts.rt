@@ -2,52 +2,46 @@
 ghost use Rattle.std.specs.Prelude.{◌≡◌, ◌≤◌, length};
 
 use crate::name_ranges::{Ranges, von_end};
-use crate::name_sections::Sections;
 use crate::part::Part;
 use crate::token_list::TokenList;
 
 /// The parts of a name.
 #[derive(Clone, Copy, Debug)]
-pub struct NameParts<'t, 'a> {
+pub struct NameParts<'t> {
     /// The first names.
-    pub first: Part<'t, 'a>,
+    pub first: Part<'t>,
     /// The particles, as `de la`.
-    pub von: Part<'t, 'a>,
+    pub von: Part<'t>,
     /// The last names.
-    pub last: Part<'t, 'a>,
+    pub last: Part<'t>,
     /// What stands between two commas, as `Jr`.
-    pub jr: Part<'t, 'a>,
+    pub jr: Part<'t>,
 }
 
-impl<'t, 'a> NameParts<'t, 'a> {
+impl<'t> NameParts<'t> {
     ghost use Rattle.btx_names.specs.NameParts as spec;
-    ghost use Rattle.btx_names.specs.PartViews.{part_tokens};
-    ghost use Rattle.btx_names.specs.SectionViews.{sections_view};
+    ghost use Rattle.btx_names.specs.PartViews.{part_tokens, parts_view};
     ghost use Rattle.btx_names.specs.TokenLists.{IsListOf};
 
     /// The parts of a name, of the list of its tokens.
-    pub fn of(list: &'t TokenList<'a>, sections: Sections<'_>) -> NameParts<'t, 'a>
-        requires { IsListOf list.now (sections_view sections) }
-        ensures first { part_tokens result.first ≡ (spec.parts_by (sections_view sections.entry)).first }
-        ensures von { part_tokens result.von ≡ (spec.parts_by (sections_view sections.entry)).von }
-        ensures last { part_tokens result.last ≡ (spec.parts_by (sections_view sections.entry)).last }
-        ensures jr { part_tokens result.jr ≡ (spec.parts_by (sections_view sections.entry)).jr }
+    pub fn of(list: &'t TokenList) -> NameParts<'t>
+        requires { (sections : spec.Sections) × IsListOf list.now sections }
+        ensures { (sections : spec.Sections) → IsListOf list.now sections → parts_view result ≡ spec.parts_by sections }
     {
         let all = Part {
+            bytes: &list.bytes,
             tokens: &list.tokens,
         };
         let (surname, others) = all.split_at(list.surname);
         let (jr, first) = others.split_at(list.jr);
-        match sections {
-            Sections::One(_) => NameParts::without_commas(surname, jr),
-            Sections::Two(_, _) | Sections::Three(_, _, _) => {
-                NameParts::with_commas(surname, jr, first)
-            }
+        if list.has_commas {
+            return NameParts::with_commas(surname, jr, first);
         }
+        NameParts::without_commas(surname, jr)
     }
 
     // The parts of a name without commas: First von Last.
-    fn without_commas(name: Part<'t, 'a>, jr: Part<'t, 'a>) -> NameParts<'t, 'a>
+    fn without_commas(name: Part<'t>, jr: Part<'t>) -> NameParts<'t>
         ensures first { part_tokens result.first ≡ (spec.unsplit (part_tokens name.entry)).first }
         ensures von { part_tokens result.von ≡ (spec.unsplit (part_tokens name.entry)).von }
         ensures last { part_tokens result.last ≡ (spec.unsplit (part_tokens name.entry)).last }
@@ -65,11 +59,7 @@ impl<'t, 'a> NameParts<'t, 'a> {
     }
 
     // The parts of a name with commas, by its sections.
-    fn with_commas(
-        surname: Part<'t, 'a>,
-        jr: Part<'t, 'a>,
-        first: Part<'t, 'a>,
-    ) -> NameParts<'t, 'a>
+    fn with_commas(surname: Part<'t>, jr: Part<'t>, first: Part<'t>) -> NameParts<'t>
         ensures first { part_tokens result.first ≡ part_tokens first.entry }
         ensures von { part_tokens result.von ≡ (spec.parted (part_tokens surname.entry) (part_tokens jr.entry) (part_tokens first.entry)).von }
         ensures last { part_tokens result.last ≡ (spec.parted (part_tokens surname.entry) (part_tokens jr.entry) (part_tokens first.entry)).last }

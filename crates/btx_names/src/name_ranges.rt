@@ -18,7 +18,7 @@ pub struct Ranges {
 impl Ranges {
     /// Where von and Last begin in a name without commas.
     #[tactic(auto, using(crate::proofs::RangeLemmas::ranges))]
-    pub fn of(name: Part<'_, '_>) -> Ranges
+    pub fn of(name: Part<'_>) -> Ranges
         ensures von_start { result.von_start ≡ spec.von_start (part_tokens name.entry) }
         ensures last_start { result.last_start ≡ spec.last_start (part_tokens name.entry) }
         ensures ordered { result.von_start ≤ result.last_start }
@@ -41,7 +41,7 @@ impl Ranges {
 
 /// How many tokens there are up to the last von token before the final one.
 #[tactic(auto, using(crate::proofs::RangeLemmas::ranges))]
-pub fn von_end(surname: Part<'_, '_>) -> usize
+pub fn von_end(surname: Part<'_>) -> usize
     ensures value { result ≡ spec.von_end (part_tokens surname.entry) }
     ensures bound { result ≤ length (part_tokens surname.entry) }
 {

@@ -18,7 +18,7 @@ pub enum Sections<'a> {
 }
 
 impl<'a> Sections<'a> {
-    ghost use Rattle.btx_names.specs.SectionViews.{first_of, jr_of, sections_view};
+    ghost use Rattle.btx_names.specs.SectionViews.{first_of, has_commas, jr_of, sections_view};
 
     /// The sections of a name.
     #[tactic(auto, unfolding(crate::specs::NameParts::sections_of))]
@@ -46,6 +46,13 @@ impl<'a> Sections<'a> {
             Sections::Two(surname, first) => (surname, &[], first),
             Sections::Three(surname, jr, first) => (surname, jr, first),
         }
+    }
+
+    /// Whether commas part the name.
+    pub fn has_commas(self) -> bool
+        ensures { result ≡ has_commas (sections_view self.entry) }
+    {
+        !matches!(self, Sections::One(_))
     }
 
     /// Whether there is a third comma that a token follows.

@@ -5,7 +5,9 @@ ghost use Rattle.btx_text.specs.Limits.{greatest_string};
 ghost use Rattle.btx_names.specs.Becomes.{Becomes};
 ghost use Rattle.btx_names.specs.FormattedNames as spec;
 ghost use Rattle.btx_names.specs.ItemViews.{has_nothing_between, piece_view};
+ghost use Rattle.btx_names.specs.NameTokens.{Hold};
 ghost use Rattle.btx_names.specs.PartViews.{part_tokens};
+ghost use Rattle.btx_names.specs.Places.{bytes_at};
 
 use crate::format_items::Piece;
 use crate::initials::initial_of;
@@ -16,7 +18,7 @@ use crate::writer::Writer;
 use btx_text::Fault;
 
 /// Adds a piece with the tokens of its part; nothing, where the part has none.
-pub fn push_piece(writer: &mut Writer, piece: Piece<'_>, part: Part<'_, '_>) -> Result<(), Fault>
+pub fn push_piece(writer: &mut Writer, piece: Piece<'_>, part: Part<'_>) -> Result<(), Fault>
     ensures text { Becomes greatest_string result writer.new.text.items (writer.old.text.items ++ spec.piece_text writer.old.mode (piece_view piece.entry) (part_tokens part.entry)) }
     ensures mode { writer.new.mode ≡ writer.old.mode }
 {
@@ -51,7 +53,7 @@ pub fn push_plain(writer: &mut Writer, inside: &[u8]) -> Result<(), Fault>
 }
 
 // Adds the tokens of a piece's part. It takes no more turns than it adds bytes, or one.
-fn push_tokens(writer: &mut Writer, piece: Piece<'_>, part: Part<'_, '_>) -> Result<(), Fault>
+fn push_tokens(writer: &mut Writer, piece: Piece<'_>, part: Part<'_>) -> Result<(), Fault>
     ensures text { Becomes (greatest_string + 1) result writer.new.text.items
         (take writer.old.start writer.old.text.items ++ spec.with_tokens writer.old.mode (piece_view piece.entry) (drop writer.old.start writer.old.text.items) (part_tokens part.entry)) }
     ensures start { writer.new.start ≡ writer.old.start }
@@ -63,7 +65,7 @@ fn push_tokens(writer: &mut Writer, piece: Piece<'_>, part: Part<'_, '_>) -> Res
     let mut left = part.tokens.len();
     for token in part.tokens {
         left -= 1;
-        push_shown(writer, token, piece.is_full)?;
+        push_shown(writer, part.bytes, token, piece.is_full)?;
         push_between(writer, piece, token.joint, left)?;
     }
     Ok(())
@@ -77,7 +79,7 @@ fn has_nothing_between(piece: Piece<'_>) -> bool
 }
 
 // Adds the tokens of a part, abbreviated and with nothing between them. It passes over those that have no abbreviation.
-fn push_initials(writer: &mut Writer, part: Part<'_, '_>) -> Result<(), Fault>
+fn push_initials(writer: &mut Writer, part: Part<'_>) -> Result<(), Fault>
     ensures text { Becomes (greatest_string + 1) result writer.new.text.items
         (writer.old.text.items ++ flat_map (λ token. spec.initial_of writer.old.mode token.text) (part_tokens part.entry)) }
     ensures start { writer.new.start ≡ writer.old.start }
@@ -86,22 +88,28 @@ fn push_initials(writer: &mut Writer, part: Part<'_, '_>) -> Result<(), Fault>
     let mut place = 0;
     while place < part.tokens.len() {
         let token = &part.tokens[place];
-        writer.push(initial_of(token, writer.mode()))?;
+        writer.push(initial_of(part.bytes, token, writer.mode()))?;
         place += 1 + token.bare_behind.min(part.tokens.len() - 1 - place);
     }
     Ok(())
 }
 
 // Adds a token, in full or abbreviated.
-fn push_shown(writer: &mut Writer, token: &NameToken<'_>, is_full: bool) -> Result<(), Fault>
-    ensures text { Becomes (greatest_string + 1) result writer.new.text.items (writer.old.text.items ++ spec.shown writer.old.mode is_full token.now.text.now) }
+fn push_shown(
+    writer: &mut Writer,
+    bytes: &[u8],
+    token: &NameToken,
+    is_full: bool,
+) -> Result<(), Fault>
+    requires { Hold bytes.now token.now }
+    ensures text { Becomes (greatest_string + 1) result writer.new.text.items (writer.old.text.items ++ spec.shown writer.old.mode is_full (bytes_at bytes.now token.now.text)) }
     ensures start { writer.new.start ≡ writer.old.start }
     ensures mode { writer.new.mode ≡ writer.old.mode }
 {
     if is_full {
-        return writer.push(token.text);
+        return writer.push(token.text.of(bytes));
     }
-    writer.push(initial_of(token, writer.mode()))
+    writer.push(initial_of(bytes, token, writer.mode()))
 }
 
 // Adds what stands behind a token, with how many are left.

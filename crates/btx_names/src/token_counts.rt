@@ -20,23 +20,23 @@ pub enum TokenTest {
 }
 
 // Whether a token passes a test.
-fn passes(test: TokenTest, token: &NameToken<'_>) -> bool
-    ensures { result ≡ steps.passes test (token_of token.now) }
+fn passes(test: TokenTest, bytes: &[u8], token: &NameToken) -> bool
+    ensures { result ≡ steps.passes test (token_of bytes.now token.now) }
 {
     match test {
-        TokenTest::Von => is_von(token.text),
+        TokenTest::Von => is_von(token.text.of(bytes)),
         TokenTest::Apart => !matches!(token.joint, Joint::Hyphen),
     }
 }
 
 /// How many tokens there are up to the last one before the final token that passes a test, 0 where none does.
 #[tactic(auto, using(crate::proofs::CountLemmas::last_steps))]
-pub fn up_to_last_before_final(part: Part<'_, '_>, test: TokenTest) -> usize
+pub fn up_to_last_before_final(part: Part<'_>, test: TokenTest) -> usize
     ensures { result ≡ spec.up_to_last (steps.passes test) (spec.before_final (part_tokens part.entry)) }
 {
     let mut place = part.tokens.len().saturating_sub(1);
     while place > 0 {
-        if passes(test, &part.tokens[place - 1]) {
+        if passes(test, part.bytes, &part.tokens[place - 1]) {
             return place;
         }
         place -= 1;
@@ -46,11 +46,11 @@ pub fn up_to_last_before_final(part: Part<'_, '_>, test: TokenTest) -> usize
 
 /// How many tokens stand before the first that passes a test.
 #[tactic(auto, using(crate::proofs::CountLemmas::first_steps))]
-pub fn before_first(part: Part<'_, '_>, test: TokenTest) -> usize
+pub fn before_first(part: Part<'_>, test: TokenTest) -> usize
     ensures { result ≡ spec.before_first (steps.passes test) (part_tokens part.entry) }
 {
     for (place, token) in part.tokens.iter().enumerate() {
-        if passes(test, token) {
+        if passes(test, part.bytes, token) {
             return place;
         }
     }

@@ -24,16 +24,24 @@ pub struct Writer {
 
 impl Writer {
     /// Nothing so far.
-    pub fn new(alloc: Global, mode: TextMode) -> Writer
-        ensures text { result.text.items ≡ [] }
-        ensures mode { result.mode ≡ mode }
-    {
+    pub fn new(alloc: Global) -> Writer {
         Writer {
             text: Vec::new(alloc),
             start: 0,
             is_long: false,
-            mode,
+            mode: TextMode::Bytes,
         }
+    }
+
+    /// Begins a text, whose bytes are read in a mode, in the memory of the one before.
+    pub fn begin(&mut self, mode: TextMode)
+        ensures text { self.new.text.items ≡ [] }
+        ensures mode { self.new.mode ≡ mode }
+    {
+        self.text.clear();
+        self.start = 0;
+        self.is_long = false;
+        self.mode = mode;
     }
 
     /// How its bytes are read.
@@ -43,11 +51,11 @@ impl Writer {
         self.mode
     }
 
-    /// The whole text.
-    pub fn into_text(self) -> Vec<u8>
-        ensures { result.items ≡ self.text.items }
+    /// The text so far.
+    pub fn text(&self) -> &[u8]
+        ensures { result.now ≡ self.now.text.items }
     {
-        self.text
+        &self.text
     }
 
     /// Begins a piece.

@@ -95,7 +95,7 @@ cut_at cut text Unbroken = only (Long text)
 cut_at cut text (Broken past head []) = after head (only (Nothing past))
 cut_at cut text (Broken past head (b ∷ rest)) = after head (cut (indented (b ∷ rest)))
 
--- the pieces after at most so many breaks
+-- the pieces after at most this number of breaks
 unfoldable pub cut_within : ℕ → ℕ → List ℕ → Cut
 cut_within zero limit text = only (Short text)
 cut_within (suc turns) limit text =

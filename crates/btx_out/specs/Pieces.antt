@@ -1,4 +1,4 @@
--- Beginnings of what is written, for a sink that tells its bytes; of one that doesn't, nothing is said.
+-- Prefixes of what is written, for a sink that shows the bytes it received; of one that doesn't, nothing is said.
 use Rattle.std.specs.Prelude.{◌≡◌, ℕ, List, ◌++◌, Option}
 use Rattle.std.specs.Io.KnownBytes.{Appends}
 

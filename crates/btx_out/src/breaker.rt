@@ -306,7 +306,7 @@ fn write_end<W: Sink>(state: State, line: &mut Kept, sink: &mut W) -> Result<(),
     }
 }
 
-/// Breaks logical lines into lines of at most so many bytes, where white allows it. It is seen as that length and what is left of the
+/// Breaks logical lines into lines of at most a given number of bytes, where white allows it. It is seen as that length and what is left of the
 /// pending line. It takes no memory. After a failed write every call answers Device and writes nothing.
 #[derive(Drop)]
 pub struct Breaker {

@@ -25,7 +25,7 @@ impl Model for LineLength {
 }
 
 impl LineLength {
-    /// A length of so many bytes; None exactly where the number is below 20 or above 1,000.
+    /// A length of this number of bytes; None exactly where the number is below 20 or above 1,000.
     pub fn new(bytes: u32) -> Option<LineLength>
         ensures { SomeIff result (IsLineLength bytes) bytes }
     {

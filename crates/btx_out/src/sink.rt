@@ -12,9 +12,9 @@ use thiserror::Error;
 #[error("device error")]
 pub struct SinkFault;
 
-/// A receiver of bytes. It tells the bytes that it received or doesn't, as one over a real file.
+/// A receiver of bytes. It shows the bytes that it received or doesn't, as one over a real file.
 pub trait Sink {
-    /// The bytes received, for a sink that tells them.
+    /// The bytes received, for a sink that shows them.
     ghost received: { Self → Option (List ℕ) };
 
     /// How often a write has failed; a `u64`, which goes from its greatest value to 0.

@@ -9,7 +9,7 @@ use Rattle.btx_bib.specs.declared.entry.Entry.{Entry}
 use Rattle.btx_bib.specs.declared.message.Message.{Message}
 use Rattle.btx_bib.specs.declared.slots.Body.{Body}
 use Rattle.btx_bib.specs.declared.slots.Slot.{Slot}
-use Rattle.btx_bib.specs.Databases.{library_by, library_of, read_all, told_all, with_macros}
+use Rattle.btx_bib.specs.Databases.{library_by, library_of, read_all}
 use Rattle.btx_bib.specs.Entries.{Given, body_of}
 use Rattle.btx_bib.specs.Known.{Known}
 use Rattle.btx_bib.specs.Library.{kind_of}
@@ -114,7 +114,7 @@ module _ (n : ℕ) where
 
     pub databases_fit : (macros : List (List ℕ × List ℕ)) (databases : List Database) → EntriesFit (library_of wanted macros databases).entries
     unfolding library_of
-    databases_fit macros databases = library_fits (read_all wanted (with_macros macros) databases).ending (read_all wanted (with_macros macros) databases) (told_all wanted (with_macros macros) databases)
+    databases_fit macros databases = let reading = read_all wanted macros databases in library_fits reading.known.ending reading.known reading.messages
 
   pub kind_fits : (entries : List Entry) (place number : ℕ) → EntriesFit entries → kind_of (slice_get entries place) ≡ Some number → number < n
   kind_fits [] place number h e = absurd (cc)

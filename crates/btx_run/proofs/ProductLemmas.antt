@@ -19,10 +19,12 @@ use Rattle.btx_bib.specs.Requests.{asked}
 use Rattle.btx_step.specs.Jobs.{Job as StyleJob}
 use Rattle.btx_machine.specs.Faults.{CountsOfLog, CountsOfOutputs}
 use Rattle.btx_machine.specs.KeepingStep.{AtFault, BothBegin, BothExtend, Completes, KeepsStep, LastLineBehindList}
-use Rattle.btx_machine.specs.Product.{Product, product_early, product as executed}
+use Rattle.btx_machine.specs.Product.{Product, product_early, product_of, executed as outcome_of_style, product as executed}
 use Rattle.btx_machine.specs.Reports.{last_line, told_so}
 use Rattle.btx_machine.specs.Saying.{ended_line}
+use Rattle.btx_machine.specs.States.{Outcome, Done, Stopped, Limit}
 use Rattle.btx_machine.specs.Written.{Received}
+use Rattle.btx_machine.specs.declared.report.End.TheVariants.{NoTopFile}
 use Rattle.btx_machine.specs.declared.report.Report.{Report}
 use Rattle.btx_machine.specs.declared.report.Told.{Told}
 use Rattle.btx_machine.proofs.ComesLemmas.{ok_map, err_map}
@@ -60,6 +62,17 @@ pub never_deeper : (a b : Received) (work : StyleJob) (told : Told) (limit budge
     → IfOk r (λ report. Completes report a b (executed work told limit budget)) → IfOk r (λ report. report.deepest ≤ 4096)
 never_deeper a b work told limit budget =
     ok_map (λ report completes. subst (λ (report : Report). report.deepest ≤ 4096) (sym completes.report_is) (depth.holds work told limit budget))
+
+-- a run whose style was executed had its top file
+had_top_file : (limit budget : ℕ) (outcome : Outcome) → (product_of limit budget outcome).report.end ≡ NoTopFile → ⊥
+had_top_file limit budget (Done s left) is = cc
+had_top_file limit budget (Stopped s) is = cc
+had_top_file limit budget (Limit kind s left) is = cc
+
+pub touched_with_top_file : {W : Type 0} (bbl after : W) (a b : Received) (work : StyleJob) (told : Told) (limit budget : ℕ) (r : Result Report Fault)
+    → IfOk r (λ report. Completes report a b (executed work told limit budget)) → IfOk r (λ report. report.end ≡ NoTopFile → after ≡ bbl)
+touched_with_top_file bbl after a b work told limit budget =
+    ok_map (λ report completes is. absurd (had_top_file limit budget (outcome_of_style work told budget) (sym (ap (λ (report : Report). report.end) completes.report_is) ∙ is)))
 
 -- ---- a run that ends at once
 

@@ -18,6 +18,6 @@ database_of file = record { file = file.name; text = file.bytes }
 abbrev pub style_in : JobFiles → Style
 style_in found = style_of found.style.name found.style.bytes
 
--- what the databases give to a job, where an entry that isn't cited takes so many references to stay
+-- what the databases give to a job, where an entry that isn't cited takes this number of references to stay
 abbrev pub library_in : Job → JobFiles → ℕ → Library
 library_in job found least = library_of (asked (style_in found) job least) (style_in found).macros (map database_of found.databases)

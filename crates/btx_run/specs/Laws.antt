@@ -16,7 +16,7 @@ abbrev pub BudgetLaw : Type 0
 BudgetLaw = (files : Files) (name : List ℕ) (options : Options) → IsLineLength options.line → (few many : ℕ) → few ≤ many →
     Foretells (product_with files name options few) (product_with files name options many)
 
--- a run that isn't stopped needs just the steps that it took: with fewer it is stopped, and with so many or more it writes and answers
+-- a run that isn't stopped needs just the steps that it took: with fewer it is stopped, and with as many or more it writes and answers
 -- the same
 abbrev pub NeedsLaw : Type 0
 NeedsLaw = (files : Files) (name : List ℕ) (options : Options) → NeededSteps (product_with files name options)

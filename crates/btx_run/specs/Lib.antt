@@ -4,4 +4,5 @@ pub mod DirectStyles
 pub mod Product
 pub mod Answered
 pub mod Laws
+pub mod WorkedJobs
 pub mod RunFaults

@@ -35,12 +35,12 @@ told_in lines = told_so (counts_of lines).warnings (counts_of lines).errors
 abbrev pub told_before : List Line → Product → Product
 told_before lines product = record product { told = bytes_of_lines lines ++ product.told }
 
--- what follows the reading of the files, after so much was told, with a budget: the run ends at once, or the style is executed
+-- what follows the reading of the files, after these lines of the log, with a budget: the run ends at once, or the style is executed
 abbrev pub product_of_files : Job → FilesRead → Options → Told → ℕ → Product
 product_of_files job (Ends ending) options told budget = product_early (report_of ending 0 0 told)
 product_of_files job (Found found) options told budget = executed (work_in job found options) told options.line budget
 
--- the product of a job whose files were read so, with a budget: what was told, and what follows
+-- the product of a job whose files were read so, with a budget: what was logged, and what follows
 abbrev pub product_of_reading : Job → Reading FilesRead → Options → ℕ → Product
 product_of_reading job read options budget = told_before read.told (product_of_files job read.gives options (told_in read.told) budget)
 

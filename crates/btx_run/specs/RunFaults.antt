@@ -1,4 +1,4 @@
--- What a run's fault says of the finder and the two sinks: the device's fault is told exactly where one of their three counts of
+-- What a run's fault says of the finder and the two sinks: the device's fault is answered exactly where one of their three counts of
 -- failures rose, by one.
 use Rattle.std.specs.Prelude.{Result, Ok, Err}
 use Rattle.btx_text.specs.Counts.{Change, Stays, OneOfThreeRises}

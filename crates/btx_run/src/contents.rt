@@ -26,7 +26,7 @@ fn sources<'f>(alloc: Global, found: &'f FoundFiles<'_>) -> Result<Vec<Source<'f
     Ok(sources)
 }
 
-/// Reads the databases that were found, for a job and its style, where an entry that isn't cited takes so many references to stay. The only
+/// Reads the databases that were found, for a job and its style, where an entry that isn't cited takes this number of references to stay. The only
 /// fault is want of memory.
 pub fn read_library<'a>(
     alloc: Global,

@@ -1,5 +1,5 @@
 //! The files of a run: its job's `.aux` files, its style and its databases are found and read, and each line of the log is written when
-//! what it tells happens.
+//! what it is about happens.
 
 mod databases;
 pub mod found;

@@ -13,7 +13,7 @@ pub use btx_machine::{End, Limit, Report};
 pub use btx_out::{LineLength, Over, Sink, SinkFault};
 pub use btx_step::KeptBytes;
 pub use btx_text::TextMode;
-pub use law::{budget_law, direct_law, steps_law};
+pub use law::{budget_law, direct_law, steps_law, worked_jobs_come_to_this};
 pub use options::Options;
 pub use run_fault::RunFault;
 pub use runner::run;

@@ -6,6 +6,7 @@ ghost use Rattle.btx_machine.specs.DirectDepth.{StaysWithin};
 ghost use Rattle.btx_machine.specs.Faults.{CountsOfOutputs};
 ghost use Rattle.btx_machine.specs.KeepingStep.{AtFault, Completes};
 ghost use Rattle.btx_machine.specs.Product.{log_of, product as executed};
+ghost use Rattle.btx_machine.specs.declared.report.End.TheVariants.{NoTopFile};
 ghost use Rattle.btx_run.specs.Answered.{CompletesAsAnswered, FailsAsAnswered, product_answered};
 ghost use Rattle.btx_run.specs.DirectStyles.{WhereDirect};
 ghost use Rattle.btx_run.specs.Files.Answered.{Answers, BySome};
@@ -28,7 +29,7 @@ use btx_step::Job;
 use btx_text::Fault;
 use std::alloc::Global;
 
-// Executes a style, after so much was told.
+// Executes a style, after these lines of the log.
 fn execute<'a, W: Sink, L: Sink>(
     alloc: Global,
     style: &'a Style<'a>,
@@ -55,7 +56,7 @@ fn execute<'a, W: Sink, L: Sink>(
     execute_style(alloc, &job, told, options.line, options.budget, bbl, log)
 }
 
-// Executes a style that was found, after so much was told: its text and the databases are read first.
+// Executes a style that was found, after these lines of the log: its text and the databases are read first.
 fn execute_found<'a, W: Sink, L: Sink>(
     alloc: Global,
     job: &'a AuxJob,
@@ -78,7 +79,7 @@ fn execute_found<'a, W: Sink, L: Sink>(
     execute(alloc, &style, &library, options, told, bbl, log)
 }
 
-// Goes on from the files of a job, after so much was told: the run ends at once, or the style is executed.
+// Goes on from the files of a job, after these lines of the log: the run ends at once, or the style is executed.
 fn after_files<'a, W: Sink, L: Sink>(
     alloc: Global,
     job: &'a AuxJob,
@@ -95,6 +96,7 @@ fn after_files<'a, W: Sink, L: Sink>(
     ensures deep { IfOk result (λ report. report.deepest ≤ 4096) }
     ensures err { OnErr result (AtFault (W.received bbl.old, L.received log.old) (W.received bbl.new, L.received log.new)
         (product_of_files job.now read.entry options.now told) options.now.budget) }
+    ensures untouched { IfOk result (λ report. report.end ≡ NoTopFile → bbl.new ≡ bbl.old) }
     ensures counts { CountsOfOutputs result (W.failures bbl.old, W.failures bbl.new) (L.failures log.old, L.failures log.new) }
 {
     match read {
@@ -124,6 +126,7 @@ fn run_job<F: Finder, W: Sink, L: Sink>(
         Completes report (W.received bbl.old, L.received log.old) (W.received bbl.new, L.received log.new) (product_answered job.now answers options.now options.now.budget))) }
     ensures begun { OnErr result (BySome (Answers job.now) (λ answers.
         AtFault (W.received bbl.old, L.received log.old) (W.received bbl.new, L.received log.new) (product_answered job.now answers options.now) options.now.budget)) }
+    ensures untouched { IfOk result (λ report. report.end ≡ NoTopFile → bbl.new ≡ bbl.old) }
     ensures counts { CountsOfThree result (F.failures finder.old, F.failures finder.new) (W.failures bbl.old, W.failures bbl.new) (L.failures log.old, L.failures log.new) }
     ensures stays { F.content finder.new ≡ F.content finder.old }
 {
@@ -153,6 +156,7 @@ fn run_named<F: Finder, W: Sink, L: Sink>(
         AtFault (W.received bbl.old, L.received log.old) (W.received bbl.new, L.received log.new) (product_with files name.now options.now) options.now.budget)) }
     ensures answered { IfOk result (CompletesAsAnswered options.now (W.received bbl.old, L.received log.old) (W.received bbl.new, L.received log.new)) }
     ensures begun { OnErr result (FailsAsAnswered options.now (W.received bbl.old, L.received log.old) (W.received bbl.new, L.received log.new)) }
+    ensures untouched { IfOk result (λ report. report.end ≡ NoTopFile → bbl.new ≡ bbl.old) }
     ensures counts { CountsOfThree result (F.failures finder.old, F.failures finder.new) (W.failures bbl.old, W.failures bbl.new) (L.failures log.old, L.failures log.new) }
     ensures stays { F.content finder.new ≡ F.content finder.old }
 {
@@ -170,7 +174,7 @@ pub fn run<F: Finder, W: Sink, L: Sink>(
     bbl: &mut W,
     log: &mut L,
 ) -> Result<Report, RunFault>
-    // Of a finder that tells its content the product is known; at Ok the report is the product's, and both outputs received its bytes.
+    // Of a finder that shows its content the product is known; at Ok the report is the product's, and both outputs received its bytes.
     ensures report { IfOk result (λ report. IfSome (F.content finder.old) (λ files. report ≡ (product files name.now options.now).report)) }
     ensures bbl { OnOk result (IfSome (F.content finder.old) (λ files.
         Appends (W.received bbl.old) (W.received bbl.new) (product files name.now options.now).bbl)) }
@@ -182,12 +186,12 @@ pub fn run<F: Finder, W: Sink, L: Sink>(
         WhereDirect (reading_of files name.now).gives (λ functions. StaysWithin functions report))) }
 
     // After a fault both outputs are beginnings of the product's, and keep step; the log's last line is begun only behind the whole list.
-    // The device's fault is told exactly where one of the three counts of failures rose, by one.
+    // The device's fault is answered exactly where one of the three counts of failures rose, by one.
     ensures fault { OnErr result (IfSome (F.content finder.old) (λ files.
         AtFault (W.received bbl.old, L.received log.old) (W.received bbl.new, L.received log.new) (product_with files name.now options.now) options.now.budget)) }
     ensures counts { CountsOfRun result (F.failures finder.old, F.failures finder.new) (W.failures bbl.old, W.failures bbl.new) (L.failures log.old, L.failures log.new) }
 
-    // Of every finder, whether it tells its content or not: there are a job and answers for its files such that the report is that of
+    // Of every finder, whether it shows its content or not: there are a job and answers for its files such that the report is that of
     // their product, and both outputs received its bytes. After a fault there are such answers that both outputs are beginnings of their product's, and
     // keep step.
     ensures answered { IfOk result (CompletesAsAnswered options.now (W.received bbl.old, L.received log.old) (W.received bbl.new, L.received log.new)) }
@@ -197,6 +201,9 @@ pub fn run<F: Finder, W: Sink, L: Sink>(
     ensures bound { IfOk result (λ report. report.steps ≤ options.now.budget) }
     ensures deep { IfOk result (λ report. report.deepest ≤ 4096) }
     ensures stays { F.content finder.new ≡ F.content finder.old }
+
+    // Where there is no top file, the list's sink isn't touched.
+    ensures untouched { IfOk result (λ report. report.end ≡ NoTopFile → bbl.new ≡ bbl.old) }
 {
     match run_named(alloc, finder, name, options, bbl, log) {
         Ok(report) => Ok(report),

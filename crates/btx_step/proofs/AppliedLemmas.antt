@@ -98,7 +98,7 @@ module _ (operand : Operand) (more : List Operand) (does : Does (operand ∷ mor
 
   why_later : AreMissing more xs (complaints more xs) ⊎ IsWrong more xs (complaints more xs)
       → AreMissing (operand ∷ more) (x ∷ xs) (complaints (operand ∷ more) (x ∷ xs)) ⊎ IsWrong (operand ∷ more) (x ∷ xs) (complaints (operand ∷ more) (x ∷ xs))
-  why_later (inl h) = let others = h.others in inl (record { missing = h.missing; some = h.some; others = omega (arith, others); told = told_later operand more x xs value seen ∙ h.told })
+  why_later (inl h) = let others = h.others in inl (record { missing = h.missing; some = h.some; others = omega (arith, others); logged = told_later operand more x xs value seen ∙ h.logged })
   why_later (inr h) = let there = h.there in inr (record {
     place = suc h.place;
     kind = h.kind;
@@ -109,7 +109,7 @@ module _ (operand : Operand) (more : List Operand) (does : Does (operand ∷ mor
     misfits = h.misfits;
     above = (value, h.above);
     fit = ap (λ y. y ∷ take h.place xs) same ∙ ap (λ ys. literal_of operand value ∷ ys) h.fit;
-    told = told_later operand more x xs value seen ∙ h.told;
+    logged = told_later operand more x xs value seen ∙ h.logged;
   })
 
   later : Fits more (does value) xs ⊎ Fails more (does value) xs → Fits (operand ∷ more) does (x ∷ xs) ⊎ Fails (operand ∷ more) does (x ∷ xs)
@@ -133,9 +133,9 @@ module _ (kind : Wanted) (more : List Operand) (x : Literal) (xs : List Literal)
     misfits = misfit kind x none;
     above = tt;
     fit = refl;
-    told = told_here [] e.1;
+    logged = told_here [] e.1;
   })
-  why_here (inr e) = let others = e.1 in inl (record { missing = suc e.0; some = omega arith; others = omega (arith, others); told = told_here _ e.2 })
+  why_here (inr e) = let others = e.1 in inl (record { missing = suc e.0; some = omega arith; others = omega (arith, others); logged = told_here _ e.2 })
 
 abbrev Verdict : (operands : List Operand) → Does operands → List Literal → Type 0
 Verdict operands does xs = Fits operands does xs ⊎ Fails operands does xs
@@ -149,7 +149,7 @@ of_kind kind more does x xs others (inr none) =
 verdict : (operands : List Operand) (does : Does operands) (xs : List Literal) → Verdict operands does xs
 verdict [] does xs = inl (record { values = tt; below = xs; taken = refl; left = refl; is = refl })
 verdict (operand ∷ more) does [] = inr (record {
-  why = inl (record { missing = suc (length more); some = omega arith; others = omega arith; told = ap (λ notes. note.EmptyStack ∷ notes) (absent_all more) });
+  why = inl (record { missing = suc (length more); some = omega arith; others = omega arith; logged = ap (λ notes. note.EmptyStack ∷ notes) (absent_all more) });
   is = refl;
 })
 verdict (Any ∷ more) does (x ∷ xs) = later Any more does x xs x refl refl (verdict more (does x) xs)

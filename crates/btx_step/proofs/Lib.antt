@@ -10,3 +10,5 @@ pub mod AppliedLemmas
 pub mod KeepLemmas
 pub mod AssignLemmas
 pub mod LeaveLemmas
+pub mod FunctionRows
+pub mod StartLemmas

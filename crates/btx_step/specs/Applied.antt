@@ -1,4 +1,4 @@
--- What the rule of operands comes to: either all are there and fit, and the function is done on them; or something is told, and the default
+-- What the rule of operands comes to: either all are there and fit, and the function is done on them; or something is logged, and the default
 -- follows.
 use Rattle.std.specs.Prelude.{◌≡◌, ◌≢◌, ◌≤◌, ◌+◌, ◌⊎◌, ℕ, List, [], ◌∷◌, ◌++◌, length, take, drop, replicate, slice_get, Option, None, Some}
 use Rattle.btx_bst.specs.declared.built_in.BuiltIn.{BuiltIn}
@@ -51,14 +51,14 @@ pub record IsApplied (job : Job) (f : BuiltIn) (s : Store) : Type 0 where
 
 -- ---- operands that are missing or wrong
 
--- some aren't there, and each of these is told
+-- some aren't there, and each of these is logged
 pub record AreMissing (operands : List Operand) (xs : List Literal) (notes : List Note) : Type 0 where
   pub missing : ℕ
   pub some : 1 ≤ missing
   pub others : missing + length xs ≡ length operands
-  pub told : notes ≡ replicate missing note.EmptyStack
+  pub logged : notes ≡ replicate missing note.EmptyStack
 
--- all are there; this one is of a wrong kind, those above it fit, and it alone is told
+-- all are there; this one is of a wrong kind, those above it fit, and it alone is logged
 pub record IsWrong (operands : List Operand) (xs : List Literal) (notes : List Note) : Type 0 where
   pub place : ℕ
   pub kind : Wanted
@@ -69,9 +69,9 @@ pub record IsWrong (operands : List Operand) (xs : List Literal) (notes : List N
   pub misfits : (value : Value (Of kind)) → x ≢ literal_of (Of kind) value
   pub above : Given (take place operands)
   pub fit : take place xs ≡ literals_of (take place operands) above
-  pub told : notes ≡ note.WrongKind x kind ∷ []
+  pub logged : notes ≡ note.WrongKind x kind ∷ []
 
--- what is told, and the default
+-- what is logged, and the default
 pub record IsReported (job : Job) (f : BuiltIn) (s : Store) : Type 0 where
   pub notes : List Note
   pub why : AreMissing (row f).operands s.literals notes ⊎ IsWrong (row f).operands s.literals notes

@@ -43,7 +43,8 @@ DeepestStays = (job : Job) (t : Token) (s : Store) → (step_of job t s).store.d
 -- ---- literals
 
 -- how many literals a token takes, `stack$`, which takes all, aside: a built-in function as many as its row of the table says; a literal that
--- is pushed takes none, and neither does a field, a variable or a function of the style
+-- is pushed takes none, and neither does a field, a variable or a function of the style. That a row doesn't take more than it should is seen from the
+-- worked functions: below the operands of each one further literal stands, which stays
 abbrev pub operands_taken : Token → ℕ
 operands_taken (token.Run (callee.BuiltIn f)) = length (row f).operands
 operands_taken t = 0

@@ -41,7 +41,7 @@ place_of executed (Some key) = codes " while executing " ++ executed ++ codes " 
 
 -- ---- the lines
 
--- what is told, without its place
+-- the text of a line, without its place
 unfoldable pub text_of : Style → Note → List ℕ
 text_of style note.EmptyStack = codes "You can't pop an empty literal stack"
 text_of style (note.WrongKind v wanted) = form_of style v ++ kind_text wanted

@@ -188,7 +188,7 @@ fn kind_text(wanted: Wanted) -> &'static [u8]
     }
 }
 
-// Appends what is told, without its place.
+// Appends the text of a line, without its place.
 #[tactic(auto, unfolding(crate::specs::Notes::text_of))]
 fn push_note(text: &mut Vec<u8>, style: &Style<'_>, note: &Note<'_>) -> Result<(), AllocError>
     ensures { OnOk result (text.new.items ≡ text.old.items ++ spec.text_of style.now note.now) }

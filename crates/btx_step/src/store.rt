@@ -26,6 +26,7 @@ use crate::said::{Note, Notes, Said};
 use crate::stand_in::StandIn;
 use crate::values::Values;
 use btx_bst::{BuiltIn, Callee, Token};
+use btx_names::NameFormatter;
 use btx_text::{GREATEST_STRING, Text};
 use std::alloc::{AllocError, Global};
 use std::marker::Model;
@@ -43,6 +44,8 @@ pub struct Store<'a> {
     entries: Vec<Values<'a>>,
     current: Option<usize>,
     deepest: usize,
+    // What is kept of names and formats from call to call. It is no part of what the store means.
+    names: NameFormatter,
 }
 
 impl<'a> Model for Store<'a> {

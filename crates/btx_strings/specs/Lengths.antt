@@ -7,7 +7,7 @@ use Rattle.btx_text.specs.Elements.{Part, is_character, elements_of, text_of, de
 abbrev pub text_length_of : TextMode → List ℕ → ℕ
 text_length_of mode string = count_by (λ part. is_character part.kind) (elements_of mode string)
 
--- the fewest first elements with so many characters of text, or all of them
+-- the fewest first elements with this number of characters of text, or all of them
 unfoldable pub take_characters : ℕ → List Part → List Part
 take_characters n [] = []
 take_characters zero (part ∷ parts) = []
@@ -22,7 +22,7 @@ abbrev pub wanted : ℤ → ℕ
 wanted (pos n) = n
 wanted (negsuc n) = 0
 
--- the shortest beginning of whole elements with so many characters of text, closed
+-- the shortest beginning of whole elements with this number of characters of text, closed
 abbrev pub text_prefix_of : TextMode → List ℕ → ℤ → List ℕ
 text_prefix_of mode string count = closed (text_of (take_characters (wanted count) (elements_of mode string)))
 
@@ -32,7 +32,7 @@ text_prefix_of mode string count = closed (text_of (take_characters (wanted coun
 abbrev pub characters_of : List Part → ℕ
 characters_of parts = count_by (λ part. is_character part.kind) parts
 
--- a beginning of elements is the shortest with so many characters of text, or all of them where no beginning has as many
+-- a beginning of elements is the shortest with this number of characters of text, or all of them where no beginning has as many
 pub record IsShortest (n : ℕ) (parts front : List Part) : Type 0 where
   pub begins : (rest : List Part) × (parts ≡ front ++ rest)
   pub enough : (characters_of front ≡ n) ⊎ (front ≡ parts)

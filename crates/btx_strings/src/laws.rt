@@ -11,7 +11,7 @@ pub fn one_reading()
     ensures only { (special : List ℕ) (glyphs : List Glyph) → IsReading special glyphs → glyphs ≡ glyphs_of special }
 {}
 
-/// The beginning with so many characters of text is the shortest one, or all where there are not as many.
+/// The beginning with this number of characters of text is the shortest one, or all where there are not as many.
 pub fn shortest_beginning()
     ensures { (count : ℕ) (parts : List Part) → IsShortest count parts (take_characters count parts) }
 {}

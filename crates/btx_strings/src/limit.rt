@@ -3,7 +3,7 @@ ghost use Rattle.btx_strings.specs.Limit.{KeepsLimit};
 
 use btx_text::{Fault, GREATEST_STRING};
 
-// Nothing where a string may have so many bytes, else [`Fault::StringLimit`].
+// Nothing where a string may have this number of bytes, else [`Fault::StringLimit`].
 pub(crate) fn within_limit(length: usize) -> Result<(), Fault>
     ensures { KeepsLimit result length }
 {

@@ -23,7 +23,7 @@ pub fn text_prefix(
     closed(alloc, front(string, wanted(count), mode))
 }
 
-// The shortest beginning of whole elements with so many characters.
+// The shortest beginning of whole elements with this number of characters.
 fn front(string: &[u8], count: usize, mode: TextMode) -> &[u8]
     ensures { result.now ≡ text_of (take_characters count (elements_of mode string.now)) }
 {

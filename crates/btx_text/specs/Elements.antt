@@ -3,19 +3,12 @@
 -- First the division is stated on the whole list, without saying how it is found; the same list is then computed.
 use Rattle.std.specs.Prelude.{◌≡◌, ℕ, zero, suc, ◌+◌, ◌-◌, ◌<◌, Bool, true, false, ◌&&◌, ◌==◌, nat_eq, List, [], ◌∷◌, ◌++◌, length, take, fold, ◌⊎◌, if◌then◌else◌, slice_index, IsTrue}
 use Rattle.std.specs.List.{flat_map, starts_with}
+pub use Rattle.btx_text.specs.Bytes.{open_brace, close_brace}
 use Rattle.btx_text.specs.declared.element_kind.Kind.{Kind}
 use Rattle.btx_text.specs.declared.element_kind.Kind.TheVariants.{Byte, Open, Close, Special, Wide}
 use Rattle.btx_text.specs.declared.element_kind.TextMode.{TextMode}
 use Rattle.btx_text.specs.declared.element_kind.TextMode.TheVariants.{Bytes, Utf8}
 use Rattle.btx_text.specs.Sequences.{sequence_size, is_sequence, begins_sequence}
-
--- `{`
-abbrev pub open_brace : ℕ
-open_brace = 123
-
--- `}`
-abbrev pub close_brace : ℕ
-close_brace = 125
 
 -- the backslash
 abbrev pub backslash : ℕ

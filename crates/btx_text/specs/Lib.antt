@@ -1,3 +1,4 @@
+pub mod Bytes
 pub mod Class
 pub mod Keys
 pub mod Lines

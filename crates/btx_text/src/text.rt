@@ -6,7 +6,7 @@ use std::alloc::{AllocError, Global};
 use std::marker::Model;
 use std::rc::RcSlice;
 
-// Most strings that are put together from others come to so many bytes and no more.
+// The length in bytes that most strings put together from others don't exceed.
 const MOSTLY_JOINED: usize = 128;
 
 // Where the bytes are.
@@ -152,7 +152,7 @@ impl<'a> Text<'a> {
     }
 }
 
-// Bytes with room for so many more behind them.
+// A copy of the bytes, with room for this number of bytes behind them.
 fn copy_with_room(alloc: Global, bytes: &[u8], room: usize) -> Result<Vec<u8>, AllocError>
     requires { length bytes.now + room ≤ greatest_string }
     ensures { IfOk result (λ copy. copy.items ≡ bytes.now) }

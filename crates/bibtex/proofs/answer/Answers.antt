@@ -1,16 +1,17 @@
-use Rattle.std.proofs.Common.{Ok, ◌∷◌, []}
-use Rattle.bibtex.specs.Acts.{RanJob, telling}
-use Rattle.bibtex.proofs.GrowthLemmas.{one_after_another}
+use Rattle.std.proofs.Common.{Ok}
 use Rattle.bibtex.proofs.answer.Goals as goal
 
--- the job is run, and then its fault is told
+-- the job is done, and then its fault is told
 pub returns-in-Ok : goal.returns-in-Ok
-returns-in-Ok g c =
-    let ran = c.run_job-answer.result in
-    let done = one_after_another _ _ _ (RanJob c.in-Ok.settings ran ∷ []) (telling ran) c.run_job-answer.ensures c.tell_answer.ensures.acts in
-    record {
-      read = Ok c.in-Ok.settings;
-      settings = c.in-Ok.ensures.read;
-      refused = c.in-Ok.ensures.refused;
-      answered = (ran, done, c.tell_answer.ensures.exit);
-    }
+returns-in-Ok g c = record {
+  read = Ok c.in-Ok.settings;
+  settings = c.in-Ok.ensures.read;
+  refused = c.in-Ok.ensures.refused;
+  answered = record {
+    answer = c.run_job-answer.result;
+    done = g.O.Outputs.acts c.run_job-answer.new.outputs;
+    does = c.run_job-answer.ensures.does;
+    tells = c.tell_answer.ensures.acts;
+    ends = c.tell_answer.ensures.exit;
+  };
+}

@@ -354,32 +354,47 @@ module _ (more : List ℕ) where
   IsNoEnd End = ⊥
   IsNoEnd _ = Unit {0}
 
-  abbrev Begins : Grammar (Event × Wanted) → Type 0
-  Begins R = (got : Event × Wanted) (front rest : List ℕ) → R (Ok got) front rest → IsNoEnd got.0
+  -- only a comment is read as one
+  abbrev IsNoComment : Event → Type 0
+  IsNoComment Comment = ⊥
+  IsNoComment _ = Unit {0}
 
-  gives-begins : (a : Event × Wanted) → IsNoEnd a.0 → Begins (Gives a)
-  gives-begins a h got front rest r = subst (λ (x : Event × Wanted). IsNoEnd x.0) (sym r.1) h
+  -- what is read so is an event of this kind
+  abbrev Begins : (Event → Type 0) → Grammar (Event × Wanted) → Type 0
+  Begins P R = (got : Event × Wanted) (front rest : List ℕ) → R (Ok got) front rest → P got.0
 
-  then-begins : {A : Type 0} (R : Grammar A) (next : A → Grammar (Event × Wanted)) → ((a : A) → Begins (next a)) → Begins (Then R next)
-  then-begins R next E got front rest (inl r) = absurd r
-  then-begins R next E got front rest (inr r) = E r.0 got r.2 rest r.5
+  gives-begins : (P : Event → Type 0) (a : Event × Wanted) → P a.0 → Begins P (Gives a)
+  gives-begins P a h got front rest r = subst (λ (x : Event × Wanted). P x.0) (sym r.1) h
 
-  head_of-begins : (c : Command) (name : List ℕ) → Begins (HeadOf c name)
-  head_of-begins command.Comment name = gives-begins (Comment, Item) tt
-  head_of-begins command.Preamble name =
-      then-begins (Spaced OpenHere) (λ d. Then Value (λ value. Gives (Preamble value, Closing d))) (λ d.
-      then-begins Value (λ value. Gives (Preamble value, Closing d)) (λ value. gives-begins (Preamble value, Closing d) tt))
-  head_of-begins command.Definition name =
-      then-begins (Spaced OpenHere) (λ d. Then (Spaced NameHere) (λ string. Then (Spaced (SignHere 61 NoEquals)) (λ sign. Then Value (λ value. Gives (Definition string value, Closing d))))) (λ d.
-      then-begins (Spaced NameHere) (λ string. Then (Spaced (SignHere 61 NoEquals)) (λ sign. Then Value (λ value. Gives (Definition string value, Closing d)))) (λ string.
-      then-begins (Spaced (SignHere 61 NoEquals)) (λ sign. Then Value (λ value. Gives (Definition string value, Closing d))) (λ sign.
-      then-begins Value (λ value. Gives (Definition string value, Closing d)) (λ value. gives-begins (Definition string value, Closing d) tt))))
-  head_of-begins command.Entry name =
-      then-begins (Spaced OpenHere) (λ d. Then (Spaced (KeyHere d)) (λ key. Gives (Entry name key, Fields d))) (λ d.
-      then-begins (Spaced (KeyHere d)) (λ key. Gives (Entry name key, Fields d)) (λ key. gives-begins (Entry name key, Fields d) tt))
+  then-begins : {A : Type 0} (P : Event → Type 0) (R : Grammar A) (next : A → Grammar (Event × Wanted)) → ((a : A) → Begins P (next a)) → Begins P (Then R next)
+  then-begins P R next E got front rest (inl r) = absurd r
+  then-begins P R next E got front rest (inr r) = E r.0 got r.2 rest r.5
 
-  head-begins : Begins Head
-  head-begins = then-begins (Spaced NameHere) (λ name. HeadOf (command_of name) name) (λ name. head_of-begins (command_of name) name)
+  preamble-begins : (P : Event → Type 0) → ((value : List Part) → P (Preamble value)) → (name : List ℕ) → Begins P (HeadOf command.Preamble name)
+  preamble-begins P is name =
+      then-begins P (Spaced OpenHere) (λ d. Then Value (λ value. Gives (Preamble value, Closing d))) (λ d.
+      then-begins P Value (λ value. Gives (Preamble value, Closing d)) (λ value. gives-begins P (Preamble value, Closing d) (is value)))
+
+  definition-begins : (P : Event → Type 0) → ((string : List ℕ) (value : List Part) → P (Definition string value)) → (name : List ℕ) → Begins P (HeadOf command.Definition name)
+  definition-begins P is name =
+      then-begins P (Spaced OpenHere) (λ d. Then (Spaced NameHere) (λ string. Then (Spaced (SignHere 61 NoEquals)) (λ sign. Then Value (λ value. Gives (Definition string value, Closing d))))) (λ d.
+      then-begins P (Spaced NameHere) (λ string. Then (Spaced (SignHere 61 NoEquals)) (λ sign. Then Value (λ value. Gives (Definition string value, Closing d)))) (λ string.
+      then-begins P (Spaced (SignHere 61 NoEquals)) (λ sign. Then Value (λ value. Gives (Definition string value, Closing d))) (λ sign.
+      then-begins P Value (λ value. Gives (Definition string value, Closing d)) (λ value. gives-begins P (Definition string value, Closing d) (is string value)))))
+
+  entry-begins : (P : Event → Type 0) → ((kind key : List ℕ) → P (Entry kind key)) → (name : List ℕ) → Begins P (HeadOf command.Entry name)
+  entry-begins P is name =
+      then-begins P (Spaced OpenHere) (λ d. Then (Spaced (KeyHere d)) (λ key. Gives (Entry name key, Fields d))) (λ d.
+      then-begins P (Spaced (KeyHere d)) (λ key. Gives (Entry name key, Fields d)) (λ key. gives-begins P (Entry name key, Fields d) (is name key)))
+
+  head_of-begins : (c : Command) (name : List ℕ) → Begins IsNoEnd (HeadOf c name)
+  head_of-begins command.Comment name = gives-begins IsNoEnd (Comment, Item) tt
+  head_of-begins command.Preamble name = preamble-begins IsNoEnd (λ value. tt) name
+  head_of-begins command.Definition name = definition-begins IsNoEnd (λ string value. tt) name
+  head_of-begins command.Entry name = entry-begins IsNoEnd (λ kind key. tt) name
+
+  head-begins : Begins IsNoEnd Head
+  head-begins = then-begins IsNoEnd (Spaced NameHere) (λ name. HeadOf (command_of name) name) (λ name. head_of-begins (command_of name) name)
 
   -- what ends with a sign of its own stays so, whatever stands behind it
   spaced-free : {A : Type 0} (R : Grammar A) (a : A) (front rest : List ℕ) → ((inner : List ℕ) → R (Ok a) inner rest → Left inner × R (Ok a) inner (rest ++ more)) → Spaced R (Ok a) front rest → Spaced R (Ok a) front (rest ++ more)
@@ -424,6 +439,50 @@ module _ (more : List ℕ) where
   end-goes (Fields d) got front rest end (inr (Some field, first, second, whole, r, g)) =
       absurd (no-end (FieldOf field) tt (sym (ap (λ (x : Event × Wanted). x.0) g.1) ∙ end))
 
+  -- ---- a comment at the end of a text
+
+  -- a name ends where it did, if the text behind doesn't go on with it
+  run-free : (set : ByteSet) (rest : List ℕ) → begins (is_in set) more ≡ false → begins (is_in set) rest ≡ false → begins (is_in set) (rest ++ more) ≡ false
+  run-free set [] stops ended = stops
+  run-free set (b ∷ bs) stops ended = ended
+
+  begins-left : (test : ℕ → Bool) (word : List ℕ) → begins test word ≡ true → Left word
+  begins-left test [] h = absurd (true≢false (sym h))
+  begins-left test (b ∷ bs) h = tt
+
+  name-free : begins (is_in NameByte) more ≡ false → (name rest inner : List ℕ) → NameHere (Ok name) inner rest → Left inner × NameHere (Ok name) inner (rest ++ more)
+  name-free stops name rest inner r = (
+    subst Left (sym r.spelled) (begins-left begins_name name r.begins_well),
+    record {
+      spelled = r.spelled;
+      begins_well = r.begins_well;
+      run = record { all = r.run.all; longest = run-free NameByte rest stops r.run.longest };
+    },
+  )
+
+  no-comment : (event : Event) → IsNoComment event → event ≡ Comment → ⊥
+  no-comment event h is = subst IsNoComment is h
+
+  comment_of-goes : (c : Command) (name : List ℕ) (next : Wanted) (front rest : List ℕ) → HeadOf c name (Ok (Comment, next)) front rest → HeadOf c name (Ok (Comment, next)) front (rest ++ more)
+  comment_of-goes command.Comment name next front rest r = r
+  comment_of-goes command.Preamble name next front rest r = absurd (preamble-begins IsNoComment (λ value. tt) name (Comment, next) front rest r)
+  comment_of-goes command.Definition name next front rest r = absurd (definition-begins IsNoComment (λ string value. tt) name (Comment, next) front rest r)
+  comment_of-goes command.Entry name next front rest r = absurd (entry-begins IsNoComment (λ kind key. tt) name (Comment, next) front rest r)
+
+  comment-goes : begins (is_in NameByte) more ≡ false → (next : Wanted) (front rest : List ℕ) → Head (Ok (Comment, next)) front rest → Head (Ok (Comment, next)) front (rest ++ more)
+  comment-goes stops next front rest (inl r) = absurd r
+  comment-goes stops next front rest (inr (name, first, second, whole, r, h)) =
+      let there = spaced-free NameHere name first (second ++ rest) (name-free stops name (second ++ rest)) r in
+      inr (name, first, second, whole, subst (λ t. Spaced NameHere (Ok name) first t) (append_assoc second rest more) there, comment_of-goes (command_of name) name next second rest h)
+
+  comment-stands : begins (is_in NameByte) more ≡ false → (first next : Wanted) (front rest : List ℕ) → Stands first (Ok (Comment, next)) front rest → Stands first (Ok (Comment, next)) front (rest ++ more)
+  comment-stands stops Item next front rest (ignored, behind, is, none, r) = (ignored, behind, is, none, comment-goes stops next behind rest r)
+  comment-stands stops (Closing d) next front rest (inl r) = absurd r
+  comment-stands stops (Closing d) next front rest (inr (none, first, second, whole, r, g)) = absurd (no-comment End tt (sym (ap (λ (x : Event × Wanted). x.0) g.1)))
+  comment-stands stops (Fields d) next front rest (inl r) = absurd r
+  comment-stands stops (Fields d) next front rest (inr (None, first, second, whole, r, g)) = absurd (no-comment End tt (sym (ap (λ (x : Event × Wanted). x.0) g.1)))
+  comment-stands stops (Fields d) next front rest (inr (Some field, first, second, whole, r, g)) = absurd (no-comment (FieldOf field) tt (sym (ap (λ (x : Event × Wanted). x.0) g.1)))
+
   -- ---- what stands at the place of an event
 
   abbrev ErrLeft : {A : Type 0} → Result A Slip → List ℕ → Type 0
@@ -463,16 +522,17 @@ module _ (more : List ℕ) where
     item-left p events state text (o, next, front, whole, outcome, (ignored, behind, is, none, r), others) =
         subst Left whole (left-front front p.rest (subst Left (sym is) (left-append ignored (64 ∷ behind) tt)))
 
-    err-left : (p : Placed) (events : List Placed) (state : S) (o : Result (Event × Wanted) Slip) (next : Wanted) → EndsOutside (p ∷ events) → IsOutcome keeping state p.event next o
+    err-left : (p : Placed) (events : List Placed) (state : S) (o : Result (Event × Wanted) Slip) (next : Wanted) → EndsOutside (p ∷ events) more → IsOutcome keeping state p.event next o
         → IsReading keeping (keeping.after state p.event) next p.rest events → ErrLeft o p.rest
     err-left p events state (Ok got) next ends outcome others = tt
     err-left p [] state (Err slip) next (inl end) outcome others = absurd (no-end (Wrong slip) tt (sym outcome.0 ∙ end))
-    err-left p [] state (Err slip) next (inr some) outcome others = left-some p.rest some
+    err-left p [] state (Err slip) next (inr (inl some)) outcome others = left-some p.rest some
+    err-left p [] state (Err slip) next (inr (inr comment)) outcome others = absurd (no-comment (Wrong slip) tt (sym outcome.0 ∙ comment.0))
     err-left p (q ∷ events) state (Err slip) next ends outcome others =
         item-left q events (keeping.after state p.event) p.rest (subst (λ n. IsReading keeping (keeping.after state p.event) n p.rest (q ∷ events)) outcome.1 others)
 
     -- where an event stands something is left, and what isn't white where something of an item is wanted
-    there : (p : Placed) (events : List Placed) (state : S) (next : Wanted) (text : List ℕ) → EndsOutside (p ∷ events) → IsReading keeping state next text (p ∷ events) → Left text × After next text
+    there : (p : Placed) (events : List Placed) (state : S) (next : Wanted) (text : List ℕ) → EndsOutside (p ∷ events) more → IsReading keeping state next text (p ∷ events) → Left text × After next text
     there p events state Item text ends h = (item-left p events state text h, tt)
     there p events state (Closing d) text ends (o, next, front, whole, outcome, r, others) =
         let white = subst NotWhite whole (last-white (SignHere (closing d) (NoClosing d)) (λ sign. (End, Item)) (sign-some (closing d) (NoClosing d)) o front p.rest (err-left p events state o next ends outcome others) r) in
@@ -494,26 +554,36 @@ module _ (more : List ℕ) where
     if-known state event next (Ok (got, first)) rest outcome left h = (left, behind-known (keeping.is_stored state) got first next rest outcome.1 h)
     if-known state event next (Err slip) rest outcome left h = left
 
-    known-end : (is_stored : List ℕ → Bool) (event : Event) (first : Wanted) → (as_known is_stored (event, first)).0 ≡ End → event ≡ End
-    known-end is_stored (Entry kind key) first is = by_test (is_stored key) is where
-      by_test : (b : Bool) → (let got : Event × Wanted = if b then (Wrong Repeated, Item) else (Entry kind key, first) in got.0 ≡ End) → Entry kind key ≡ End
-      by_test true e = absurd (no-end (Wrong Repeated) tt e)
+    -- what is known to be something else than a repeated entry was read as that
+    known-read : (other : Event) → (Wrong Repeated ≡ other → ⊥) → (is_stored : List ℕ → Bool) (event : Event) (first : Wanted) → (as_known is_stored (event, first)).0 ≡ other → event ≡ other
+    known-read other differs is_stored (Entry kind key) first is = by_test (is_stored key) is where
+      by_test : (b : Bool) → (let got : Event × Wanted = if b then (Wrong Repeated, Item) else (Entry kind key, first) in got.0 ≡ other) → Entry kind key ≡ other
+      by_test true e = absurd (differs e)
       by_test false e = e
-    known-end is_stored Comment first is = is
-    known-end is_stored (Preamble value) first is = is
-    known-end is_stored (Definition name value) first is = is
-    known-end is_stored (FieldOf field) first is = is
-    known-end is_stored End first is = is
-    known-end is_stored (Wrong slip) first is = is
+    known-read other differs is_stored Comment first is = is
+    known-read other differs is_stored (Preamble value) first is = is
+    known-read other differs is_stored (Definition name value) first is = is
+    known-read other differs is_stored (FieldOf field) first is = is
+    known-read other differs is_stored End first is = is
+    known-read other differs is_stored (Wrong slip) first is = is
 
     ended-on : (state : S) (p : Placed) (next first : Wanted) (o : Result (Event × Wanted) Slip) (front : List ℕ) → p.event ≡ End → IsOutcome keeping state p.event next o → Stands first o front p.rest → Stands first (outcome_on head_on o) front (p.rest ++ more)
     ended-on state p next first (Err slip) front end outcome r = absurd (no-end (Wrong slip) tt (sym outcome.0 ∙ end))
-    ended-on state p next first (Ok (event, wanted)) front end outcome r = end-goes first (event, wanted) front p.rest (known-end (keeping.is_stored state) event wanted (sym outcome.0 ∙ end)) r
+    ended-on state p next first (Ok (event, wanted)) front end outcome r = end-goes first (event, wanted) front p.rest (known-read End (no-end (Wrong Repeated) tt) (keeping.is_stored state) event wanted (sym outcome.0 ∙ end)) r
 
-    stands-on : (p : Placed) (events : List Placed) (state : S) (o : Result (Event × Wanted) Slip) (next first : Wanted) (front : List ℕ) → EndsOutside (p ∷ events) → IsOutcome keeping state p.event next o → Stands first o front p.rest
+    comment-on : (state : S) (p : Placed) (next first : Wanted) (o : Result (Event × Wanted) Slip) (front : List ℕ) → p.event ≡ Comment → begins (is_in NameByte) more ≡ false → IsOutcome keeping state p.event next o
+        → Stands first o front p.rest → Stands first (outcome_on head_on o) front (p.rest ++ more)
+    comment-on state p next first (Err slip) front comment stops outcome r = absurd (no-comment (Wrong slip) tt (sym outcome.0 ∙ comment))
+    comment-on state p next first (Ok (event, wanted)) front comment stops outcome r =
+        let is : event ≡ Comment = known-read Comment (no-comment (Wrong Repeated) tt) (keeping.is_stored state) event wanted (sym outcome.0 ∙ comment) in
+        subst (λ (x : Event). Stands first (Ok (event_on x, wanted)) front (p.rest ++ more)) (sym is)
+        (comment-stands stops first wanted front p.rest (subst (λ (x : Event). Stands first (Ok (x, wanted)) front p.rest) is r))
+
+    stands-on : (p : Placed) (events : List Placed) (state : S) (o : Result (Event × Wanted) Slip) (next first : Wanted) (front : List ℕ) → EndsOutside (p ∷ events) more → IsOutcome keeping state p.event next o → Stands first o front p.rest
         → IsReading keeping (keeping.after state p.event) next p.rest events → Stands first (outcome_on head_on o) front (p.rest ++ more)
     stands-on p [] state o next first front (inl end) outcome r others = ended-on state p next first o front end outcome r
-    stands-on p [] state o next first front (inr some) outcome r others =
+    stands-on p [] state o next first front (inr (inr comment)) outcome r others = comment-on state p next first o front comment.0 comment.1 outcome r
+    stands-on p [] state o next first front (inr (inl some)) outcome r others =
         stands-goes first o front p.rest (if-known state p.event next o p.rest outcome (left-some p.rest some) (subst (λ n. After n p.rest) (sym others.0) tt)) r
     stands-on p (q ∷ events) state o next first front ends outcome r others =
         let h = there q events (keeping.after state p.event) next p.rest ends others in stands-goes first o front p.rest (if-known state p.event next o p.rest outcome h.0 h.1) r
@@ -553,7 +623,7 @@ module _ (more : List ℕ) where
       others,
     )
 
-    outside-tail : (p : Placed) (events : List Placed) → EndsOutside (p ∷ events) → EndsOutside events
+    outside-tail : (p : Placed) (events : List Placed) → EndsOutside (p ∷ events) more → EndsOutside events more
     outside-tail p [] h = tt
     outside-tail p (q ∷ events) h = h
 
@@ -561,7 +631,7 @@ module _ (more : List ℕ) where
     after_events state events = fold (λ (s : S) (p : Placed). keeping.after s p.event) state events
 
     -- a text that ends outside any item, and more behind it, are read one after the other
-    pub reading-on : (events behind : List Placed) (state : S) (first : Wanted) (text : List ℕ) → EndsOutside events → IsReading keeping state first text events → IsReading keeping (after_events state events) Item more behind
+    pub reading-on : (events behind : List Placed) (state : S) (first : Wanted) (text : List ℕ) → EndsOutside events more → IsReading keeping state first text events → IsReading keeping (after_events state events) Item more behind
         → IsReading keeping state first (text ++ more) (map placed_on events ++ behind)
     reading-on [] behind state first text ends h rest =
         subst (λ n. IsReading keeping state n (text ++ more) behind) (sym h.0) (passed text behind state more h.1 rest)

@@ -1,17 +1,18 @@
 -- The bytes that the words of a database are made of, and the runs of them.
 use Rattle.std.specs.Prelude.{ℕ, suc, ◌==◌, ◌||◌, ◌&&◌, not, Bool, false, List, [], ◌∷◌, take, drop, if◌then◌else◌}
 use Rattle.btx_text.specs.Class.{is_between, is_white, is_digit, is_name_byte}
-use Rattle.btx_text.specs.Elements.{depth_after}
+use Rattle.btx_text.specs.Elements.{depth_after, open_brace, close_brace}
 use Rattle.btx_bib.specs.declared.grammar.byte_sets.Delimiter.{Delimiter}
 use Rattle.btx_bib.specs.declared.grammar.byte_sets.Delimiter.TheVariants.{Braces, Parens}
 use Rattle.btx_bib.specs.declared.grammar.byte_sets.ByteSet.{ByteSet}
 use Rattle.btx_bib.specs.declared.grammar.byte_sets.ByteSet.TheVariants.{Gap, NameByte, Digit, KeyByte}
 use Rattle.btx_bib.specs.declared.grammar.byte_sets.Enclosure.{Enclosure}
 use Rattle.btx_bib.specs.declared.grammar.byte_sets.Enclosure.TheVariants.{Group, Quotes}
+use Rattle.btx_bib.specs.Grammar.Bytes.{comma, line_feed, quote}
 
 -- white, or the end of a line
 abbrev pub is_gap : ℕ → Bool
-is_gap b = is_white b || b == 10
+is_gap b = is_white b || b == line_feed
 
 -- a byte that a name begins with: no digit
 abbrev pub begins_name : ℕ → Bool
@@ -19,8 +20,8 @@ begins_name b = is_name_byte b && not (is_digit b)
 
 -- a byte that a key in these delimiters is made of
 abbrev pub is_key_byte : Delimiter → ℕ → Bool
-is_key_byte Braces b = not (is_gap b || b == 44 || b == 125)
-is_key_byte Parens b = not (is_gap b || b == 44)
+is_key_byte Braces b = not (is_gap b || b == comma || b == close_brace)
+is_key_byte Parens b = not (is_gap b || b == comma)
 
 -- a byte of a set
 abbrev pub is_in : ByteSet → ℕ → Bool
@@ -49,8 +50,8 @@ begins test (b ∷ bs) = test b
 
 -- the bytes at which, at depth 0, what is enclosed ends: in quotes a `}` ends it too, and is a fault
 abbrev pub ends_enclosed : Enclosure → ℕ → Bool
-ends_enclosed Group b = b == 125
-ends_enclosed Quotes b = b == 34 || b == 125
+ends_enclosed Group b = b == close_brace
+ends_enclosed Quotes b = b == quote || b == close_brace
 
 -- how many bytes stand before the first that ends it, in a text whose brace depth is given; all, where there is none
 unfoldable pub enclosed_len : Enclosure → ℕ → List ℕ → ℕ
@@ -62,8 +63,8 @@ enclosed_len enclosure depth (b ∷ bs) =
 
 -- a byte that changes the depth or can end what is enclosed: a brace, and in quotes a `"`
 abbrev pub is_mark : Enclosure → ℕ → Bool
-is_mark Group b = b == 123 || b == 125
-is_mark Quotes b = b == 123 || b == 125 || b == 34
+is_mark Group b = b == open_brace || b == close_brace
+is_mark Quotes b = b == open_brace || b == close_brace || b == quote
 
 -- one of the bytes that neither are white nor enclose: from `#` to `z`
 abbrev pub is_word_byte : ℕ → Bool

@@ -3,6 +3,7 @@ use Rattle.std.specs.Prelude.{ℕ, ◌==◌, List, drop, Option, None, Some, Ok,
 use Rattle.btx_bib.specs.declared.grammar.byte_sets.Delimiter.{Delimiter}
 use Rattle.btx_bib.specs.declared.grammar.byte_sets.ByteSet.TheVariants.{Gap}
 use Rattle.btx_bib.specs.declared.grammar.slip.Slip.TheVariants.{NoComma, NoEquals}
+use Rattle.btx_bib.specs.Grammar.Bytes.{comma, equals}
 use Rattle.btx_bib.specs.Grammar.ByteSets.{begins, past}
 use Rattle.btx_bib.specs.Grammar.Tokens.{Read, followed_by, wrong_at, name_at, sign_at, closing}
 use Rattle.btx_bib.specs.Grammar.Values.{Part, value_at}
@@ -16,7 +17,7 @@ pub record Field : Type 0 where
 unfoldable pub field_at : List ℕ → Read Field
 field_at text =
     followed_by (name_at text) (λ name behind_name.
-    followed_by (sign_at 61 NoEquals behind_name) (λ sign behind_sign.
+    followed_by (sign_at equals NoEquals behind_name) (λ sign behind_sign.
     followed_by (value_at behind_sign) (λ value rest. Ok (record { name = name; value = value }, rest))))
 
 -- a field, where one more may stand
@@ -33,7 +34,7 @@ after_comma delimiter rest =
 unfoldable pub more_in : Delimiter → List ℕ → Read (Option Field)
 more_in delimiter rest =
     if begins (λ b. b == closing delimiter) rest then Ok (None, drop 1 rest)
-    else if begins (λ b. b == 44) rest then after_comma delimiter (past Gap (drop 1 rest)) else wrong_at (NoComma delimiter) rest
+    else if begins (λ b. b == comma) rest then after_comma delimiter (past Gap (drop 1 rest)) else wrong_at (NoComma delimiter) rest
 
 abbrev pub more_at : Delimiter → List ℕ → Read (Option Field)
 more_at delimiter text = more_in delimiter (past Gap text)

@@ -10,6 +10,7 @@ use Rattle.btx_bib.specs.declared.grammar.commands.Wanted.{Wanted}
 use Rattle.btx_bib.specs.declared.grammar.commands.Wanted.TheVariants.{Item, Closing, Fields}
 use Rattle.btx_bib.specs.declared.grammar.slip.Slip.{Slip}
 use Rattle.btx_bib.specs.declared.grammar.slip.Slip.TheVariants.{NoEquals, NoClosing, Repeated}
+use Rattle.btx_bib.specs.Grammar.Bytes.{at_sign, equals}
 use Rattle.btx_bib.specs.Grammar.Tokens.{Read, followed_by, name_at, open_at, sign_at, key_at, closing}
 use Rattle.btx_bib.specs.Grammar.Values.{Part, value_at}
 use Rattle.btx_bib.specs.Grammar.Fields.{Field, more_at}
@@ -41,7 +42,7 @@ head_of command.Preamble name text =
 head_of command.Definition name text =
     followed_by (open_at text) (λ delimiter behind_open.
     followed_by (name_at behind_open) (λ string behind_name.
-    followed_by (sign_at 61 NoEquals behind_name) (λ sign behind_sign.
+    followed_by (sign_at equals NoEquals behind_name) (λ sign behind_sign.
     followed_by (value_at behind_sign) (λ value rest. Ok ((Definition string value, Closing delimiter), rest)))))
 head_of command.Entry name text =
     followed_by (open_at text) (λ delimiter behind_open.
@@ -76,7 +77,7 @@ step_by (Err wrong) = record { event = Wrong wrong.0; wanted = Item; rest = wron
 -- the text behind the first `@`
 unfoldable pub behind_at : List ℕ → Option (List ℕ)
 behind_at [] = None
-behind_at (b ∷ bs) = if b == 64 then Some bs else behind_at bs
+behind_at (b ∷ bs) = if b == at_sign then Some bs else behind_at bs
 
 -- what is read where this is wanted
 unfoldable pub step_of : Wanted → List ℕ → Option Step
@@ -126,7 +127,7 @@ events_by keeping others state None = []
 events_by keeping others state (Some step) =
     record { event = step.event; rest = step.rest } ∷ others (keeping.after state step.event) step.wanted step.rest
 
--- the events of a text, at most so many
+-- the events of a text, at most this number of them
 unfoldable pub events_within : {S : Type 0} → Keeping S → ℕ → S → Wanted → List ℕ → List Placed
 events_within keeping zero state wanted text = []
 events_within keeping (suc turns) state wanted text =

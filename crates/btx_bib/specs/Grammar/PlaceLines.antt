@@ -2,8 +2,9 @@
 -- number of its lines.
 use Rattle.std.specs.Prelude.{ℕ, suc, ◌-◌, ◌==◌, List, [], ◌∷◌, length, take, if◌then◌else◌}
 use Rattle.btx_text.specs.Lines.{pieces_of}
+use Rattle.btx_bib.specs.Grammar.Bytes.{line_feed}
 
--- how many lines have begun when so many bytes of a text have been read
+-- how many lines have begun when this number of bytes of a text has been read
 unfoldable pub lines_begun : ℕ → List ℕ → ℕ
 lines_begun count text = length (pieces_of (take count text))
 
@@ -18,4 +19,4 @@ line_before text rest = lines_begun (length text - length rest) text
 -- how many line feeds a text has
 abbrev pub feeds_in : List ℕ → ℕ
 feeds_in [] = 0
-feeds_in (b ∷ bs) = if b == 10 then suc (feeds_in bs) else feeds_in bs
+feeds_in (b ∷ bs) = if b == line_feed then suc (feeds_in bs) else feeds_in bs

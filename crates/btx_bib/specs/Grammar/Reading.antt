@@ -1,5 +1,6 @@
 -- The reading of a database: the one list of what stands in it and of what is wrong.
 use Rattle.std.specs.Prelude.{◌≡◌, ℕ, ◌==◌, true, false, List, [], ◌∷◌, ◌++◌, ◌⊎◌, Option, Some, None, Result, Ok, Err}
+use Rattle.btx_text.specs.Elements.{open_brace}
 use Rattle.btx_bib.specs.declared.grammar.byte_sets.Delimiter.{Delimiter}
 use Rattle.btx_bib.specs.declared.grammar.byte_sets.Delimiter.TheVariants.{Braces, Parens}
 use Rattle.btx_bib.specs.declared.grammar.byte_sets.ByteSet.TheVariants.{KeyByte}
@@ -9,6 +10,7 @@ use Rattle.btx_bib.specs.declared.grammar.commands.Wanted.{Wanted}
 use Rattle.btx_bib.specs.declared.grammar.commands.Wanted.TheVariants.{Item, Closing, Fields}
 use Rattle.btx_bib.specs.declared.grammar.slip.Slip.{Slip}
 use Rattle.btx_bib.specs.declared.grammar.slip.Slip.TheVariants.{NoDelimiter, NoComma, NoEquals, NoClosing, EndOfFile}
+use Rattle.btx_bib.specs.Grammar.Bytes.{at_sign, comma, equals, open_parenthesis}
 use Rattle.btx_bib.specs.Grammar.ByteSets.{begins}
 use Rattle.btx_bib.specs.Grammar.Tokens.{closing}
 use Rattle.btx_bib.specs.Grammar.Fields.{Field}
@@ -27,7 +29,7 @@ WrongHere slip (Err met) front rest = IsWrongHere slip met front rest
 
 -- the opening delimiter
 abbrev pub OpenHere : Grammar Delimiter
-OpenHere = OnSign 123 (Gives Braces) (OnSign 40 (Gives Parens) (WrongHere NoDelimiter))
+OpenHere = OnSign open_brace (Gives Braces) (OnSign open_parenthesis (Gives Parens) (WrongHere NoDelimiter))
 
 -- a key, which may be empty; at the end of the file there is none
 abbrev pub KeyHere : Delimiter → Grammar (List ℕ)
@@ -39,7 +41,7 @@ abbrev pub AfterComma : Delimiter → Grammar (Option Field)
 AfterComma delimiter = OnSign (closing delimiter) (Gives None) (Then FieldSpelling (λ field. Gives (Some field)))
 
 abbrev pub MoreHere : Delimiter → Grammar (Option Field)
-MoreHere delimiter = OnSign (closing delimiter) (Gives None) (OnSign 44 (Spaced (AfterComma delimiter)) (WrongHere (NoComma delimiter)))
+MoreHere delimiter = OnSign (closing delimiter) (Gives None) (OnSign comma (Spaced (AfterComma delimiter)) (WrongHere (NoComma delimiter)))
 
 -- what a command begins, and what is wanted after it
 abbrev pub HeadOf : Command → List ℕ → Grammar (Event × Wanted)
@@ -47,7 +49,7 @@ HeadOf command.Comment name = Gives (Comment, Item)
 HeadOf command.Preamble name =
     Then (Spaced OpenHere) (λ delimiter. Then Value (λ value. Gives (Preamble value, Closing delimiter)))
 HeadOf command.Definition name =
-    Then (Spaced OpenHere) (λ delimiter. Then (Spaced NameHere) (λ string. Then (Spaced (SignHere 61 NoEquals)) (λ sign.
+    Then (Spaced OpenHere) (λ delimiter. Then (Spaced NameHere) (λ string. Then (Spaced (SignHere equals NoEquals)) (λ sign.
     Then Value (λ value. Gives (Definition string value, Closing delimiter)))))
 HeadOf command.Entry name =
     Then (Spaced OpenHere) (λ delimiter. Then (Spaced (KeyHere delimiter)) (λ key. Gives (Entry name key, Fields delimiter)))
@@ -64,11 +66,11 @@ more_event delimiter (Some field) = (FieldOf field, Fields delimiter)
 -- the bytes up to the first `@`, and it
 abbrev pub HasNoAt : List ℕ → Type 0
 HasNoAt [] = Unit {0}
-HasNoAt (b ∷ bs) = ((b == 64) ≡ false) × HasNoAt bs
+HasNoAt (b ∷ bs) = ((b == at_sign) ≡ false) × HasNoAt bs
 
 -- what may stand at a place where this is wanted
 abbrev pub Stands : Wanted → Grammar (Event × Wanted)
-Stands Item o front rest = (ignored : List ℕ) × (behind : List ℕ) × (front ≡ ignored ++ 64 ∷ behind) × HasNoAt ignored × Head o behind rest
+Stands Item o front rest = (ignored : List ℕ) × (behind : List ℕ) × (front ≡ ignored ++ at_sign ∷ behind) × HasNoAt ignored × Head o behind rest
 Stands (Closing delimiter) o front rest = Then (Spaced (SignHere (closing delimiter) (NoClosing delimiter))) (λ sign. Gives (End, Item)) o front rest
 Stands (Fields delimiter) o front rest = Then (Spaced (MoreHere delimiter)) (λ more. Gives (more_event delimiter more)) o front rest
 

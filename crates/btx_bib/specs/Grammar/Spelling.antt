@@ -2,13 +2,14 @@
 -- at its end.
 use Rattle.std.specs.Prelude.{◌≡◌, ℕ, zero, suc, ◌==◌, ◌||◌, Bool, true, false, List, [], ◌∷◌, ◌++◌, ◌⊎◌, Result, Ok, Err}
 use Rattle.btx_text.specs.Class.{is_digit}
-use Rattle.btx_text.specs.Elements.{depth_after, depth_of}
+use Rattle.btx_text.specs.Elements.{depth_after, depth_of, open_brace, close_brace}
 use Rattle.btx_bib.specs.declared.grammar.byte_sets.ByteSet.{ByteSet}
 use Rattle.btx_bib.specs.declared.grammar.byte_sets.ByteSet.TheVariants.{Gap, NameByte, Digit}
 use Rattle.btx_bib.specs.declared.grammar.byte_sets.Enclosure.{Enclosure}
 use Rattle.btx_bib.specs.declared.grammar.byte_sets.Enclosure.TheVariants.{Group, Quotes}
 use Rattle.btx_bib.specs.declared.grammar.slip.Slip.{Slip}
 use Rattle.btx_bib.specs.declared.grammar.slip.Slip.TheVariants.{NoName, NoEquals, NoValue, Unbalanced, EndOfFile}
+use Rattle.btx_bib.specs.Grammar.Bytes.{equals, hash, quote}
 use Rattle.btx_bib.specs.Grammar.ByteSets.{is_in, begins, begins_name, ends_enclosed}
 use Rattle.btx_bib.specs.Grammar.Tokens.{Read, slip_at}
 use Rattle.btx_bib.specs.Grammar.Values.{Part, Braced, Quoted, Digits, Named}
@@ -93,20 +94,20 @@ IsEnclosed enclosure text = Inside enclosure 0 text × (depth_of text ≡ 0)
 
 -- a byte with which no part begins
 abbrev pub begins_part : ℕ → Bool
-begins_part b = b == 123 || b == 34 || is_digit b || begins_name b
+begins_part b = b == open_brace || b == quote || is_digit b || begins_name b
 
 -- what is wrong in a part
 abbrev pub IsWrongPart : Slip → List ℕ → List ℕ → Type 0
 IsWrongPart NoValue front rest = (front ≡ []) × (b : ℕ) × (bs : List ℕ) × (rest ≡ b ∷ bs) × (begins_part b ≡ false)
-IsWrongPart Unbalanced front rest = (text : List ℕ) × (bs : List ℕ) × (front ≡ 34 ∷ text) × (rest ≡ 125 ∷ bs) × IsEnclosed Quotes text
+IsWrongPart Unbalanced front rest = (text : List ℕ) × (bs : List ℕ) × (front ≡ quote ∷ text) × (rest ≡ close_brace ∷ bs) × IsEnclosed Quotes text
 IsWrongPart EndOfFile front rest = (rest ≡ []) ×
-    ((front ≡ []) ⊎ (((text : List ℕ) × (front ≡ 123 ∷ text) × Inside Group 0 text) ⊎ ((text : List ℕ) × (front ≡ 34 ∷ text) × Inside Quotes 0 text)))
+    ((front ≡ []) ⊎ (((text : List ℕ) × (front ≡ open_brace ∷ text) × Inside Group 0 text) ⊎ ((text : List ℕ) × (front ≡ quote ∷ text) × Inside Quotes 0 text)))
 IsWrongPart _ front rest = ⊥
 
 -- a part of a value
 abbrev pub PartHere : Grammar Part
-PartHere (Ok (Braced text)) front rest = (front ≡ 123 ∷ (text ++ 125 ∷ [])) × IsEnclosed Group text
-PartHere (Ok (Quoted text)) front rest = (front ≡ 34 ∷ (text ++ 34 ∷ [])) × IsEnclosed Quotes text
+PartHere (Ok (Braced text)) front rest = (front ≡ open_brace ∷ (text ++ close_brace ∷ [])) × IsEnclosed Group text
+PartHere (Ok (Quoted text)) front rest = (front ≡ quote ∷ (text ++ quote ∷ [])) × IsEnclosed Quotes text
 PartHere (Ok (Digits text)) front rest = IsWord Digit is_digit text front rest
 PartHere (Ok (Named string)) front rest = IsWord NameByte begins_name string.name front rest × (string.rest ≡ rest)
 PartHere (Err slip) front rest = IsWrongPart slip front rest
@@ -114,14 +115,14 @@ PartHere (Err slip) front rest = IsWrongPart slip front rest
 -- after a part: no `#` stands behind the white that follows
 abbrev pub EndsThere : Part → Grammar (List Part)
 EndsThere part (Ok parts) front rest = (front ≡ []) × (parts ≡ part ∷ []) ×
-    (gap : List ℕ) × (behind : List ℕ) × (rest ≡ gap ++ behind) × IsRun Gap gap behind × (begins (λ b. b == 35) behind ≡ false)
+    (gap : List ℕ) × (behind : List ℕ) × (rest ≡ gap ++ behind) × IsRun Gap gap behind × (begins (λ b. b == hash) behind ≡ false)
 EndsThere part (Err slip) front rest = ⊥
 
 -- or one does, and the other parts follow
 abbrev pub GoesOn : Grammar (List Part) → Part → Grammar (List Part)
-GoesOn others part = Both (Spaced (SignHere 35 NoValue)) (λ none. Then others (λ parts. Gives (part ∷ parts)))
+GoesOn others part = Both (Spaced (SignHere hash NoValue)) (λ none. Then others (λ parts. Gives (part ∷ parts)))
 
--- a value of so many parts, or what is wrong in the last of them
+-- a value of this number of parts, or what is wrong in the last of them
 abbrev pub ValueOf : ℕ → Grammar (List Part)
 ValueOf zero o front rest = ⊥
 ValueOf (suc n) o front rest = Then (Spaced PartHere) (λ part o front rest. EndsThere part o front rest ⊎ GoesOn (ValueOf n) part o front rest) o front rest
@@ -136,7 +137,7 @@ Value o front rest = (n : ℕ) × ValueOf n o front rest
 abbrev pub FieldSpelling : Grammar Field
 FieldSpelling =
     Then (Spaced NameHere) (λ name.
-    Then (Spaced (SignHere 61 NoEquals)) (λ sign.
+    Then (Spaced (SignHere equals NoEquals)) (λ sign.
     Then Value (λ value. Gives (record { name = name; value = value }))))
 
 -- ---- the function that reads as a grammar says

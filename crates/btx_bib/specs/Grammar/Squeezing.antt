@@ -4,12 +4,13 @@ use Rattle.btx_bib.specs.declared.grammar.byte_sets.ByteSet.TheVariants.{Gap}
 use Rattle.btx_bib.specs.declared.grammar.value_ends.Ends.{Ends}
 use Rattle.btx_bib.specs.declared.grammar.value_ends.Ends.TheVariants.{Kept, Trimmed}
 use Rattle.btx_bib.specs.declared.grammar.byte_sets.Enclosure.{Enclosure}
+use Rattle.btx_bib.specs.Grammar.Bytes.{space}
 use Rattle.btx_bib.specs.Grammar.ByteSets.{enclosed_len, is_gap, past}
 
 -- bytes after a byte that was white or not: the first byte of a run becomes the space
 abbrev pub squeezed_after : Bool → List ℕ → List ℕ
 squeezed_after white [] = []
-squeezed_after white (b ∷ bs) = cond (is_gap b) (cond white (squeezed_after true bs) (32 ∷ squeezed_after true bs)) (b ∷ squeezed_after false bs)
+squeezed_after white (b ∷ bs) = cond (is_gap b) (cond white (squeezed_after true bs) (space ∷ squeezed_after true bs)) (b ∷ squeezed_after false bs)
 
 -- the last byte was white
 abbrev pub white_after : Bool → List ℕ → Bool
@@ -21,11 +22,11 @@ white_after white (b ∷ bs) = white_after (is_gap b) bs
 -- no white but single spaces, after a byte that was white or not
 unfoldable pub is_squeezed : Bool → List ℕ → Bool
 is_squeezed white [] = true
-is_squeezed white (b ∷ bs) = if is_gap b then (b == 32 && not white) && is_squeezed true bs else is_squeezed false bs
+is_squeezed white (b ∷ bs) = if is_gap b then (b == space && not white) && is_squeezed true bs else is_squeezed false bs
 
 -- a byte leaves what is before it squeezed, whose last byte was white or not
 abbrev pub stays_squeezed : Bool → ℕ → Bool
-stays_squeezed white b = not (is_gap b) || (b == 32 && not white)
+stays_squeezed white b = not (is_gap b) || (b == space && not white)
 
 -- what is enclosed is of this length, and squeezed, and doesn't begin with white
 abbrev pub IsSqueezedLen : Enclosure → List ℕ → ℕ → Type 0

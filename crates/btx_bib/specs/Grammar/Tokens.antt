@@ -1,11 +1,13 @@
 -- The words and signs of an item: what a text begins with after white, or what is wrong there.
 use Rattle.std.specs.Prelude.{ℕ, ◌==◌, List, [], ◌∷◌, drop, Result, Ok, Err, if◌then◌else◌}
 use Rattle.std.specs.Borrow.{Bor}
+use Rattle.btx_text.specs.Elements.{open_brace, close_brace}
 use Rattle.btx_bib.specs.declared.grammar.byte_sets.Delimiter.{Delimiter}
 use Rattle.btx_bib.specs.declared.grammar.byte_sets.Delimiter.TheVariants.{Braces, Parens}
 use Rattle.btx_bib.specs.declared.grammar.byte_sets.ByteSet.TheVariants.{Gap, NameByte, KeyByte}
 use Rattle.btx_bib.specs.declared.grammar.slip.Slip.{Slip}
 use Rattle.btx_bib.specs.declared.grammar.slip.Slip.TheVariants.{NoName, NoDelimiter, EndOfFile}
+use Rattle.btx_bib.specs.Grammar.Bytes.{close_parenthesis, open_parenthesis}
 use Rattle.btx_bib.specs.Grammar.ByteSets.{begins, begins_name, run, past}
 
 -- what was read and the text after it, or what is wrong and the text from its place on
@@ -40,16 +42,16 @@ name_at text = name_in (past Gap text)
 -- the opening delimiter
 unfoldable pub open_in : List ℕ → Read Delimiter
 open_in rest =
-    if begins (λ b. b == 123) rest then Ok (Braces, drop 1 rest)
-    else if begins (λ b. b == 40) rest then Ok (Parens, drop 1 rest) else wrong_at NoDelimiter rest
+    if begins (λ b. b == open_brace) rest then Ok (Braces, drop 1 rest)
+    else if begins (λ b. b == open_parenthesis) rest then Ok (Parens, drop 1 rest) else wrong_at NoDelimiter rest
 
 abbrev pub open_at : List ℕ → Read Delimiter
 open_at text = open_in (past Gap text)
 
 -- the closing delimiter
 abbrev pub closing : Delimiter → ℕ
-closing Braces = 125
-closing Parens = 41
+closing Braces = close_brace
+closing Parens = close_parenthesis
 
 -- a sign
 unfoldable pub sign_in : ℕ → Slip → List ℕ → Read (Unit {0})

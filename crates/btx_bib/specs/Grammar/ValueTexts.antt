@@ -8,6 +8,7 @@ use Rattle.btx_text.specs.declared.fault.Fault.{Fault}
 use Rattle.btx_text.specs.declared.fault.Fault.TheVariants.{Memory, StringLimit}
 use Rattle.btx_bib.specs.declared.grammar.value_ends.Ends.{Ends}
 use Rattle.btx_bib.specs.declared.grammar.value_ends.Ends.TheVariants.{Kept, Trimmed}
+use Rattle.btx_bib.specs.Grammar.Bytes.{space}
 use Rattle.btx_bib.specs.Grammar.ByteSets.{is_gap, begins}
 use Rattle.btx_bib.specs.Grammar.Values.{Part, Braced, Quoted, Digits, Named}
 
@@ -34,16 +35,16 @@ joined_text strings parts = flat_map (text_of_part strings) parts
 -- every run of white becomes one space: of each run the last byte stays, as a space
 unfoldable pub squeezed : List ℕ → List ℕ
 squeezed [] = []
-squeezed (b ∷ bs) = if is_gap b then (if begins is_gap bs then squeezed bs else 32 ∷ squeezed bs) else b ∷ squeezed bs
+squeezed (b ∷ bs) = if is_gap b then (if begins is_gap bs then squeezed bs else space ∷ squeezed bs) else b ∷ squeezed bs
 
 -- a first space goes
 abbrev pub without_first_space : List ℕ → List ℕ
 without_first_space [] = []
-without_first_space (b ∷ bs) = if b == 32 then bs else b ∷ bs
+without_first_space (b ∷ bs) = if b == space then bs else b ∷ bs
 
 -- a last space goes
 abbrev pub without_last_space : List ℕ → List ℕ
-without_last_space text = if slice_index text (length text - 1) == 32 then take (length text - 1) text else text
+without_last_space text = if slice_index text (length text - 1) == space then take (length text - 1) text else text
 
 -- white is squeezed in the whole, and a field's value loses its first and its last space
 abbrev pub shaped : Ends → List ℕ → List ℕ

@@ -1,10 +1,12 @@
 -- Values: parts joined by `#`.
 use Rattle.std.specs.Prelude.{ℕ, zero, suc, ◌==◌, List, [], ◌∷◌, length, take, drop, Option, None, Some, Ok, Err, if◌then◌else◌}
 use Rattle.btx_text.specs.Class.{is_digit}
+use Rattle.btx_text.specs.Elements.{open_brace}
 use Rattle.btx_bib.specs.declared.grammar.byte_sets.ByteSet.TheVariants.{Gap, NameByte, Digit}
 use Rattle.btx_bib.specs.declared.grammar.byte_sets.Enclosure.{Enclosure}
 use Rattle.btx_bib.specs.declared.grammar.byte_sets.Enclosure.TheVariants.{Group, Quotes}
 use Rattle.btx_bib.specs.declared.grammar.slip.Slip.TheVariants.{NoValue, Unbalanced, EndOfFile}
+use Rattle.btx_bib.specs.Grammar.Bytes.{hash, quote}
 use Rattle.btx_bib.specs.Grammar.ByteSets.{begins_name, run, past, enclosed_len}
 use Rattle.btx_bib.specs.Grammar.Tokens.{Read, followed_by}
 
@@ -24,7 +26,7 @@ pub data Part : Type 0 where
 abbrev pub closed : Enclosure → List ℕ → List ℕ → Read Part
 closed enclosure text [] = Err (EndOfFile, [])
 closed Group text (b ∷ bs) = Ok (Braced text, bs)
-closed Quotes text (b ∷ bs) = if b == 34 then Ok (Quoted text, bs) else Err (Unbalanced, b ∷ bs)
+closed Quotes text (b ∷ bs) = if b == quote then Ok (Quoted text, bs) else Err (Unbalanced, b ∷ bs)
 
 abbrev pub enclosed_in : Enclosure → List ℕ → Read Part
 enclosed_in enclosure rest = closed enclosure (take (enclosed_len enclosure 0 rest) rest) (drop (enclosed_len enclosure 0 rest) rest)
@@ -33,8 +35,8 @@ enclosed_in enclosure rest = closed enclosure (take (enclosed_len enclosure 0 re
 unfoldable pub part_in : List ℕ → Read Part
 part_in [] = Err (EndOfFile, [])
 part_in (b ∷ bs) =
-    if b == 123 then enclosed_in Group bs
-    else if b == 34 then enclosed_in Quotes bs
+    if b == open_brace then enclosed_in Group bs
+    else if b == quote then enclosed_in Quotes bs
     else if is_digit b then Ok (Digits (run Digit (b ∷ bs)), past Digit (b ∷ bs))
     else if begins_name b then Ok (Named (record { name = run NameByte (b ∷ bs); rest = past NameByte (b ∷ bs) }), past NameByte (b ∷ bs))
     else Err (NoValue, b ∷ bs)
@@ -45,7 +47,7 @@ part_at text = part_in (past Gap text)
 -- the text after a `#`
 abbrev pub behind_hash : List ℕ → Option (List ℕ)
 behind_hash [] = None
-behind_hash (b ∷ bs) = if b == 35 then Some bs else None
+behind_hash (b ∷ bs) = if b == hash then Some bs else None
 
 -- the text after the `#` that joins another part, where one stands after white
 abbrev pub next_part : List ℕ → Option (List ℕ)
@@ -56,7 +58,7 @@ abbrev pub joined : (List ℕ → Read (List Part)) → Part → List ℕ → Op
 joined others part rest None = Ok (part ∷ [], rest)
 joined others part rest (Some text) = followed_by (others text) (λ parts end. Ok (part ∷ parts, end))
 
--- a value of at most so many parts
+-- a value of at most this number of parts
 unfoldable pub value_within : ℕ → List ℕ → Read (List Part)
 value_within zero text = Err (EndOfFile, [])
 value_within (suc turns) text = followed_by (part_at text) (λ part rest. joined (value_within turns) part rest (next_part rest))

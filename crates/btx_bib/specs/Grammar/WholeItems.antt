@@ -5,6 +5,7 @@ use Rattle.btx_bib.specs.declared.grammar.byte_sets.Delimiter.{Delimiter}
 use Rattle.btx_bib.specs.declared.grammar.commands.Command.{Command}
 use Rattle.btx_bib.specs.declared.grammar.commands.Command.TheVariants as command
 use Rattle.btx_bib.specs.declared.grammar.slip.Slip.TheVariants.{NoEquals, NoClosing, EndOfFile}
+use Rattle.btx_bib.specs.Grammar.Bytes.{equals}
 use Rattle.btx_bib.specs.Grammar.Tokens.{Read, followed_by, name_at, open_at, sign_at, key_at, closing}
 use Rattle.btx_bib.specs.Grammar.Values.{Part, value_at}
 use Rattle.btx_bib.specs.Grammar.Fields.{Field, more_at}
@@ -30,7 +31,7 @@ abbrev pub OtherFields : Grammar (List Field) → Option Field → Grammar (List
 OtherFields others None = Gives []
 OtherFields others (Some field) = Then others (λ fields. Gives (field ∷ fields))
 
--- the fields of an entry and its end, in so many steps, or what is wrong in the last of them
+-- the fields of an entry and its end, in this number of steps, or what is wrong in the last of them
 abbrev pub FieldsOf : ℕ → Delimiter → Grammar (List Field)
 FieldsOf zero delimiter o front rest = ⊥
 FieldsOf (suc n) delimiter o front rest = Then (Spaced (MoreHere delimiter)) (OtherFields (FieldsOf n delimiter)) o front rest
@@ -45,7 +46,7 @@ ItemOf command.Comment name = Gives CommentItem
 ItemOf command.Preamble name =
     Then (Spaced OpenHere) (λ delimiter. Then Value (λ value. Then (ClosingHere delimiter) (λ sign. Gives (PreambleItem value))))
 ItemOf command.Definition name =
-    Then (Spaced OpenHere) (λ delimiter. Then (Spaced NameHere) (λ string. Then (Spaced (SignHere 61 NoEquals)) (λ sign.
+    Then (Spaced OpenHere) (λ delimiter. Then (Spaced NameHere) (λ string. Then (Spaced (SignHere equals NoEquals)) (λ sign.
     Then Value (λ value. Then (ClosingHere delimiter) (λ end. Gives (StringItem string value))))))
 ItemOf command.Entry name =
     Then (Spaced OpenHere) (λ delimiter. Then (Spaced (KeyHere delimiter)) (λ key.
@@ -61,7 +62,7 @@ abbrev pub other_fields : (List ℕ → Read (List Field)) → Option Field → 
 other_fields others None rest = Ok ([], rest)
 other_fields others (Some field) rest = followed_by (others rest) (λ fields end. Ok (field ∷ fields, end))
 
--- at most so many fields
+-- at most this number of fields
 unfoldable pub fields_within : ℕ → Delimiter → List ℕ → Read (List Field)
 fields_within zero delimiter text = Err (EndOfFile, [])
 fields_within (suc turns) delimiter text = followed_by (more_at delimiter text) (other_fields (fields_within turns delimiter))
@@ -80,7 +81,7 @@ item_of command.Preamble name text =
 item_of command.Definition name text =
     followed_by (open_at text) (λ delimiter behind_open.
     followed_by (name_at behind_open) (λ string behind_name.
-    followed_by (sign_at 61 NoEquals behind_name) (λ sign behind_sign.
+    followed_by (sign_at equals NoEquals behind_name) (λ sign behind_sign.
     followed_by (value_at behind_sign) (λ value behind_value.
     followed_by (sign_at (closing delimiter) (NoClosing delimiter) behind_value) (λ end rest. Ok (StringItem string value, rest))))))
 item_of command.Entry name text =

@@ -68,7 +68,7 @@ style_answered (Some name) bytes databases = style_sought name (file_answered (a
 abbrev pub job_answered : (job : Job) → Answers job → Reading FilesRead
 job_answered job answers = after_aux job.ending (style_answered job.style answers.style (databases_answered answers.databases.each))
 
--- what the `.aux` files told, and what follows them
+-- what was logged of the `.aux` files, and what follows them
 abbrev pub reading_answered : (job : Job) → Answers job → Reading FilesRead
 reading_answered job answers = behind job.log (job_answered job answers)
 
@@ -84,12 +84,12 @@ abbrev pub IsNamed : List ℕ → Option NamedFile → Type 0
 IsNamed name None = Unit {0}
 IsNamed name (Some file) = file.name ≡ name
 
--- a database was told, and is kept behind those before it if it was found
+-- a database was logged, and is kept behind those before it if it was found
 pub record IsAdded (before after : List NamedFile) (counted : Counted) (log : Received) (part : Reading (Option NamedFile)) : Type 0 where
   pub kept : after ≡ before ++ as_list part.gives
   pub tells : Tells counted log part.told
 
--- a database that was added so, or at a fault a beginning of what is told of it
+-- a database that was added so, or at a fault a prefix of what is logged of it
 abbrev pub AddsAs : {T : Type 0} → Result T Fault → List NamedFile → List NamedFile → Counted → Received → Reading (Option NamedFile) → Type 0
 AddsAs (Ok value) before after counted log part = IsAdded before after counted log part
 AddsAs (Err fault) before after counted log part = AppendsBeginning log.0 log.1 (bytes_of_lines part.told)

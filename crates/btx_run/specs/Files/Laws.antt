@@ -1,4 +1,4 @@
--- Laws of what is told of databases that are looked for, and of what a finder answers.
+-- Laws of what is logged of databases that are looked for, and of what a finder answers.
 use Rattle.std.specs.Prelude.{◌≡◌, ℕ, ◌+◌, Bool, true, false, List, [], ◌∷◌, length, map, filter, is_none, Some}
 use Rattle.btx_text.specs.declared.log_line.LineKind.{LineKind}
 use Rattle.btx_text.specs.declared.log_line.LineKind.TheVariants.{Plain, Warning, Error}
@@ -16,7 +16,7 @@ is_plain Plain = true
 is_plain Warning = false
 is_plain Error = false
 
--- what is told of files that were found, numbered from one number on
+-- what is logged of files that were found, numbered from one number on
 abbrev pub numbered : ℕ → List NamedFile → List Line
 numbered number [] = []
 numbered number (file ∷ files) = database_line number file.name ∷ numbered (number + 1) files

@@ -19,7 +19,7 @@ use Rattle.btx_run.specs.Files.Lines.{database_line, no_style_line, style_line, 
 use Rattle.btx_run.specs.Files.Names.{is_too_long, top_name}
 use Rattle.btx_run.specs.Files.Found.{NamedFile, file_at}
 
--- a part of the reading: the lines of the log that it tells, and what it gives
+-- a part of the reading: its lines of the log, and what it gives
 pub record Reading (T : Type 0) : Type 0 where
   pub told : List Line
   pub gives : T
@@ -41,12 +41,12 @@ as_list (Some file) = file ∷ []
 abbrev pub files_found : Files → List (List ℕ) → List NamedFile
 files_found files names = flat_map (λ name. as_list (file_at files name)) names
 
--- what is told of a database, which would be found as the one of this number
+-- what is logged of a database, which would be found as the one of this number
 abbrev pub database_told : ℕ → List ℕ → Option NamedFile → Line
 database_told number name None = no_database_line name
 database_told number name (Some file) = database_line number name
 
--- what is told of databases, each numbered behind those that were found before it
+-- what is logged of databases, each numbered behind those that were found before it
 abbrev pub databases_told : Files → List (List ℕ) → List (List ℕ) → List Line
 databases_told files earlier [] = []
 databases_told files earlier (name ∷ names) =
@@ -102,7 +102,7 @@ after_aux aux.FileLimit style = reading [] (Ends (ended.Limit kind.File))
 unfoldable pub after_job : Files → Job → AuxEnd → Reading FilesRead
 after_job files job end = after_aux end (style_named files job job.style)
 
--- what the `.aux` files told, and what follows them
+-- what was logged of the `.aux` files, and what follows them
 abbrev pub files_read : Files → Job → Reading FilesRead
 files_read files job = behind job.log (after_job files job job.ending)
 
@@ -116,12 +116,12 @@ reading_of files name = files_read files (job_named files name)
 
 -- ---- what an answer and the log say of a part of the reading
 
--- the part was read: the answer is what it gives, and its lines were told
+-- the part was read: the answer is what it gives, and its lines were logged
 pub record IsRead {T : Type 0} (value : T) (counted : Counted) (log : Received) (part : Reading T) : Type 0 where
   pub gives : value ≡ part.gives
   pub tells : Tells counted log part.told
 
--- a part that was read, or at a fault a beginning of what it tells
+-- a part that was read, or at a fault a prefix of its lines
 abbrev pub ReadsAs : {T : Type 0} → Result T Fault → Counted → Received → Reading T → Type 0
 ReadsAs (Ok value) counted log part = IsRead value counted log part
 ReadsAs (Err fault) counted log part = AppendsBeginning log.0 log.1 (bytes_of_lines part.told)

@@ -1,4 +1,4 @@
--- What a log received while lines were told.
+-- What a log received while lines were logged.
 use Rattle.std.specs.Prelude.{◌≡◌, ℕ, List, ◌++◌, Option}
 use Rattle.std.specs.List.{flat_map}
 use Rattle.std.specs.Io.KnownBytes.{Appends}
@@ -18,7 +18,7 @@ Received = Option (List ℕ) × Option (List ℕ)
 abbrev pub Counted : Type 0
 Counted = Counts × Counts
 
--- these lines were told: the log received their bytes, and where the counts were those of the lines before, they are now those of
+-- these lines were logged: the log received their bytes, and where the counts were those of the lines before, they are now those of
 -- the lines before and these
 pub record Tells (counted : Counted) (log : Received) (lines : List Line) : Type 0 where
   pub counts : (before : List Line) → counted.0 ≡ counts_of before → counted.1 ≡ counts_of (before ++ lines)

@@ -16,7 +16,7 @@ use btx_out::Sink;
 use btx_text::{Fault, LogLine};
 use std::alloc::{AllocError, Global};
 
-// The line that tells whether a database was found, as the one of this number.
+// The line of the log that says whether a database was found, as the one of this number.
 fn line_of(
     alloc: Global,
     number: u64,
@@ -31,7 +31,7 @@ fn line_of(
     }
 }
 
-// Looks for a database, which is told as the one of this number.
+// Looks for a database, which is logged as the one of this number.
 fn find_database<'a, F: Finder, L: Sink>(
     alloc: Global,
     finder: &mut F,

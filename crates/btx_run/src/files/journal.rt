@@ -35,14 +35,14 @@ impl Journal {
         }
     }
 
-    /// How many warnings were told; the greatest value stands for itself and all above.
+    /// How many warnings were logged; the greatest value stands for itself and all above.
     pub fn warnings(&self) -> u64
         ensures { result ≡ self.now.warnings }
     {
         self.warnings
     }
 
-    /// How many errors were told; the greatest value stands for itself and all above.
+    /// How many errors were logged; the greatest value stands for itself and all above.
     pub fn errors(&self) -> u64
         ensures { result ≡ self.now.errors }
     {

@@ -1,4 +1,4 @@
-//! Laws of what is told of files, each the contract of a function that does nothing.
+//! Laws of what is logged of files, each the contract of a function that does nothing.
 ghost use Rattle.btx_run.specs.Files.Laws.{AnswersReadFiles, FoundAreNumbered, MissingAreErrors, OneLineEach};
 
 /// The databases that are found are numbered from 1 up without a gap, each that isn't there is an error of its own, and each has one line.

@@ -29,7 +29,7 @@ pub fn read_job<F: Finder>(alloc: Global, finder: &mut F, name: &[u8]) -> Result
     read_aux(alloc, finder, top.as_slice())
 }
 
-// Goes on from a style that was found and told: the databases are looked for.
+// Goes on from a style that was found and logged: the databases are looked for.
 fn with_style<'a, F: Finder, L: Sink>(
     alloc: Global,
     finder: &mut F,
@@ -161,8 +161,8 @@ fn named_style<'a, F: Finder, L: Sink>(
     }
 }
 
-/// Reads the files that a job names: tells what its `.aux` files told, and looks for its style and its databases. The faults are want of
-/// memory and the device's alone; the log then received a beginning of what would have been told.
+/// Reads the files that a job names: logs the notes of its `.aux` files, and looks for its style and its databases. The faults are want of
+/// memory and the device's alone; the log then received a prefix of what would have been logged.
 pub fn read_files<'a, F: Finder, L: Sink>(
     alloc: Global,
     finder: &mut F,

@@ -79,13 +79,10 @@ impl<'a> Store<'a> {
         requires { said.old ≡ silence }
         ensures { IfOk result (λ next. answer next said.new self.new ≡ spec.formats_name job.now format.entry number names.entry self.old) }
     {
-        match btx_names::format_name(
-            self.alloc,
-            names.as_bytes(),
-            number,
-            format.as_bytes(),
-            job.mode(),
-        ) {
+        match self
+            .names
+            .format(names.as_bytes(), number, format.as_bytes(), job.mode())
+        {
             Ok(answer) => {
                 *said = name_said(self.alloc, answer.complaints, names, number, format)?;
                 Ok(self.push(Literal::Text(Text::owned(answer.text))))

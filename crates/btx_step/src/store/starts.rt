@@ -7,6 +7,7 @@ use crate::job::Job;
 use crate::reserved::Reserved;
 use crate::values::Values;
 use btx_bst::Style;
+use btx_names::NameFormatter;
 use btx_text::Text;
 use std::alloc::{AllocError, Global};
 
@@ -23,6 +24,7 @@ impl<'a> Store<'a> {
             entries: first_entries(alloc, job.style(), job.library().len())?,
             current: None,
             deepest: 0,
+            names: NameFormatter::new(alloc),
         })
     }
 }

@@ -12,7 +12,7 @@ use Rattle.btx_bib.proofs.databases.library_read.Goals as goal
 
 pub library-requires : goal.library-requires
 library-requires c =
-    let w = wanted c.of-request.result in
+    let w = wanted c.in_ok-request.request in
     let macros = c.args.style.now.macros in
     let databases = databases_of c.args.sources.now in
     let start = c.in_ok-define_macros.ensures ∙ ap (λ (k : Gathering). kept_macros k c.macros.result.now) c.in_ok-gathering.ensures ∙ ap (kept_macros (beginning w)) c.macros.ensures in
@@ -20,7 +20,7 @@ library-requires c =
 
 pub returns : goal.returns
 returns c =
-    let w = wanted c.of-request.result in
+    let w = wanted c.in_ok-request.request in
     let macros = c.args.style.now.macros in
     let databases = databases_of c.args.sources.now in
     let start = c.in_ok-define_macros.ensures ∙ ap (λ (k : Gathering). kept_macros k c.macros.result.now) c.in_ok-gathering.ensures ∙ ap (kept_macros (beginning w)) c.macros.ensures in
@@ -31,5 +31,5 @@ returns c =
     ∙ ap (λ (k : Gathering). told_by_all w k databases) start in
     let whole =
     library-is w macros databases c.read_all.new.self kept c.read_all.new.messages tells
-    ∙ ap (λ (asks : Wanted). library_of asks macros databases) c.of-request.ensures in
+    ∙ ap (λ (asks : Wanted). library_of asks macros databases) c.in_ok-request.ensures in
     IfOk-weaker c.library.result _ _ (λ library is. is ∙ whole) c.library.ensures

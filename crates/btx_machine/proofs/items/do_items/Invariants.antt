@@ -9,7 +9,7 @@ use Rattle.btx_machine.proofs.items.do_items.Given as goal
 -- the items that are left remain to be done
 abbrev pub invariant-loop-item : goal.invariant-loop-item
 invariant-loop-item g l = record {
-  frames : l.frames ≡ [];
+  marks : l.marks ≡ [];
   fewer : l.left ≤ l.fn.left;
   writes : Writes l.work.outputs;
   bbl_counts : g.W.Sink.failures l.bbl ≡ g.W.Sink.failures l.fn.bbl;

@@ -8,7 +8,7 @@ use Rattle.btx_machine.proofs.visits.visit_all.Given as goal
 -- the entries that are left remain to be visited
 abbrev pub invariant-loop-entry : goal.invariant-loop-entry
 invariant-loop-entry g l = record {
-  frames : l.frames ≡ [];
+  marks : l.marks ≡ [];
   fewer : l.left ≤ l.fn.left;
   writes : Writes l.work.outputs;
   bbl_counts : g.W.Sink.failures l.bbl ≡ g.W.Sink.failures l.fn.bbl;

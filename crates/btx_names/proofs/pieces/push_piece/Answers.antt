@@ -9,14 +9,14 @@ use Rattle.btx_names.proofs.pieces.push_piece.Goals as goal
 pub returns-then-is_empty-clause-text : goal.returns-then-is_empty-clause-text
 returns-then-is_empty-clause-text c =
     piece_of_none c.args.writer.now.mode (piece_view c.args.piece) (part_tokens c.args.part) c.args.writer.now.text.items
-    (no_tokens c.args.part.tokens.now c.is_empty.result c.is_empty.ensures c.if-is_empty.true)
+    (no_tokens c.args.part.bytes.now c.args.part.tokens.now c.is_empty.result c.is_empty.ensures c.if-is_empty.true)
 
 pub returns-in_err-push-clause-text : goal.returns-in_err-push-clause-text
 returns-in_err-push-clause-text c =
     let piece = piece_view c.args.piece in
     let tokens = part_tokens c.args.part in
     let text = c.args.writer.now.text.items in
-    let some : 0 < length tokens = some_tokens c.args.part.tokens.now c.is_empty.result c.is_empty.ensures c.if-is_empty.false in
+    let some : 0 < length tokens = some_tokens c.args.part.bytes.now c.args.part.tokens.now c.is_empty.result c.is_empty.ensures c.if-is_empty.false in
     let p = err_from_is_err_and c.from_residual.result c.from_residual.ensures.1 in
     rw (p.1, p.2)
     (fails_too 1000001 1000000 c.in_err-push.field-0.0 _ _ _ _
@@ -28,7 +28,7 @@ returns-in_err-push_tokens-clause-text c =
     let piece = piece_view c.args.piece in
     let tokens = part_tokens c.args.part in
     let text = c.args.writer.now.text.items in
-    let some : 0 < length tokens = some_tokens c.args.part.tokens.now c.is_empty.result c.is_empty.ensures c.if-is_empty.false in
+    let some : 0 < length tokens = some_tokens c.args.part.bytes.now c.args.part.tokens.now c.is_empty.result c.is_empty.ensures c.if-is_empty.false in
     let start : c.begin_piece.new.self.start ≡ length text = c.begin_piece.ensures.start in
     let opened : c.push.new.self.text.items ≡ text ++ piece.before = rw c.begin_piece.ensures.text at c.in_ok-push.ensures.text in
     let p = err_from_is_err_and c.from_residual-in_err-push_tokens.result c.from_residual-in_err-push_tokens.ensures.1 in
@@ -42,7 +42,7 @@ returns-in_err-push-2-clause-text c =
     let piece = piece_view c.args.piece in
     let tokens = part_tokens c.args.part in
     let text = c.args.writer.now.text.items in
-    let some : 0 < length tokens = some_tokens c.args.part.tokens.now c.is_empty.result c.is_empty.ensures c.if-is_empty.false in
+    let some : 0 < length tokens = some_tokens c.args.part.bytes.now c.args.part.tokens.now c.is_empty.result c.is_empty.ensures c.if-is_empty.false in
     let start : c.begin_piece.new.self.start ≡ length text = c.begin_piece.ensures.start in
     let opened : c.push.new.self.text.items ≡ text ++ piece.before = rw c.begin_piece.ensures.text at c.in_ok-push.ensures.text in
     let filled = rw (c.in_ok-push.ensures.start, c.in_ok-push.ensures.mode, c.begin_piece.ensures.mode) at c.in_ok-push_tokens.ensures.text in
@@ -57,7 +57,7 @@ returns-clause-text c =
     let piece = piece_view c.args.piece in
     let tokens = part_tokens c.args.part in
     let text = c.args.writer.now.text.items in
-    let some : 0 < length tokens = some_tokens c.args.part.tokens.now c.is_empty.result c.is_empty.ensures c.if-is_empty.false in
+    let some : 0 < length tokens = some_tokens c.args.part.bytes.now c.args.part.tokens.now c.is_empty.result c.is_empty.ensures c.if-is_empty.false in
     let start : c.begin_piece.new.self.start ≡ length text = c.begin_piece.ensures.start in
     let opened : c.push.new.self.text.items ≡ text ++ piece.before = rw c.begin_piece.ensures.text at c.in_ok-push.ensures.text in
     let filled = rw (c.in_ok-push.ensures.start, c.in_ok-push.ensures.mode, c.begin_piece.ensures.mode) at c.in_ok-push_tokens.ensures.text in

@@ -1,10 +1,10 @@
-use Rattle.std.proofs.Common.{◌≡◌, ◌≤◌, ◌+◌, ◌-◌, ◌++◌, ◌∷◌, ◌∙◌, sym, length, take, drop, arith}
+use Rattle.std.proofs.Common.{◌≡◌, ◌≤◌, ◌+◌, ◌-◌, ◌++◌, ◌∷◌, ◌∙◌, sym, length, get_or, take, drop, arith}
 use Rattle.std.proofs.lemmas.Result.{err_from_is_err_and}
 use Rattle.btx_names.specs.FormattedNames.{with_tokens, shown, between_text}
 use Rattle.btx_names.specs.ItemViews.{piece_view}
 use Rattle.btx_names.specs.NameTokens.{token_of, tokens_in}
 use Rattle.btx_names.specs.PartViews.{part_tokens}
-use Rattle.btx_names.proofs.PartLemmas.{tokens_at, tokens_left, no_tokens_left}
+use Rattle.btx_names.proofs.PartLemmas.{no_token, held_at, tokens_at, tokens_left, no_tokens_left}
 use Rattle.btx_names.proofs.PieceLemmas.{one_token_more, shown_too_long, between_too_long, tokens_done, nothing_between, initials_joined, fails_too}
 use Rattle.btx_names.proofs.pieces.push_tokens.Goals as goal
 
@@ -14,21 +14,25 @@ returns-then-has_nothing_between-clause-text c =
     let is = nothing_between piece (sym c.has_nothing_between.ensures ∙ c.if-has_nothing_between.true) in
     rw (initials_joined c.args.writer.now.mode piece c.args.writer.now.start c.args.writer.now.text.items (part_tokens c.args.part) is.0 is.1) c.push_initials.ensures.text
 
+pub push_shown-requires : goal.push_shown-requires
+push_shown-requires c = held_at c.args.part.bytes.now c.args.part.tokens.now c.loop-token.token-index no_token (omega arith) c.args.part.held
+
 pub returns-in_err-push_shown-clause-text : goal.returns-in_err-push_shown-clause-text
 returns-in_err-push_shown-clause-text c =
     let mode = c.args.writer.now.mode in
     let start = c.args.writer.now.start in
     let piece = piece_view c.args.piece in
+    let bytes = c.args.part.bytes.now in
     let items = c.args.part.tokens.now in
     let i = c.loop-token.token-index in
     let kept = c.loop-token.invariant in
     let old = c.loop-token.writer.text.items in
     let before = take start c.args.writer.now.text.items in
-    let token = token_of c.token-item.result in
-    let tokens = tokens_in (drop (i + 1) items) in
-    let all = tokens_in (drop i items) in
+    let token = token_of bytes (get_or items i no_token) in
+    let tokens = tokens_in bytes (drop (i + 1) items) in
+    let all = tokens_in bytes (drop i items) in
     let inside : start ≤ length old = rw kept.start at c.loop-token.writer.begun in
-    let split : all ≡ token ∷ tokens = tokens_at items i c.token-item.result (omega arith) c.token-item.is in
+    let split : all ≡ token ∷ tokens = tokens_at bytes items i no_token (omega arith) in
     let p = err_from_is_err_and c.from_residual.result c.from_residual.ensures.1 in
     rw (p.1, p.2)
     (fails_too 1000001 1000001 c.in_err-push_shown.field-0.0 _ _ _ _
@@ -40,19 +44,20 @@ returns-in_err-push_between-clause-text c =
     let mode = c.args.writer.now.mode in
     let start = c.args.writer.now.start in
     let piece = piece_view c.args.piece in
+    let bytes = c.args.part.bytes.now in
     let items = c.args.part.tokens.now in
     let i = c.loop-token.token-index in
     let kept = c.loop-token.invariant in
     let old = c.loop-token.writer.text.items in
     let before = take start c.args.writer.now.text.items in
-    let token = token_of c.token-item.result in
-    let tokens = tokens_in (drop (i + 1) items) in
-    let all = tokens_in (drop i items) in
+    let token = token_of bytes (get_or items i no_token) in
+    let tokens = tokens_in bytes (drop (i + 1) items) in
+    let all = tokens_in bytes (drop i items) in
     let inside : start ≤ length old = rw kept.start at c.loop-token.writer.begun in
-    let split : all ≡ token ∷ tokens = tokens_at items i c.token-item.result (omega arith) c.token-item.is in
+    let split : all ≡ token ∷ tokens = tokens_at bytes items i no_token (omega arith) in
     let mid = c.push_shown.new.writer.text.items in
     let first : mid ≡ old ++ shown mode piece.is_full token.text = rw kept.mode at c.in_ok-push_shown.ensures.text in
-    let count : c.loop-token.left - 1 ≡ length tokens = omega (arith, kept.counted, tokens_left items (i + 1)) in
+    let count : c.loop-token.left - 1 ≡ length tokens = omega (arith, kept.counted, tokens_left bytes items (i + 1)) in
     let p = err_from_is_err_and c.from_residual-in_err-push_between.result c.from_residual-in_err-push_between.ensures.1 in
     rw (p.1, p.2)
     (fails_too 1000001 1000001 c.in_err-push_between.field-0.0 _ _ _ _
@@ -64,19 +69,20 @@ loop-token-preserved c =
     let mode = c.args.writer.now.mode in
     let start = c.args.writer.now.start in
     let piece = piece_view c.args.piece in
+    let bytes = c.args.part.bytes.now in
     let items = c.args.part.tokens.now in
     let i = c.loop-token.token-index in
     let kept = c.loop-token.invariant in
     let old = c.loop-token.writer.text.items in
     let before = take start c.args.writer.now.text.items in
-    let token = token_of c.token-item.result in
-    let tokens = tokens_in (drop (i + 1) items) in
-    let all = tokens_in (drop i items) in
+    let token = token_of bytes (get_or items i no_token) in
+    let tokens = tokens_in bytes (drop (i + 1) items) in
+    let all = tokens_in bytes (drop i items) in
     let inside : start ≤ length old = rw kept.start at c.loop-token.writer.begun in
-    let split : all ≡ token ∷ tokens = tokens_at items i c.token-item.result (omega arith) c.token-item.is in
+    let split : all ≡ token ∷ tokens = tokens_at bytes items i no_token (omega arith) in
     let mid = c.push_shown.new.writer.text.items in
     let first : mid ≡ old ++ shown mode piece.is_full token.text = rw kept.mode at c.in_ok-push_shown.ensures.text in
-    let count : c.loop-token.left - 1 ≡ length tokens = omega (arith, kept.counted, tokens_left items (i + 1)) in
+    let count : c.loop-token.left - 1 ≡ length tokens = omega (arith, kept.counted, tokens_left bytes items (i + 1)) in
     let new = c.push_between.new.writer.text.items in
     let second : new ≡ mid ++ between_text mode piece (drop start mid) token.joint (length tokens) =
     rw (c.in_ok-push_shown.ensures.mode, kept.mode, c.in_ok-push_shown.ensures.start, kept.start, count) at c.in_ok-push_between.ensures.text in
@@ -91,6 +97,7 @@ loop-token-preserved c =
 
 pub returns-clause-text : goal.returns-clause-text
 returns-clause-text c =
+    let bytes = c.args.part.bytes.now in
     let items = c.args.part.tokens.now in
     let kept = c.loop-token.invariant in
-    tokens_done c.args.writer.now.mode (piece_view c.args.piece) c.args.writer.now.start c.loop-token.writer.text.items (take c.args.writer.now.start c.args.writer.now.text.items) (with_tokens c.args.writer.now.mode (piece_view c.args.piece) (drop c.args.writer.now.start c.args.writer.now.text.items) (part_tokens c.args.part)) (tokens_in (drop c.loop-token.token-index items)) kept.before (no_tokens_left items c.loop-token.token-index (omega arith)) kept.rest
+    tokens_done c.args.writer.now.mode (piece_view c.args.piece) c.args.writer.now.start c.loop-token.writer.text.items (take c.args.writer.now.start c.args.writer.now.text.items) (with_tokens c.args.writer.now.mode (piece_view c.args.piece) (drop c.args.writer.now.start c.args.writer.now.text.items) (part_tokens c.args.part)) (tokens_in bytes (drop c.loop-token.token-index items)) kept.before (no_tokens_left bytes items c.loop-token.token-index (omega arith)) kept.rest

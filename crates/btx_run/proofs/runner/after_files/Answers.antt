@@ -1,6 +1,7 @@
-use Rattle.btx_machine.proofs.ComesLemmas.{err_map}
+use Rattle.std.proofs.Common.{refl}
+use Rattle.btx_machine.proofs.ComesLemmas.{err_map, ok_map}
 use Rattle.btx_run.specs.Product.{work_in}
-use Rattle.btx_run.proofs.ProductLemmas.{completes_early, counts_of_end, fails_early, never_deeper}
+use Rattle.btx_run.proofs.ProductLemmas.{completes_early, counts_of_end, fails_early, never_deeper, touched_with_top_file}
 use Rattle.btx_run.proofs.runner.after_files.Goals as goal
 
 pub returns-in-Ends-clause-ok : goal.returns-in-Ends-clause-ok
@@ -22,3 +23,10 @@ returns-in-Found-clause-deep g c =
 
 pub returns-in-Found-clause-err : goal.returns-in-Found-clause-err
 returns-in-Found-clause-err g c = rw c.in-Found.is c.execute_found.ensures.err
+
+pub returns-in-Ends-clause-untouched : goal.returns-in-Ends-clause-untouched
+returns-in-Ends-clause-untouched g c = ok_map (λ report same is. refl) c.tell_end.result c.tell_end.ensures.report
+
+pub returns-in-Found-clause-untouched : goal.returns-in-Found-clause-untouched
+returns-in-Found-clause-untouched g c =
+    touched_with_top_file _ _ _ _ (work_in c.args.job.now c.in-Found.found c.args.options.now) c.args.told c.args.options.now.line c.args.options.now.budget c.execute_found.result c.execute_found.ensures.ok

@@ -1,0 +1,121 @@
+-- Worked texts of databases: what stands in them and what is wrong, and the texts of values.
+use Rattle.std.specs.Prelude.{◌≡◌, ℕ, Bool, false, List, [], ◌∷◌, Option, None, Some, codes}
+use Rattle.std.specs.List.{list_any}
+use Rattle.btx_aux.specs.Names.{is_same_key}
+use Rattle.btx_bib.specs.declared.grammar.byte_sets.Delimiter.TheVariants.{Braces, Parens}
+use Rattle.btx_bib.specs.declared.grammar.commands.Wanted.TheVariants as wanted
+use Rattle.btx_bib.specs.declared.grammar.slip.Slip.TheVariants.{NoName, NoDelimiter, NoComma, NoEquals, NoClosing, NoValue, Unbalanced, EndOfFile, Repeated}
+use Rattle.btx_bib.specs.declared.grammar.value_ends.Ends.{Ends}
+use Rattle.btx_bib.specs.declared.grammar.value_ends.Ends.TheVariants.{Kept, Trimmed}
+use Rattle.btx_bib.specs.Grammar.Values.{Part, Braced, Quoted, Digits, Named}
+use Rattle.btx_bib.specs.Grammar.Items.{Event, Comment, Preamble, Definition, Entry, FieldOf, End, Wrong, by_history, events_from}
+use Rattle.btx_bib.specs.Grammar.ItemEvents.{told}
+use Rattle.btx_bib.specs.Grammar.ValueTexts.{value_text}
+
+-- ---- events
+
+-- an entry of this key is among some events
+abbrev pub is_entry_of : List ℕ → Event → Bool
+is_entry_of key (Entry kind other) = is_same_key key other
+is_entry_of key _ = false
+
+abbrev pub has_entry : List Event → List ℕ → Bool
+has_entry events key = list_any (is_entry_of key) events
+
+-- the name of a string in a value, and the text behind it
+abbrev pub name : List ℕ → List ℕ → Part
+name string rest = Named (record { name = string; rest = rest })
+
+-- a field
+abbrev pub field : List ℕ → List Part → Event
+field name value = FieldOf (record { name = name; value = value })
+
+-- a text, and the events of it, where each entry is stored
+pub record Worked : Type 0 where
+  pub text : List ℕ
+  pub events : List Event
+
+abbrev pub row : List ℕ → List Event → Worked
+row text events = record { text = text; events = events }
+
+abbrev pub texts : List Worked
+texts =
+    -- nothing, and what stands outside any item
+    row (codes "") []
+    ∷ row (codes "jan = {x}\n% y") []
+    -- fields have values of one part or of several; a comma may stand behind the last one
+    ∷ row (codes "@misc{k, title={A{b}},\n TITLE = 1 # b,}")
+    (Entry (codes "misc") (codes "k") ∷ field (codes "title") (Braced (codes "A{b}") ∷ []) ∷ field (codes "TITLE") (Digits (codes "1") ∷ name (codes "b") (codes ",}") ∷ []) ∷ End ∷ [])
+    -- in parentheses a key may have a brace
+    ∷ row (codes "@a(b}, c = \"d\")") (Entry (codes "a") (codes "b}") ∷ field (codes "c") (Quoted (codes "d") ∷ []) ∷ End ∷ [])
+    -- the case of a command is ignored
+    ∷ row (codes "@PreAmble({a})@STRING{b = 1}@coMMent") (Preamble (Braced (codes "a") ∷ []) ∷ End ∷ Definition (codes "b") (Digits (codes "1") ∷ []) ∷ End ∷ Comment ∷ [])
+    -- a comment ends with its own name
+    ∷ row (codes "@comment{@misc{k}}") (Comment ∷ Entry (codes "misc") (codes "k") ∷ End ∷ [])
+    -- an `@` is a byte of names
+    ∷ row (codes "@@misc{k} @comment@misc{l}") (Entry (codes "@misc") (codes "k") ∷ End ∷ Entry (codes "comment@misc") (codes "l") ∷ End ∷ [])
+    -- a `"` inside braces ends nothing
+    ∷ row (codes "@preamble{\"{\"}\"}") (Preamble (Quoted (codes "{\"}") ∷ []) ∷ End ∷ [])
+    -- digits end at a letter
+    ∷ row (codes "@misc{k,t=12ab}") (Entry (codes "misc") (codes "k") ∷ field (codes "t") (Digits (codes "12") ∷ []) ∷ Wrong (NoComma Braces) ∷ [])
+    -- a name is missing; none begins with a digit
+    ∷ row (codes "@1a{k}") (Wrong NoName ∷ [])
+    ∷ row (codes "@misc{k, {x}}") (Entry (codes "misc") (codes "k") ∷ Wrong NoName ∷ [])
+    -- an opening delimiter is missing, and a comma
+    ∷ row (codes "@misc k}") (Wrong NoDelimiter ∷ [])
+    ∷ row (codes "@misc{k f} x @comment@ @a(b) 12 {c}")
+    (Entry (codes "misc") (codes "k") ∷ Wrong (NoComma Braces) ∷ Wrong NoDelimiter ∷ Entry (codes "a") (codes "b)") ∷ Wrong (NoComma Parens) ∷ [])
+    -- an `=` is missing
+    ∷ row (codes "@misc{k, title {x}}") (Entry (codes "misc") (codes "k") ∷ Wrong NoEquals ∷ [])
+    ∷ row (codes "@string{s}") (Wrong NoEquals ∷ [])
+    -- the closing delimiter is missing: it is the one that the item was opened with
+    ∷ row (codes "@string{s = 1)") (Definition (codes "s") (Digits (codes "1") ∷ []) ∷ Wrong (NoClosing Braces) ∷ [])
+    ∷ row (codes "@preamble(\"a\"}") (Preamble (Quoted (codes "a") ∷ []) ∷ Wrong (NoClosing Parens) ∷ [])
+    -- a value is missing, and a part of one
+    ∷ row (codes "@string{s = }") (Wrong NoValue ∷ [])
+    ∷ row (codes "@misc{k, t = {A} # , u = 1}") (Entry (codes "misc") (codes "k") ∷ Wrong NoValue ∷ [])
+    -- a `}` in quotes closes nothing
+    ∷ row (codes "@misc(k, title = \"a}b\")") (Entry (codes "misc") (codes "k") ∷ Wrong Unbalanced ∷ [])
+    -- the file ends before a key, inside an entry, behind a value, which is read whole, behind a `#`, and inside a group
+    ∷ row (codes "@misc{") (Wrong EndOfFile ∷ [])
+    ∷ row (codes "@String{s = \"x\" # s}\n@misc{k")
+    (Definition (codes "s") (Quoted (codes "x") ∷ name (codes "s") (codes "}\n@misc{k") ∷ []) ∷ End ∷ Entry (codes "misc") (codes "k") ∷ Wrong EndOfFile ∷ [])
+    ∷ row (codes "@misc{k,t={A}") (Entry (codes "misc") (codes "k") ∷ field (codes "t") (Braced (codes "A") ∷ []) ∷ Wrong EndOfFile ∷ [])
+    ∷ row (codes "@misc{k,t={A} #") (Entry (codes "misc") (codes "k") ∷ Wrong EndOfFile ∷ [])
+    ∷ row (codes "@misc{k,t={A{b}") (Entry (codes "misc") (codes "k") ∷ Wrong EndOfFile ∷ [])
+    -- a second entry of a key, whose case is ignored, is a fault behind its key; nothing of it is read
+    ∷ row (codes "@misc{k,t={A}}\n@misc{K,t={B}}") (Entry (codes "misc") (codes "k") ∷ field (codes "t") (Braced (codes "A") ∷ []) ∷ End ∷ Wrong Repeated ∷ [])
+    ∷ []
+
+-- ---- values
+
+-- a value, what names stand for in it, and its text, with or without its first and its last space
+pub record WorkedValue : Type 0 where
+  pub ends : Ends
+  pub strings : List ℕ → Option (List ℕ)
+  pub parts : List Part
+  pub text : List ℕ
+
+abbrev pub values : List WorkedValue
+values =
+    -- a field loses its first and its last space, a string keeps them
+    record { ends = Trimmed; strings = λ name. None; parts = Braced (codes "\n  a  b ") ∷ []; text = codes "a b" }
+    ∷ record { ends = Kept; strings = λ name. None; parts = Braced (codes "\n  a  b ") ∷ []; text = codes " a b " }
+    -- white over parts is one space
+    ∷ record { ends = Kept; strings = λ name. Some (codes "x\t"); parts = name (codes "s") [] ∷ Quoted (codes " y ") ∷ Braced (codes "  z") ∷ []; text = codes "x y z" }
+    -- a name that stands for no string is nothing
+    ∷ record { ends = Kept; strings = λ name. None; parts = Digits (codes "1") ∷ name (codes "s") [] ∷ Digits (codes "2") ∷ []; text = codes "12" }
+    -- nothing but white
+    ∷ record { ends = Kept; strings = λ name. None; parts = Quoted (codes " \t\n") ∷ []; text = codes " " }
+    ∷ record { ends = Trimmed; strings = λ name. None; parts = Quoted (codes " \t\n") ∷ []; text = [] }
+    ∷ []
+
+-- ---- each row is so
+
+abbrev pub AreRead : List Worked → Type 0
+AreRead [] = Unit {0}
+AreRead (row ∷ rows) = (told (events_from (by_history has_entry) [] wanted.Item row.text) ≡ row.events) × AreRead rows
+
+abbrev pub AreTexts : List WorkedValue → Type 0
+AreTexts [] = Unit {0}
+AreTexts (row ∷ rows) = (value_text row.ends row.strings row.parts ≡ row.text) × AreTexts rows

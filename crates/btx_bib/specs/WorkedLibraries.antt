@@ -1,0 +1,251 @@
+-- Worked libraries: what short databases give to a job, where a database may be cut, and the lines of messages.
+use Rattle.std.specs.Prelude.{◌≡◌, ℕ, List, [], ◌∷◌, ◌++◌, Option, None, Some, codes, if◌then◌else◌}
+use Rattle.std.specs.Str.{bytes_eq}
+use Rattle.btx_text.specs.declared.log_line.LineKind.{LineKind}
+use Rattle.btx_text.specs.declared.log_line.LineKind.TheVariants as line
+use Rattle.btx_text.specs.LogLines.{Line}
+use Rattle.btx_bib.specs.declared.end.End.TheVariants as end
+use Rattle.btx_bib.specs.declared.entry.Entry.{Entry}
+use Rattle.btx_bib.specs.declared.grammar.byte_sets.Delimiter.TheVariants.{Braces, Parens}
+use Rattle.btx_bib.specs.declared.grammar.slip.Slip.TheVariants.{NoName, NoDelimiter, NoComma, NoEquals, NoClosing, NoValue, Unbalanced, EndOfFile, Repeated}
+use Rattle.btx_bib.specs.declared.message.Message.{Message}
+use Rattle.btx_bib.specs.declared.message.Message.TheVariants as message
+use Rattle.btx_bib.specs.declared.message.Spot.{Spot}
+use Rattle.btx_bib.specs.Wanted.{Wanted}
+use Rattle.btx_bib.specs.Library.{Library}
+use Rattle.btx_bib.specs.Told.{Database}
+use Rattle.btx_bib.specs.Databases.{library_of, with_macros}
+use Rattle.btx_bib.specs.MessageTexts.{line_of}
+use Rattle.btx_bib.specs.Cuts.{IsCutBetweenItems}
+
+-- ---- what the jobs ask, and how a library is written down
+
+-- the fields are `crossref`, `title` and `booktitle`
+abbrev pub field : List ℕ → Option ℕ
+field name =
+    if bytes_eq name (codes "crossref") then Some 0
+    else if bytes_eq name (codes "title") then Some 1
+    else if bytes_eq name (codes "booktitle") then Some 2 else None
+
+-- the types are `misc` and `book`
+abbrev pub misc : Option ℕ
+misc = Some 0
+
+abbrev pub book : Option ℕ
+book = Some 1
+
+abbrev pub kind : List ℕ → Option ℕ
+kind name = if bytes_eq name (codes "misc") then misc else if bytes_eq name (codes "book") then book else None
+
+-- a job that cites these keys, where an entry that isn't cited stays with this number of references
+abbrev pub citing : List (List ℕ) → ℕ → Wanted
+citing keys fewest = record { cited = keys; all = None; field = field; count = 3; kind = kind; fewest = fewest }
+
+-- a job that cites `*` behind this number of its keys
+abbrev pub citing_all : List (List ℕ) → ℕ → Wanted
+citing_all keys place = record { cited = keys; all = Some place; field = field; count = 3; kind = kind; fewest = 0 }
+
+-- a database of this text
+abbrev pub database : List ℕ → Database
+database text = record { file = codes "d.bib"; text = text }
+
+-- a line of it
+abbrev pub at_line : ℕ → Spot
+at_line number = record { file = codes "d.bib"; line = number }
+
+-- an entry with its `crossref`, its `title` and its `booktitle`
+abbrev pub entry : Option ℕ → List ℕ → Option (List ℕ) → Option (List ℕ) → Option (List ℕ) → Entry
+entry kind key parent title booktitle = record { key = key; kind = kind; values = parent ∷ title ∷ booktitle ∷ [] }
+
+-- a library whose databases were read to their ends
+abbrev pub library : List Entry → List Message → Library
+library entries messages = record { entries = entries; preamble = []; messages = messages; ending = end.Whole }
+
+-- ---- libraries
+
+-- a job, the macros of its style, its databases, and what they give
+pub record Worked : Type 0 where
+  pub wanted : Wanted
+  pub macros : List (List ℕ × List ℕ)
+  pub databases : List Database
+  pub library : Library
+
+-- a job with one database, whose style has no macro
+abbrev pub row : Wanted → List ℕ → Library → Worked
+row wanted text library = record { wanted = wanted; macros = []; databases = database text ∷ []; library = library }
+
+-- what is read in entries
+abbrev pub entries : List Worked
+entries =
+    -- a string that names itself, a name that stands for no string, and white over parts
+    row (citing (codes "k" ∷ []) 2) (codes "@string{s = \"x\" # s}\n@misc{k, title = s # \" y \" # zz # {  z}}")
+    (library (entry misc (codes "k") None (Some (codes "x y z")) None ∷ []) (message.OwnString (codes "s") (at_line 1) ∷ message.UndefinedString (codes "zz") (at_line 2) ∷ []))
+    -- an extra field over two lines, and a name that stands for no string: each has the number of its last line, which isn't its entry's first
+    ∷ row (citing (codes "k" ∷ []) 2) (codes "@misc{k, title = {A},\n title = {B\nC},\n booktitle = zz}")
+    (library (entry misc (codes "k") None (Some (codes "A")) (Some []) ∷ [])
+    (message.ExtraField (codes "k") (codes "title") (at_line 3) ∷ message.UndefinedString (codes "zz") (at_line 4) ∷ []))
+    -- a value that ends in a fault isn't stored, and its entry is
+    ∷ row (citing (codes "k" ∷ []) 2) (codes "@misc(k, title = \"a}b\")")
+    (library (entry misc (codes "k") None None None ∷ []) (message.Wrong Unbalanced (at_line 1) ∷ []))
+    -- of two entries with one key the first is stored
+    ∷ row (citing (codes "k" ∷ []) 2) (codes "@misc{k, title={A}}\n@misc{K, title={B}}")
+    (library (entry misc (codes "k") None (Some (codes "A")) None ∷ []) (message.Wrong Repeated (at_line 2) ∷ []))
+    -- of two fields with one name the first is stored
+    ∷ row (citing (codes "k" ∷ []) 2) (codes "@misc{k, title={A}, TITLE={B},}")
+    (library (entry misc (codes "k") None (Some (codes "A")) None ∷ []) (message.ExtraField (codes "k") (codes "TITLE") (at_line 1) ∷ []))
+    -- an entry that isn't stored has no message
+    ∷ row (citing (codes "k" ∷ []) 2) (codes "@misc{j, title = zz} @misc{k}")
+    (library (entry misc (codes "k") None None None ∷ []) [])
+    -- at the end of the file the fields that were read stand
+    ∷ row (citing (codes "k" ∷ []) 2) (codes "@misc{k, title = {A}, note = \"cu")
+    (library (entry misc (codes "k") None (Some (codes "A")) None ∷ []) (message.Wrong EndOfFile (at_line 1) ∷ []))
+    -- a type that the style doesn't have; a message has the key as it stands there, and the list as it was cited; preambles are joined
+    ∷ row (citing (codes "k" ∷ []) 2) (codes "@preamble{\"a \" # {b}}@other{K,\n title={ T  }}@preamble{{c}}") (record {
+      entries = entry None (codes "k") None (Some (codes "T")) None ∷ [];
+      preamble = codes "a bc";
+      messages = message.UnknownKind (codes "K") (at_line 1) ∷ [];
+      ending = end.Whole;
+    })
+    -- a macro of the style, a string of the first database in the second one, and lines of the second one
+    ∷ record {
+      wanted = citing (codes "k" ∷ codes "j" ∷ []) 2;
+      macros = (codes "jan", codes "January") ∷ [];
+      databases = database (codes "@string{s=jan # { 1}}@misc{k") ∷ record { file = codes "e.bib"; text = codes "\n@misc{j,title=s}@=" } ∷ [];
+      library =
+          library (entry misc (codes "k") None None None ∷ entry misc (codes "j") None (Some (codes "January 1")) None ∷ [])
+          (message.Wrong EndOfFile (at_line 1) ∷ message.Wrong NoName (record { file = codes "e.bib"; line = 2 }) ∷ []);
+    }
+    ∷ []
+
+-- the list and the references
+abbrev pub references : List Worked
+references =
+    -- a parent with too few references leaves, and what was inherited stays; with one reference asked for all parents stay
+    row (citing (codes "c" ∷ []) 2) (codes "@misc{c, crossref={p}}\n@misc{p, title={P}, crossref={g}}\n@book{g, booktitle={G}}")
+    (library (entry misc (codes "c") None (Some (codes "P")) None ∷ []) (message.NestedReference (codes "c") (codes "p") ∷ []))
+    ∷ row (citing (codes "c" ∷ []) 1) (codes "@misc{c, crossref={p}}\n@misc{p, title={P}, crossref={g}}\n@book{g, booktitle={G}}")
+    (library (entry misc (codes "c") (Some (codes "p")) (Some (codes "P")) None ∷ entry misc (codes "p") (Some (codes "g")) (Some (codes "P")) (Some (codes "G"))
+    ∷ entry book (codes "g") None None (Some (codes "G")) ∷ [])
+    (message.NestedReference (codes "c") (codes "p") ∷ []))
+    -- a parent that stands before its child and isn't cited is not stored
+    ∷ row (citing (codes "c" ∷ []) 2) (codes "@book{p, booktitle={V}}\n@misc{c, crossref={p}}")
+    (library (entry misc (codes "c") None None None ∷ []) (message.BadReference (codes "c") (codes "p") ∷ message.NoEntry (codes "p") ∷ []))
+    -- one reference is fewer than two
+    ∷ row (citing (codes "c1" ∷ []) 2) (codes "@misc{c1, title = {One}, crossref = {p}}\n@misc{c2, title = {Two}, crossref = {p}}\n@book{P, booktitle = {Vol}}")
+    (library (entry misc (codes "c1") None (Some (codes "One")) (Some (codes "Vol")) ∷ []) [])
+    -- two references keep a parent, which is spelled as its entry has it
+    ∷ row (citing (codes "c1" ∷ codes "c2" ∷ []) 2) (codes "@misc{c1, title = {One}, crossref = {p}}\n@misc{c2, title = {Two}, crossref = {p}}\n@book{P, booktitle = {Vol}}")
+    (library (entry misc (codes "c1") (Some (codes "P")) (Some (codes "One")) (Some (codes "Vol")) ∷ entry misc (codes "c2") (Some (codes "P")) (Some (codes "Two")) (Some (codes "Vol"))
+    ∷ entry book (codes "P") None None (Some (codes "Vol")) ∷ [])
+    [])
+    -- an empty reference names the empty key
+    ∷ row (citing (codes "k" ∷ []) 2) (codes "@misc{k,crossref={}}")
+    (library (entry misc (codes "k") None None None ∷ []) (message.BadReference (codes "k") [] ∷ message.NoEntry [] ∷ []))
+    -- an entry that refers to itself: nothing is inherited, and it has a parent with a parent
+    ∷ row (citing (codes "k" ∷ []) 2) (codes "@misc{k,crossref={K}}")
+    (library (entry misc (codes "k") (Some (codes "k")) None None ∷ []) (message.NestedReference (codes "k") (codes "k") ∷ []))
+    -- a parent that is cited later stands at its own place
+    ∷ row (citing (codes "c" ∷ codes "p" ∷ []) 2) (codes "@misc{c,crossref={P}}@book{p,title={T}}")
+    (library (entry misc (codes "c") (Some (codes "p")) (Some (codes "T")) None ∷ entry book (codes "p") None (Some (codes "T")) None ∷ []) [])
+    -- with `*` the keys cited before it come first, then all other entries in their order
+    ∷ row (citing_all (codes "b" ∷ codes "c" ∷ codes "e" ∷ []) 1) (codes "@misc{a}@misc{b}@misc{c}@misc{d}")
+    (library (entry misc (codes "b") None None None ∷ entry misc (codes "a") None None None ∷ entry misc (codes "c") None None None ∷ entry misc (codes "d") None None None ∷ [])
+    (message.NoEntry (codes "e") ∷ []))
+    -- with `*` a key that was cited after it stands where its entry does, spelled as it was cited
+    ∷ row (citing_all (codes "K" ∷ []) 0) (codes "@misc{a}@misc{k}@misc{b}")
+    (library (entry misc (codes "a") None None None ∷ entry misc (codes "K") None None None ∷ entry misc (codes "b") None None None ∷ []) [])
+    -- with `*` a reference adds no key
+    ∷ row (citing_all [] 0) (codes "@misc{k,crossref={P}}")
+    (library (entry misc (codes "k") None None None ∷ []) (message.BadReference (codes "k") (codes "P") ∷ []))
+    ∷ []
+
+-- ---- cuts
+
+-- the two texts into which a database is cut
+pub record Cut : Type 0 where
+  pub first : List ℕ
+  pub second : List ℕ
+
+abbrev pub cut : List ℕ → List ℕ → Cut
+cut first second = record { first = first; second = second }
+
+-- no item is open there
+abbrev pub cuts : List Cut
+cuts =
+    -- behind a string, and in front of an entry that uses it
+    cut (codes "@string{s={A}}") (codes "@misc{k,title=s}")
+    -- before the first item, and behind a text that belongs to none
+    ∷ cut (codes "A database\n") (codes "@misc{k}")
+    ∷ cut (codes "@misc{j} an") (codes "d @misc{k}")
+    -- directly behind an `@comment`, in front of what doesn't go on with its name
+    ∷ cut (codes "@comment") (codes "{@misc{k}}")
+    ∷ cut (codes "@misc{k} @COMMENT") (codes "\n@misc{j}")
+    ∷ []
+
+-- an item is open there
+abbrev pub no_cuts : List Cut
+no_cuts =
+    -- inside an entry, and inside a name
+    cut (codes "@misc{k") (codes "}")
+    ∷ cut (codes "@mi") (codes "sc{k}")
+    -- directly behind an `@comment`, in front of what goes on with its name: an `@` does
+    ∷ cut (codes "@comment") (codes "s{k}")
+    ∷ cut (codes "@comment") (codes "@misc{k}")
+    ∷ []
+
+-- ---- the lines of messages
+
+-- a message, and its line of the log
+pub record WorkedMessage : Type 0 where
+  pub message : Message
+  pub line : Line
+
+abbrev pub message_row : Message → LineKind → List ℕ → WorkedMessage
+message_row message kind text = record { message = message; line = record { text = text; kind = kind } }
+
+abbrev pub messages : List WorkedMessage
+messages =
+    -- what is wrong is an error, with its line
+    message_row (message.Wrong NoName (at_line 1)) line.Error (codes "Error--I was expecting a name--line 1 of file d.bib")
+    ∷ message_row (message.Wrong NoDelimiter (at_line 2)) line.Error (codes "Error--I was expecting a { or a (--line 2 of file d.bib")
+    ∷ message_row (message.Wrong (NoComma Braces) (at_line 10)) line.Error (codes "Error--I was expecting a , or a }--line 10 of file d.bib")
+    ∷ message_row (message.Wrong (NoComma Parens) (at_line 1)) line.Error (codes "Error--I was expecting a , or a )--line 1 of file d.bib")
+    ∷ message_row (message.Wrong NoEquals (at_line 1)) line.Error (codes "Error--I was expecting an =--line 1 of file d.bib")
+    ∷ message_row (message.Wrong (NoClosing Braces) (at_line 1)) line.Error (codes "Error--I was expecting a }--line 1 of file d.bib")
+    ∷ message_row (message.Wrong (NoClosing Parens) (at_line 1)) line.Error (codes "Error--I was expecting a )--line 1 of file d.bib")
+    ∷ message_row (message.Wrong NoValue (at_line 1)) line.Error (codes "Error--I was expecting a value--line 1 of file d.bib")
+    ∷ message_row (message.Wrong Unbalanced (at_line 1)) line.Error (codes "Error--Unbalanced braces--line 1 of file d.bib")
+    ∷ message_row (message.Wrong EndOfFile (at_line 1)) line.Error (codes "Error--Illegal end of database file--line 1 of file d.bib")
+    ∷ message_row (message.Wrong Repeated (at_line 1)) line.Error (codes "Error--Repeated entry--line 1 of file d.bib")
+    -- what is left out is a warning, with its line
+    ∷ message_row (message.UndefinedString (codes "zz") (at_line 2)) line.Warning (codes "Warning--string name \"zz\" is undefined--line 2 of file d.bib")
+    ∷ message_row (message.OwnString (codes "s") (at_line 1)) line.Warning (codes "Warning--string name \"s\" is used in its own definition--line 1 of file d.bib")
+    ∷ message_row (message.ExtraField (codes "k") (codes "TITLE") (at_line 1)) line.Warning (codes "Warning--I'm ignoring k's extra \"TITLE\" field--line 1 of file d.bib")
+    ∷ message_row (message.UnknownKind (codes "k") (at_line 1)) line.Warning (codes "Warning--entry type for \"k\" isn't style-file defined--line 1 of file d.bib")
+    -- a reference and a key have no line; a parent without an entry is an error
+    ∷ message_row (message.BadReference (codes "c") (codes "p")) line.Error (codes "Error--A bad cross reference--entry \"c\" refers to entry \"p\", which doesn't exist")
+    ∷ message_row (message.NestedReference (codes "c") (codes "p")) line.Warning (codes "Warning--you've nested cross references--entry \"c\" refers to entry \"p\"")
+    ∷ message_row (message.NoEntry (codes "nope")) line.Warning (codes "Warning--I didn't find a database entry for \"nope\"")
+    ∷ []
+
+-- ---- each row is so
+
+abbrev pub AreGiven : List Worked → Type 0
+AreGiven [] = Unit {0}
+AreGiven (row ∷ rows) = (library_of row.wanted row.macros row.databases ≡ row.library) × AreGiven rows
+
+-- a job that cites `k` finds the database cut between items
+abbrev pub IsCut : Cut → Type 0
+IsCut row = IsCutBetweenItems (citing (codes "k" ∷ []) 2) (with_macros []) (database (row.first ++ row.second)) (database row.first) (database row.second)
+
+abbrev pub AreCuts : List Cut → Type 0
+AreCuts [] = Unit {0}
+AreCuts (row ∷ rows) = IsCut row × AreCuts rows
+
+abbrev pub AreNoCuts : List Cut → Type 0
+AreNoCuts [] = Unit {0}
+AreNoCuts (row ∷ rows) = (IsCut row → ⊥) × AreNoCuts rows
+
+abbrev pub AreLines : List WorkedMessage → Type 0
+AreLines [] = Unit {0}
+AreLines (row ∷ rows) = (line_of row.message ≡ row.line) × AreLines rows

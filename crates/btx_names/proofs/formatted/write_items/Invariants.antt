@@ -1,0 +1,11 @@
+use Rattle.std.proofs.Common.{◌≡◌, ◌++◌, drop}
+use Rattle.std.specs.List.{flat_map}
+use Rattle.btx_names.specs.FormattedNames.{item_text, formatted}
+use Rattle.btx_names.specs.KeptItems.{items_in}
+use Rattle.btx_names.specs.PartViews.{parts_view}
+use Rattle.btx_names.proofs.formatted.write_items.Given as goal
+
+abbrev pub invariant-loop-item : goal.invariant-loop-item
+invariant-loop-item l =
+    (l.writer.mode ≡ l.initial.writer.mode)
+    × (l.writer.text.items ++ flat_map (item_text l.initial.writer.mode (parts_view l.parts)) (items_in (drop l.item-index l.item-items)) ≡ formatted l.initial.writer.mode (parts_view l.parts) l.format.text.items)

@@ -1,0 +1,12 @@
+use Rattle.std.proofs.Common.{◌≡◌, ◌++◌}
+use Rattle.std.specs.List.{flat_map, list_any}
+use Rattle.btx_names.specs.FormattedNames.{item_text, formatted}
+use Rattle.btx_names.specs.Formats.{is_illegal, items_of}
+use Rattle.btx_names.specs.PartViews.{parts_view}
+use Rattle.btx_names.proofs.formatted.write_until_illegal.Given as goal
+
+abbrev pub invariant-loop-item : goal.invariant-loop-item
+invariant-loop-item l =
+    (l.writer.mode ≡ l.initial.writer.mode)
+    × (l.writer.text.items ++ flat_map (item_text l.initial.writer.mode (parts_view l.parts)) l.item-iterator ≡ formatted l.initial.writer.mode (parts_view l.parts) l.format)
+    × (list_any is_illegal l.item-iterator ≡ list_any is_illegal (items_of l.format))

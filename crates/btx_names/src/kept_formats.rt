@@ -1,0 +1,90 @@
+//! Formats of names, kept as they were read.
+ghost use Rattle.std.specs.Prelude.{◌≡◌, ◌++◌, IfOk, IfSome, OnOk, IsTrue, true};
+ghost use Rattle.std.specs.List.{flat_map};
+ghost use Rattle.btx_names.specs.Formats.{is_legal, items_of};
+ghost use Rattle.btx_names.specs.KeptItems.{items_in};
+
+use crate::format_items::Items;
+use crate::kept_item::KeptItem;
+use std::alloc::{AllocError, Global};
+
+// How many bytes a format has at most that is kept.
+const LONGEST_FORMAT: usize = 256;
+
+/// A legal format with its items.
+#[derive(Debug, Drop)]
+pub struct KeptFormat {
+    text: Vec<u8>,
+    items: Vec<KeptItem>,
+    ghost read: { items_in items.items ≡ items_of text.items },
+}
+
+impl KeptFormat {
+    /// A format as it is read, if it is legal.
+    #[tactic(auto, using(crate::proofs::KeptItemLemmas::item_pushed))]
+    pub fn read(alloc: Global, format: &[u8]) -> Result<Option<KeptFormat>, AllocError>
+        ensures { IfOk result (λ found. IfSome found (λ kept. kept.text.items ≡ format.now)) }
+    {
+        let mut items = Vec::new(alloc);
+        for item in Items::of(format) {
+            match KeptItem::of(alloc, item)? {
+                Some(item) => items.push(item)?,
+                None => return Ok(None),
+            }
+        }
+        Ok(Some(KeptFormat {
+            text: Vec::from_slice(alloc, format)?,
+            items,
+        }))
+    }
+
+    /// Its items, first to last.
+    pub fn items(&self) -> &[KeptItem]
+        ensures { items_in result.now ≡ items_of self.now.text.items }
+    {
+        &self.items
+    }
+}
+
+/// The formats that are kept: the first legal ones that were asked for and are short.
+#[derive(Debug, Drop)]
+pub struct KeptFormats {
+    alloc: Global,
+    // How many are kept at most.
+    most: usize,
+    formats: Vec<KeptFormat>,
+}
+
+impl KeptFormats {
+    /// With no format kept, and room for `most` of them.
+    pub fn new(alloc: Global, most: usize) -> KeptFormats {
+        KeptFormats {
+            alloc,
+            most,
+            formats: Vec::new(alloc),
+        }
+    }
+
+    /// A format as it was read, if it is kept.
+    pub fn find(&self, format: &[u8]) -> Option<&KeptFormat>
+        ensures { IfSome result (λ kept. kept.now.text.items ≡ format.now) }
+    {
+        for kept in &self.formats {
+            if kept.text.as_slice() == format {
+                return Some(kept);
+            }
+        }
+        None
+    }
+
+    /// Keeps a format, if it is legal and short and there is room.
+    pub fn keep(&mut self, format: &[u8]) -> Result<(), AllocError> {
+        if self.formats.len() >= self.most || format.len() > LONGEST_FORMAT {
+            return Ok(());
+        }
+        if let Some(kept) = KeptFormat::read(self.alloc, format)? {
+            self.formats.push(kept)?;
+        }
+        Ok(())
+    }
+}

@@ -1,0 +1,168 @@
+//! A name with the list that it stands in.
+ghost use Rattle.std.specs.Prelude.{◌≡◌, ◌≤◌, drop, length, slice_get, IfOk, MatchOption, None, Some, [], IsTrue};
+ghost use Rattle.btx_names.specs.NamesFrom.{names_from};
+ghost use Rattle.btx_names.specs.NameLists.{names_of};
+ghost use Rattle.btx_names.specs.NameParts as spec;
+ghost use Rattle.btx_names.specs.Places.{bytes_at};
+ghost use Rattle.btx_names.specs.TokenLists.{IsListOf};
+
+use crate::name_parts::NameParts;
+use crate::name_sections::{Sections, ends_in_comma};
+use crate::place::Place;
+use crate::separators::name_len;
+use crate::token_list::TokenList;
+use btx_strings::Complaints;
+use std::alloc::{AllocError, Global};
+
+/// A name of a list of names, with its tokens. It owns the bytes of all of them.
+#[derive(Debug, Drop)]
+pub struct KeptName {
+    names: Vec<u8>,
+    // How many names of the list precede this one.
+    before: usize,
+    // Its place in the list.
+    place: Place,
+    list: TokenList,
+    // Whether it ends in a comma.
+    ends_in_comma: bool,
+    // Whether it has a third comma.
+    has_third_comma: bool,
+    ghost inside: { place.from ≤ length names.items },
+    ghost onwards: { drop before (names_of names.items) ≡ names_from names.items place.from },
+    ghost named: { slice_get (names_of names.items) before ≡ Some (bytes_at names.items place) },
+    ghost divided: { IsListOf list (spec.sections_of (bytes_at names.items place)) },
+    ghost ending: { ends_in_comma ≡ spec.ends_in_comma (bytes_at names.items place) },
+    ghost third: { has_third_comma ≡ spec.has_third_comma (spec.sections_of (bytes_at names.items place)) },
+}
+
+impl KeptName {
+    ghost use Rattle.btx_names.specs.Answered.{complaints_with};
+    ghost use Rattle.btx_names.specs.KeptNames.{IsFound, name_in};
+    ghost use Rattle.btx_names.specs.PartViews.{parts_view};
+
+    /// The name of a list that `before` others precede, if there is one.
+    pub fn find(alloc: Global, names: &[u8], before: usize) -> Result<Option<KeptName>, AllocError>
+        ensures { IfOk result (IsFound names.now before) }
+    {
+        KeptName::find_in(Vec::new(alloc), TokenList::new(alloc), names, before)
+    }
+
+    /// Whether this is the name of a list that `before` others precede.
+    pub fn is(&self, names: &[u8], before: usize) -> bool
+        ensures { IsTrue result → slice_get (names_of names.now) before ≡ Some (name_in self.now) }
+    {
+        self.before == before && self.names.as_slice() == names
+    }
+
+    /// The name of a list that `before` others precede, if there is one. It takes the place of this one: where it stands in the same list and
+    /// later, it is found from this one on, and its bytes and tokens are kept in the memory of this one's.
+    pub fn go_to(self, names: &[u8], before: usize) -> Result<Option<KeptName>, AllocError>
+        ensures { IfOk result (IsFound names.now before) }
+    {
+        if self.before <= before && self.names.as_slice() == names {
+            return KeptName::find_from(self.names, self.list, self.before, self.place.from, before);
+        }
+        KeptName::find_in(self.names, self.list, names, before)
+    }
+
+    // The name of a list that `before` others precede, if there is one. What the two buffers hold is of no account.
+    #[tactic(auto, using(crate::proofs::KeptLemmas::find_steps))]
+    fn find_in(
+        buffer: Vec<u8>,
+        list: TokenList,
+        names: &[u8],
+        before: usize,
+    ) -> Result<Option<KeptName>, AllocError>
+        ensures { IfOk result (IsFound names.now before) }
+    {
+        if names.is_empty() {
+            return Ok(None);
+        }
+        let mut kept = buffer;
+        kept.clear();
+        kept.extend_from_slice(names)?;
+        KeptName::find_from(kept, list, 0, 0, before)
+    }
+
+    // The name of a list that `before` others precede, if there is one. The name that `known` others precede is known to begin at `from`.
+    #[tactic(auto, using(crate::proofs::KeptLemmas::find_steps))]
+    fn find_from(
+        names: Vec<u8>,
+        list: TokenList,
+        known: usize,
+        from: usize,
+        before: usize,
+    ) -> Result<Option<KeptName>, AllocError>
+        requires inside { from ≤ length names.items }
+        requires onwards { drop known (names_of names.items) ≡ names_from names.items from }
+        requires earlier { known ≤ before }
+        ensures { IfOk result (IsFound names.items before) }
+    {
+        let Some(from) = name_start(&names, from, before - known) else {
+            return Ok(None);
+        };
+        let rest = &names[from..];
+        let len = name_len(rest);
+        let name = &rest[..len];
+        let sections = Sections::of(name);
+        let ends_in_comma = ends_in_comma(name);
+        let has_third_comma = sections.has_third_comma();
+        let list = list.refilled(sections)?;
+        Ok(Some(KeptName {
+            names,
+            before,
+            place: Place { from, len },
+            list,
+            ends_in_comma,
+            has_third_comma,
+        }))
+    }
+
+    /// Its parts.
+    pub fn parts(&self) -> NameParts<'_>
+        ensures { parts_view result ≡ spec.parts_of (name_in self.now) }
+    {
+        NameParts::of(&self.list)
+    }
+
+    /// What is wrong with it, and with a format that is legal or not.
+    pub fn complaints(&self, is_legal: bool) -> Complaints
+        ensures { result ≡ complaints_with (spec.ends_in_comma (name_in self.now)) (spec.has_third_comma (spec.sections_of (name_in self.now))) is_legal }
+    {
+        Complaints {
+            x9: false,
+            x10: false,
+            x11: self.ends_in_comma,
+            x12: self.has_third_comma,
+            x13: !is_legal,
+        }
+    }
+}
+
+// Where the name begins that `left` others precede, of the names from a place on.
+#[tactic(auto, using(crate::proofs::KeptLemmas::pass_steps))]
+fn name_start(names: &[u8], from: usize, left: usize) -> Option<usize>
+    requires { from ≤ length names.now }
+    ensures { MatchOption result (slice_get (names_from names.now from) left ≡ None)
+        (λ start. (start ≤ length names.now) × (drop left (names_from names.now from) ≡ names_from names.now start)) }
+{
+    let mut start = from;
+    for _passed in 0..left {
+        start = next_start(names, start)?;
+    }
+    Some(start)
+}
+
+// Where the name behind the one that begins at a place begins, if there is one.
+fn next_start(names: &[u8], start: usize) -> Option<usize>
+    requires { start ≤ length names.now }
+    ensures { MatchOption result (drop 1 (names_from names.now start) ≡ [])
+        (λ next. (next ≤ length names.now) × (drop 1 (names_from names.now start) ≡ names_from names.now next)) }
+{
+    let rest = &names[start..];
+    let len = name_len(rest);
+    if rest.len() - len < 3 {
+        return None;
+    }
+    Some(start + len + 3)
+}

@@ -1,0 +1,143 @@
+//! Names in formats, one after another.
+ghost use Rattle.std.specs.Prelude.{◌≡◌, slice_get, IfOk, OnOk, IsSomeAnd, IsTrue, MatchOption, None, Some};
+ghost use Rattle.btx_strings.specs.Answers.{Answers};
+ghost use Rattle.btx_names.specs.Answered as spec;
+ghost use Rattle.btx_names.specs.KeptNames.{IsFound, name_in};
+ghost use Rattle.btx_names.specs.NameLists.{names_of};
+
+use crate::formatted::format_one;
+use crate::kept_formats::KeptFormats;
+use crate::kept_name::KeptName;
+use crate::writer::Writer;
+use btx_strings::{Answer, Complaints};
+use btx_text::{Fault, TextMode};
+use std::alloc::{AllocError, Global};
+
+// How many formats are kept at most. A style mostly has fewer.
+const MOST_FORMATS: usize = 16;
+
+// How many bytes a list of names has at most that is kept.
+const LONGEST_LIST: usize = 65_536;
+
+/// Puts names in formats. It keeps the latest name with its list and its tokens, and some formats as they were read, since a style mostly asks
+/// for the names of one list, one after another and in a few formats. No answer depends on what is kept.
+#[derive(Debug, Drop)]
+pub struct NameFormatter {
+    alloc: Global,
+    name: Option<KeptName>,
+    formats: KeptFormats,
+    writer: Writer,
+}
+
+impl NameFormatter {
+    /// With nothing kept, and room for formats.
+    pub fn new(alloc: Global) -> NameFormatter {
+        NameFormatter::with_room_for(alloc, MOST_FORMATS)
+    }
+
+    // With nothing kept, and room for `formats` formats.
+    fn with_room_for(alloc: Global, formats: usize) -> NameFormatter {
+        NameFormatter {
+            alloc,
+            name: None,
+            formats: KeptFormats::new(alloc, formats),
+            writer: Writer::new(alloc),
+        }
+    }
+
+    /// A name of a string in a format, with what was wrong: `x10` where there is no name of the number, which counts from 1, and else `x11`
+    /// for a comma at the name's end, `x12` for a third comma, `x13` for an illegal format. With `x10` or `x13` the text is empty.
+    /// [`Fault::StringLimit`] where the text would be longer than a string may be, [`Fault::Memory`] where memory is refused.
+    pub fn format(
+        &mut self,
+        names: &[u8],
+        number: i32,
+        format: &[u8],
+        mode: TextMode,
+    ) -> Result<Answer, Fault>
+        ensures { Answers result (spec.format_name_text mode names.now number format.now) (spec.format_name_complaints names.now number format.now) }
+    {
+        self.go_to(names, number)?;
+        let answer = match &self.name {
+            Some(name) => format_one(
+                self.alloc,
+                name,
+                &mut self.formats,
+                &mut self.writer,
+                format,
+                mode,
+            ),
+            None => Answer::new(
+                Vec::new(self.alloc),
+                Complaints {
+                    x10: true,
+                    ..Complaints::NONE
+                },
+            ),
+        };
+        if names.len() > LONGEST_LIST {
+            self.name = None;
+        }
+        answer
+    }
+
+    // Goes to a name of a string, by its number from 1 on. Where there is none, none is kept.
+    #[tactic(auto, using(crate::proofs::FormattedLemmas::nth_steps))]
+    fn go_to(&mut self, names: &[u8], number: i32) -> Result<(), AllocError>
+        ensures { OnOk result (MatchOption self.new.name (spec.nth_name names.now number ≡ None) (λ kept. spec.nth_name names.now number ≡ Some (name_in kept))) }
+    {
+        let Some(before) = names_before(number) else {
+            self.name = None;
+            return Ok(());
+        };
+        if self.is_at(names, before) {
+            return Ok(());
+        }
+        self.name = self.found(names, before)?;
+        Ok(())
+    }
+
+    // Whether the name that is kept is the one of a list that `before` others precede.
+    fn is_at(&self, names: &[u8], before: usize) -> bool
+        ensures { IsTrue result → IsSomeAnd self.now.name (λ kept. slice_get (names_of names.now) before ≡ Some (name_in kept)) }
+    {
+        match &self.name {
+            Some(name) => name.is(names, before),
+            None => false,
+        }
+    }
+
+    // The name of a list that `before` others precede, if there is one. None is kept any more: this one may stand in its memory.
+    fn found(&mut self, names: &[u8], before: usize) -> Result<Option<KeptName>, AllocError>
+        ensures { IfOk result (IsFound names.now before) }
+    {
+        match self.name.take() {
+            Some(name) => name.go_to(names, before),
+            None => KeptName::find(self.alloc, names, before),
+        }
+    }
+}
+
+/// A name of a string in a format, as [`NameFormatter::format`] gives it, with nothing kept before or after.
+pub fn format_name(
+    alloc: Global,
+    names: &[u8],
+    number: i32,
+    format: &[u8],
+    mode: TextMode,
+) -> Result<Answer, Fault>
+    ensures { Answers result (spec.format_name_text mode names.now number format.now) (spec.format_name_complaints names.now number format.now) }
+{
+    NameFormatter::with_room_for(alloc, 0).format(names, number, format, mode)
+}
+
+// How many names stand before the one of a number.
+#[tactic(auto, using(crate::proofs::FormattedLemmas::before_steps), unfolding(crate::specs::Answered::names_before))]
+fn names_before(number: i32) -> Option<usize>
+    ensures { result ≡ spec.names_before number }
+{
+    match usize::try_from(number) {
+        Ok(0) | Err(_) => None,
+        Ok(number) => Some(number - 1),
+    }
+}

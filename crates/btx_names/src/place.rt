@@ -1,0 +1,36 @@
+//! Places in bytes that are kept.
+ghost use Rattle.std.specs.Prelude.{◌≡◌, ◌≤◌, ◌+◌, length};
+ghost use Rattle.btx_names.specs.Places.{bytes_at};
+
+/// Some bytes among others: where they begin, and how many they are.
+#[derive(Clone, Copy, Debug)]
+pub struct Place {
+    /// How many bytes stand before them.
+    pub from: usize,
+    /// How many they are.
+    pub len: usize,
+}
+
+impl Place {
+    /// The place of the last `len` bytes.
+    pub fn last_of(bytes: &[u8], len: usize) -> Place
+        requires { len ≤ length bytes.now }
+        ensures from { result.from + len ≡ length bytes.now }
+        ensures len { result.len ≡ len }
+    {
+        Place {
+            from: bytes.len() - len,
+            len,
+        }
+    }
+
+    /// The bytes at this place. What of it lies behind the end has none.
+    #[tactic(auto, using(crate::proofs::PlaceLemmas::place_steps))]
+    pub fn of(self, bytes: &[u8]) -> &[u8]
+        ensures { result.now ≡ bytes_at bytes.now self }
+    {
+        let (_, behind) = bytes.split_at(self.from.min(bytes.len()));
+        let (these, _) = behind.split_at(self.len.min(behind.len()));
+        these
+    }
+}

@@ -1,0 +1,119 @@
+-- Worked assignments, and worked tests of loops (btxhak, section 5.3, at `:=` and `while$`).
+use Rattle.std.specs.Prelude.{ℕ, ◌≡◌, ℤ, pos, Bool, true, false, List, [], ◌∷◌, Option, None, Some, codes}
+use Rattle.btx_text.specs.declared.element_kind.TextMode.TheVariants.{Bytes}
+use Rattle.btx_bst.specs.declared.built_in.BuiltIn.TheVariants as built_in
+use Rattle.btx_bst.specs.declared.callee.Callee.{Callee}
+use Rattle.btx_bst.specs.declared.callee.Callee.TheVariants.{BuiltIn, Field, EntryInteger, EntryString, GlobalInteger, GlobalString}
+use Rattle.btx_step.specs.declared.literal.Literal.{Literal}
+use Rattle.btx_step.specs.declared.next.Next.TheVariants.{Nothing}
+use Rattle.btx_step.specs.Stores.{Values}
+use Rattle.btx_step.specs.Control.{Tested, tested}
+use Rattle.btx_step.specs.WorkedStores.{job, outside, Variables, values, knuth, lamport, variables, store, number, minus}
+use Rattle.btx_step.specs.WorkedStores.{string, function, missing, skip, nameless, one_below, error, seen, lines_of, executed, seen_of}
+
+-- ---- `:=`
+
+-- a variable and its new value, of which the variable stands on top; the lines of the log, and the variables after it
+pub record WorkedAssignment : Type 0 where
+  pub variable : Callee
+  pub value : Literal
+  pub lines : List (List ℕ)
+  pub after : Variables
+
+abbrev pub assigns : Callee → Literal → List (List ℕ) → Variables → WorkedAssignment
+assigns variable value lines after = record { variable = variable; value = value; lines = lines; after = after }
+
+-- the variables where these integers, these strings or these values of the entries are others
+abbrev pub with_integers : List ℤ → Variables
+with_integers integers = record variables { integers = integers }
+
+abbrev pub with_strings : List (List ℕ) → Variables
+with_strings strings = record variables { strings = strings }
+
+abbrev pub with_entries : Values → Values → Variables
+with_entries first second = record variables { entries = first ∷ second ∷ [] }
+
+abbrev pub count : Callee
+count = GlobalInteger 2
+
+abbrev pub line : Callee
+line = GlobalString 0
+
+abbrev pub rank : Callee
+rank = EntryInteger 0
+
+abbrev pub sort_key : Callee
+sort_key = EntryString 0
+
+abbrev pub label : Callee
+label = EntryString 1
+
+abbrev pub title : Callee
+title = Field 1
+
+-- outside an entry
+abbrev pub assignments : List WorkedAssignment
+assignments =
+    assigns count (number 9) [] (with_integers (pos 4 ∷ pos 6 ∷ pos 9 ∷ []))
+    ∷ assigns line (string "abcdef") [] (with_strings (codes "abcdef" ∷ []))
+    ∷ assigns line (string "abcdefg") (codes "Warning--string of 7 bytes cut to 6 while executing :=" ∷ []) (with_strings (codes "abcdef" ∷ []))
+    ∷ assigns count (string "a") (error ":=" "\"a\" is not an integer" ∷ []) variables
+    ∷ assigns line (number 1) (error ":=" "1 is not a string" ∷ []) variables
+    -- what is no variable, and a variable of an entry where there is none, are met before the value is looked at
+    ∷ assigns title missing (error ":=" "You can't assign to title" ∷ []) variables
+    ∷ assigns skip missing (error ":=" "You can't assign to skip$" ∷ []) variables
+    ∷ assigns nameless missing (error ":=" "You can't assign to {}" ∷ []) variables
+    ∷ assigns rank (string "a") (error ":=" "You can't mess with entries here" ∷ []) variables
+    ∷ assigns label (string "a") (error ":=" "You can't mess with entries here" ∷ []) variables
+    ∷ []
+
+-- in the book
+abbrev pub assignments_of_knuth : List WorkedAssignment
+assignments_of_knuth =
+    assigns rank (number 9) [] (with_entries (values (pos 9) "knu" "K84") lamport)
+    ∷ assigns sort_key (string "a") [] (with_entries (values (pos 7) "a" "K84") lamport)
+    ∷ assigns label (string "abcd") [] (with_entries (values (pos 7) "knu" "abcd") lamport)
+    ∷ assigns label (string "abcde") (codes "Warning--string of 5 bytes cut to 4 while executing := for entry knuth" ∷ []) (with_entries (values (pos 7) "knu" "abcd") lamport)
+    ∷ assigns rank missing (codes "Error--missing field is not an integer while executing := for entry knuth" ∷ []) variables
+    ∷ []
+
+-- in the other entry
+abbrev pub assignments_of_lamport : List WorkedAssignment
+assignments_of_lamport = assigns rank (number 9) [] (with_entries knuth (values (pos 9) "" "")) ∷ []
+
+-- each row of `:=` is so, in this entry
+abbrev pub AreAssigned : Option ℕ → List WorkedAssignment → Type 0
+AreAssigned entry [] = Unit {0}
+AreAssigned entry (row ∷ rows) =
+    (seen_of (codes ":=") entry (executed (job Bytes) (Some (BuiltIn built_in.Assign)) (store variables entry (function row.variable ∷ row.value ∷ one_below)))
+    ≡ seen Nothing row.lines [] (store row.after entry one_below)) × AreAssigned entry rows
+
+-- ---- the test of a loop
+
+-- what the test of a `while$` left, whether the body runs, the lines of the log, and the literals after it
+pub record WorkedTest : Type 0 where
+  pub before : List Literal
+  pub again : Bool
+  pub lines : List (List ℕ)
+  pub after : List Literal
+
+abbrev pub tests : List Literal → Bool → List (List ℕ) → List Literal → WorkedTest
+tests before again lines after = record { before = before; again = again; lines = lines; after = after }
+
+abbrev pub loop_tests : List WorkedTest
+loop_tests =
+    tests (number 1 ∷ missing ∷ []) true [] (missing ∷ [])
+    ∷ tests (number 0 ∷ missing ∷ []) false [] (missing ∷ [])
+    ∷ tests (minus 1 ∷ missing ∷ []) false [] (missing ∷ [])
+    ∷ tests (string "a" ∷ missing ∷ []) false (error "while$" "\"a\" is not an integer" ∷ []) (missing ∷ [])
+    ∷ tests [] false (error "while$" "You can't pop an empty literal stack" ∷ []) []
+    ∷ []
+
+-- what is found of a test
+abbrev pub TestedSo : WorkedTest → Tested → Type 0
+TestedSo row t = (t.again ≡ row.again) × (lines_of (codes "while$") None t.said ≡ row.lines) × (t.store ≡ store variables outside row.after)
+
+-- each row of a loop's test is so
+abbrev pub AreTested : List WorkedTest → Type 0
+AreTested [] = Unit {0}
+AreTested (row ∷ rows) = TestedSo row (tested row.before (store variables outside row.before)) × AreTested rows

@@ -1,0 +1,340 @@
+-- Worked functions: what each of the 37 built-in functions does to a stack, what it writes, and the lines of the log (btxhak, section 5.3). Stacks are
+-- written top first, in the order in which btxhak names the literals that a function pops.
+use Prim.Native.String.{String}
+use Rattle.std.specs.Prelude.{ℕ, ◌≡◌, List, [], ◌∷◌, ◌++◌, replicate, Option, codes}
+use Rattle.btx_bst.specs.Names.{named_lower}
+use Rattle.btx_step.specs.declared.literal.Literal.{Literal}
+use Rattle.btx_step.specs.declared.literal.Literal.TheVariants as literal
+use Rattle.btx_step.specs.declared.next.Limit.TheVariants.{Literals}
+use Rattle.btx_step.specs.declared.next.Next.{Next}
+use Rattle.btx_step.specs.declared.next.Next.TheVariants.{Nothing, End, Run, Open, Loop}
+use Rattle.btx_step.specs.Jobs.{Job}
+use Rattle.btx_step.specs.WorkedStores.{style, job, variables, store, number, minus, string, function, missing, skip, newline, book, default_type, nameless, error, seen, executed, seen_of}
+
+-- ---- rows
+
+-- a function by its word, the literals before it and after it, what is executed next, the lines of the log, and what is written to the list
+pub record Worked : Type 0 where
+  pub name : List ℕ
+  pub before : List Literal
+  pub after : List Literal
+  pub next : Next
+  pub lines : List (List ℕ)
+  pub written : List ℕ
+
+abbrev pub worked : String → List Literal → List Literal → Next → List (List ℕ) → String → Worked
+worked name before after next lines written =
+    record { name = codes name; before = before; after = after; next = next; lines = lines; written = codes written }
+
+-- a function that only changes the stack
+abbrev pub gives : String → List Literal → List Literal → Worked
+gives name before after = worked name before after Nothing [] ""
+
+-- one that is followed by something
+abbrev pub goes_on : String → List Literal → Next → Worked
+goes_on name before next = worked name before [] next [] ""
+
+-- one that writes
+abbrev pub writes : String → List Literal → String → Worked
+writes name before text = worked name before [] Nothing [] text
+
+-- one of which the log has these lines
+abbrev pub logs : String → List Literal → List Literal → List (List ℕ) → Worked
+logs name before after lines = worked name before after Nothing lines ""
+
+-- one with an error
+abbrev pub errs : String → List Literal → List Literal → String → Worked
+errs name before after text = logs name before after (error name text ∷ [])
+
+-- one that finds the stack empty this number of times
+abbrev pub lacks : String → List Literal → List Literal → ℕ → Worked
+lacks name before after times = logs name before after (replicate times (error name "You can't pop an empty literal stack"))
+
+-- ---- operands that are there and fit
+
+abbrev pub comparisons : List Worked
+comparisons =
+    gives "=" (number 2 ∷ number 2 ∷ []) (number 1 ∷ [])
+    ∷ gives "=" (number 2 ∷ minus 2 ∷ []) (number 0 ∷ [])
+    ∷ gives "=" (string "a" ∷ string "a" ∷ []) (number 1 ∷ [])
+    ∷ gives "=" (string "a" ∷ string "A" ∷ []) (number 0 ∷ [])
+    -- the second literal is greater, or less, than the first
+    ∷ gives ">" (number 1 ∷ number 2 ∷ []) (number 1 ∷ [])
+    ∷ gives ">" (number 2 ∷ number 1 ∷ []) (number 0 ∷ [])
+    ∷ gives ">" (number 2 ∷ number 2 ∷ []) (number 0 ∷ [])
+    ∷ gives ">" (minus 2 ∷ number 0 ∷ []) (number 1 ∷ [])
+    ∷ gives "<" (number 2 ∷ number 1 ∷ []) (number 1 ∷ [])
+    ∷ gives "<" (number 1 ∷ number 2 ∷ []) (number 0 ∷ [])
+    ∷ gives "<" (number 2 ∷ number 2 ∷ []) (number 0 ∷ [])
+    ∷ gives "<" (number 0 ∷ minus 2 ∷ []) (number 1 ∷ [])
+    ∷ []
+
+abbrev pub integers : List Worked
+integers =
+    gives "+" (number 3 ∷ number 2 ∷ []) (number 5 ∷ [])
+    ∷ gives "+" (number 2 ∷ minus 5 ∷ []) (minus 3 ∷ [])
+    ∷ gives "+" (number 1 ∷ number 2147483646 ∷ []) (number 2147483647 ∷ [])
+    ∷ gives "-" (number 2 ∷ number 5 ∷ []) (number 3 ∷ [])
+    ∷ gives "-" (number 5 ∷ number 2 ∷ []) (minus 3 ∷ [])
+    ∷ gives "-" (number 2147483647 ∷ minus 1 ∷ []) (minus 2147483648 ∷ [])
+    -- an integer has 32 bits
+    ∷ errs "+" (number 1 ∷ number 2147483647 ∷ []) (number 0 ∷ []) "Integer overflow"
+    ∷ errs "+" (minus 1 ∷ minus 2147483648 ∷ []) (number 0 ∷ []) "Integer overflow"
+    ∷ errs "-" (minus 1 ∷ number 2147483647 ∷ []) (number 0 ∷ []) "Integer overflow"
+    ∷ errs "-" (number 1 ∷ minus 2147483648 ∷ []) (number 0 ∷ []) "Integer overflow"
+    -- integers, their decimal text, and characters
+    ∷ gives "int.to.str$" (number 42 ∷ []) (string "42" ∷ [])
+    ∷ gives "int.to.str$" (minus 42 ∷ []) (string "-42" ∷ [])
+    ∷ gives "int.to.str$" (number 0 ∷ []) (string "0" ∷ [])
+    ∷ gives "int.to.chr$" (number 65 ∷ []) (string "A" ∷ [])
+    ∷ gives "int.to.chr$" (number 127 ∷ []) (literal.Text (127 ∷ []) ∷ [])
+    ∷ errs "int.to.chr$" (number 128 ∷ []) (string "" ∷ []) "128 isn't an ASCII code"
+    ∷ errs "int.to.chr$" (minus 1 ∷ []) (string "" ∷ []) "-1 isn't an ASCII code"
+    ∷ gives "chr.to.int$" (string "A" ∷ []) (number 65 ∷ [])
+    ∷ errs "chr.to.int$" (string "" ∷ []) (number 0 ∷ []) "\"\" isn't a single character"
+    ∷ errs "chr.to.int$" (string "AB" ∷ []) (number 0 ∷ []) "\"AB\" isn't a single character"
+    ∷ []
+
+abbrev pub strings : List Worked
+strings =
+    -- the second literal comes first
+    gives "*" (string "b" ∷ string "a" ∷ []) (string "ab" ∷ [])
+    ∷ gives "add.period$" (string "" ∷ []) (string "" ∷ [])
+    ∷ gives "add.period$" (string "a" ∷ []) (string "a." ∷ [])
+    ∷ gives "add.period$" (string "a.}" ∷ []) (string "a.}" ∷ [])
+    ∷ gives "add.period$" (string "a?" ∷ []) (string "a?" ∷ [])
+    ∷ gives "add.period$" (string "a!" ∷ []) (string "a!" ∷ [])
+    ∷ gives "add.period$" (string "{a}" ∷ []) (string "{a}." ∷ [])
+    -- the letter of the conversion stands on top
+    ∷ gives "change.case$" (string "t" ∷ string "The {TeX}book: A {\\AE}ON" ∷ []) (string "The {TeX}book: A {\\ae}on" ∷ [])
+    ∷ gives "change.case$" (string "l" ∷ string "The {TeX}book: A {\\AE}ON" ∷ []) (string "the {TeX}book: a {\\ae}on" ∷ [])
+    ∷ gives "change.case$" (string "u" ∷ string "The {TeX}book: A {\\ae}on" ∷ []) (string "THE {TeX}BOOK: A {\\AE}ON" ∷ [])
+    ∷ gives "change.case$" (string "U" ∷ string "a" ∷ []) (string "A" ∷ [])
+    ∷ errs "change.case$" (string "x" ∷ string "Ab" ∷ []) (string "Ab" ∷ []) "\"x\" is an illegal case-conversion string"
+    ∷ gives "empty$" (missing ∷ []) (number 1 ∷ [])
+    ∷ gives "empty$" (string "" ∷ []) (number 1 ∷ [])
+    ∷ gives "empty$" (string " \t" ∷ []) (number 1 ∷ [])
+    ∷ gives "empty$" (string " a" ∷ []) (number 0 ∷ [])
+    ∷ gives "purify$" (string "{\\\"o}sterreich--{\\oe}uvre~1, 2." ∷ []) (string "osterreich  oeuvre 1 2" ∷ [])
+    ∷ gives "quote$" [] (string "\"" ∷ [])
+    -- the length, the start and the string: from the left, or where the start is negative from the right
+    ∷ gives "substring$" (number 2 ∷ number 1 ∷ string "abcdef" ∷ []) (string "ab" ∷ [])
+    ∷ gives "substring$" (number 1 ∷ number 2 ∷ string "abcdef" ∷ []) (string "b" ∷ [])
+    ∷ gives "substring$" (number 3 ∷ minus 2 ∷ string "abcdef" ∷ []) (string "cde" ∷ [])
+    ∷ gives "substring$" (number 2 ∷ minus 1 ∷ string "abcdef" ∷ []) (string "ef" ∷ [])
+    ∷ gives "substring$" (number 10 ∷ number 5 ∷ string "abcdef" ∷ []) (string "ef" ∷ [])
+    ∷ gives "substring$" (minus 2 ∷ number 1 ∷ string "abcdef" ∷ []) (string "" ∷ [])
+    ∷ gives "substring$" (number 2 ∷ number 0 ∷ string "abcdef" ∷ []) (string "" ∷ [])
+    ∷ gives "substring$" (number 1 ∷ number 7 ∷ string "abcdef" ∷ []) (string "" ∷ [])
+    -- a special character counts as one character, and a brace as none
+    ∷ gives "text.length$" (string "{\\\"O}zg{ab}c" ∷ []) (number 6 ∷ [])
+    ∷ gives "text.prefix$" (number 4 ∷ string "{\\\"O}zg{ab}c" ∷ []) (string "{\\\"O}zg{a}" ∷ [])
+    ∷ gives "text.prefix$" (number 9 ∷ string "ab" ∷ []) (string "ab" ∷ [])
+    ∷ gives "text.prefix$" (number 0 ∷ string "ab" ∷ []) (string "" ∷ [])
+    ∷ gives "text.prefix$" (minus 1 ∷ string "ab" ∷ []) (string "" ∷ [])
+    ∷ gives "width$" (string "AB" ∷ []) (number 1458 ∷ [])
+    ∷ []
+
+-- the format stands on top, below it the number of the name, and below that the names
+abbrev pub names : List Worked
+names =
+    gives "num.names$" (string "" ∷ []) (number 0 ∷ [])
+    ∷ gives "num.names$" (string "Donald E. Knuth" ∷ []) (number 1 ∷ [])
+    ∷ gives "num.names$" (string "Donald E. Knuth and {Barnes and Noble} and others" ∷ []) (number 3 ∷ [])
+    ∷ gives "format.name$" (string "{ll}, {f.}" ∷ number 1 ∷ string "Donald E. Knuth and Leslie Lamport" ∷ []) (string "Knuth, D.~E." ∷ [])
+    ∷ gives "format.name$" (string "{ff }{ll}" ∷ number 2 ∷ string "Donald E. Knuth and Leslie Lamport" ∷ []) (string "Leslie Lamport" ∷ [])
+    ∷ gives "format.name$" (string "{vv~}{ll}{, jj}" ∷ number 1 ∷ string "de la Cruz, Jr, Ana" ∷ []) (string "de~la Cruz, Jr" ∷ [])
+    ∷ errs "format.name$" (string "{ll}" ∷ number 2 ∷ string "Knuth" ∷ []) (string "" ∷ []) "There is no name number 2 in \"Knuth\""
+    ∷ errs "format.name$" (string "{ll}" ∷ number 0 ∷ string "Knuth" ∷ []) (string "" ∷ []) "There is no name number 0 in \"Knuth\""
+    ∷ errs "format.name$" (string "{ll}" ∷ number 1 ∷ string "Knuth," ∷ []) (string "Knuth" ∷ []) "Name 1 in \"Knuth,\" has a comma at the end"
+    ∷ errs "format.name$" (string "{ll}" ∷ number 1 ∷ string "a, b, c, d" ∷ []) (string "a" ∷ []) "Too many commas in name 1 of \"a, b, c, d\""
+    ∷ errs "format.name$" (string "{ll" ∷ number 1 ∷ string "Knuth" ∷ []) (string "" ∷ []) "The format string \"{ll\" is illegal"
+    ∷ []
+
+-- a letter of two bytes counts as two characters, or as one where text is read as UTF-8
+abbrev pub e_acute : Literal
+e_acute = literal.Text (0xC3 ∷ 0xA9 ∷ [])
+
+abbrev pub bytes_characters : List Worked
+bytes_characters =
+    gives "text.length$" (e_acute ∷ []) (number 2 ∷ [])
+    ∷ gives "text.prefix$" (number 1 ∷ e_acute ∷ []) (literal.Text (0xC3 ∷ []) ∷ [])
+    ∷ []
+
+abbrev pub utf8_characters : List Worked
+utf8_characters =
+    gives "text.length$" (e_acute ∷ []) (number 1 ∷ [])
+    ∷ gives "text.prefix$" (number 1 ∷ e_acute ∷ []) (e_acute ∷ [])
+    ∷ []
+
+abbrev pub stack : List Worked
+stack =
+    gives "duplicate$" (string "a" ∷ []) (string "a" ∷ string "a" ∷ [])
+    ∷ gives "pop$" (string "a" ∷ []) []
+    ∷ gives "skip$" [] []
+    ∷ gives "swap$" (string "a" ∷ number 1 ∷ []) (number 1 ∷ string "a" ∷ [])
+    -- the form of each kind of literal in the log
+    ∷ logs "top$" (string "a" ∷ []) [] (codes "\"a\"" ∷ [])
+    ∷ logs "top$" (minus 7 ∷ []) [] (codes "-7" ∷ [])
+    ∷ logs "top$" (function skip ∷ []) [] (codes "'skip$" ∷ [])
+    ∷ logs "top$" (function nameless ∷ []) [] (codes "'{}" ∷ [])
+    ∷ logs "top$" (missing ∷ []) [] (codes "missing field" ∷ [])
+    -- one string is taken, and no more
+    ∷ logs "warning$" (string "no year" ∷ string "b" ∷ []) (string "b" ∷ []) (codes "Warning--no year" ∷ [])
+    ∷ writes "write$" (string "\\bibitem" ∷ []) "\\bibitem"
+    ∷ writes "newline$" [] "\n"
+    ∷ gives "preamble$" [] (string "\\def\\x{}" ∷ [])
+    -- functions of the style
+    ∷ goes_on "book" [] (Open 0)
+    ∷ []
+
+-- the first literal is run where the integer isn't above 0, the second where it is
+abbrev pub choices : List Worked
+choices =
+    goes_on "if$" (function skip ∷ function newline ∷ number 1 ∷ []) (Run newline)
+    ∷ goes_on "if$" (function skip ∷ function newline ∷ number 0 ∷ []) (Run skip)
+    ∷ goes_on "if$" (function skip ∷ function newline ∷ minus 1 ∷ []) (Run skip)
+    -- the body, and below it the test
+    ∷ goes_on "while$" (function skip ∷ function book ∷ []) (Loop book skip)
+    ∷ []
+
+-- ---- operands of a wrong kind: the first one is logged, and the default follows
+
+abbrev pub wrong_operands : List Worked
+wrong_operands =
+    errs "=" (number 1 ∷ string "1" ∷ []) (number 0 ∷ []) "= needs two integers or two strings"
+    ∷ errs "=" (function skip ∷ function skip ∷ []) (number 0 ∷ []) "= needs two integers or two strings"
+    ∷ errs "=" (missing ∷ missing ∷ []) (number 0 ∷ []) "= needs two integers or two strings"
+    ∷ errs ">" (string "a" ∷ string "b" ∷ []) (number 0 ∷ []) "\"a\" is not an integer"
+    ∷ errs ">" (number 1 ∷ string "b" ∷ []) (number 0 ∷ []) "\"b\" is not an integer"
+    ∷ errs "<" (string "a" ∷ number 1 ∷ []) (number 0 ∷ []) "\"a\" is not an integer"
+    ∷ errs "+" (missing ∷ number 1 ∷ []) (number 0 ∷ []) "missing field is not an integer"
+    ∷ errs "-" (number 1 ∷ function book ∷ []) (number 0 ∷ []) "'book is not an integer"
+    ∷ errs "*" (number 1 ∷ missing ∷ []) (string "" ∷ []) "1 is not a string"
+    ∷ errs "*" (string "a" ∷ missing ∷ []) (string "" ∷ []) "missing field is not a string"
+    ∷ errs ":=" (string "a" ∷ string "b" ∷ []) [] "\"a\" is not a function"
+    ∷ errs "add.period$" (missing ∷ []) (string "" ∷ []) "missing field is not a string"
+    ∷ errs "change.case$" (number 1 ∷ string "Ab" ∷ []) (string "" ∷ []) "1 is not a string"
+    ∷ errs "change.case$" (string "l" ∷ number 1 ∷ []) (string "" ∷ []) "1 is not a string"
+    ∷ errs "chr.to.int$" (number 65 ∷ []) (number 0 ∷ []) "65 is not a string"
+    ∷ errs "empty$" (number 0 ∷ []) (number 0 ∷ []) "0 is not a string or missing field"
+    ∷ errs "format.name$" (number 1 ∷ string "a" ∷ string "Knuth" ∷ []) (string "" ∷ []) "1 is not a string"
+    ∷ errs "format.name$" (string "{ll}" ∷ string "Knuth" ∷ number 1 ∷ []) (string "" ∷ []) "\"Knuth\" is not an integer"
+    ∷ errs "format.name$" (string "{ll}" ∷ number 1 ∷ missing ∷ []) (string "" ∷ []) "missing field is not a string"
+    ∷ errs "if$" (number 1 ∷ function skip ∷ number 1 ∷ []) [] "1 is not a function"
+    ∷ errs "if$" (function skip ∷ string "a" ∷ number 1 ∷ []) [] "\"a\" is not a function"
+    ∷ errs "if$" (function skip ∷ function skip ∷ string "a" ∷ []) [] "\"a\" is not an integer"
+    ∷ errs "int.to.chr$" (string "A" ∷ []) (string "" ∷ []) "\"A\" is not an integer"
+    ∷ errs "int.to.str$" (string "1" ∷ []) (string "" ∷ []) "\"1\" is not an integer"
+    ∷ errs "num.names$" (missing ∷ []) (number 0 ∷ []) "missing field is not a string"
+    ∷ errs "purify$" (missing ∷ []) (string "" ∷ []) "missing field is not a string"
+    ∷ errs "substring$" (string "a" ∷ number 1 ∷ number 1 ∷ []) (string "" ∷ []) "\"a\" is not an integer"
+    ∷ errs "substring$" (number 1 ∷ string "a" ∷ number 1 ∷ []) (string "" ∷ []) "\"a\" is not an integer"
+    ∷ errs "substring$" (number 1 ∷ number 2 ∷ number 3 ∷ []) (string "" ∷ []) "3 is not a string"
+    ∷ errs "text.length$" (missing ∷ []) (number 0 ∷ []) "missing field is not a string"
+    ∷ errs "text.prefix$" (string "ab" ∷ number 1 ∷ []) (string "" ∷ []) "\"ab\" is not an integer"
+    ∷ errs "text.prefix$" (number 1 ∷ number 2 ∷ []) (string "" ∷ []) "2 is not a string"
+    ∷ errs "warning$" (number 1 ∷ []) [] "1 is not a string"
+    ∷ errs "while$" (number 1 ∷ function skip ∷ []) [] "1 is not a function"
+    ∷ errs "while$" (function skip ∷ number 1 ∷ []) [] "1 is not a function"
+    ∷ errs "width$" (missing ∷ []) (number 0 ∷ []) "missing field is not a string"
+    ∷ errs "write$" (missing ∷ []) [] "missing field is not a string"
+    ∷ []
+
+-- ---- the whole stack: operands that aren't there, `stack$`, and the limit of literals
+
+abbrev pub whole_stacks : List Worked
+whole_stacks =
+    lacks "=" [] (number 0 ∷ []) 2
+    ∷ lacks ">" [] (number 0 ∷ []) 2
+    ∷ lacks "<" [] (number 0 ∷ []) 2
+    ∷ lacks "+" [] (number 0 ∷ []) 2
+    ∷ lacks "-" [] (number 0 ∷ []) 2
+    ∷ lacks "*" [] (string "" ∷ []) 2
+    ∷ lacks ":=" [] [] 2
+    ∷ lacks "add.period$" [] (string "" ∷ []) 1
+    ∷ lacks "change.case$" [] (string "" ∷ []) 2
+    ∷ lacks "chr.to.int$" [] (number 0 ∷ []) 1
+    ∷ lacks "duplicate$" [] [] 1
+    ∷ lacks "empty$" [] (number 0 ∷ []) 1
+    ∷ lacks "format.name$" [] (string "" ∷ []) 3
+    ∷ lacks "if$" [] [] 3
+    ∷ lacks "int.to.chr$" [] (string "" ∷ []) 1
+    ∷ lacks "int.to.str$" [] (string "" ∷ []) 1
+    ∷ lacks "num.names$" [] (number 0 ∷ []) 1
+    ∷ lacks "pop$" [] [] 1
+    ∷ lacks "purify$" [] (string "" ∷ []) 1
+    ∷ lacks "substring$" [] (string "" ∷ []) 3
+    ∷ lacks "swap$" [] [] 2
+    ∷ lacks "text.length$" [] (number 0 ∷ []) 1
+    ∷ lacks "text.prefix$" [] (string "" ∷ []) 2
+    ∷ lacks "top$" [] [] 1
+    ∷ lacks "warning$" [] [] 1
+    ∷ lacks "while$" [] [] 2
+    ∷ lacks "width$" [] (number 0 ∷ []) 1
+    ∷ lacks "write$" [] [] 1
+    -- where one is missing, nothing is said of the others; `swap$` puts back what was there
+    ∷ lacks "+" (string "a" ∷ []) (number 0 ∷ []) 1
+    ∷ lacks "substring$" (string "a" ∷ []) (string "" ∷ []) 2
+    ∷ lacks "swap$" (string "a" ∷ []) (string "a" ∷ []) 1
+    -- all literals are shown, top first
+    ∷ logs "stack$" [] [] []
+    ∷ logs "stack$" (number 1 ∷ string "a" ∷ missing ∷ []) [] (codes "1" ∷ codes "\"a\"" ∷ codes "missing field" ∷ [])
+    -- at most 1,000 literals stand on the stack
+    ∷ gives "quote$" (replicate 999 missing) (string "\"" ∷ replicate 999 missing)
+    ∷ worked "quote$" (replicate 1000 missing) (replicate 1000 missing) (End Literals) [] ""
+    ∷ []
+
+-- ---- entries
+
+-- outside an entry
+abbrev pub no_entry : List Worked
+no_entry =
+    errs "call.type$" [] [] "You can't mess with entries here"
+    ∷ errs "cite$" [] [] "You can't mess with entries here"
+    ∷ errs "type$" [] [] "You can't mess with entries here"
+    ∷ errs "title" [] [] "You can't mess with entries here"
+    ∷ errs "rank" [] [] "You can't mess with entries here"
+    ∷ errs "label" [] [] "You can't mess with entries here"
+    -- `missing$` takes its literal, of whatever kind
+    ∷ errs "missing$" (string "a" ∷ []) [] "You can't mess with entries here"
+    ∷ errs "missing$" (number 1 ∷ []) [] "You can't mess with entries here"
+    ∷ gives "count" [] (number 5 ∷ [])
+    ∷ gives "line" [] (string "abc" ∷ [])
+    ∷ []
+
+-- in the book
+abbrev pub of_knuth : List Worked
+of_knuth =
+    goes_on "call.type$" [] (Run book)
+    ∷ gives "cite$" [] (string "knuth" ∷ [])
+    ∷ gives "type$" [] (string "book" ∷ [])
+    ∷ gives "title" [] (string "The {\\TeX}book" ∷ [])
+    ∷ gives "year" [] (missing ∷ [])
+    ∷ gives "rank" [] (number 7 ∷ [])
+    ∷ gives "sort.key$" [] (string "knu" ∷ [])
+    ∷ gives "label" [] (string "K84" ∷ [])
+    ∷ gives "missing$" (missing ∷ []) (number 1 ∷ [])
+    ∷ gives "missing$" (string "" ∷ []) (number 0 ∷ [])
+    ∷ logs "missing$" (number 1 ∷ []) (number 0 ∷ []) (codes "Error--1 is not a string or missing field while executing missing$ for entry knuth" ∷ [])
+    ∷ []
+
+-- in the entry of an unknown type
+abbrev pub of_lamport : List Worked
+of_lamport =
+    goes_on "call.type$" [] (Run default_type)
+    ∷ gives "cite$" [] (string "Lamport" ∷ [])
+    ∷ gives "type$" [] (string "" ∷ [])
+    ∷ []
+
+abbrev pub of_lamport_without_default : List Worked
+of_lamport_without_default = gives "call.type$" [] [] ∷ []
+
+-- ---- each row is so
+
+-- each row holds above these further literals, which stay, in this entry
+abbrev pub AreSo : Job → Option ℕ → List Literal → List Worked → Type 0
+AreSo job entry below [] = Unit {0}
+AreSo job entry below (row ∷ rows) =
+    (seen_of row.name entry (executed job (named_lower style.names row.name) (store variables entry (row.before ++ below)))
+    ≡ seen row.next row.lines row.written (store variables entry (row.after ++ below))) × AreSo job entry below rows
