@@ -73,6 +73,12 @@ if has latexmk && has pdflatex && [ -n "$original" ]; then
     grep -q '^\\bibitem{three}' ours/aux/paper.bbl || complaints+=('what the chapter cites is not in the list')
     end
 
+    begin latexmk_auxdir_with_a_space_and_chapters
+    document_with_chapter two
+    same_as_original 'aux dir/paper.bbl' '-auxdir=aux dir'
+    grep -q '^\\bibitem{three}' 'ours/aux dir/paper.bbl' || complaints+=('what the chapter cites is not in the list')
+    end
+
     begin latexmk_auxdir_in_place_with_chapters
     document_with_chapter two
     same_as_original out/paper.bbl -outdir=out -nobibtexfudge

@@ -16,6 +16,7 @@ if command -v dpkg-deb >/dev/null && command -v make >/dev/null; then
     begin package
     make_package
     wants_status 0
+    wants_no_links
     package=$(ls ./*.deb)
     dpkg-deb -x "$package" root
     version=$("$program" --version | sed 's/.* //')

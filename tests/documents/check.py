@@ -4,7 +4,7 @@
 
 It reads README.md and the .md files of docs/, crates/, tests/, examples/ and contrib/. A table says what its columns hold by their heads. Each
 failure is a line; the last line is 'N passed, M failed', of citations, and the exit status is 0 only where M is 0. The user's reference also has the
-words that people search for.
+words that people search for, and README the right sizes.
 
 Not checked: the counts and times of docs/PROOFS.md, which are as they were measured."""
 
@@ -154,6 +154,23 @@ def missing_words():
     return [word for word in SEARCHED if word.lower() not in text]
 
 
+def lines_of(folder, ending):
+    """How many lines the files of this folder have, in the crates that the program stands on or that are libraries of their own."""
+    others = re.compile(r"_trials$|^btx_bench$|^btx_example$")
+    files = [path for crate in crates() if not others.search(crate) for path in (ROOT / "crates" / crate / folder).rglob("*" + ending)]
+    return sum(path.read_bytes().count(b"\n") for path in files)
+
+
+def wrong_sizes():
+    """Of the lines of code, definitions and proofs that README says: what is wrong with each, or None where it is right within a twentieth."""
+    said = re.search(r"([\d,]+) lines of code, ([\d,]+) of definitions \([^)]*\) and ([\d,]+) of proofs", (ROOT / "README.md").read_text(encoding="utf-8"))
+    if not said:
+        return ["README.md: the lines of code, definitions and proofs aren't there"]
+    sizes = [lines_of("src", ".rt"), lines_of("specs", ".antt"), lines_of("proofs", ".antt")]
+    return [None if abs(int(text.replace(",", "")) - size) * 20 <= size else f"README.md: {text} lines of {what}, and there are {size}"
+            for what, text, size in zip(("code", "definitions", "proofs"), said.groups(), sizes)]
+
+
 def main():
     missing = missing_words()
     passed, failed = len(SEARCHED) - len(missing), len(missing)
@@ -168,6 +185,10 @@ def main():
         passed, failed = passed + is_named, failed + (not is_named)
         if not is_named:
             print(f"{crate}: no document names the wrong body `{name}`")
+    for wrong in wrong_sizes():
+        passed, failed = passed + (wrong is None), failed + (wrong is not None)
+        if wrong:
+            print(wrong)
     print(f"{passed} passed, {failed} failed")
     return failed
 

@@ -1,7 +1,8 @@
 """Lists by the original program beside lists by the reference, over a folder of styles and a database of our own.
 
-    python3 compare_with_original.py [--entries N] [--seed N] [--all] [--show N] FOLDER
+    python3 compare_with_original.py [--entries N] [--seed N] [--all] [--show N] [--program PROGRAM] FOLDER
 
+With --program the built program is compared in the place of the reference, which is much faster.
 Wants the program `bibtex`. Prints, for each style of the folder and those below it, whether both lists are the same
 bytes; where not, the first lines that differ. Nothing is kept."""
 
@@ -45,6 +46,23 @@ def original(files):
         return [path.read_bytes() if path.exists() else b"" for path in read]
 
 
+def here_by_program(program, files):
+    """The list of the built program, and how its run ended."""
+    with tempfile.TemporaryDirectory() as folder:
+        for name, text in files.items():
+            (pathlib.Path(folder) / name.decode()).write_bytes(text)
+        sizes = ["--entry-max", str(SIZES["entry_max"]), "--global-max", str(SIZES["global_max"])]
+        subprocess.run([program, "--terse", *sizes, "job"], cwd=folder, capture_output=True, timeout=120)
+        log = (pathlib.Path(folder) / "job.blg").read_text(encoding="latin1")
+        return (pathlib.Path(folder) / "job.bbl").read_bytes(), "program: " + log.split("\n")[-2]
+
+
+def here_by_reference(files):
+    """The list of the reference, and how its run ended."""
+    here = run(files, b"job", Options(budget=20_000_000, **SIZES))
+    return here.list, f"reference {here.report.end}, {here.report.errors} errors, {here.report.steps} steps"
+
+
 def shown_difference(left, right, most):
     lines = difflib.unified_diff(left.decode("latin1").split("\n"), right.decode("latin1").split("\n"), "original",
                                  "reference", lineterm="", n=0)
@@ -54,15 +72,12 @@ def shown_difference(left, right, most):
 def compare(style, arguments):
     files = files_for(style, arguments)
     there, there_log = original(files)
-    here = run(files, b"job", Options(budget=20_000_000, **SIZES))
+    here, end = here_by_program(arguments.program, files) if arguments.program else here_by_reference(files)
     has_errors = b"error message" in there_log
-    report = here.report
-    print(f"{'same  ' if there == here.list else 'DIFFER'} {style.name}: original "
-          f"{'with' if has_errors else 'without'} errors, reference {report.end}, {report.errors} errors, "
-          f"{report.steps} steps", flush=True)
-    if there != here.list:
-        print(shown_difference(there, here.list, arguments.show))
-    return there == here.list
+    print(f"{'same  ' if there == here else 'DIFFER'} {style.name}: original {'with' if has_errors else 'without'} errors, {end}", flush=True)
+    if there != here:
+        print(shown_difference(there, here, arguments.show))
+    return there == here
 
 
 def main():
@@ -72,6 +87,7 @@ def main():
     parser.add_argument("--seed", type=int, default=1)
     parser.add_argument("--all", action="store_true", help="cite * instead of keys")
     parser.add_argument("--show", type=int, default=12)
+    parser.add_argument("--program", type=lambda name: str(pathlib.Path(name).resolve()))
     arguments = parser.parse_args()
     results = [compare(style, arguments) for style in sorted(arguments.folder.rglob("*.bst"))]
     print(f"{sum(results)} of {len(results)} lists are the same")
