@@ -3,6 +3,7 @@
 # make install    puts the program, the scripts beside it and their man pages below PREFIX (DESTDIR before it, where a package is made).
 #                 The program is installed as NAME, so that it doesn't hide TeX's own bibtex: contrib/README.md says why
 # make uninstall  takes them away again
+# make book       weaves the book of definitions, docs/book/out/book.html and book.md, and checks it; it needs no kit
 
 PREFIX = /usr/local
 DESTDIR =
@@ -14,13 +15,16 @@ scripts = bibtex-search bibtex-explain bibtex-confined
 page = $(subst -,\\-,$(NAME))
 title = $(shell printf '%s' '$(page)' | tr a-z A-Z)
 
-.PHONY: all check install uninstall
+.PHONY: all check book install uninstall
 
 all:
 	contrib/build
 
 check:
 	bash .ci/run
+
+book:
+	python3 -B docs/book/make.py
 
 install:
 	@test -x $(program) || { echo 'there is no $(program): run make first' >&2; exit 1; }

@@ -1,0 +1,251 @@
+"""Reads `chapters.txt`, places each definition in its section, and finds the examples."""
+
+import functools
+import pathlib
+import re
+import sys
+
+import definitions
+from definitions import CRATES, ROOT, Definition
+
+FILE = pathlib.Path(__file__).with_name("chapters.txt")
+RULES = ROOT / "docs/RULES.md"
+JOBS = ROOT / "tests/reference"
+ALLOWED = re.compile(r"// allowed: (\d+) (.+?)(?: -- .*)?$")
+
+
+class Section:
+    """A part of a chapter: its modules with their definitions, its rules and its examples."""
+
+    def __init__(self, title):
+        self.title, self.modules, self.rules, self.examples, self.reason, self.parts = title, [], [], [], None, []
+        self.number = None
+
+    @property
+    def definitions(self):
+        return [it for _, found in self.parts for it in found]
+
+
+class Chapter:
+    def __init__(self, title):
+        self.title, self.opening, self.sections, self.number = title, [], [], None
+
+    @property
+    def definitions(self):
+        return [it for section in self.sections for it in section.definitions]
+
+
+class Example:
+    """A worked row: where it stands, and its lines as a definition whose names are linked."""
+
+    def __init__(self, shown, row, caption=""):
+        self.shown, self.row, self.caption = shown, row, caption
+
+
+def read(text):
+    """The chapters of a text, and what is allowed: by its words the number."""
+    chapters, allowed = [], {}
+    for line in text.split("\n"):
+        number = ALLOWED.match(line)
+        if number:
+            allowed[number[2]] = int(number[1])
+        elif line.startswith("## "):
+            chapters[-1].sections.append(Section(line[3:].strip()))
+        elif line.startswith("# "):
+            chapters.append(Chapter(line[2:].strip()))
+        elif line.strip() and not line.startswith("//"):
+            read_line(chapters[-1], line)
+    return chapters, allowed
+
+
+def read_line(chapter, line):
+    word, _, rest = line.partition(": ")
+    section = chapter.sections[-1] if chapter.sections else None
+    if section is None:
+        chapter.opening.append(line.strip())
+    elif word == "modules":
+        section.modules += rest.split(", ")
+    elif word == "rule":
+        section.rules += rest.split("; ")
+    elif word == "example":
+        section.examples.append(rest.strip())
+    elif word == "none":
+        section.reason = rest.strip()
+    else:
+        raise SystemExit(f"{FILE.name}: I don't know the line `{line}`")
+
+
+# ---- places ----
+
+
+def place(chapters, found):
+    """Gives each definition its place, a type of the program before its first use; answers the definitions that stand in no chapter."""
+    by_module, placed = {}, set()
+    named = {module for chapter in chapters for section in chapter.sections for module in section.modules if "/" in module}
+    for it in found:
+        alone = f"{it.module}/{it.name}"
+        by_module.setdefault(alone if alone in named else it.module, []).append(it)
+    for chapter_number, chapter in enumerate(chapters, 1):
+        chapter.number, count = chapter_number, 0
+        for section_number, section in enumerate(chapter.sections, 1):
+            section.number = f"{chapter_number}.{section_number}"
+            for module in section.modules:
+                own = sorted((it for it in by_module.get(module, []) if it.kind != "rust"), key=lambda it: it.line)
+                section.parts.append((module, with_types(own, placed)))
+            for it in section.definitions:
+                count += 1
+                it.place = (chapter_number, count)
+    return [it for it in found if it.place is None]
+
+
+def with_types(own, placed):
+    """Definitions, each behind the types of the program that it is the first to use."""
+    found = []
+
+    def add(it):
+        if it not in placed:
+            placed.add(it)
+            for used in it.uses:
+                if used.kind == "rust":
+                    add(used)
+            found.append(it)
+    for it in own:
+        add(it)
+    return found
+
+
+def forward_references(found):
+    """Definitions that use one of a later chapter."""
+    return [(it, used) for it in found for used in it.uses if it.place and used.place and used.place[0] > it.place[0]]
+
+
+# ---- rules ----
+
+
+@functools.lru_cache(maxsize=None)
+def headings():
+    """The headings of the rules, each with its anchor."""
+    lines = re.findall(r"(?m)^##+ (.+)$", RULES.read_text(encoding="utf-8"))
+    return {line.strip().replace("`", ""): re.sub(r"[^\w\- ]", "", line.strip().lower()).replace(" ", "-") for line in lines}
+
+
+# ---- examples ----
+
+
+def example(named, believed):
+    """The worked row of this name; says what is wrong where there is none, or where nothing checks it."""
+    where, _, piece = (part.strip() for part in named.partition(" | "))
+    if where == "job":
+        return job_example(piece)
+    module, _, name = where.rpartition(".")
+    for folder in ("specs", "proofs"):
+        home = definitions.module(module, folder)
+        row = home.names.get(name) if home else None
+        if isinstance(row, Definition) and (folder == "proofs" or row in believed):
+            return row_example(home, row, piece) if piece else whole_example(home, row, folder)
+    raise LookupError(f"there is no row `{where}` that a law speaks of or that is proved")
+
+
+def copy_of(home, row, lines):
+    """Some lines as a definition of their own, whose names mean what they mean in a file."""
+    made = Definition(row.module, "row", row.name, row.file, row.line)
+    made.lines = lines
+    definitions.resolve(made, home)
+    return made
+
+
+def whole_example(home, row, folder):
+    """A statement that is proved, or a definition that a law speaks of."""
+    lines = row.lines
+    if folder == "proofs":
+        at = next((number for number, line in enumerate(lines) if number and line.startswith(("unfolding", row.name + " ", row.name + "\n"))), len(lines))
+        lines = [re.sub(rf"^{re.escape(row.name)} : ", "", lines[0]), *lines[1:at]]
+        if len(row.lines) == at or "≡" not in "".join(lines) and "ComesTo" not in "".join(lines):
+            raise LookupError(f"`{row.id}` is no statement that is proved")
+    else:
+        lines = [line for line in lines[1:]]
+    return Example(f"{row.module.replace('.', '/' + folder + '/', 1).replace('.', '/')}.antt, {row.name}", copy_of(home, row, lines), " ".join(row.comment))
+
+
+def row_example(home, row, piece):
+    """The row of a table in which a piece of text stands, and no other row."""
+    rows = rows_of(row)
+    found = [(comment, lines) for comment, lines in rows if piece in "\n".join(lines)]
+    if len(found) != 1:
+        raise LookupError(f"{len(found)} rows of `{row.id}` have the text `{piece}`")
+    comment, lines = found[0]
+    return Example(f"{row.module.replace('.', '/specs/', 1).replace('.', '/')}.antt, {row.name}", copy_of(home, row, lines), comment)
+
+
+def rows_of(row):
+    """The rows of a table, which are joined by `∷`: each with the comment before it."""
+    rows, comment, is_fresh = [], "", True
+    for line in row.lines[2:]:
+        text = line.strip()
+        if text.startswith("--"):
+            comment = (comment + " " if is_fresh else "") + text[2:].strip()
+            is_fresh = True
+        elif text == "∷ []":
+            break
+        elif (text.startswith("∷ ") and not is_open(rows)) or not rows:
+            rows.append((comment, [text.removeprefix("∷ ")]))
+            is_fresh = False
+        else:
+            rows[-1][1].append("  " + text)
+    return [(comment, [re.sub(r" ∷ \[\]$", "", line) if is_unmatched(lines) else line for line in lines]) for comment, lines in rows]
+
+
+def is_open(rows):
+    """Whether the last row isn't closed yet."""
+    return bool(rows) and balance(rows[-1][1]) != 0
+
+
+def is_unmatched(lines):
+    """Whether a table's last row has the table's end behind it."""
+    return len(lines) == 1 and lines[0].endswith(" ∷ []") and balance(lines) == 0
+
+
+def balance(lines):
+    text = re.sub(r'"(?:[^"\\]|\\.)*"', "", "\n".join(lines))
+    return sum(text.count(sign) for sign in "({") - sum(text.count(sign) for sign in ")}")
+
+
+@functools.lru_cache(maxsize=None)
+def jobs():
+    """The jobs of the table of the reference, by their names."""
+    sys.path.insert(0, str(JOBS))
+    import worked_jobs
+    found = {}
+    for table in vars(worked_jobs).values():
+        for it in table if isinstance(table, (list, tuple)) else []:
+            if isinstance(it, worked_jobs.Job):
+                found[it.name] = it
+    return found
+
+
+def job_example(name):
+    """A job of the reference's table, with which the program is compared: the style behind its READ and what it comes to."""
+    job = jobs().get(name)
+    if job is None:
+        raise LookupError(f"there is no job `{name}`")
+    made = Definition("tests", "job", name, JOBS / "worked_jobs.py", 1)
+    shown = [("the style behind READ", job.text), ("the options", job.options or None), ("the list", job.bbl),
+             ("messages", [it.decode("latin-1") for it in job.messages or []] or None), ("the end", job.end), ("steps", job.steps), ("bodies open at most", job.deepest)]
+    made.lines = [f"{what}: {short(value)}" for what, value in shown if value is not None]
+    return Example("tests/reference/worked_jobs.py, " + name, made, name)
+
+
+def short(value):
+    text = value.decode("latin-1") if isinstance(value, bytes) else str(value)
+    text = text.replace("\n", "⏎ ") or "(empty)"
+    return text if len(text) <= 200 else f"{text[:120]} .. ({len(text):,} characters) .. {text[-40:]}"
+
+
+def crate_path(module):
+    """The file of a module, from the repository's top."""
+    crate, *rest = re.split(r"\.|::", module.partition("/")[0])
+    if "::" in module:
+        path = CRATES.joinpath(crate, "src", *rest).with_suffix(".rt")
+    else:
+        path = CRATES.joinpath(crate, "specs", *rest).with_suffix(".antt")
+    return path.relative_to(ROOT)

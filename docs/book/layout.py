@@ -1,0 +1,109 @@
+"""How the text of a definition is laid out: what only the checker needs is left out, long lines are broken, equations stand one below another."""
+
+import re
+
+WIDE = 88
+# Where a long line may be broken, outside parentheses, the best place first; and whether what follows is indented.
+JOINTS = [(r"(?<= in) ", False), (r" (?=else )", True), (r" (?=∷ )", True), (r" (?=\+\+ )", True), (r" (?=\|\| |&& )", True), (r" (?=→ )", True)]
+CODES = re.compile(r'\(codes ("(?:[^"\\]|\\.)*")\)|codes (?=")')
+
+
+def shown(definition):
+    """The lines of a definition as they are printed."""
+    if definition.kind in ("rust", "trait", "contract", "law"):
+        return rust_lines(definition.lines)
+    if definition.kind == "job":
+        return definition.lines
+    lines = []
+    for line in definition.lines:
+        line = re.sub(r"^(\s+)pub ", r"\1", line.replace(" : Type 0 where", " where").replace("Unit {0}", "Unit"))
+        line = CODES.sub(lambda found: found[1] or "", line)
+        lines += broken(line, re.match(r"\s*", line)[0])
+    return aligned(lines) if definition.kind == "equations" else lines
+
+
+def rust_lines(lines):
+    """Rust with its comments as those of definitions; a line of a contract that is too long is broken at its arrows."""
+    found = []
+    for line in lines:
+        pad, text = re.match(r"(\s*)(.*)", line).groups()
+        if text.startswith("//"):
+            found.append(f"{pad}-- {text.lstrip('/ ')}")
+        else:
+            found += broken(line, pad) if "ensures" in text or "requires" in text or "→" in text else [line]
+    return found
+
+
+def broken(line, pad):
+    """A long line, broken at the first sort of joint that it has outside parentheses."""
+    if len(line) <= WIDE:
+        return [line]
+    text = line.strip()
+    if "record {" in text and text.count("; ") > 1:
+        head, fields = text.split("{", 1)
+        return [f"{pad}{head}{{"] + [f"{pad}    {field}" for field in re.split(r"(?<=;) ", fields.strip())]
+    if not pad and " = " in text and not text.startswith(("record ", "data ")):
+        head, rest = text.split(" = ", 1)
+        return [f"{head} ="] + broken("    " + rest, "    ")
+    for joint, is_indented in JOINTS:
+        places = [found.start() for found in re.finditer(joint, text) if is_outside(text[:found.start()])]
+        if places:
+            parts = [text[start:end].strip() for start, end in zip([0, *places], [*places, len(text)])]
+            inner = "    " if is_indented and not text.startswith(("if ", "else ", "∷ ")) else ""
+            return [pad + parts[0]] + [pad + inner + part for part in parts[1:]]
+    return [line]
+
+
+def is_outside(text):
+    """Whether all parentheses of a text are closed, those of texts in quotes aside."""
+    code = re.sub(r'"(?:[^"\\]|\\.)*"?', "", text)
+    return all(code.count(opening) == code.count(closing) for opening, closing in ("()", "{}"))
+
+
+def aligned(lines):
+    """Equations of one line each, with their `=` one below another."""
+    parts = [line.split(" = ", 1) for line in lines[1:]]
+    if len(parts) < 3 or any(len(part) != 2 or part[0].startswith(" ") for part in parts):
+        return lines
+    width = max(len(part[0]) for part in parts)
+    return lines if width > 46 else lines[:1] + [f"{left.ljust(width)} = {right}" for left, right in parts]
+
+
+def prose(lines):
+    """The lines of a comment as a sentence."""
+    text = " ".join(lines).strip()
+    if not text:
+        return ""
+    first = text[0] if text.startswith("`") else text[0].upper()
+    return first + text[1:] + ("" if text[-1] in ".:!?)" else ".")
+
+
+def carried_by(definition, most=2):
+    """The public contracts that carry a definition, in a line."""
+    found = getattr(definition, "carried", [])
+    more = f" and {len(found) - most} more" if len(found) > most else ""
+    return ", ".join(f"`{name}`" for name in found[:most]) + more
+
+
+def what_it_is(definition):
+    """What a definition is to a reader: a part of the language, or of a law about it."""
+    kinds = {"contract": "the contract of a call", "law": "a law", "trait": "what a file source or an output promises", "rust": "a type of the program"}
+    return kinds.get(definition.kind) or {"language": "language", "laws": "only in laws"}[definition.reach]
+
+
+def bytes_in(definition):
+    """The bytes that a definition compares with, each with its character."""
+    names = {9: "the tab", 10: "the line feed", 13: "the carriage return", 32: "the space"}
+    numbers = [] if definition.kind not in ("equations", "record") else re.findall(r"(?<=== )\d+", "\n".join(definition.lines))
+    found = dict.fromkeys(int(number) for number in numbers)
+    return [f"{number} is {names.get(number) or f'`{chr(number)}`'}" for number in found if number in names or 32 < number < 127]
+
+
+def users_of(definition):
+    """What uses a definition, in reading order."""
+    return sorted((it for it in set(definition.users) if it.place), key=lambda it: it.place)
+
+
+def uses_elsewhere(definition):
+    """What a definition uses of other files, in reading order."""
+    return sorted((it for it in definition.uses if it.place and it.module != definition.module), key=lambda it: it.place)

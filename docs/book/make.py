@@ -1,0 +1,148 @@
+"""Weaves the book of definitions, and checks it.
+
+    python3 docs/book/make.py             writes book.html and book.md into docs/book/out
+    python3 docs/book/make.py --check     only checks
+
+The book has every definition that the contract of `run` reaches (the language) and every one that only laws reach, in the order of chapters.txt. A line is
+printed for: a definition in the book without a comment, a name that means nothing, a definition that stands in no chapter, a module in chapters.txt
+that has none, a word of the library that words.txt doesn't explain, a definition that uses one of a later chapter, a section without a rule or without
+an example, a rule or an example that isn't there. chapters.txt says how many of some of these are allowed. The last line is 'N passed, M failed', of definitions, names,
+sections, rules and examples, and the exit status is 0 only where M is 0.
+
+Which definitions have to be believed is counted by what their texts name; the checker isn't asked."""
+
+import pathlib
+import re
+import sys
+
+import chapters
+import glossary
+import reach
+import weave_html
+import weave_markdown
+
+HERE = pathlib.Path(__file__).parent
+OUT = HERE / "out"
+
+
+class Book:
+    """What is woven: the chapters with their definitions, the examples by their names, and what is wrong."""
+
+    def __init__(self):
+        self.reach = reach.Reach()
+        self.found = self.reach.language + self.reach.laws
+        self.chapters, self.allowed = chapters.read(chapters.FILE.read_text(encoding="utf-8"))
+        self.lost = chapters.place(self.chapters, self.found)
+        self.sections = [section for chapter in self.chapters for section in chapter.sections]
+        self.passed, self.wrong, self.examples = 0, [], {}
+        self.by_id = {name: it for it in self.found for name in (it.id, it.id.removesuffix("-type"))}
+        self.notation = re.split(r"\n\n+", (HERE / "notation.md").read_text(encoding="utf-8").strip())
+
+    @property
+    def summary(self):
+        """What has to be believed, in numbers."""
+        language, laws = self.reach.language, self.reach.laws
+        return (f"{len(language):,} definitions of {reach.lines_in(language):,} lines have to be believed: those that the contract of `run` is made of. "
+                f"{len(laws):,} more, of {reach.lines_in(laws):,} lines, say laws about them and worked examples.")
+
+    # ---- checks ----
+
+    def check(self, is_right, message):
+        self.passed += bool(is_right)
+        if not is_right:
+            self.wrong.append(message)
+
+    def check_few(self, what, messages, total):
+        """What may occur as often as chapters.txt allows, and no more."""
+        most = self.allowed.get(what, 0)
+        if len(messages) > most:
+            self.wrong += [f"{message} ({len(messages)} {what}, and {most} are allowed)" for message in messages]
+        elif len(messages) < most:
+            print(f"{len(messages)} {what}: chapters.txt still allows {most}, write {len(messages)} there")
+        self.passed += total - len(messages)
+
+    def check_all(self):
+        for it in self.found:
+            self.check(not it.unknown, f"{where(it)}: unknown names in `{it.name}`: {', '.join(sorted(it.unknown))}")
+            self.check(it not in self.lost, f"{where(it)}: `{it.module}` stands in no chapter, and `{it.name}` belongs into the book")
+        silent = [f"{where(it)}: `{it.name}` has no comment" for it in self.found if not it.comment]
+        self.check_few("definitions without a comment", silent, len(self.found))
+        forward = [f"{where(it)}: `{it.name}` uses `{used.name}` of a later chapter" for it, used in chapters.forward_references(self.found)]
+        self.check_few("forward references between chapters", forward, len(self.found))
+        self.check_sections()
+        self.check_words()
+        self.check_notation()
+
+    def check_sections(self):
+        for section in self.sections:
+            for module, found in section.parts:
+                self.check(found, f"chapters.txt, `{section.title}`: nothing of `{module}` belongs into the book")
+            for rule in section.rules:
+                self.check(rule in chapters.headings(), f"chapters.txt, `{section.title}`: docs/RULES.md has no heading `{rule}`")
+            for name in section.examples:
+                self.check_example(section, name)
+        for what, has in (("rule", lambda section: section.rules), ("example", lambda section: section.examples)):
+            without = [section for section in self.sections if not has(section)]
+            self.check_few(f"sections without {'an' if what == 'example' else 'a'} {what}",
+                           [f"chapters.txt, `{section.title}`: no {what}" for section in without], len(self.sections))
+            for section in without:
+                self.check(section.reason, f"chapters.txt, `{section.title}`: a line `none: REASON` is to say why it has no {what}")
+
+    def check_example(self, section, name):
+        try:
+            self.examples[name] = chapters.example(name, set(self.found))
+            unknown = sorted(self.examples[name].row.unknown)
+            self.check(not unknown, f"chapters.txt, `{section.title}`: unknown names in an example: {', '.join(unknown)}")
+        except LookupError as error:
+            self.check(False, f"chapters.txt, `{section.title}`: {error}")
+
+    def check_words(self):
+        known, used = glossary.meanings(), glossary.uses(self.found)
+        for word in sorted(used):
+            self.check(word in known, f"{where(used[word][0])}: words.txt doesn't explain `{word}`")
+        for word in known:
+            self.check(word in used, f"words.txt: no definition uses `{word}`")
+
+    def check_notation(self):
+        for block in list(self.notation):
+            if block.startswith("@show "):
+                is_there = block[6:].replace("::", ".") in self.by_id
+                self.check(is_there, f"notation.md: the book has no definition `{block[6:]}`")
+                if not is_there:
+                    self.notation.remove(block)
+
+    # ---- what is printed ----
+
+    def print_reach(self):
+        language, laws, others = self.reach.language, self.reach.laws, self.reach.refinement
+        in_public = sum(bool(it.carriers) for it in others)
+        print(f"language: {len(language):,} definitions, {reach.lines_in(language):,} lines, which have to be believed")
+        print(f"laws: {len(laws):,} more, {reach.lines_in(laws):,} lines")
+        print(f"refinement: {len(others):,} others, {reach.lines_in(others):,} lines, of which {in_public:,} stand in a public contract")
+
+    def write(self):
+        OUT.mkdir(exist_ok=True)
+        for name, made in (("book.html", weave_html.book_html(self)), ("book.md", weave_markdown.book_markdown(self))):
+            (OUT / name).write_text(made, encoding="utf-8")
+            print(f"{(OUT / name).relative_to(chapters.ROOT)}: {len(made) / 1e6:.1f} MB")
+
+
+def where(it):
+    return f"{it.file.relative_to(chapters.ROOT)}, line {it.line}"
+
+
+def main():
+    sys.setrecursionlimit(10_000)
+    book = Book()
+    book.check_all()
+    for message in book.wrong:
+        print(message)
+    book.print_reach()
+    if "--check" not in sys.argv[1:]:
+        book.write()
+    print(f"{book.passed} passed, {len(book.wrong)} failed")
+    return bool(book.wrong)
+
+
+if __name__ == "__main__":
+    raise SystemExit(main())

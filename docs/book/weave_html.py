@@ -1,0 +1,193 @@
+"""Weaves the book as one HTML file, which needs nothing else."""
+
+import html
+import pathlib
+import re
+
+import chapters
+import definitions
+import glossary
+import layout
+from definitions import KEYWORDS, TOKEN, Word
+
+STYLE = pathlib.Path(__file__).with_name("book.css")
+RULES = "../../RULES.md"
+# The signs of the library that a stranger looks up.
+LINKED_SIGN = re.compile(r"\+\+|&&|\|\||[≡≢×⊎∷⊥ℕℤ↔≤]")
+
+
+def text(source):
+    """Prose: `code`, **bold** and *italic*."""
+    out = []
+    for part in re.split(r"(`[^`]+`)", source):
+        if part.startswith("`") and part.endswith("`") and len(part) > 2:
+            out.append(f"<code>{html.escape(part[1:-1], quote=False)}</code>")
+        else:
+            part = re.sub(r"\*\*([^*]+)\*\*", r"<b>\1</b>", html.escape(part, quote=False))
+            out.append(re.sub(r"(?<!\w)\*([^*]+)\*(?!\w)", r"<i>\1</i>", part))
+    return "".join(out)
+
+
+def word_id(word):
+    return "word-" + "-".join(f"{ord(sign):x}" for sign in word)
+
+
+# ---- code ----
+
+
+def linked(word, definition, is_head):
+    """A word of a definition's text, as a link to what it means."""
+    if word.startswith('"'):
+        return f"<q>{html.escape(word[1:-1], quote=False)}</q>"
+    first, _, rest = word.partition(".")
+    if first in KEYWORDS and not rest:
+        return f"<b>{word}</b>"
+    if is_head:
+        return f'<span class="n">{html.escape(word)}</span>'
+    two = ".".join(word.split(".")[:2])
+    written = two if two in definition.links else first
+    target, behind = definition.links.get(written), html.escape(word[len(written):])
+    if isinstance(target, Word):
+        return f'<a class="s" href="#{word_id(target.name)}">{html.escape(written)}</a>{behind}'
+    if target is not None and target.place:
+        return f'<a href="#{target.id}">{html.escape(written)}</a>{behind}'
+    return html.escape(word)
+
+
+def signs(between):
+    """What stands between the names of a definition's text, with its signs as links into the glossary."""
+    out, at = [], 0
+    for found in LINKED_SIGN.finditer(between):
+        out += [html.escape(between[at:found.start()], quote=False), f'<a class="s" href="#{word_id(found[0])}">{html.escape(found[0], quote=False)}</a>']
+        at = found.end()
+    return "".join(out) + html.escape(between[at:], quote=False)
+
+
+def code_line(line, definition):
+    body = line.lstrip()
+    pad = len(line) - len(body)
+    if body.startswith("--"):
+        return f'<span class="l c" style="--i:{pad}">{text(body[2:].strip())}</span>'
+    parts, at = [], 0
+    for found in TOKEN.finditer(body) if definition.kind != "job" else []:
+        is_head = pad == 0 and found[0] == definition.name and definition.kind not in ("row", "trait", "contract", "law", "rust") and (
+            found.start() == 0 or body[:found.start()].strip() in ("record", "data"))
+        parts += [signs(body[at:found.start()]), linked(found[0], definition, is_head)]
+        at = found.end()
+    return f'<span class="l" style="--i:{pad}">{"".join(parts)}{signs(body[at:])}</span>'
+
+
+def code(definition):
+    return "<pre>" + "".join(code_line(line, definition) for line in layout.shown(definition)) + "</pre>"
+
+
+def references(found, most=8):
+    more = f" and {len(found) - most} more" if len(found) > most else ""
+    return ", ".join(f'<a href="#{it.id}">{html.escape(it.name)}</a>&nbsp;{it.number}' for it in found[:most]) + more
+
+
+# ---- parts of the book ----
+
+
+def definition_html(it):
+    """A definition: its number and comment, its text, its margin, and the links to what it uses and what uses it."""
+    carried = layout.carried_by(it)
+    margin = f'{it.crate} · {layout.what_it_is(it)}' + (f", carried by {text(carried)}" if carried else "")
+    comment = text(layout.prose(it.comment)) or "<em>(no comment)</em>"
+    uses, users = layout.uses_elsewhere(it), layout.users_of(it)
+    foot = [text(", ".join(layout.bytes_in(it)))] * bool(layout.bytes_in(it))
+    foot += [f"uses {references(uses, 99)}"] * bool(uses) + [f"used in {references(users)}"] * bool(users)
+    heading = f"<h4>{text(it.heading[0].upper() + it.heading[1:])}</h4>" if it.heading else ""
+    return (f'{heading}<section id="{it.id}" class="{it.reach}"><p><span>{it.number}</span> {comment}</p>{code(it)}'
+            f'<footer>{" · ".join(foot)}</footer><aside>{margin}</aside></section>')
+
+
+def example_html(example):
+    caption = f" {text(layout.prose([example.caption]))}" if example.caption and example.row.kind != "job" else ""
+    return f'<div class="example"><p><span>Example</span>{caption}</p>{code(example.row)}<footer>{html.escape(example.shown)}, which is checked</footer></div>'
+
+
+def section_html(section, examples):
+    anchors = chapters.headings()
+    rules = ", ".join(f'<a href="{RULES}#{anchors[rule]}">{html.escape(rule)}</a>' for rule in section.rules if rule in anchors)
+    out = [f'<h3 id="s{section.number}">{section.number} {text(section.title)}</h3>']
+    if rules:
+        out.append(f'<p class="rule">The rule in words: {rules}.</p>')
+    out += [example_html(examples[name]) for name in section.examples if name in examples]
+    for module, found in section.parts:
+        home = definitions.module(module) if "::" not in module else None
+        path = f'<span class="file">{chapters.crate_path(module)}</span>'
+        out.append(f'<p class="intro" id="m-{module.replace("::", ".").replace("/", ".")}">{text(layout.prose(home.intro)) if home else ""} {path}</p>')
+        out += [definition_html(it) for it in found]
+    return "\n".join(out)
+
+
+def chapter_html(chapter, examples):
+    opening = text(" ".join(chapter.opening))
+    return (f'<h2 id="ch{chapter.number}">{chapter.number}. {text(chapter.title)}</h2><p class="opening">{opening}</p>'
+            + "\n".join(section_html(section, examples) for section in chapter.sections))
+
+
+def contents_html(all_chapters):
+    items = "".join(
+        f'<li><a href="#ch{chapter.number}">{text(chapter.title)}</a> <small>{len(chapter.definitions)}</small><ul>'
+        + "".join(f'<li><a href="#s{section.number}">{text(section.title)}</a></li>' for section in chapter.sections) + "</ul></li>"
+        for chapter in all_chapters)
+    return (f'<nav><h2>Contents</h2><ol start="0"><li><a href="#notation">How to read this book</a></li>{items}</ol>'
+            '<p><a href="#index">Index of all names</a>. The small numbers are the numbers of definitions.</p></nav>')
+
+
+def index_html(found):
+    """All names in the order of the alphabet, each with the places where something has it."""
+    by_name = {}
+    for it in sorted(found, key=lambda it: it.place):
+        by_name.setdefault(it.name, []).append(it)
+    rows = [f"<li>{html.escape(name)} " + ", ".join(f'<a href="#{it.id}">{it.number}</a>' for it in by_name[name]) + "</li>"
+            for name in sorted(by_name, key=lambda name: (name.lower(), name))]
+    return f'<h2 id="index">Index of all names</h2><ul class="index">{"".join(rows)}</ul>'
+
+
+# ---- the chapter on the notation ----
+
+
+def words_html(found):
+    by_word, rows = glossary.uses(found), []
+    for word, meaning in glossary.meanings().items():
+        use = glossary.shortest_use(word, by_word.get(word, []))
+        example = f'<a href="#{use[0].id}">{use[0].number}</a>{code_use(use)}' if use else ""
+        rows.append(f'<tr id="{word_id(word)}"><td><code>{html.escape(word)}</code></td><td>{text(meaning)}</td><td>{example}</td></tr>')
+    return f'<table class="words">{"".join(rows)}</table>'
+
+
+def code_use(use):
+    line = use[1] if len(use[1]) <= 100 else use[1][:97] + " .."
+    return " <code>" + html.escape(line, quote=False) + "</code>"
+
+
+def notation_html(blocks, by_id, found):
+    """The chapter on the notation: its paragraphs, lists and headings, the definitions that it shows, and the glossary."""
+    out = ['<h2 id="notation">How to read this book</h2>']
+    for block in blocks:
+        if block.startswith("## "):
+            out.append(f"<h3>{text(block[3:])}</h3>")
+        elif block.startswith("@show "):
+            it = by_id[block[6:].replace("::", ".")]
+            out.append(f'<div class="shown"><p><a href="#{it.id}">{it.number}</a> {text(layout.prose(it.comment))}</p>{code(it)}</div>')
+        elif block == "@words":
+            out.append(words_html(found))
+        elif block.startswith("- "):
+            out.append("<ul>" + "".join(f"<li>{text(' '.join(item.split()))}</li>" for item in re.split(r"(?m)^- ", block)[1:]) + "</ul>")
+        else:
+            out.append(f"<p>{text(' '.join(block.split()))}</p>")
+    return "\n".join(out)
+
+
+def book_html(book):
+    """The whole book."""
+    style = STYLE.read_text(encoding="utf-8")
+    body = [f'<h1>BibTeX, proved: the book of definitions</h1><p class="opening">{text(book.summary)}</p>', contents_html(book.chapters),
+            notation_html(book.notation, book.by_id, book.found)]
+    body += [chapter_html(chapter, book.examples) for chapter in book.chapters]
+    return ('<!doctype html>\n<html lang="en"><head><meta charset="utf-8"><meta name="viewport" content="width=device-width,initial-scale=1">'
+            f"<title>BibTeX, proved: the book of definitions</title><style>{style}</style></head><body>\n" + "\n".join(body)
+            + index_html(book.found) + "\n</body></html>\n")

@@ -1,0 +1,97 @@
+"""Weaves the book as one Markdown file, which pandoc turns into a PDF; links stand below each definition, since code has none."""
+
+import re
+
+import chapters
+import definitions
+import glossary
+import layout
+
+RULES = "../../RULES.md"
+HEAD = """---
+title: "BibTeX, proved: the book of definitions"
+lang: en
+documentclass: report
+papersize: a4
+geometry: margin=22mm
+fontsize: 10pt
+mainfont: "DejaVu Serif"
+monofont: "DejaVu Sans Mono"
+monofontoptions: "Scale=0.8"
+colorlinks: true
+toc: true
+toc-depth: 2
+---
+"""
+
+
+def anchor(definition):
+    return definition.id.replace("'", "_")
+
+
+def references(found, most=8):
+    more = f" and {len(found) - most} more" if len(found) > most else ""
+    return ", ".join(f"[{it.name.replace('_', chr(92) + '_')}](#{anchor(it)}) {it.number}" for it in found[:most]) + more
+
+
+def code(definition):
+    return "```\n" + "\n".join(layout.shown(definition)) + "\n```"
+
+
+def definition_markdown(it):
+    carried = layout.carried_by(it)
+    uses, users = layout.uses_elsewhere(it), layout.users_of(it)
+    foot = [f"{it.crate}, {layout.what_it_is(it)}" + (f", carried by {carried}" if carried else "")]
+    foot += [", ".join(layout.bytes_in(it))] * bool(layout.bytes_in(it))
+    foot += [f"uses {references(uses, 99)}"] * bool(uses) + [f"used in {references(users)}"] * bool(users)
+    heading = f"#### {it.heading[0].upper() + it.heading[1:]}\n\n" if it.heading else ""
+    return f"{heading}[]{{#{anchor(it)}}}**{it.number}** {layout.prose(it.comment) or '*(no comment)*'}\n\n{code(it)}\n\n*{'; '.join(foot)}*\n"
+
+
+def section_markdown(section, examples):
+    anchors = chapters.headings()
+    rules = ", ".join(f"[{rule}]({RULES}#{anchors[rule]})" for rule in section.rules if rule in anchors)
+    out = [f"## {section.number} {section.title} {{.unnumbered}}\n"] + [f"The rule in words: {rules}.\n"] * bool(rules)
+    for example in (examples[name] for name in section.examples if name in examples):
+        caption = f". {layout.prose([example.caption])}" if example.caption and example.row.kind != "job" else "."
+        out.append(f"**Example**{caption}\n\n{code(example.row)}\n\n*{example.shown}, which is checked*\n")
+    for module, found in section.parts:
+        home = definitions.module(module) if "::" not in module else None
+        out.append(f"{layout.prose(home.intro) if home else ''} (`{chapters.crate_path(module)}`)\n")
+        out += [definition_markdown(it) for it in found]
+    return "\n".join(out)
+
+
+def chapter_markdown(chapter, examples):
+    sections = "\n".join(section_markdown(section, examples) for section in chapter.sections)
+    return f"# {chapter.number}. {chapter.title} {{.unnumbered}}\n\n{' '.join(chapter.opening)}\n\n{sections}"
+
+
+def words_markdown(found):
+    by_word, rows = glossary.uses(found), []
+    for word, meaning in glossary.meanings().items():
+        use = glossary.shortest_use(word, by_word.get(word, []))
+        shown = f" As in [{use[0].number}](#{anchor(use[0])}): `{use[1]}`" if use else ""
+        rows.append(f"- `{word}`: {meaning}.{shown}")
+    return "\n".join(rows) + "\n"
+
+
+def notation_markdown(blocks, by_id, found):
+    out = ["# How to read this book {.unnumbered}\n"]
+    for block in blocks:
+        if block.startswith("## "):
+            out.append(f"## {block[3:]} {{.unnumbered}}\n")
+        elif block.startswith("@show "):
+            it = by_id[block[6:].replace("::", ".")]
+            out.append(f"[{it.number}](#{anchor(it)}) {layout.prose(it.comment)}\n\n{code(it)}\n")
+        elif block == "@words":
+            out.append(words_markdown(found))
+        else:
+            out.append(re.sub(r"\n(?!- )", " ", block) + "\n")
+    return "\n".join(out)
+
+
+def book_markdown(book):
+    """The whole book."""
+    parts = [HEAD, book.summary + "\n", notation_markdown(book.notation, book.by_id, book.found)]
+    return "\n".join(parts + [chapter_markdown(chapter, book.examples) for chapter in book.chapters])
