@@ -19,6 +19,7 @@ pub record WorkedJob : Type 0 where
   pub log : List ℕ
   pub status : ℕ
 
+-- a run with these files and options, which comes to this list, log and status
 abbrev pub worked : List File → Options → List ℕ → List ℕ → ℕ → WorkedJob
 worked files options list log status = record { files = files; options = options; list = list; log = log; status = status }
 
@@ -59,6 +60,7 @@ options budget references line = record {
   global_max = 20000;
 }
 
+-- a budget of 1,000 steps, two references and lines of 79 bytes
 abbrev pub usual : Options
 usual = options 1000 2 79
 
@@ -260,6 +262,7 @@ too_many_open =
 
 -- ---- all of them
 
+-- the eighteen jobs
 abbrev pub worked_jobs : List WorkedJob
 worked_jobs =
     a_citation ∷ cross_references ∷ fewer_references ∷ all_entries ∷ sorted_entries ∷ macros ∷ broken_lines

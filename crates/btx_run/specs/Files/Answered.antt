@@ -19,6 +19,7 @@ pub record Answer : Type 0 where
   pub name : List ℕ
   pub bytes : Option (List ℕ)
 
+-- the answer to this name
 abbrev pub answer : List ℕ → Option (List ℕ) → Answer
 answer name bytes = record { name = name; bytes = bytes }
 

@@ -9,6 +9,7 @@ pub record Counts : Type 0 where
   pub warnings : ℕ
   pub errors : ℕ
 
+-- this number of warnings and this number of errors
 abbrev pub counts : ℕ → ℕ → Counts
 counts warnings errors = record { warnings = warnings; errors = errors }
 

@@ -24,6 +24,7 @@ pub record Reading (T : Type 0) : Type 0 where
   pub told : List Line
   pub gives : T
 
+-- the part that has these lines and gives this
 abbrev pub reading : {T : Type 0} → List Line → T → Reading T
 reading told gives = record { told = told; gives = gives }
 
@@ -33,11 +34,12 @@ behind lines part = reading (lines ++ part.told) part.gives
 
 -- ---- databases
 
--- the files of these names that are there, in order
+-- the file, if there is one, as a list
 abbrev pub as_list : Option NamedFile → List NamedFile
 as_list None = []
 as_list (Some file) = file ∷ []
 
+-- the files of these names that are there, in order
 abbrev pub files_found : Files → List (List ℕ) → List NamedFile
 files_found files names = flat_map (λ name. as_list (file_at files name)) names
 
