@@ -92,9 +92,14 @@ def made_of(contract, kind):
 
 
 def bind_parameters(made, text):
-    """The parameters of a call and the names of its types mean nothing outside it."""
-    signature = re.split(r"\b(?:ensures|requires)\b", text)[0]
-    made.bound |= definitions.identifiers(signature) | {"result"}
+    """The parameters of a call mean nothing outside it; what its types are is said by the program."""
+    signature = re.split(r"\b(?:ensures|requires)\b", re.sub(r"//[^\n]*", "", text))[0]
+    for name in sorted(definitions.identifiers(signature)):
+        found = definitions.type_in(made.file, name) if name[0].isupper() else None
+        if found:
+            definitions.link(made, name, found)
+        made.bound.add(name)
+    made.bound.add("result")
 
 
 def clause_module(home, made):

@@ -210,26 +210,24 @@ def made_of_type(file, name, start, declared):
 def resolve_rust(made):
     """The types that a type of the program is made of."""
     brought = Module(made.module, made.file)
-    text = sources(made.crate)[made.file]
-    for line in text.split("\n"):
+    for line in sources(made.crate)[made.file].split("\n"):
         brought.bring(line)
-    paths = {}
-    for path, items, alone in re.findall(r"^(?:pub )?use ([\w:]+?)(?:::\{([^}]*)\})?( as \w+)?;", text, re.M):
-        for item in (items or path.split("::")[-1]).split(","):
-            paths[item.split(" as ")[-1].strip()] = path.split("::")
     code = "\n".join(line.split("//")[0] for line in made.lines)
     names = set(re.findall(r"(?<![.\w])[A-Z]\w*", code))
     if "enum" in made.lines[0]:
         names -= set(re.findall(r"(?m)^\s+([A-Z]\w*)(?=[,({])", code))
     for name in sorted(names - {made.name}):
         target = target_of(*brought.names[name]) if made.is_model and name in brought.names else None
-        if target is None and name in EVERYWHERE:
-            target = Word(name)
-        if target is None:
-            path = paths.get(name, ["crate"])
-            crate = made.crate if path[0] in ("crate", "super", "self") else path[0]
-            target = rust_type(crate, None, name) if crate.startswith("btx_") or crate == made.crate else None
-        link(made, name, target)
+        link(made, name, target or (Word(name) if name in EVERYWHERE else type_in(made.file, name)))
+
+
+def type_in(file, name):
+    """The type of the program that a name means in a file of it, or None."""
+    crate = file.relative_to(CRATES).parts[0]
+    for path, items in re.findall(r"(?m)^(?:pub )?use ([\w:]+?)(?:::\{([^}]*)\})?;", sources(crate)[file]):
+        if name in [item.split(" as ")[-1].strip() for item in (items or path.split("::")[-1]).split(",")]:
+            crate = crate if path.split("::")[0] in ("crate", "super", "self") else path.split("::")[0]
+    return rust_type(crate, None, name) if (CRATES / crate / "src").is_dir() else None
 
 
 def target_of(path, name):

@@ -3,6 +3,8 @@
 import re
 
 WIDE = 88
+# More lines than this are a table.
+LONG_TABLE = 12
 # Where a long line may be broken, outside parentheses, the best place first; and whether what follows is indented.
 JOINTS = [(r"(?<= in) ", False), (r" (?=else )", True), (r" (?=∷ )", True), (r" (?=\+\+ )", True), (r" (?=\|\| |&& )", True), (r" (?=→ )", True)]
 CODES = re.compile(r'\(codes ("(?:[^"\\]|\\.)*")\)|codes (?=")')
@@ -14,11 +16,12 @@ def shown(definition):
         return rust_lines(definition.lines)
     if definition.kind == "job":
         return definition.lines
-    lines = []
+    lines, is_table = [], definition.kind == "equations" and len(definition.lines) > LONG_TABLE
     for line in definition.lines:
         line = re.sub(r"^(\s+)pub ", r"\1", line.replace(" : Type 0 where", " where").replace("Unit {0}", "Unit"))
         line = CODES.sub(lambda found: found[1] or "", line)
-        lines += broken(line, re.match(r"\s*", line)[0])
+        # (the rows of a table stay one line each, and wrap where a page is narrow)
+        lines += [line] if is_table and not line.startswith(" ") else broken(line, re.match(r"\s*", line)[0])
     return aligned(lines) if definition.kind == "equations" else lines
 
 
@@ -27,7 +30,9 @@ def rust_lines(lines):
     found = []
     for line in lines:
         pad, text = re.match(r"(\s*)(.*)", line).groups()
-        if text.startswith("//"):
+        if text.startswith("//") and found and found[-1].startswith(f"{pad}-- "):
+            found[-1] += " " + text.lstrip("/ ")
+        elif text.startswith("//"):
             found.append(f"{pad}-- {text.lstrip('/ ')}")
         else:
             found += broken(line, pad) if "ensures" in text or "requires" in text or "→" in text else [line]
@@ -83,6 +88,12 @@ def carried_by(definition, most=2):
     found = getattr(definition, "carried", [])
     more = f" and {len(found) - most} more" if len(found) > most else ""
     return ", ".join(f"`{name}`" for name in found[:most]) + more
+
+
+def words_of(example):
+    """The words that an example's file has for its rows, each with its comment: `gives`: a function that only changes the stack."""
+    own = [it for it in example.row.uses if it.comment and (it.file == example.row.file or re.search(r"Worked\w+$|Rows$", it.module))]
+    return [f"`{it.name}`: {' '.join(it.comment)}" for it in dict.fromkeys(own) if it.name != example.row.name]
 
 
 def what_it_is(definition):

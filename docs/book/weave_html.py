@@ -104,7 +104,9 @@ def definition_html(it):
 
 def example_html(example):
     caption = f" {text(layout.prose([example.caption]))}" if example.caption and example.row.kind != "job" else ""
-    return f'<div class="example"><p><span>Example</span>{caption}</p>{code(example.row)}<footer>{html.escape(example.shown)}, which is checked</footer></div>'
+    words = "".join(f"<li>{text(word)}</li>" for word in layout.words_of(example))
+    return (f'<div class="example"><p><span>Example</span>{caption}</p>{code(example.row)}' + (f"<ul>{words}</ul>" if words else "")
+            + f"<footer>{html.escape(example.shown)}, which is checked</footer></div>")
 
 
 def section_html(section, examples):

@@ -54,7 +54,8 @@ def section_markdown(section, examples):
     out = [f"## {section.number} {section.title} {{.unnumbered}}\n"] + [f"The rule in words: {rules}.\n"] * bool(rules)
     for example in (examples[name] for name in section.examples if name in examples):
         caption = f". {layout.prose([example.caption])}" if example.caption and example.row.kind != "job" else "."
-        out.append(f"**Example**{caption}\n\n{code(example.row)}\n\n*{example.shown}, which is checked*\n")
+        words = "".join(f"- {word}\n" for word in layout.words_of(example))
+        out.append(f"**Example**{caption}\n\n{code(example.row)}\n\n{words}\n*{example.shown}, which is checked*\n")
     for module, found in section.parts:
         home = definitions.module(module) if "::" not in module else None
         out.append(f"{layout.prose(home.intro) if home else ''} (`{chapters.crate_path(module)}`)\n")
