@@ -88,4 +88,5 @@ def home_of(it):
 
 
 def lines_in(found):
-    return sum(len(it.lines) for it in found)
+    """The number of lines of some definitions, comments aside."""
+    return sum(not line.lstrip().startswith(("--", "//")) for it in found for line in it.lines if line.strip())
