@@ -47,8 +47,8 @@ def broken(line, pad):
     if "record {" in text and text.count("; ") > 1:
         head, fields = text.split("{", 1)
         return [f"{pad}{head}{{"] + [f"{pad}    {field}" for field in re.split(r"(?<=;) ", fields.strip())]
-    if not pad and " = " in text and not text.startswith(("record ", "data ")):
-        head, rest = text.split(" = ", 1)
+    head, equals, rest = text.partition(" = ")
+    if not pad and equals and is_outside(head) and not text.startswith(("record ", "data ")):
         return [f"{head} ="] + broken("    " + rest, "    ")
     for joint, is_indented in JOINTS:
         places = [found.start() for found in re.finditer(joint, text) if is_outside(text[:found.start()])]
@@ -60,9 +60,9 @@ def broken(line, pad):
 
 
 def is_outside(text):
-    """Whether all parentheses of a text are closed, those of texts in quotes aside."""
-    code = re.sub(r'"(?:[^"\\]|\\.)*"?', "", text)
-    return all(code.count(opening) == code.count(closing) for opening, closing in ("()", "{}"))
+    """Whether all parentheses and quotes of a text are closed."""
+    code = re.sub(r'"(?:[^"\\]|\\.)*"', "", text)
+    return '"' not in code and all(code.count(opening) == code.count(closing) for opening, closing in ("()", "{}"))
 
 
 def aligned(lines):
@@ -90,10 +90,19 @@ def carried_by(definition, most=2):
     return ", ".join(f"`{name}`" for name in found[:most]) + more
 
 
-def words_of(example):
-    """The words that an example's file has for its rows, each with its comment: `gives`: a function that only changes the stack."""
+def words_of(example, known):
+    """The words that an example's file has for its rows, each with its comment (`gives`: a function that only changes the stack), but for those that are known
+    already, which become known."""
     own = [it for it in example.row.uses if it.comment and (it.file == example.row.file or re.search(r"Worked\w+$|Rows$", it.module))]
-    return [f"`{it.name}`: {' '.join(it.comment)}" for it in dict.fromkeys(own) if it.name != example.row.name]
+    new = [it for it in dict.fromkeys(own) if it.name != example.row.name and it not in known]
+    known.update(new)
+    return [f"`{head_of(it)}`: {' '.join(it.comment)}" for it in new]
+
+
+def head_of(definition):
+    """What stands on the left of a definition's one equation, with the names of its arguments; or its name."""
+    equations = [line for line in definition.lines[1:] if line.startswith(definition.name + " ")]
+    return equations[0].partition(" =")[0] if len(equations) == 1 else definition.name
 
 
 def what_it_is(definition):

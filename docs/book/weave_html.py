@@ -102,20 +102,20 @@ def definition_html(it):
             f'<footer>{" · ".join(foot)}</footer><aside>{margin}</aside></section>')
 
 
-def example_html(example):
+def example_html(example, known):
     caption = f" {text(layout.prose([example.caption]))}" if example.caption and example.row.kind != "job" else ""
-    words = "".join(f"<li>{text(word)}</li>" for word in layout.words_of(example))
+    words = "".join(f"<li>{text(word)}</li>" for word in layout.words_of(example, known))
     return (f'<div class="example"><p><span>Example</span>{caption}</p>{code(example.row)}' + (f"<ul>{words}</ul>" if words else "")
             + f"<footer>{html.escape(example.shown)}, which is checked</footer></div>")
 
 
-def section_html(section, examples):
+def section_html(section, examples, known):
     anchors = chapters.headings()
     rules = ", ".join(f'<a href="{RULES}#{anchors[rule]}">{html.escape(rule)}</a>' for rule in section.rules if rule in anchors)
     out = [f'<h3 id="s{section.number}">{section.number} {text(section.title)}</h3>']
     if rules:
         out.append(f'<p class="rule">The rule in words: {rules}.</p>')
-    out += [example_html(examples[name]) for name in section.examples if name in examples]
+    out += [example_html(examples[name], known) for name in section.examples if name in examples]
     for module, found in section.parts:
         home = definitions.module(module) if "::" not in module else None
         path = f'<span class="file">{chapters.crate_path(module)}</span>'
@@ -125,9 +125,9 @@ def section_html(section, examples):
 
 
 def chapter_html(chapter, examples):
-    opening = text(" ".join(chapter.opening))
+    opening, known = text(" ".join(chapter.opening)), set()
     return (f'<h2 id="ch{chapter.number}">{chapter.number}. {text(chapter.title)}</h2><p class="opening">{opening}</p>'
-            + "\n".join(section_html(section, examples) for section in chapter.sections))
+            + "\n".join(section_html(section, examples, known) for section in chapter.sections))
 
 
 def contents_html(all_chapters):

@@ -48,13 +48,13 @@ def definition_markdown(it):
     return f"{heading}[]{{#{anchor(it)}}}**{it.number}** {layout.prose(it.comment) or '*(no comment)*'}\n\n{code(it)}\n\n*{'; '.join(foot)}*\n"
 
 
-def section_markdown(section, examples):
+def section_markdown(section, examples, known):
     anchors = chapters.headings()
     rules = ", ".join(f"[{rule}]({RULES}#{anchors[rule]})" for rule in section.rules if rule in anchors)
     out = [f"## {section.number} {section.title} {{.unnumbered}}\n"] + [f"The rule in words: {rules}.\n"] * bool(rules)
     for example in (examples[name] for name in section.examples if name in examples):
         caption = f". {layout.prose([example.caption])}" if example.caption and example.row.kind != "job" else "."
-        words = "".join(f"- {word}\n" for word in layout.words_of(example))
+        words = "".join(f"- {word}\n" for word in layout.words_of(example, known))
         out.append(f"**Example**{caption}\n\n{code(example.row)}\n\n{words}\n*{example.shown}, which is checked*\n")
     for module, found in section.parts:
         home = definitions.module(module) if "::" not in module else None
@@ -64,7 +64,8 @@ def section_markdown(section, examples):
 
 
 def chapter_markdown(chapter, examples):
-    sections = "\n".join(section_markdown(section, examples) for section in chapter.sections)
+    known = set()
+    sections = "\n".join(section_markdown(section, examples, known) for section in chapter.sections)
     return f"# {chapter.number}. {chapter.title} {{.unnumbered}}\n\n{' '.join(chapter.opening)}\n\n{sections}"
 
 
