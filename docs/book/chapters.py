@@ -178,7 +178,7 @@ def row_example(home, row, piece):
 
 
 def rows_of(row):
-    """The rows of a table, which are joined by `∷`: each with the comment before it."""
+    """The rows of a table, which are joined by `∷`: each with the comment before it. A comment holds for the rows behind it, too, up to one of another function."""
     rows, comment, is_fresh = [], "", True
     for line in row.lines[2:]:
         text = line.strip()
@@ -188,11 +188,19 @@ def rows_of(row):
         elif text == "∷ []":
             break
         elif (text.startswith("∷ ") and not is_open(rows)) or not rows:
-            rows.append((comment, [text.removeprefix("∷ ")]))
+            text = text.removeprefix("∷ ")
+            comment = comment if is_fresh or subject_of(text) == subject_of(rows[-1][1][0]) else ""
+            rows.append((comment, [text]))
             is_fresh = False
         else:
             rows[-1][1].append("  " + text)
     return [(comment, [re.sub(r" ∷ \[\]$", "", line) if is_unmatched(lines) else line for line in lines]) for comment, lines in rows]
+
+
+def subject_of(text):
+    """The function that a row is about, if it begins with its name: `substring$` of `gives "substring$" ..`."""
+    found = re.match(r'\w+ ("[^"]*")', text)
+    return found and found[1]
 
 
 def is_open(rows):
