@@ -141,9 +141,15 @@ def example(named, believed):
     for folder in ("specs", "proofs"):
         home = definitions.module(module, folder)
         row = home.names.get(name) if home else None
-        if isinstance(row, Definition) and (folder == "proofs" or row in believed):
+        if isinstance(row, Definition) and (row in believed if folder == "specs" else is_checked(module)):
             return row_example(home, row, piece) if piece else whole_example(home, row, folder)
     raise LookupError(f"there is no row `{where}` that a law speaks of or that is proved")
+
+
+def is_checked(module):
+    """Whether the checker reads a file of proofs, which its crate's list of files says."""
+    crate, name = module.split(".")[:2]
+    return bool(re.search(rf"(?m)^(?:pub )?mod {name}$", (CRATES / crate / "proofs/Lib.antt").read_text(encoding="utf-8")))
 
 
 def copy_of(home, row, lines):
