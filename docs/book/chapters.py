@@ -9,7 +9,6 @@ import definitions
 from definitions import CRATES, ROOT, Definition
 
 FILE = pathlib.Path(__file__).with_name("chapters.txt")
-RULES = ROOT / "docs/RULES.md"
 JOBS = ROOT / "tests/reference"
 ALLOWED = re.compile(r"// allowed: (\d+) (.+?)(?: -- .*)?$")
 
@@ -117,16 +116,6 @@ def with_types(own, placed):
 def forward_references(found):
     """Definitions that use one of a later chapter."""
     return [(it, used) for it in found for used in it.uses if it.place and used.place and used.place[0] > it.place[0]]
-
-
-# ---- rules ----
-
-
-@functools.lru_cache(maxsize=None)
-def headings():
-    """The headings of the rules, each with its anchor."""
-    lines = re.findall(r"(?m)^##+ (.+)$", RULES.read_text(encoding="utf-8"))
-    return {line.strip().replace("`", ""): re.sub(r"[^\w\- ]", "", line.strip().lower()).replace(" ", "-") for line in lines}
 
 
 # ---- examples ----

@@ -33,7 +33,7 @@ def rust_lines(lines):
         if text.startswith("//") and found and found[-1].startswith(f"{pad}-- "):
             found[-1] += " " + text.lstrip("/ ")
         elif text.startswith("//"):
-            found.append(f"{pad}-- {text.lstrip('/ ')}")
+            found.append(f"{pad}-- {without_brackets(text.lstrip('/ '))}")
         else:
             found += broken(line, pad) if "ensures" in text or "requires" in text or "→" in text else [line]
     return found
@@ -74,9 +74,14 @@ def aligned(lines):
     return lines if width > 46 else lines[:1] + [f"{left.ljust(width)} = {right}" for left, right in parts]
 
 
+def without_brackets(text):
+    """A doc comment without the brackets of its links to items."""
+    return re.sub(r"\[(`[^`]+`)\]", r"\1", text)
+
+
 def prose(lines):
     """The lines of a comment as a sentence."""
-    text = " ".join(lines).strip()
+    text = without_brackets(" ".join(lines).strip())
     if not text:
         return ""
     first = text[0] if text.startswith("`") else text[0].upper()

@@ -18,6 +18,7 @@ import sys
 import chapters
 import glossary
 import reach
+import rules
 import weave_html
 import weave_markdown
 
@@ -34,7 +35,7 @@ class Book:
         self.chapters, self.allowed = chapters.read(chapters.FILE.read_text(encoding="utf-8"))
         self.lost = chapters.place(self.chapters, self.found)
         self.sections = [section for chapter in self.chapters for section in chapter.sections]
-        self.passed, self.wrong, self.examples = 0, [], {}
+        self.passed, self.wrong, self.examples, self.rules = 0, [], {}, rules.headings()
         self.by_id = {name: it for it in self.found for name in (it.id, it.id.removesuffix("-type"))}
         self.notation = re.split(r"\n\n+", (HERE / "notation.md").read_text(encoding="utf-8").strip())
 
@@ -78,7 +79,7 @@ class Book:
             for module, found in section.parts:
                 self.check(found, f"chapters.txt, `{section.title}`: nothing of `{module}` belongs into the book")
             for rule in section.rules:
-                self.check(rule in chapters.headings(), f"chapters.txt, `{section.title}`: docs/RULES.md has no heading `{rule}`")
+                self.check(rule in self.rules, f"chapters.txt, `{section.title}`: docs/RULES.md has no heading `{rule}`")
             for name in section.examples:
                 self.check_example(section, name)
         for what, has in (("rule", lambda section: section.rules), ("example", lambda section: section.examples)):

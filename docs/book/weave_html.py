@@ -8,24 +8,17 @@ import chapters
 import definitions
 import glossary
 import layout
+import rules
 from definitions import KEYWORDS, TOKEN, Word
 
 STYLE = pathlib.Path(__file__).with_name("book.css")
-RULES = "../../RULES.md"
 # The signs of the library that a stranger looks up.
 LINKED_SIGN = re.compile(r"\+\+|&&|\|\||[≡≢×⊎∷⊥ℕℤ↔≤]")
 
 
 def text(source):
-    """Prose: `code`, **bold** and *italic*."""
-    out = []
-    for part in re.split(r"(`[^`]+`)", source):
-        if part.startswith("`") and part.endswith("`") and len(part) > 2:
-            out.append(f"<code>{html.escape(part[1:-1], quote=False)}</code>")
-        else:
-            part = re.sub(r"\*\*([^*]+)\*\*", r"<b>\1</b>", html.escape(part, quote=False))
-            out.append(re.sub(r"(?<!\w)\*([^*]+)\*(?!\w)", r"<i>\1</i>", part))
-    return "".join(out)
+    """Prose with its code, its bold and its italic words."""
+    return rules.inline(source)
 
 
 def word_id(word):
@@ -110,11 +103,11 @@ def example_html(example, known):
 
 
 def section_html(section, examples, known):
-    anchors = chapters.headings()
-    rules = ", ".join(f'<a href="{RULES}#{anchors[rule]}">{html.escape(rule)}</a>' for rule in section.rules if rule in anchors)
+    anchors = rules.headings()
+    linked_rules = ", ".join(f'<a href="#{anchors[rule]}">{html.escape(rule)}</a>' for rule in section.rules if rule in anchors)
     out = [f'<h3 id="s{section.number}">{section.number} {text(section.title)}</h3>']
-    if rules:
-        out.append(f'<p class="rule">The rule in words: {rules}.</p>')
+    if linked_rules:
+        out.append(f'<p class="rule">The rule in words: {linked_rules}.</p>')
     out += [example_html(examples[name], known) for name in section.examples if name in examples]
     for module, found in section.parts:
         home = definitions.module(module) if "::" not in module else None
@@ -136,7 +129,7 @@ def contents_html(all_chapters):
         + "".join(f'<li><a href="#s{section.number}">{text(section.title)}</a></li>' for section in chapter.sections) + "</ul></li>"
         for chapter in all_chapters)
     return (f'<nav><h2>Contents</h2><ol start="0"><li><a href="#notation">How to read this book</a></li>{items}</ol>'
-            '<p><a href="#index">Index of all names</a>. The small numbers are the numbers of definitions.</p></nav>')
+            '<p><a href="#rules">The rules in words</a>, <a href="#index">Index of all names</a>. The small numbers are the numbers of definitions.</p></nav>')
 
 
 def index_html(found):
@@ -192,4 +185,4 @@ def book_html(book):
     body += [chapter_html(chapter, book.examples) for chapter in book.chapters]
     return ('<!doctype html>\n<html lang="en"><head><meta charset="utf-8"><meta name="viewport" content="width=device-width,initial-scale=1">'
             f"<title>BibTeX, proved: the book of definitions</title><style>{style}</style></head><body>\n" + "\n".join(body)
-            + index_html(book.found) + "\n</body></html>\n")
+            + rules.as_html() + index_html(book.found) + "\n</body></html>\n")

@@ -6,8 +6,8 @@ import chapters
 import definitions
 import glossary
 import layout
+import rules
 
-RULES = "../../RULES.md"
 HEAD = """---
 title: "BibTeX, proved: the book of definitions"
 lang: en
@@ -49,9 +49,9 @@ def definition_markdown(it):
 
 
 def section_markdown(section, examples, known):
-    anchors = chapters.headings()
-    rules = ", ".join(f"[{rule}]({RULES}#{anchors[rule]})" for rule in section.rules if rule in anchors)
-    out = [f"## {section.number} {section.title} {{.unnumbered}}\n"] + [f"The rule in words: {rules}.\n"] * bool(rules)
+    anchors = rules.headings()
+    linked_rules = ", ".join(f"[{rule}](#{anchors[rule]})" for rule in section.rules if rule in anchors)
+    out = [f"## {section.number} {section.title} {{.unnumbered}}\n"] + [f"The rule in words: {linked_rules}.\n"] * bool(linked_rules)
     for example in (examples[name] for name in section.examples if name in examples):
         caption = f". {layout.prose([example.caption])}" if example.caption and example.row.kind != "job" else "."
         words = "".join(f"- {word}\n" for word in layout.words_of(example, known))
@@ -96,4 +96,4 @@ def notation_markdown(blocks, by_id, found):
 def book_markdown(book):
     """The whole book."""
     parts = [HEAD, book.summary + "\n", notation_markdown(book.notation, book.by_id, book.found)]
-    return "\n".join(parts + [chapter_markdown(chapter, book.examples) for chapter in book.chapters])
+    return "\n".join(parts + [chapter_markdown(chapter, book.examples) for chapter in book.chapters] + [rules.as_markdown()])
