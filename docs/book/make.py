@@ -6,8 +6,10 @@
 The book has every definition that the contract of `run` reaches (the language) and every one that only laws reach, in the order of chapters.txt. A line is
 printed for: a definition in the book without a comment, a name that means nothing, a definition that stands in no chapter, a module in chapters.txt
 that has none, a word of the library that words.txt doesn't explain, a definition that uses one of a later chapter, a section without a rule or without
-an example, a rule or an example that isn't there. chapters.txt says how many of some of these are allowed. The last line is 'N passed, M failed', of definitions, names,
-sections, rules and examples, and the exit status is 0 only where M is 0.
+an example, a rule or an example that isn't there. chapters.txt says how many of some of these are allowed. The last line is 'N passed, M failed', of
+definitions, names, sections, rules and examples, and the exit status is 0 only where M is 0.
+
+A PDF with links: pandoc book.md -o book.pdf --pdf-engine=lualatex (with the fonts DejaVu), or print book.html from a browser.
 
 Which definitions have to be believed is counted by what their texts name; the checker isn't asked."""
 

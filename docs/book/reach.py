@@ -71,9 +71,9 @@ def nearest_carriers(it):
     """The contracts that name a user of a definition, or a user of one, the nearest first."""
     level, seen = [it], {it}
     while level:
-        level = [user for below in level for user in below.users if user not in seen]
+        level = list(dict.fromkeys(user for below in level for user in below.users if user not in seen))
         seen |= set(level)
-        found = [carrier for user in dict.fromkeys(level) for carrier in user.carriers]
+        found = [carrier for user in level for carrier in user.carriers]
         if found:
             return list(dict.fromkeys(found))
         laws = [f"{user.crate}::{user.name}" for user in level if user.kind == "law"]
