@@ -76,7 +76,8 @@ def nearest_carriers(it):
         found = [carrier for user in level for carrier in user.carriers]
         if found:
             return list(dict.fromkeys(found))
-        laws = [f"{user.crate}::{user.name}" for user in level if user.kind == "law"]
+        # (a part of the language is carried by calls; laws only speak of it)
+        laws = [f"{user.crate}::{user.name}" for user in level if user.kind == "law" and it.reach == "laws"]
         if laws:
             return laws
     return []
