@@ -5,7 +5,6 @@ use Rattle.btx_aux.specs.Files.{Files}
 use Rattle.btx_machine.specs.Written.{Received}
 use Rattle.btx_machine.specs.declared.report.Report.{Report}
 use Rattle.btx_run.specs.Answered.{CompletesAsAnswered}
-use Rattle.btx_run.specs.declared.options.Options.{Options}
 use Rattle.btx_run.specs.declared.run_fault.RunFault.{RunFault}
 use Rattle.bibtex.specs.Acts.{ClosedList, Does, Done, EmptiedLog, OpenedList, Printed, StoredLog}
 use Rattle.bibtex.specs.Jobs.{DoesWith, HandsLog, IsReportOfSome, ListsJob, both_done}
@@ -80,10 +79,10 @@ ok_before P (Err fault) followed answer is h = subst (λ a. IfOk a P) (sym is) t
 ok_before P (Ok report) (Err fault) answer is h = subst (λ a. IfOk a P) (sym is) tt
 ok_before P (Ok report) (Ok done) answer is h = subst (λ a. IfOk a P) (sym is) h
 
--- a report that is told as answered is one of some product
-pub of_some : (options : Options) (before after : Received) (ran : Result Report RunFault) → IfOk ran (CompletesAsAnswered options before after) → IfOk ran (IsReportOfSome options)
-of_some options before after (Err fault) h = tt
-of_some options before after (Ok report) h = record { job = h.job; answers = h.answers; is = h.completes.report_is }
+-- a report of a run over any finder is that of some files' product
+pub of_some : (settings : Settings) (before after : Received) (ran : Result Report RunFault) → IfOk ran (CompletesAsAnswered settings.job.now settings.options before after) → IfOk ran (IsReportOfSome settings)
+of_some settings before after (Err fault) h = tt
+of_some settings before after (Ok report) h = record { files = h.files; is = h.completes.report_is }
 
 -- what holds of the report of a run holds of the report of the job that was done with it
 pub report_of_job : {W : Type 0} (content : Option Files) (contents : W → Held) (settings : Settings) (path : List ℕ) (file : W) (before after : Done W) (answer : Result Report RunFault)

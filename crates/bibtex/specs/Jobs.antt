@@ -3,14 +3,11 @@ use Rattle.std.specs.Prelude.{◌≡◌, ◌≤◌, ℕ, true, List, [], ◌∷�
 use Rattle.std.specs.Io.KnownBytes.{Appends}
 use Rattle.std.specs.Option.{option_map}
 use Rattle.btx_aux.specs.Files.{Files}
-use Rattle.btx_aux.specs.Job.{Job}
 use Rattle.btx_machine.specs.KeepingStep.{AtFault}
 use Rattle.btx_machine.specs.Product.{log_of}
 use Rattle.btx_machine.specs.Written.{Received}
 use Rattle.btx_machine.specs.declared.report.Report.{Report}
-use Rattle.btx_run.specs.declared.options.Options.{Options}
-use Rattle.btx_run.specs.Answered.{CompletesAsAnswered, FailsAsAnswered, product_answered}
-use Rattle.btx_run.specs.Files.Answered.{Answers}
+use Rattle.btx_run.specs.Answered.{CompletesAsAnswered, FailsAsAnswered}
 use Rattle.btx_run.specs.Product.{product, product_with}
 use Rattle.btx_run.specs.declared.run_fault.RunFault.{RunFault}
 use Rattle.btx_run.specs.declared.run_fault.RunFault.TheVariants.{Memory}
@@ -25,22 +22,21 @@ use Rattle.bibtex.specs.declared.list_file.ListFile.{ListFile}
 
 -- The job that was asked for is run, with all that was asked of it, over a finder of this content, if it tells one: its report, list and
 -- log are the product's, and after a fault the two outputs are beginnings of them. Whatever the finder is, also one over the files of a disk,
--- the same holds of the product of some job by some answers for its style and its databases; and the run keeps to its budget.
+-- there are files of whose product the same holds; and the run keeps to its budget.
 pub record RunsJob (content : Option Files) (settings : Settings) (before after : Received) (answer : Result Report RunFault) : Type 0 where
   pub report : IfOk answer (λ report. IfSome content (λ files. report ≡ (product files settings.job.now settings.options).report))
   pub list : OnOk answer (IfSome content (λ files. Appends before.0 after.0 (product files settings.job.now settings.options).bbl))
   pub log : OnOk answer (IfSome content (λ files. Appends before.1 after.1 (log_of (product files settings.job.now settings.options))))
   pub fault : OnErr answer (IfSome content (λ files.
       AtFault before after (product_with files settings.job.now settings.options) settings.options.budget))
-  pub answered : IfOk answer (CompletesAsAnswered settings.options before after)
-  pub begun : OnErr answer (FailsAsAnswered settings.options before after)
+  pub answered : IfOk answer (CompletesAsAnswered settings.job.now settings.options before after)
+  pub begun : OnErr answer (FailsAsAnswered settings.job.now settings.options before after)
   pub within : IfOk answer (λ report. report.steps ≤ settings.options.budget)
 
--- A report is that of the product of some job, by some answers for its files, with these options and the whole of their budget.
-pub record IsReportOfSome (options : Options) (report : Report) : Type 0 where
-  pub job : Job
-  pub answers : Answers job
-  pub is : report ≡ (product_answered job answers options options.budget).report
+-- There are files such that a report is that of their product, for the job that was asked for and with all that was asked of it.
+pub record IsReportOfSome (settings : Settings) (report : Report) : Type 0 where
+  pub files : Files
+  pub is : report ≡ (product files settings.job.now settings.options).report
 
 -- of two answers the first fault counts
 abbrev pub both_done : Result (Unit {0}) RunFault → Result (Unit {0}) RunFault → Result (Unit {0}) RunFault

@@ -119,7 +119,7 @@ pub fn run_job<S: System + Drop, O: Outputs>(
 ) -> Result<Report, RunFault>
     ensures does { DoesJob (S.content system) O.List.contents settings.now (O.acts outputs.old) (O.acts outputs.new) result }
     ensures bound { IfOk result (λ report. report.steps ≤ settings.now.options.budget) }
-    ensures product { IfOk result (IsReportOfSome settings.now.options) }
+    ensures product { IfOk result (IsReportOfSome settings.now) }
 {
     let list_path = path_of(alloc, settings, ".bbl")?;
     let log_path = path_of(alloc, settings, ".blg")?;

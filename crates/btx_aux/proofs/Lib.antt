@@ -4,7 +4,10 @@ pub mod PieceLemmas
 pub mod NameLemmas
 pub mod KeyLemmas
 pub mod DraftLemmas
+pub mod AnswerLemmas
 pub mod ReadLemmas
+pub mod AskedLemmas
 pub mod JobLemmas
+pub mod NameEndings
 pub mod OpeningLemmas
 pub mod Rows

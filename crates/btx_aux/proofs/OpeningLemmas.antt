@@ -1,7 +1,7 @@
 -- Which files are opened, shown along the reading.
 use Rattle.std.proofs.Common.{◌≡◌, ℕ, zero, suc, ◌+◌, ◌-◌, ◌≤◌, nat_lt, arith, not, ◌&&◌, ◌||◌, Bool, true, false, cond, if◌then◌else◌, List, [], ◌∷◌, ◌++◌, map, fold, take, drop, Option, None, Some, is_some, refl, sym, ap, ◌∙◌, subst, append_assoc, append-nil}
 use Rattle.std.specs.Prelude.{codes}
-use Rattle.std.specs.List.{flat_map, list_any, AllByRecursion, IsDistinct}
+use Rattle.std.specs.List.{flat_map, list_any, IsDistinct}
 use Rattle.std.specs.Map.{lookup}
 use Rattle.std.specs.Option.{option_or, option_map_or}
 use Rattle.std.specs.Str.{bytes_eq}
@@ -23,6 +23,7 @@ use Rattle.btx_aux.specs.Names.{has_ending, is_among, is_same_key, with_name, wi
 use Rattle.btx_aux.specs.Grammar.{Piece, Taken, Cut, Word, Cites, Databases, Styles, Includes, Opens, Absent, Full, TooLong, NoTop, command_named, end_by, is_whole, pieces_of, words_at, words_of, words_of_command}
 use Rattle.btx_aux.specs.Events.{Event, Reading, asked_of, event_at, events_of, expanded, files_named, followed, found, from_top, inside, is_too_long, named, named_by, opened, said, said_from, until_end}
 use Rattle.btx_aux.specs.Job.{cited, job_of_files}
+use Rattle.btx_aux.proofs.AnswerLemmas.{all-front}
 use Rattle.btx_aux.specs.Openings.{NoFileTwice, NoKeyTwice, OpensByConditions, TopOpensFirst, files_opened, includes, levels_by, open_at, opened_first, opening_of, openings, opens}
 
 -- ---- keys
@@ -561,10 +562,6 @@ until_end-front (event ∷ events) = by_test (is_whole (end_by event.word)) (unt
   by_test : (b : Bool) → (rest : List Event) × (until_end events ++ rest ≡ events) → (rest : List Event) × ((if b then event ∷ until_end events else event ∷ []) ++ rest ≡ event ∷ events)
   by_test true front = (front.0, ap (λ (es : List Event). event ∷ es) front.1)
   by_test false front = (events, refl)
-
-all-front : {T : Type 0} (P : T → Type 0) (xs ys : List T) → AllByRecursion P (xs ++ ys) → AllByRecursion P xs
-all-front P [] ys all = tt
-all-front P (x ∷ xs) ys all = (all.0, all-front P xs ys all.1)
 
 distinct-front : {T : Type 0} (same : T → T → Bool) (xs ys : List T) → IsDistinct same (xs ++ ys) → IsDistinct same xs
 distinct-front same [] ys distinct = distinct-none same

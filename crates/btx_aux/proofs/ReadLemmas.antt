@@ -1,5 +1,5 @@
 -- What a line, an include and a file make of what is known.
-use Rattle.std.proofs.Common.{◌≡◌, ℕ, zero, suc, ◌+◌, ◌-◌, ◌≤◌, Bool, true, false, cond, eqb, List, [], ◌∷◌, ◌++◌, map, length, Option, None, Some, IfSome, not, refl, sym, ap, ◌∙◌, arith, subst}
+use Rattle.std.proofs.Common.{◌≡◌, ℕ, zero, suc, ◌+◌, ◌-◌, ◌≤◌, Bool, true, false, cond, eqb, List, [], ◌∷◌, ◌++◌, map, length, Option, None, Some, not, refl, sym, ap, ◌∙◌, arith}
 use Rattle.std.specs.Option.{option_or}
 use Rattle.btx_aux.specs.declared.draft.Draft.{Draft}
 use Rattle.btx_aux.specs.declared.command.Command.{Command}
@@ -225,7 +225,7 @@ map_length (piece ∷ pieces) = ap suc (map_length pieces)
 pub lines_few : (text : List ℕ) → length (lines_of text) ≤ length text
 lines_few text = omega (arith, map_length (cut_of text), pieces_few text)
 
--- ---- what a finder's content gives, and tests
+-- ---- what a fetch found, and tests
 
 pub file_missing : (found : Bool) (bytes : List ℕ) → found ≡ false → file_of found bytes ≡ None
 file_missing true bytes h = cc
@@ -234,16 +234,6 @@ file_missing false bytes h = refl
 pub file_found : (found : Bool) (bytes : List ℕ) → found ≡ true → file_of found bytes ≡ Some bytes
 file_found true bytes h = refl
 file_found false bytes h = cc
-
-pub if_some : (content : Option Files) {P : Files → Type 0} → ((files : Files) → P files) → IfSome content P
-if_some None h = tt
-if_some (Some files) h = h files
-
-pub if_some_two : (content other : Option Files) {P Q R : Files → Type 0} → other ≡ content → IfSome content P → IfSome other Q → ((files : Files) → P files → Q files → R files) → IfSome content R
-if_some_two content other {P} {Q} {R} same p q h = by content p (subst (λ (o : Option Files). IfSome o Q) same q) where
-  by : (o : Option Files) → IfSome o P → IfSome o Q → IfSome o R
-  by None p q = tt
-  by (Some files) p q = h files p q
 
 pub untrue : (b : Bool) → not b ≡ true → b ≡ false
 untrue true h = cc

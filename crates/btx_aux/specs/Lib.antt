@@ -5,6 +5,7 @@ pub mod Entries
 pub mod Borrowed
 pub mod Grammar
 pub mod Names
+pub mod Answers
 pub mod Pieces
 pub mod Commands
 pub mod Events

@@ -1,10 +1,14 @@
 -- The reading of files, as what is known after it: the events of `Events`, each used at once. These definitions serve the private
 -- functions; that they give what the events of a job come to is proved of the public call.
-use Rattle.std.specs.Prelude.{ℕ, zero, suc, ◌-◌, Bool, true, false, List, [], ◌∷◌, ◌++◌, map, Option, None, Some, if◌then◌else◌}
+use Rattle.std.specs.Prelude.{◌≡◌, ℕ, zero, suc, ◌-◌, Bool, true, false, List, [], ◌∷◌, ◌++◌, map, fold, Option, None, Some, if◌then◌else◌}
+use Rattle.std.specs.List.{IsDistinct}
+use Rattle.std.specs.Str.{bytes_eq}
 use Rattle.btx_aux.specs.declared.draft.Draft.{Draft}
 use Rattle.btx_aux.specs.Files.{Files}
+use Rattle.btx_aux.specs.Names.{with_name}
+use Rattle.btx_aux.specs.Answers.{EndInAux}
 use Rattle.btx_aux.specs.Grammar.{Opens, Absent, Full, TooLong, NoTop, is_whole}
-use Rattle.btx_aux.specs.Events.{Event, event_at, asked_of, said, is_too_long}
+use Rattle.btx_aux.specs.Events.{Event, event_at, named_by, asked_of, said, is_too_long}
 use Rattle.btx_aux.specs.Notes.{line_of}
 use Rattle.btx_aux.specs.Job.{Job, closing_notes}
 use Rattle.btx_aux.specs.Drafts.{blank, learned}
@@ -57,3 +61,21 @@ closed draft = record {
   log = draft.log ++ map line_of (closing_notes draft.ending draft.keys draft.all draft.has_bibdata draft.has_bibstyle);
   ending = draft.ending;
 }
+
+-- ---- the names that a reading asks for
+
+-- the names that are known grow by those that were asked for: each of these is new and ends in `.aux`
+pub record AddsNames (before after names : List (List ℕ)) : Type 0 where
+  pub added : after ≡ before ++ names
+  pub once : IsDistinct bytes_eq before → IsDistinct bytes_eq after
+  pub endings : EndInAux names
+
+-- a file was asked for whose name is known already, and then others
+pub record AsksFirst (first : List ℕ) (before after names : List (List ℕ)) : Type 0 where
+  pub later : List (List ℕ)
+  pub is : names ≡ first ∷ later
+  pub adds : AddsNames before after later
+
+-- the names that are known once a file is opened, where this number of further files may be opened: the top file's is new
+abbrev pub names_opened : List (List ℕ) → List ℕ → ℕ → List (List ℕ)
+names_opened before name room = fold with_name before (named_by name (Opens (20 - room)))

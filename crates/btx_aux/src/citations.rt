@@ -1,5 +1,6 @@
 //! The `.aux` files of a job.
 ghost use Rattle.std.specs.Prelude.{◌≡◌, ◌∷◌, ◌++◌, map, not, IfOk, IfSome, OnOk};
+ghost use Rattle.btx_aux.specs.Answers.{AsksTop, ByAnswers};
 ghost use Rattle.btx_aux.specs.Faults.{CountsOfOne};
 ghost use Rattle.btx_aux.specs.Job.{job_of_files, missing_notes, note_if};
 ghost use Rattle.btx_aux.specs.Drafts.{blank};
@@ -20,6 +21,9 @@ use std::alloc::{AllocError, Global};
 /// faults are want of memory and the device's alone; all else that is wrong stands in the job's log.
 pub fn read_aux<F: Finder>(alloc: Global, finder: &mut F, top: &[u8]) -> Result<AuxJob, Fault>
     ensures job { IfOk result (λ job. IfSome (F.content finder.old) (λ files. job ≡ job_of_files files top.now)) }
+
+    // Of every finder, whether it shows its content or not: no name is asked for twice, and the job is that of all files that answer as the finder did.
+    ensures answered { IfOk result (λ job. ByAnswers (F.content finder.old) (AsksTop top.now) (λ files. job ≡ job_of_files files top.now)) }
     ensures counts { CountsOfOne result (F.failures finder.old, F.failures finder.new) }
     ensures stays { F.content finder.new ≡ F.content finder.old }
 {
@@ -37,7 +41,7 @@ fn read_top<F: Finder>(
     top: &[u8],
 ) -> Result<(), Fault>
     requires { draft.old ≡ blank }
-    ensures draft { OnOk result (IfSome (F.content finder.old) (λ files. draft.new ≡ topped files top.now (files top.now))) }
+    ensures draft { OnOk result (ByAnswers (F.content finder.old) (AsksTop top.now) (λ files. draft.new ≡ topped files top.now (files top.now))) }
     ensures counts { CountsOfOne result (F.failures finder.old, F.failures finder.new) }
     ensures stays { F.content finder.new ≡ F.content finder.old }
 {

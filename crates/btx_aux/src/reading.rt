@@ -1,10 +1,11 @@
 //! The reading of the `.aux` files.
-ghost use Rattle.std.specs.Prelude.{◌≡◌, ◌≤◌, length, map, true, IfSome, OnOk};
+ghost use Rattle.std.specs.Prelude.{◌≡◌, ◌≤◌, length, map, true, OnOk};
 ghost use Rattle.btx_text.specs.Limits.{greatest_file};
+ghost use Rattle.btx_aux.specs.Answers.{ByAnswers};
 ghost use Rattle.btx_aux.specs.Faults.{CountsOfOne};
 ghost use Rattle.btx_aux.specs.Grammar.{is_whole, words_of};
 ghost use Rattle.btx_aux.specs.Events.{event_at, is_too_long, said};
-ghost use Rattle.btx_aux.specs.Reads.{included, opened_by, run};
+ghost use Rattle.btx_aux.specs.Reads.{AddsNames, AsksFirst, included, names_opened, opened_by, run};
 
 use crate::draft::Draft;
 use crate::end::End;
@@ -26,8 +27,9 @@ fn include<F: Finder>(
     room: usize,
 ) -> Result<(), Fault>
     requires whole { is_whole draft.old.ending ≡ true }
-    requires room { room ≤ 20 }
-    ensures draft { OnOk result (IfSome (F.content finder.old) (λ files. draft.new ≡ included (opened_by files room) draft.old place.entry.file.now place.entry.line name.now (files name.now))) }
+    requires room { room ≤ 19 }
+    ensures draft { OnOk result (ByAnswers (F.content finder.old) (AsksFirst name.now draft.old.files draft.new.files)
+        (λ files. draft.new ≡ included (opened_by files room) draft.old place.entry.file.now place.entry.line name.now (files name.now))) }
     ensures counts { CountsOfOne result (F.failures finder.old, F.failures finder.new) }
     ensures stays { F.content finder.new ≡ F.content finder.old }
 {
@@ -51,7 +53,8 @@ pub fn open_file<F: Finder>(
 ) -> Result<(), Fault>
     requires whole { is_whole draft.old.ending ≡ true }
     requires room { room ≤ 20 }
-    ensures draft { OnOk result (IfSome (F.content finder.old) (λ files. draft.new ≡ opened_by files room draft.old name.now text.now)) }
+    ensures draft { OnOk result (ByAnswers (F.content finder.old) (AddsNames (names_opened draft.old.files name.now room) draft.new.files)
+        (λ files. draft.new ≡ opened_by files room draft.old name.now text.now)) }
     ensures counts { CountsOfOne result (F.failures finder.old, F.failures finder.new) }
     ensures stays { F.content finder.new ≡ F.content finder.old }
 {
@@ -85,9 +88,10 @@ fn read_lines<F: Finder>(
     room: usize,
 ) -> Result<(), Fault>
     requires whole { is_whole draft.old.ending ≡ true }
-    requires room { room ≤ 20 }
+    requires room { room ≤ 19 }
     requires length { length text.now ≤ greatest_file }
-    ensures draft { OnOk result (IfSome (F.content finder.old) (λ files. draft.new ≡ run files (opened_by files room) draft.old (said name.now text.now))) }
+    ensures draft { OnOk result (ByAnswers (F.content finder.old) (AddsNames draft.old.files draft.new.files)
+        (λ files. draft.new ≡ run files (opened_by files room) draft.old (said name.now text.now))) }
     ensures counts { CountsOfOne result (F.failures finder.old, F.failures finder.new) }
     ensures stays { F.content finder.new ≡ F.content finder.old }
 {
@@ -117,8 +121,9 @@ fn read_line<F: Finder>(
     room: usize,
 ) -> Result<(), Fault>
     requires whole { is_whole draft.old.ending ≡ true }
-    requires room { room ≤ 20 }
-    ensures draft { OnOk result (IfSome (F.content finder.old) (λ files. draft.new ≡ run files (opened_by files room) draft.old (map (event_at place.entry.file.now place.entry.line) (words_of line.now)))) }
+    requires room { room ≤ 19 }
+    ensures draft { OnOk result (ByAnswers (F.content finder.old) (AddsNames draft.old.files draft.new.files)
+        (λ files. draft.new ≡ run files (opened_by files room) draft.old (map (event_at place.entry.file.now place.entry.line) (words_of line.now)))) }
     ensures counts { CountsOfOne result (F.failures finder.old, F.failures finder.new) }
     ensures stays { F.content finder.new ≡ F.content finder.old }
 {

@@ -1,8 +1,7 @@
 pub mod TellingLemmas
 pub mod ReadingLemmas
-pub mod AnsweredLemmas
+pub mod AskedLemmas
 pub mod FileLawLemmas
-pub mod AnsweredLaws
 pub mod FileRows
 pub mod WorkedJobs
 pub mod ProductLemmas

@@ -1,5 +1,5 @@
 -- What a whole run writes and answers, by what its parts do.
-use Rattle.std.proofs.Common.{◌≡◌, ℕ, ◌+◌, ◌≤◌, inl, inr, List, [], Option, Result, Ok, Err, IfOk, IfSome, OnErr, OnOk, length, refl, sym, ap, ◌∙◌, subst, append_assoc, map, arith}
+use Rattle.std.proofs.Common.{◌≡◌, ℕ, ◌+◌, ◌≤◌, inl, inr, List, [], Option, Result, Ok, Err, IfOk, OnErr, OnOk, length, refl, sym, ap, ◌∙◌, subst, append_assoc, map, arith}
 use Rattle.std.specs.Io.KnownBytes.{Appends}
 use Rattle.std.proofs.KnownBytes.{Appends-trans, Appends-nil}
 use Rattle.btx_text.specs.declared.fault.Fault.{Fault}
@@ -27,7 +27,7 @@ use Rattle.btx_machine.specs.Written.{Received}
 use Rattle.btx_machine.specs.declared.report.End.TheVariants.{NoTopFile}
 use Rattle.btx_machine.specs.declared.report.Report.{Report}
 use Rattle.btx_machine.specs.declared.report.Told.{Told}
-use Rattle.btx_machine.proofs.ComesLemmas.{ok_map, err_map}
+use Rattle.btx_machine.proofs.ComesLemmas.{ok_map}
 use Rattle.btx_machine.proofs.DeepLemmas as depth
 use Rattle.btx_run.specs.declared.files.found.FilesRead.{FilesRead}
 use Rattle.btx_run.specs.declared.files.found.JobFiles.{JobFiles}
@@ -37,7 +37,6 @@ use Rattle.btx_run.specs.Files.Readings.{IsRead, Reading, files_read, job_named}
 use Rattle.btx_run.specs.Files.Telling.{Tells, bytes_of_lines}
 use Rattle.btx_run.specs.Contents.{database_of, style_in}
 use Rattle.btx_run.specs.Product.{product, product_of_files, product_of_reading, product_with, told_before, told_in, work_in, work_of}
-use Rattle.btx_run.proofs.ReadingLemmas.{of_both}
 
 -- ---- what the style works on
 
@@ -171,21 +170,13 @@ module _ (job : Job) (options : Options) (read : FilesRead) (told : Told) (first
 
 -- ---- behind the `.aux` files
 
-pub completes_named : (content later : Option Files) (job : Job) (name : List ℕ) (options : Options) (a z : Received) → later ≡ content
-    → IfSome content (λ files. job ≡ job_named files name) → (r : Result Report Fault)
-    → IfOk r (λ report. IfSome later (λ files. Completes report a z (product_of_reading job (files_read files job) options options.budget)))
-    → IfOk r (λ report. IfSome content (λ files. Completes report a z (product files name options)))
-completes_named content later job name options a z stays named =
-    ok_map (λ report completes. of_both content later _ _ _ stays named completes
-    (λ files is completes. subst (λ (job : Job). Completes report a z (product_of_reading job (files_read files job) options options.budget)) is completes))
+module _ (name : List ℕ) (options : Options) (a z : Received) (job : Job) where
+  pub completes_named : (report : Report) (files : Files) → job ≡ job_named files name → Completes report a z (product_of_reading job (files_read files job) options options.budget)
+      → Completes report a z (product files name options)
+  completes_named report files is completes = subst (λ (job : Job). Completes report a z (product_of_reading job (files_read files job) options options.budget)) is completes
 
-pub fails_named : (content later : Option Files) (job : Job) (name : List ℕ) (options : Options) (a z : Received) → later ≡ content
-    → IfSome content (λ files. job ≡ job_named files name) → (r : Result Report Fault)
-    → OnErr r (IfSome later (λ files. AtFault a z (product_of_reading job (files_read files job) options) options.budget))
-    → OnErr r (IfSome content (λ files. AtFault a z (product_with files name options) options.budget))
-fails_named content later job name options a z stays named =
-    err_map (λ fault. of_both content later _ _ _ stays named fault
-    (λ files is fault. subst (λ (job : Job). AtFault a z (product_of_reading job (files_read files job) options) options.budget) is fault))
+  pub fails_named : (files : Files) → job ≡ job_named files name → AtFault a z (product_of_reading job (files_read files job) options) options.budget → AtFault a z (product_with files name options) options.budget
+  fails_named files is fails = subst (λ (job : Job). AtFault a z (product_of_reading job (files_read files job) options) options.budget) is fails
 
 -- ---- counts of failures
 

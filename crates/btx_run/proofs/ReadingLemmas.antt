@@ -1,5 +1,6 @@
 -- What the parts of a reading give together.
-use Rattle.std.proofs.Common.{◌≡◌, ℕ, ◌+◌, ◌<◌, true, false, List, [], ◌∷◌, ◌++◌, Option, None, Some, Result, Ok, Err, IsErr, IfSome, length, take, drop, get_or, refl, sym, ap, ◌∙◌, subst, append_assoc, append-nil, ◌≤◌, arith}
+use Rattle.std.proofs.Common.{◌≡◌, ℕ, ◌+◌, ◌<◌, Bool, true, false, List, [], ◌∷◌, ◌++◌, Option, None, Some, Result, Ok, Err, IsErr, IfSome, length, take, drop, get_or, refl, sym, ap, ◌∙◌, subst, append_assoc, append-nil, ◌≤◌, arith}
+use Rattle.std.specs.Option.{option_map}
 use Rattle.std.proofs.lemmas.Bool.Decides.{nat_tests}
 use Rattle.std.proofs.lemmas.Grind.{flat_map-append}
 use Rattle.std.proofs.lemmas.List.{map-append, take-append-drop, take_more}
@@ -7,11 +8,11 @@ use Rattle.btx_text.specs.declared.fault.Fault.{Fault}
 use Rattle.btx_text.specs.Limits.{greatest_file}
 use Rattle.btx_text.specs.LogLines.{Line}
 use Rattle.btx_aux.specs.Entries.{Bytes, texts_of}
-use Rattle.btx_aux.specs.Files.{Files}
+use Rattle.btx_aux.specs.Files.{Files, file_of}
 use Rattle.btx_out.specs.Pieces.{AppendsBeginning}
 use Rattle.btx_out.proofs.PieceLemmas.{beginning-none_same}
 use Rattle.btx_run.specs.Files.Counts.{Counts}
-use Rattle.btx_run.specs.Files.Found.{NamedFile, file_at}
+use Rattle.btx_run.specs.Files.Found.{NamedFile, file_at, named}
 use Rattle.btx_aux.specs.Job.{Job}
 use Rattle.btx_aux.specs.declared.end.End.{End as AuxEnd}
 use Rattle.btx_aux.specs.declared.end.End.TheVariants as aux
@@ -21,7 +22,7 @@ use Rattle.btx_machine.specs.declared.ending.Limit.TheVariants as kind
 use Rattle.btx_machine.specs.declared.report.End.TheVariants as ended
 use Rattle.btx_run.specs.Files.Telling.{Received, Counted, Tells, bytes_of_lines}
 use Rattle.btx_run.specs.Files.Lines.{no_style_line, style_line}
-use Rattle.btx_run.specs.Files.Readings.{IsRead, Reading, ReadsAs, after_job, after_style, as_list, behind, database_told, databases_read, databases_told, files_found, reading, style_named, style_read}
+use Rattle.btx_run.specs.Files.Readings.{AddsAs, IsAdded, IsRead, Reading, ReadsAs, after_job, after_style, as_list, behind, database_read, database_told, databases_read, databases_told, files_found, reading, style_named, style_read}
 use Rattle.btx_run.specs.Files.Names.{is_too_long}
 use Rattle.btx_run.proofs.TellingLemmas.{part_begins, rest_begins, tells_both, tells_nothing}
 
@@ -42,11 +43,26 @@ pub of_both : (content later : Option Files) (Q R P : Files → Type 0) → late
 of_both None later Q R P is q r p = tt
 of_both (Some files) later Q R P is q r p = p files q (subst (λ (content : Option Files). IfSome content R) is r)
 
-pub of_three : (content later : Option Files) (Q R S P : Files → Type 0) → later ≡ content → IfSome content Q → IfSome later R → IfSome later S
-    → ((files : Files) → Q files → R files → S files → P files) → IfSome content P
-of_three None later Q R S P is q r s p = tt
-of_three (Some files) later Q R S P is q r s p =
-    p files q (subst (λ (content : Option Files). IfSome content R) is r) (subst (λ (content : Option Files). IfSome content S) is s)
+-- ---- a file that was asked for
+
+pub file_is_there : (files : Files) (name bytes : List ℕ) (found : Bool) (file : NamedFile) → files name ≡ file_of found bytes → found ≡ true → file ≡ named name bytes → Some file ≡ file_at files name
+file_is_there files name bytes true file is there made = ap Some made ∙ sym (ap (option_map (named name)) is)
+file_is_there files name bytes false file is there made = cc
+
+pub file_is_missing : (files : Files) (name bytes : List ℕ) (found : Bool) → files name ≡ file_of found bytes → found ≡ false → None ≡ file_at files name
+file_is_missing files name bytes true is missing = cc
+file_is_missing files name bytes false is missing = sym (ap (option_map (named name)) is)
+
+-- a file that was found has the name that was asked for
+pub file_is_named : (files : Files) (name : List ℕ) (file : NamedFile) → Some file ≡ file_at files name → file.name ≡ name
+file_is_named files name file is = by (files name) is where
+  name_of : (o : Option NamedFile) → List ℕ
+  name_of None = name
+  name_of (Some file) = file.name
+
+  by : (bytes : Option (List ℕ)) → Some file ≡ option_map (named name) bytes → file.name ≡ name
+  by None is = cc
+  by (Some bytes) is = ap name_of is
 
 -- ---- parts, one after another
 
@@ -75,7 +91,15 @@ pub reads_part : {T : Type 0} (r : Result T Fault) (a b : Counts) (x y : Option 
 reads_part (Ok value) a b x y lines part err told = absurd (untrue err)
 reads_part (Err fault) a b x y lines part err told = part_begins x y _ _ told
 
+-- a part without a line
+pub reads_at_once : {T : Type 0} (value : T) (a : Counts) (x : Option (List ℕ)) → IsRead value (a, a) (x, x) (reading [] value)
+reads_at_once value a x = record { gives = refl; tells = tells_nothing a x }
+
 -- ---- databases
+
+-- none yet
+pub no_database : (files : Files) (found : List NamedFile) (a : Counts) (x : Option (List ℕ)) → found ≡ [] → IsRead found (a, a) (x, x) (databases_read files [])
+no_database files found a x none = subst (λ (found : List NamedFile). IsRead found (a, a) (x, x) (reading [] [])) (sym none) (reads_at_once [] a x)
 
 databases_told-append : (files : Files) (earlier xs ys : List (List ℕ))
     → databases_told files earlier (xs ++ ys) ≡ databases_told files earlier xs ++ databases_told files (earlier ++ xs) ys
@@ -103,17 +127,45 @@ found_more files names i name lt is =
     ∙ flat_map-append (λ name. as_list (file_at files name)) (texts_of (take i names)) (name.items ∷ [])
     ∙ ap (λ l. files_found files (texts_of (take i names)) ++ l) (append-nil (as_list (file_at files name.items)))
 
+-- a database's line was logged
+pub database_is_read : (files : Files) (number : ℕ) (name : List ℕ) (found : Option NamedFile) (line : Line) (a b : Counts) (x y : Option (List ℕ)) → found ≡ file_at files name
+    → line ≡ database_told number name found → Tells (a, b) (x, y) (line ∷ []) → IsRead found (a, b) (x, y) (database_read files number name)
+database_is_read files number name found line a b x y is is_line told = record {
+  gives = is;
+  tells = subst (λ line. Tells (a, b) (x, y) (line ∷ [])) (is_line ∙ ap (database_told number name) is) told;
+}
+
+-- a beginning of it
+pub database_is_begun : (files : Files) (number : ℕ) (name : List ℕ) (found : Option NamedFile) (line : Line) (r : Result (Option NamedFile) Fault) (a b : Counts) (x y : Option (List ℕ))
+    → IsErr r → found ≡ file_at files name → line ≡ database_told number name found → AppendsBeginning x y (bytes_of_lines (line ∷ [])) → ReadsAs r (a, b) (x, y) (database_read files number name)
+database_is_begun files number name found line r a b x y err is is_line part =
+    reads_failing r a b x y _ err (subst (λ line. AppendsBeginning x y (bytes_of_lines (line ∷ []))) (is_line ∙ ap (database_told number name) is) part)
+
+-- a database that was read as the next one is kept
+pub adds_found : (files : Files) (before after : List NamedFile) (number : ℕ) (name : List ℕ) (found : Option NamedFile) (a b : Counts) (x y : Option (List ℕ))
+    → number ≡ length before + 1 → after ≡ before ++ as_list found → IsRead found (a, b) (x, y) (database_read files number name)
+    → IsAdded before after (a, b) (x, y) (database_read files (length before + 1) name)
+adds_found files before after number name found a b x y next kept read = record {
+  kept = kept ∙ ap (λ found. before ++ as_list found) read.gives;
+  tells = subst (λ number. Tells (a, b) (x, y) (database_read files number name).told) next read.tells;
+}
+
+-- a fault at a database
+pub adds_begun : (files : Files) (before after : List NamedFile) (number : ℕ) (name : List ℕ) (r : Result (Unit {0}) Fault) (a b : Counts) (x y : Option (List ℕ))
+    → IsErr r → number ≡ length before + 1 → AppendsBeginning x y (bytes_of_lines (database_read files number name).told) → AddsAs r before after (a, b) (x, y) (database_read files (length before + 1) name)
+adds_begun files before after number name (Ok done) a b x y err next part = absurd (untrue err)
+adds_begun files before after number name (Err fault) a b x y err next part = subst (λ number. AppendsBeginning x y (bytes_of_lines (database_read files number name).told)) next part
+
 -- one database more
 pub databases_more : (files : Files) (names : List Bytes) (i : ℕ) (name : Bytes) (text : List ℕ) (found later : List NamedFile) (a b c : Counts) (x y z : Option (List ℕ))
     → i < length names → name ≡ get_or names i name → text ≡ name.items
     → IsRead found (a, b) (x, y) (databases_read files (texts_of (take i names)))
-    → later ≡ found ++ as_list (file_at files text)
-    → Tells (b, c) (y, z) (database_told (length found + 1) text (file_at files text) ∷ [])
+    → IsAdded found later (b, c) (y, z) (database_read files (length found + 1) text)
     → IsRead later (a, c) (x, z) (databases_read files (texts_of (take (i + 1) names)))
-databases_more files names i name text found later a b c x y z lt is same read more told = record {
-  gives = more ∙ ap (λ l. found ++ as_list (file_at files l)) same ∙ ap (λ l. l ++ as_list (file_at files name.items)) read.gives ∙ sym (found_more files names i name lt is);
+databases_more files names i name text found later a b c x y z lt is same read added = record {
+  gives = added.kept ∙ ap (λ l. found ++ as_list (file_at files l)) same ∙ ap (λ l. l ++ as_list (file_at files name.items)) read.gives ∙ sym (found_more files names i name lt is);
   tells =
-      let here = subst (λ text. Tells (b, c) (y, z) (database_told (length found + 1) text (file_at files text) ∷ [])) same told in
+      let here = subst (λ text. Tells (b, c) (y, z) (database_told (length found + 1) text (file_at files text) ∷ [])) same added.tells in
       let next = subst (λ l. Tells (b, c) (y, z) (database_told (length l + 1) name.items (file_at files name.items) ∷ [])) read.gives here in
       subst (Tells (a, c) (x, z)) (sym (told_more files names i name lt is)) (tells_both a b c x y z _ _ read.tells next);
 }
@@ -136,10 +188,6 @@ databases_begin files names i name text found a b x y z lt is same read part =
     subst (λ l. AppendsBeginning x z (bytes_of_lines l)) (sym lines) (part_begins x z _ _ so_far)
 
 -- ---- the style
-
--- a part without a line
-pub reads_at_once : {T : Type 0} (value : T) (a : Counts) (x : Option (List ℕ)) → IsRead value (a, a) (x, x) (reading [] value)
-reads_at_once value a x = record { gives = refl; tells = tells_nothing a x }
 
 pub style_too_long : (files : Files) (job : Job) (style : NamedFile) (a : Counts) (x : Option (List ℕ)) → is_too_long style.bytes ≡ true
     → IsRead (Ends (ended.Limit kind.File)) (a, a) (x, x) (after_style files job style)
@@ -182,6 +230,19 @@ style_missed files job name line a b x y is told = record { gives = refl; tells 
 -- the same answer for the same part
 pub reads_is : {T : Type 0} (r : Result T Fault) (counted : Counted) (log : Received) (part same : Reading T) → part ≡ same → ReadsAs r counted log same → ReadsAs r counted log part
 reads_is r counted log part same is read = subst (λ part. ReadsAs r counted log part) (sym is) read
+
+-- a style that was found by its name
+pub style_is_found : (r : Result FilesRead Fault) (files : Files) (job : Job) (name : List ℕ) (found : Option NamedFile) (style : NamedFile) (counted : Counted) (log : Received)
+    → found ≡ Some style → found ≡ file_at files name → ReadsAs r counted log (style_read files job style.name (Some style)) → ReadsAs r counted log (style_read files job name (file_at files name))
+style_is_found r files job name found style counted log some is read =
+    let here = sym some ∙ is in
+    subst (λ (style : Option NamedFile). ReadsAs r counted log (style_read files job name style)) here
+    (subst (λ name. ReadsAs r counted log (style_read files job name (Some style))) (file_is_named files name style here) read)
+
+-- a style that isn't there
+pub style_is_missing : (r : Result FilesRead Fault) (files : Files) (job : Job) (name : List ℕ) (found : Option NamedFile) (counted : Counted) (log : Received)
+    → found ≡ None → found ≡ file_at files name → ReadsAs r counted log (style_read files job name None) → ReadsAs r counted log (style_read files job name (file_at files name))
+style_is_missing r files job name found counted log none is read = subst (λ (style : Option NamedFile). ReadsAs r counted log (style_read files job name style)) (sym none ∙ is) read
 
 -- ---- the job
 

@@ -4,6 +4,6 @@ pub mod Telling
 pub mod Found
 pub mod Lines
 pub mod Readings
-pub mod Answered
+pub mod Asked
 pub mod Faults
 pub mod Laws

@@ -2,14 +2,15 @@
 ghost use Rattle.std.specs.Prelude.{◌≡◌, ◌≤◌, IfOk, IfSome, OnErr, OnOk, length};
 ghost use Rattle.std.specs.Io.KnownBytes.{Appends};
 ghost use Rattle.btx_text.specs.Limits.{greatest_file};
+ghost use Rattle.btx_aux.specs.Answers.{ByAnswers};
 ghost use Rattle.btx_machine.specs.DirectDepth.{StaysWithin};
 ghost use Rattle.btx_machine.specs.Faults.{CountsOfOutputs};
 ghost use Rattle.btx_machine.specs.KeepingStep.{AtFault, Completes};
 ghost use Rattle.btx_machine.specs.Product.{log_of, product as executed};
 ghost use Rattle.btx_machine.specs.declared.report.End.TheVariants.{NoTopFile};
-ghost use Rattle.btx_run.specs.Answered.{CompletesAsAnswered, FailsAsAnswered, product_answered};
+ghost use Rattle.btx_run.specs.Answered.{CompletesAsAnswered, FailsAsAnswered};
 ghost use Rattle.btx_run.specs.DirectStyles.{WhereDirect};
-ghost use Rattle.btx_run.specs.Files.Answered.{Answers, BySome};
+ghost use Rattle.btx_run.specs.Files.Asked.{AreAmong, names_in};
 ghost use Rattle.btx_run.specs.Files.Faults.{CountsOfThree};
 ghost use Rattle.btx_run.specs.Files.Readings.{StyleFits, files_read, reading_of};
 ghost use Rattle.btx_run.specs.Product.{product, product_of_files, product_of_reading, product_with, work_in, work_of};
@@ -114,18 +115,14 @@ fn run_job<F: Finder, W: Sink, L: Sink>(
     bbl: &mut W,
     log: &mut L,
 ) -> Result<Report, Fault>
-    ensures ok { IfOk result (λ report. IfSome (F.content finder.old) (λ files.
+    ensures ok { IfOk result (λ report. ByAnswers (F.content finder.old) (λ asked. AreAmong asked (names_in job.now)) (λ files.
         Completes report (W.received bbl.old, L.received log.old) (W.received bbl.new, L.received log.new)
         (product_of_reading job.now (files_read files job.now) options.now options.now.budget))) }
     ensures bound { IfOk result (λ report. report.steps ≤ options.now.budget) }
     ensures deep { IfOk result (λ report. report.deepest ≤ 4096) }
-    ensures err { OnErr result (IfSome (F.content finder.old) (λ files.
+    ensures err { OnErr result (ByAnswers (F.content finder.old) (λ asked. AreAmong asked (names_in job.now)) (λ files.
         AtFault (W.received bbl.old, L.received log.old) (W.received bbl.new, L.received log.new)
         (product_of_reading job.now (files_read files job.now) options.now) options.now.budget)) }
-    ensures answered { IfOk result (λ report. BySome (Answers job.now) (λ answers.
-        Completes report (W.received bbl.old, L.received log.old) (W.received bbl.new, L.received log.new) (product_answered job.now answers options.now options.now.budget))) }
-    ensures begun { OnErr result (BySome (Answers job.now) (λ answers.
-        AtFault (W.received bbl.old, L.received log.old) (W.received bbl.new, L.received log.new) (product_answered job.now answers options.now) options.now.budget)) }
     ensures untouched { IfOk result (λ report. report.end ≡ NoTopFile → bbl.new ≡ bbl.old) }
     ensures counts { CountsOfThree result (F.failures finder.old, F.failures finder.new) (W.failures bbl.old, W.failures bbl.new) (L.failures log.old, L.failures log.new) }
     ensures stays { F.content finder.new ≡ F.content finder.old }
@@ -154,8 +151,8 @@ fn run_named<F: Finder, W: Sink, L: Sink>(
     ensures deep { IfOk result (λ report. report.deepest ≤ 4096) }
     ensures err { OnErr result (IfSome (F.content finder.old) (λ files.
         AtFault (W.received bbl.old, L.received log.old) (W.received bbl.new, L.received log.new) (product_with files name.now options.now) options.now.budget)) }
-    ensures answered { IfOk result (CompletesAsAnswered options.now (W.received bbl.old, L.received log.old) (W.received bbl.new, L.received log.new)) }
-    ensures begun { OnErr result (FailsAsAnswered options.now (W.received bbl.old, L.received log.old) (W.received bbl.new, L.received log.new)) }
+    ensures answered { IfOk result (CompletesAsAnswered name.now options.now (W.received bbl.old, L.received log.old) (W.received bbl.new, L.received log.new)) }
+    ensures begun { OnErr result (FailsAsAnswered name.now options.now (W.received bbl.old, L.received log.old) (W.received bbl.new, L.received log.new)) }
     ensures untouched { IfOk result (λ report. report.end ≡ NoTopFile → bbl.new ≡ bbl.old) }
     ensures counts { CountsOfThree result (F.failures finder.old, F.failures finder.new) (W.failures bbl.old, W.failures bbl.new) (L.failures log.old, L.failures log.new) }
     ensures stays { F.content finder.new ≡ F.content finder.old }
@@ -191,11 +188,11 @@ pub fn run<F: Finder, W: Sink, L: Sink>(
         AtFault (W.received bbl.old, L.received log.old) (W.received bbl.new, L.received log.new) (product_with files name.now options.now) options.now.budget)) }
     ensures counts { CountsOfRun result (F.failures finder.old, F.failures finder.new) (W.failures bbl.old, W.failures bbl.new) (L.failures log.old, L.failures log.new) }
 
-    // Of every finder, whether it shows its content or not: there are a job and answers for its files such that the report is that of
-    // their product, and both outputs received its bytes. After a fault there are such answers that both outputs are beginnings of their product's, and
-    // keep step.
-    ensures answered { IfOk result (CompletesAsAnswered options.now (W.received bbl.old, L.received log.old) (W.received bbl.new, L.received log.new)) }
-    ensures begun { OnErr result (FailsAsAnswered options.now (W.received bbl.old, L.received log.old) (W.received bbl.new, L.received log.new)) }
+    // Of every finder, whether it shows its content or not, as one over the files of a disk: there are files such that the report is that of their
+    // product for this name, and both outputs received its bytes. After a fault there are files such that both outputs are beginnings of their
+    // product's, and keep step.
+    ensures answered { IfOk result (CompletesAsAnswered name.now options.now (W.received bbl.old, L.received log.old) (W.received bbl.new, L.received log.new)) }
+    ensures begun { OnErr result (FailsAsAnswered name.now options.now (W.received bbl.old, L.received log.old) (W.received bbl.new, L.received log.new)) }
 
     // Whatever the finder and the sinks are.
     ensures bound { IfOk result (λ report. report.steps ≤ options.now.budget) }

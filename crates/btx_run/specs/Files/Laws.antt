@@ -1,14 +1,12 @@
--- Laws of what is logged of databases that are looked for, and of what a finder answers.
-use Rattle.std.specs.Prelude.{◌≡◌, ℕ, ◌+◌, Bool, true, false, List, [], ◌∷◌, length, map, filter, is_none, Some}
+-- Laws of what is logged of databases that are looked for.
+use Rattle.std.specs.Prelude.{◌≡◌, ℕ, ◌+◌, Bool, true, false, List, [], ◌∷◌, length, map, filter, is_none}
 use Rattle.btx_text.specs.declared.log_line.LineKind.{LineKind}
 use Rattle.btx_text.specs.declared.log_line.LineKind.TheVariants.{Plain, Warning, Error}
 use Rattle.btx_text.specs.LogLines.{Line, is_error}
 use Rattle.btx_aux.specs.Files.{Files}
-use Rattle.btx_aux.specs.Job.{Job}
-use Rattle.btx_run.specs.Files.Answered.{Answer, Answers, reading_answered}
 use Rattle.btx_run.specs.Files.Lines.{database_line, no_database_line}
 use Rattle.btx_run.specs.Files.Found.{NamedFile}
-use Rattle.btx_run.specs.Files.Readings.{databases_told, files_found, files_read}
+use Rattle.btx_run.specs.Files.Readings.{databases_told, files_found}
 
 -- the line is neither a warning nor an error
 abbrev pub is_plain : LineKind → Bool
@@ -34,19 +32,3 @@ MissingAreErrors = (files : Files) (names : List (List ℕ)) →
 -- each database has one line
 abbrev pub OneLineEach : Type 0
 OneLineEach = (files : Files) (names : List (List ℕ)) → length (databases_told files [] names) ≡ length names
-
--- ---- answers
-
--- each answer is what these files hold under its name
-abbrev pub AreOf : Files → List Answer → Type 0
-AreOf files [] = Unit {0}
-AreOf files (given ∷ answers) = (given.bytes ≡ files given.name) × AreOf files answers
-
--- the answers for a job are what these files hold: under the name of its style, if it names one, and under those of its databases
-pub record AreFiles (files : Files) (job : Job) (answers : Answers job) : Type 0 where
-  pub style : (name : List ℕ) → job.style ≡ Some name → answers.style ≡ files name
-  pub databases : AreOf files answers.databases.each
-
--- by answers that are what some files hold, the reading is that of these files
-abbrev pub AnswersReadFiles : Type 0
-AnswersReadFiles = (files : Files) (job : Job) (answers : Answers job) → AreFiles files job answers → reading_answered job answers ≡ files_read files job

@@ -48,6 +48,10 @@ abbrev pub database_told : ℕ → List ℕ → Option NamedFile → Line
 database_told number name None = no_database_line name
 database_told number name (Some file) = database_line number name
 
+-- a database that is looked for, which would be found as the one of this number
+abbrev pub database_read : Files → ℕ → List ℕ → Reading (Option NamedFile)
+database_read files number name = reading (database_told number name (file_at files name) ∷ []) (file_at files name)
+
 -- what is logged of databases, each numbered behind those that were found before it
 abbrev pub databases_told : Files → List (List ℕ) → List (List ℕ) → List Line
 databases_told files earlier [] = []
@@ -127,3 +131,13 @@ pub record IsRead {T : Type 0} (value : T) (counted : Counted) (log : Received) 
 abbrev pub ReadsAs : {T : Type 0} → Result T Fault → Counted → Received → Reading T → Type 0
 ReadsAs (Ok value) counted log part = IsRead value counted log part
 ReadsAs (Err fault) counted log part = AppendsBeginning log.0 log.1 (bytes_of_lines part.told)
+
+-- a database was logged, and is kept behind those before it if it was found
+pub record IsAdded (before after : List NamedFile) (counted : Counted) (log : Received) (part : Reading (Option NamedFile)) : Type 0 where
+  pub kept : after ≡ before ++ as_list part.gives
+  pub tells : Tells counted log part.told
+
+-- a database that was added so, or at a fault a prefix of what is logged of it
+abbrev pub AddsAs : {T : Type 0} → Result T Fault → List NamedFile → List NamedFile → Counted → Received → Reading (Option NamedFile) → Type 0
+AddsAs (Ok value) before after counted log part = IsAdded before after counted log part
+AddsAs (Err fault) before after counted log part = AppendsBeginning log.0 log.1 (bytes_of_lines part.told)

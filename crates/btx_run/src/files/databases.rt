@@ -1,12 +1,10 @@
 //! The databases of a job are looked for.
-ghost use Rattle.std.specs.Prelude.{◌≡◌, ℕ, ◌+◌, ◌++◌, ◌∷◌, [], length, IfOk, IfSome, List, OnErr, OnOk, Option};
+ghost use Rattle.std.specs.Prelude.{◌≡◌, ◌+◌, ◌∷◌, [], length, IfOk};
+ghost use Rattle.btx_aux.specs.Answers.{ByAnswers};
 ghost use Rattle.btx_aux.specs.Entries.{texts_of};
-ghost use Rattle.btx_run.specs.Files.Answered.{AddsAs, AnswersTo, BySome, answer, database_answered, databases_answered};
+ghost use Rattle.btx_run.specs.Files.Asked.{AreAmong};
 ghost use Rattle.btx_run.specs.Files.Faults.{CountsOfTwo};
-ghost use Rattle.btx_run.specs.Files.Found.{file_at};
-ghost use Rattle.btx_out.specs.Pieces.{AppendsBeginning};
-ghost use Rattle.btx_run.specs.Files.Readings.{ReadsAs, as_list, database_told, databases_read, reading};
-ghost use Rattle.btx_run.specs.Files.Telling.{Tells, bytes_of_lines};
+ghost use Rattle.btx_run.specs.Files.Readings.{AddsAs, ReadsAs, database_read, database_told, databases_read};
 
 use crate::files::found::{FoundFile, FoundFiles, fetch_file};
 use crate::files::journal::Journal;
@@ -40,10 +38,8 @@ fn find_database<'a, F: Finder, L: Sink>(
     journal: &mut Journal,
     log: &mut L,
 ) -> Result<Option<FoundFile<'a>>, Fault>
-    ensures reads { IfSome (F.content finder.old) (λ files. ReadsAs result (journal.old, journal.new) (L.received log.old, L.received log.new)
-        (reading (database_told number name.entry.now (file_at files name.entry.now) ∷ []) (file_at files name.entry.now))) }
-    ensures answered { BySome (Option (List ℕ)) (λ bytes. ReadsAs result (journal.old, journal.new) (L.received log.old, L.received log.new)
-        (database_answered number (answer name.entry.now bytes))) }
+    ensures reads { ByAnswers (F.content finder.old) (λ names. AreAmong names (name.entry.now ∷ [])) (λ files.
+        ReadsAs result (journal.old, journal.new) (L.received log.old, L.received log.new) (database_read files number name.entry.now)) }
     ensures stays { F.content finder.new ≡ F.content finder.old }
     ensures counts { CountsOfTwo result (F.failures finder.old, F.failures finder.new) (L.failures log.old, L.failures log.new) }
 {
@@ -62,13 +58,8 @@ fn add_database<'a, F: Finder, L: Sink>(
     journal: &mut Journal,
     log: &mut L,
 ) -> Result<(), Fault>
-    ensures found { OnOk result (IfSome (F.content finder.old) (λ files. found.new ≡ found.old ++ as_list (file_at files name.entry.now))) }
-    ensures told { OnOk result (IfSome (F.content finder.old) (λ files. Tells (journal.old, journal.new) (L.received log.old, L.received log.new)
-        (database_told (length found.old + 1) name.entry.now (file_at files name.entry.now) ∷ []))) }
-    ensures err { OnErr result (IfSome (F.content finder.old) (λ files. AppendsBeginning (L.received log.old) (L.received log.new)
-        (bytes_of_lines (database_told (length found.old + 1) name.entry.now (file_at files name.entry.now) ∷ [])))) }
-    ensures answered { BySome (Option (List ℕ)) (λ bytes. AddsAs result found.old found.new (journal.old, journal.new) (L.received log.old, L.received log.new)
-        (database_answered (length found.old + 1) (answer name.entry.now bytes))) }
+    ensures adds { ByAnswers (F.content finder.old) (λ names. AreAmong names (name.entry.now ∷ [])) (λ files.
+        AddsAs result found.old found.new (journal.old, journal.new) (L.received log.old, L.received log.new) (database_read files (length found.old + 1) name.entry.now)) }
     ensures stays { F.content finder.new ≡ F.content finder.old }
     ensures counts { CountsOfTwo result (F.failures finder.old, F.failures finder.new) (L.failures log.old, L.failures log.new) }
 {
@@ -87,10 +78,8 @@ pub fn find_databases<'a, F: Finder, L: Sink>(
     journal: &mut Journal,
     log: &mut L,
 ) -> Result<FoundFiles<'a>, Fault>
-    ensures reads { IfSome (F.content finder.old) (λ files. ReadsAs result (journal.old, journal.new) (L.received log.old, L.received log.new)
-        (databases_read files (texts_of names.entry.now))) }
-    ensures answered { BySome (AnswersTo (texts_of names.entry.now)) (λ answers. ReadsAs result (journal.old, journal.new) (L.received log.old, L.received log.new)
-        (databases_answered answers.each)) }
+    ensures reads { ByAnswers (F.content finder.old) (λ asked. AreAmong asked (texts_of names.entry.now)) (λ files.
+        ReadsAs result (journal.old, journal.new) (L.received log.old, L.received log.new) (databases_read files (texts_of names.entry.now))) }
     ensures stays { F.content finder.new ≡ F.content finder.old }
     ensures counts { CountsOfTwo result (F.failures finder.old, F.failures finder.new) (L.failures log.old, L.failures log.new) }
 {

@@ -1,7 +1,7 @@
 //! Files that were found.
 ghost use Rattle.std.specs.Prelude.{◌≡◌, ◌+◌, ◌++◌, ◌∷◌, [], length, IfOk, IfSome, OnOk};
+ghost use Rattle.btx_aux.specs.Answers.{ByAnswers};
 ghost use Rattle.btx_aux.specs.Faults.{CountsOfOne};
-ghost use Rattle.btx_run.specs.Files.Answered.{IsNamed};
 ghost use Rattle.btx_run.specs.Files.Found.{file_at, named};
 
 use btx_aux::Finder;
@@ -120,7 +120,7 @@ pub fn fetch_file<'a, F: Finder>(
     name: &'a [u8],
 ) -> Result<Option<FoundFile<'a>>, Fault>
     ensures file { IfSome (F.content finder.old) (λ files. IfOk result (λ found. found ≡ file_at files name.entry.now)) }
-    ensures named { IfOk result (λ found. IsNamed name.entry.now found) }
+    ensures answered { IfOk result (λ found. ByAnswers (F.content finder.old) (λ names. names ≡ name.entry.now ∷ []) (λ files. found ≡ file_at files name.entry.now)) }
     ensures stays { F.content finder.new ≡ F.content finder.old }
     ensures counts { CountsOfOne result (F.failures finder.old, F.failures finder.new) }
 {

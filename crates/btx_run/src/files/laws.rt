@@ -1,14 +1,9 @@
 //! Laws of what is logged of files, each the contract of a function that does nothing.
-ghost use Rattle.btx_run.specs.Files.Laws.{AnswersReadFiles, FoundAreNumbered, MissingAreErrors, OneLineEach};
+ghost use Rattle.btx_run.specs.Files.Laws.{FoundAreNumbered, MissingAreErrors, OneLineEach};
 
 /// The databases that are found are numbered from 1 up without a gap, each that isn't there is an error of its own, and each has one line.
 pub fn databases_are_told()
     ensures numbered { FoundAreNumbered }
     ensures missing { MissingAreErrors }
     ensures lines { OneLineEach }
-{}
-
-/// What is read by the answers of a finder is what is read of its files, where the answers are what the files hold.
-pub fn answers_read_files()
-    ensures { AnswersReadFiles }
 {}

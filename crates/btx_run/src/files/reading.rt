@@ -1,12 +1,14 @@
 //! The reading of a job's files.
-ghost use Rattle.std.specs.Prelude.{◌≡◌, IfOk, IfSome, None, Some};
+ghost use Rattle.std.specs.Prelude.{◌≡◌, ◌∷◌, IfOk, IfSome, None, Some};
+ghost use Rattle.btx_aux.specs.Answers.{AsksTop, ByAnswers};
 ghost use Rattle.btx_aux.specs.Faults.{CountsOfOne};
 ghost use Rattle.btx_aux.specs.Files.{Files};
 ghost use Rattle.btx_aux.specs.Job.{Job};
-ghost use Rattle.btx_run.specs.Files.Answered.{Answers, BySome, answer, databases_answered, file_answered, job_answered, reading_answered, style_answered};
+ghost use Rattle.btx_run.specs.Files.Asked.{AreAmong, names_in};
 ghost use Rattle.btx_run.specs.Files.Faults.{CountsOfTwo};
 ghost use Rattle.btx_run.specs.Files.Found.{file_at};
-ghost use Rattle.btx_run.specs.Files.Readings.{ReadsAs, StyleFits, after_job, after_style, files_read, job_named, style_found, style_named, style_read, style_sought};
+ghost use Rattle.btx_run.specs.Files.Names.{top_name};
+ghost use Rattle.btx_run.specs.Files.Readings.{ReadsAs, StyleFits, after_job, after_style, files_read, job_named, style_named, style_read};
 
 use crate::files::databases::find_databases;
 use crate::files::found::{FilesRead, FoundFile, JobFiles, fetch_file};
@@ -22,6 +24,7 @@ use std::alloc::Global;
 /// Reads the `.aux` files of the job of this name, which may end in `.aux`.
 pub fn read_job<F: Finder>(alloc: Global, finder: &mut F, name: &[u8]) -> Result<AuxJob, Fault>
     ensures job { IfOk result (λ job. IfSome (F.content finder.old) (λ files. job ≡ job_named files name.now)) }
+    ensures answered { IfOk result (λ job. ByAnswers (F.content finder.old) (AsksTop (top_name name.now)) (λ files. job ≡ job_named files name.now)) }
     ensures stays { F.content finder.new ≡ F.content finder.old }
     ensures counts { CountsOfOne result (F.failures finder.old, F.failures finder.new) }
 {
@@ -38,10 +41,8 @@ fn with_style<'a, F: Finder, L: Sink>(
     journal: &mut Journal,
     log: &mut L,
 ) -> Result<FilesRead<'a>, Fault>
-    ensures reads { IfSome (F.content finder.old) (λ files. ReadsAs result (journal.old, journal.new) (L.received log.old, L.received log.new)
-        (after_style files job.entry.now style.entry)) }
-    ensures answered { BySome (Answers job.entry.now) (λ answers. ReadsAs result (journal.old, journal.new) (L.received log.old, L.received log.new)
-        (style_found style.entry (databases_answered answers.databases.each))) }
+    ensures reads { ByAnswers (F.content finder.old) (λ asked. AreAmong asked job.entry.now.databases) (λ files.
+        ReadsAs result (journal.old, journal.new) (L.received log.old, L.received log.new) (after_style files job.entry.now style.entry)) }
     ensures fits { IfOk result (λ read. StyleFits read) }
     ensures stays { F.content finder.new ≡ F.content finder.old }
     ensures counts { CountsOfTwo result (F.failures finder.old, F.failures finder.new) (L.failures log.old, L.failures log.new) }
@@ -62,10 +63,8 @@ fn tell_style<'a, F: Finder, L: Sink>(
     journal: &mut Journal,
     log: &mut L,
 ) -> Result<FilesRead<'a>, Fault>
-    ensures reads { IfSome (F.content finder.old) (λ files. ReadsAs result (journal.old, journal.new) (L.received log.old, L.received log.new)
-        (style_read files job.entry.now style.entry.name (Some style.entry))) }
-    ensures answered { BySome (Answers job.entry.now) (λ answers. ReadsAs result (journal.old, journal.new) (L.received log.old, L.received log.new)
-        (style_sought style.entry.name (Some style.entry) (databases_answered answers.databases.each))) }
+    ensures reads { ByAnswers (F.content finder.old) (λ asked. AreAmong asked job.entry.now.databases) (λ files.
+        ReadsAs result (journal.old, journal.new) (L.received log.old, L.received log.new) (style_read files job.entry.now style.entry.name (Some style.entry))) }
     ensures fits { IfOk result (λ read. StyleFits read) }
     ensures stays { F.content finder.new ≡ F.content finder.old }
     ensures counts { CountsOfTwo result (F.failures finder.old, F.failures finder.new) (L.failures log.old, L.failures log.new) }
@@ -101,10 +100,8 @@ fn find_style<'a, F: Finder, L: Sink>(
     journal: &mut Journal,
     log: &mut L,
 ) -> Result<FilesRead<'a>, Fault>
-    ensures reads { IfSome (F.content finder.old) (λ files. ReadsAs result (journal.old, journal.new) (L.received log.old, L.received log.new)
-        (style_read files job.entry.now name.entry.now (file_at files name.entry.now))) }
-    ensures answered { BySome (Answers job.entry.now) (λ answers. ReadsAs result (journal.old, journal.new) (L.received log.old, L.received log.new)
-        (style_sought name.entry.now (file_answered (answer name.entry.now answers.style)) (databases_answered answers.databases.each))) }
+    ensures reads { ByAnswers (F.content finder.old) (λ asked. AreAmong asked (name.entry.now ∷ job.entry.now.databases)) (λ files.
+        ReadsAs result (journal.old, journal.new) (L.received log.old, L.received log.new) (style_read files job.entry.now name.entry.now (file_at files name.entry.now))) }
     ensures fits { IfOk result (λ read. StyleFits read) }
     ensures stays { F.content finder.new ≡ F.content finder.old }
     ensures counts { CountsOfTwo result (F.failures finder.old, F.failures finder.new) (L.failures log.old, L.failures log.new) }
@@ -123,10 +120,8 @@ fn after_job<'a, F: Finder, L: Sink>(
     journal: &mut Journal,
     log: &mut L,
 ) -> Result<FilesRead<'a>, Fault>
-    ensures reads { IfSome (F.content finder.old) (λ files. ReadsAs result (journal.old, journal.new) (L.received log.old, L.received log.new)
-        (after_job files job.entry.now job.entry.now.ending)) }
-    ensures answered { BySome (Answers job.entry.now) (λ answers. ReadsAs result (journal.old, journal.new) (L.received log.old, L.received log.new)
-        (job_answered job.entry.now answers)) }
+    ensures reads { ByAnswers (F.content finder.old) (λ asked. AreAmong asked (names_in job.entry.now)) (λ files.
+        ReadsAs result (journal.old, journal.new) (L.received log.old, L.received log.new) (after_job files job.entry.now job.entry.now.ending)) }
     ensures fits { IfOk result (λ read. StyleFits read) }
     ensures stays { F.content finder.new ≡ F.content finder.old }
     ensures counts { CountsOfTwo result (F.failures finder.old, F.failures finder.new) (L.failures log.old, L.failures log.new) }
@@ -147,10 +142,8 @@ fn named_style<'a, F: Finder, L: Sink>(
     journal: &mut Journal,
     log: &mut L,
 ) -> Result<FilesRead<'a>, Fault>
-    ensures reads { IfSome (F.content finder.old) (λ files. ReadsAs result (journal.old, journal.new) (L.received log.old, L.received log.new)
-        (style_named files job.entry.now job.entry.now.style)) }
-    ensures answered { BySome (Answers job.entry.now) (λ answers. ReadsAs result (journal.old, journal.new) (L.received log.old, L.received log.new)
-        (style_answered job.entry.now.style answers.style (databases_answered answers.databases.each))) }
+    ensures reads { ByAnswers (F.content finder.old) (λ asked. AreAmong asked (names_in job.entry.now)) (λ files.
+        ReadsAs result (journal.old, journal.new) (L.received log.old, L.received log.new) (style_named files job.entry.now job.entry.now.style)) }
     ensures fits { IfOk result (λ read. StyleFits read) }
     ensures stays { F.content finder.new ≡ F.content finder.old }
     ensures counts { CountsOfTwo result (F.failures finder.old, F.failures finder.new) (L.failures log.old, L.failures log.new) }
@@ -172,8 +165,8 @@ pub fn read_files<'a, F: Finder, L: Sink>(
 ) -> Result<FilesRead<'a>, Fault>
     ensures reads { IfSome (F.content finder.old) (λ files. ReadsAs result (journal.old, journal.new) (L.received log.old, L.received log.new)
         (files_read files job.entry.now)) }
-    ensures answered { BySome (Answers job.entry.now) (λ answers. ReadsAs result (journal.old, journal.new) (L.received log.old, L.received log.new)
-        (reading_answered job.entry.now answers)) }
+    ensures answered { ByAnswers (F.content finder.old) (λ asked. AreAmong asked (names_in job.entry.now)) (λ files.
+        ReadsAs result (journal.old, journal.new) (L.received log.old, L.received log.new) (files_read files job.entry.now)) }
     ensures fits { IfOk result (λ read. StyleFits read) }
     ensures stays { F.content finder.new ≡ F.content finder.old }
     ensures counts { CountsOfTwo result (F.failures finder.old, F.failures finder.new) (L.failures log.old, L.failures log.new) }

@@ -24,4 +24,4 @@ returns-clause-does g c =
 
 pub returns-clause-product : goal.returns-clause-product
 returns-clause-product g c =
-    report_of_job _ _ _ _ _ _ _ _ (IsReportOfSome c.args.settings.now.options) c.do_job.ensures (of_some _ _ _ _ c.do_job.ensures.lists.runs.answered)
+    report_of_job _ _ _ _ _ _ _ _ (IsReportOfSome c.args.settings.now) c.do_job.ensures (of_some c.args.settings.now _ _ _ c.do_job.ensures.lists.runs.answered)

@@ -1,7 +1,8 @@
-use Rattle.std.proofs.Common.{◌≡◌, ◌≤◌, ◌+◌, ◌*◌, length, true, IfSome}
+use Rattle.std.proofs.Common.{◌≡◌, ◌≤◌, ◌+◌, ◌*◌, length, true}
+use Rattle.btx_aux.specs.Answers.{ByAnswers}
 use Rattle.btx_aux.specs.Grammar.{is_whole}
 use Rattle.btx_aux.specs.Events.{said, said_from}
-use Rattle.btx_aux.specs.Reads.{opened_by, run}
+use Rattle.btx_aux.specs.Reads.{AddsNames, opened_by, run}
 use Rattle.btx_aux.proofs.reading.+reading.Given as goal
 
 -- each file that is opened leaves room for one less
@@ -24,7 +25,8 @@ invariant-read_lines-loop-line g l =
     record {
       whole : is_whole l.draft.ending ≡ true;
       count : l.number + length l.line-iterator ≤ length l.text;
-      reads : IfSome (finder.content l.initial.finder) (λ files. run files (opened_by files l.room) l.draft (said_from l.name (l.number + 1) l.line-iterator) ≡ run files (opened_by files l.room) l.initial.draft (said l.name l.text));
+      reads : ByAnswers (finder.content l.initial.finder) (AddsNames l.initial.draft.files l.draft.files)
+          (λ files. run files (opened_by files l.room) l.draft (said_from l.name (l.number + 1) l.line-iterator) ≡ run files (opened_by files l.room) l.initial.draft (said l.name l.text));
       failures : finder.failures l.finder ≡ finder.failures l.initial.finder;
       content : finder.content l.finder ≡ finder.content l.initial.finder;
     }

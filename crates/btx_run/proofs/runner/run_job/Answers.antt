@@ -1,16 +1,15 @@
 use Rattle.std.proofs.Common.{◌≡◌, ◌∙◌, ap}
+use Rattle.btx_aux.proofs.AnswerLemmas.{by_map}
 use Rattle.btx_machine.specs.Reports.{told_so}
 use Rattle.btx_machine.proofs.ComesLemmas.{err_map, ok_map, on_err}
 use Rattle.btx_run.specs.Product.{product_of_files, told_in}
 use Rattle.btx_run.specs.Files.Readings.{files_read}
-use Rattle.btx_run.proofs.ReadingLemmas.{of_told}
 use Rattle.btx_run.proofs.ProductLemmas.{completes_reading, fails_in_lines, fails_reading}
-use Rattle.btx_run.specs.Files.Answered.{reading_answered}
 use Rattle.btx_run.proofs.runner.run_job.Goals as goal
 
 pub returns-in_err-read-clause-err : goal.returns-in_err-read-clause-err
 returns-in_err-read-clause-err g c =
-    on_err c.from_residual.result (of_told (g.F.Finder.content c.args.finder.now) _ _ c.in_err-read.ensures.reads
+    on_err c.from_residual.result (by_map c.in_err-read.ensures.answered (λ names among. among)
     (λ files part. fails_in_lines (files_read files c.args.job.now).told (g.W.Sink.received c.args.bbl.now) (g.L.Sink.received c.args.log.now) (g.L.Sink.received c.read_files.new.log)
     (λ steps. product_of_files c.args.job.now (files_read files c.args.job.now).gives c.args.options.now (told_in (files_read files c.args.job.now).told) steps) c.args.options.now.budget part))
 
@@ -18,7 +17,7 @@ pub returns-clause-ok : goal.returns-clause-ok
 returns-clause-ok g c =
     let told : told_so c.warnings.result c.errors.result ≡ told_so c.read_files.new.journal.warnings c.read_files.new.journal.errors =
     ap (λ warnings. told_so warnings c.errors.result) c.warnings.ensures ∙ ap (told_so c.read_files.new.journal.warnings) c.errors.ensures in
-    ok_map (λ report completes. of_told (g.F.Finder.content c.args.finder.now) _ _ c.in_ok-read.ensures.reads
+    ok_map (λ report completes. by_map c.in_ok-read.ensures.answered (λ names among. among)
     (λ files read. completes_reading c.args.job.now c.args.options.now c.in_ok-read.read (told_so c.warnings.result c.errors.result) c.new-journal.result c.read_files.new.journal
     (g.W.Sink.received c.args.bbl.now) (g.W.Sink.received c.after_files.new.bbl) (g.L.Sink.received c.args.log.now) (g.L.Sink.received c.read_files.new.log) (g.L.Sink.received c.after_files.new.log)
     told c.new-journal.ensures report c.args.options.now.budget (files_read files c.args.job.now) read completes)) c.after_files.result c.after_files.ensures.ok
@@ -27,44 +26,7 @@ pub returns-clause-err : goal.returns-clause-err
 returns-clause-err g c =
     let told : told_so c.warnings.result c.errors.result ≡ told_so c.read_files.new.journal.warnings c.read_files.new.journal.errors =
     ap (λ warnings. told_so warnings c.errors.result) c.warnings.ensures ∙ ap (told_so c.read_files.new.journal.warnings) c.errors.ensures in
-    err_map (λ fault. of_told (g.F.Finder.content c.args.finder.now) _ _ c.in_ok-read.ensures.reads
+    err_map (λ fault. by_map c.in_ok-read.ensures.answered (λ names among. among)
     (λ files read. fails_reading c.args.job.now c.args.options.now c.in_ok-read.read (told_so c.warnings.result c.errors.result) c.new-journal.result c.read_files.new.journal
     (g.W.Sink.received c.args.bbl.now) (g.W.Sink.received c.after_files.new.bbl) (g.L.Sink.received c.args.log.now) (g.L.Sink.received c.read_files.new.log) (g.L.Sink.received c.after_files.new.log)
     told c.new-journal.ensures c.args.options.now.budget (files_read files c.args.job.now) read fault)) c.after_files.result c.after_files.ensures.err
-
-pub returns-in_err-read-clause-begun : goal.returns-in_err-read-clause-begun
-returns-in_err-read-clause-begun g c =
-    let some = c.in_err-read.ensures.answered in
-    let part = reading_answered c.args.job.now some.answers in
-    on_err c.from_residual.result (record {
-      answers = some.answers;
-      holds =
-          fails_in_lines part.told (g.W.Sink.received c.args.bbl.now) (g.L.Sink.received c.args.log.now) (g.L.Sink.received c.read_files.new.log)
-          (λ steps. product_of_files c.args.job.now part.gives c.args.options.now (told_in part.told) steps) c.args.options.now.budget some.holds;
-    })
-
-pub returns-clause-answered : goal.returns-clause-answered
-returns-clause-answered g c =
-    let told : told_so c.warnings.result c.errors.result ≡ told_so c.read_files.new.journal.warnings c.read_files.new.journal.errors =
-    ap (λ warnings. told_so warnings c.errors.result) c.warnings.ensures ∙ ap (told_so c.read_files.new.journal.warnings) c.errors.ensures in
-    let some = c.in_ok-read.ensures.answered in
-    ok_map (λ report completes. record {
-      answers = some.answers;
-      holds =
-          completes_reading c.args.job.now c.args.options.now c.in_ok-read.read (told_so c.warnings.result c.errors.result) c.new-journal.result c.read_files.new.journal
-          (g.W.Sink.received c.args.bbl.now) (g.W.Sink.received c.after_files.new.bbl) (g.L.Sink.received c.args.log.now) (g.L.Sink.received c.read_files.new.log) (g.L.Sink.received c.after_files.new.log)
-          told c.new-journal.ensures report c.args.options.now.budget (reading_answered c.args.job.now some.answers) some.holds completes;
-    }) c.after_files.result c.after_files.ensures.ok
-
-pub returns-clause-begun : goal.returns-clause-begun
-returns-clause-begun g c =
-    let told : told_so c.warnings.result c.errors.result ≡ told_so c.read_files.new.journal.warnings c.read_files.new.journal.errors =
-    ap (λ warnings. told_so warnings c.errors.result) c.warnings.ensures ∙ ap (told_so c.read_files.new.journal.warnings) c.errors.ensures in
-    let some = c.in_ok-read.ensures.answered in
-    err_map (λ fault. record {
-      answers = some.answers;
-      holds =
-          fails_reading c.args.job.now c.args.options.now c.in_ok-read.read (told_so c.warnings.result c.errors.result) c.new-journal.result c.read_files.new.journal
-          (g.W.Sink.received c.args.bbl.now) (g.W.Sink.received c.after_files.new.bbl) (g.L.Sink.received c.args.log.now) (g.L.Sink.received c.read_files.new.log) (g.L.Sink.received c.after_files.new.log)
-          told c.new-journal.ensures c.args.options.now.budget (reading_answered c.args.job.now some.answers) some.holds fault;
-    }) c.after_files.result c.after_files.ensures.err

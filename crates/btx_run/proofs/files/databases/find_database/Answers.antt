@@ -1,16 +1,23 @@
-use Rattle.std.proofs.Common.{rules}
-use Rattle.btx_run.proofs.AnsweredLemmas.{database_is_begun, database_is_read}
-use Rattle.btx_run.proofs.ReadingLemmas.{of_any, reads_nothing}
+use Rattle.std.proofs.Common.{rules, ◌∷◌, []}
+use Rattle.btx_aux.proofs.AnswerLemmas.{by_map, by_none}
+use Rattle.btx_run.proofs.AskedLemmas.{among-none, among-one}
+use Rattle.btx_run.proofs.ReadingLemmas.{database_is_begun, database_is_read, reads_nothing}
 use Rattle.btx_run.proofs.files.databases.find_database.Goals as goal
 
+pub returns-in_err-found-clause-reads : goal.returns-in_err-found-clause-reads
+returns-in_err-found-clause-reads g c =
+    by_none (among-none (c.args.name.now ∷ [])) (λ files. reads_nothing c.from_residual.result _ _ _ _ (search rules))
+
 pub returns-in_err-line-clause-reads : goal.returns-in_err-line-clause-reads
-returns-in_err-line-clause-reads g c = of_any _ _ (λ files. reads_nothing c.from_residual-in_err-line.result _ _ _ _ (search rules))
+returns-in_err-line-clause-reads g c =
+    by_none (among-none (c.args.name.now ∷ [])) (λ files. reads_nothing c.from_residual-in_err-line.result _ _ _ _ (search rules))
 
-pub returns-in_err-tell-clause-answered : goal.returns-in_err-tell-clause-answered
-returns-in_err-tell-clause-answered g c =
-    database_is_begun c.args.number c.args.name.now c.in_ok-found.found c.in_ok-line.line c.in_ok-found.ensures.named c.in_ok-line.ensures
-    c.from_residual-in_err-tell.result _ _ _ _ (search rules) c.in_err-tell.ensures.err
+pub returns-in_err-tell-clause-reads : goal.returns-in_err-tell-clause-reads
+returns-in_err-tell-clause-reads g c =
+    by_map c.in_ok-found.ensures.answered (among-one c.args.name.now)
+    (λ files is. database_is_begun files c.args.number c.args.name.now c.in_ok-found.found c.in_ok-line.line c.from_residual-in_err-tell.result _ _ _ _ (search rules) is c.in_ok-line.ensures c.in_err-tell.ensures.err)
 
-pub returns-clause-answered : goal.returns-clause-answered
-returns-clause-answered g c =
-    database_is_read c.args.number c.args.name.now c.in_ok-found.found c.in_ok-line.line c.in_ok-found.ensures.named c.in_ok-line.ensures _ _ _ _ c.in_ok-tell.ensures.ok
+pub returns-clause-reads : goal.returns-clause-reads
+returns-clause-reads g c =
+    by_map c.in_ok-found.ensures.answered (among-one c.args.name.now)
+    (λ files is. database_is_read files c.args.number c.args.name.now c.in_ok-found.found c.in_ok-line.line _ _ _ _ is c.in_ok-line.ensures c.in_ok-tell.ensures.ok)

@@ -1,6 +1,7 @@
-use Rattle.std.proofs.Common.{◌≡◌, IfSome, take}
+use Rattle.std.proofs.Common.{◌≡◌, take}
+use Rattle.btx_aux.specs.Answers.{ByAnswers}
 use Rattle.btx_aux.specs.Entries.{texts_of}
-use Rattle.btx_run.specs.Files.Answered.{AnswersTo, BySome, databases_answered}
+use Rattle.btx_run.specs.Files.Asked.{AreAmong}
 use Rattle.btx_run.specs.Files.Readings.{IsRead, databases_read}
 use Rattle.btx_run.proofs.files.databases.find_databases.Given as goal
 
@@ -10,10 +11,8 @@ invariant-loop-name g l =
     let finder = g.F.Finder in
     let sink = g.L.Sink in
     record {
-      read : IfSome (finder.content l.initial.finder) (λ files. IsRead l.found (l.initial.journal, l.journal) (sink.received l.initial.log, sink.received l.log)
-          (databases_read files (texts_of (take l.name-index l.names))));
-      answered : BySome (AnswersTo (texts_of (take l.name-index l.names))) (λ answers. IsRead l.found (l.initial.journal, l.journal) (sink.received l.initial.log, sink.received l.log)
-          (databases_answered answers.each));
+      read : ByAnswers (finder.content l.initial.finder) (λ asked. AreAmong asked (texts_of (take l.name-index l.names))) (λ files.
+          IsRead l.found (l.initial.journal, l.journal) (sink.received l.initial.log, sink.received l.log) (databases_read files (texts_of (take l.name-index l.names))));
       stays : finder.content l.finder ≡ finder.content l.initial.finder;
       fetches : finder.failures l.finder ≡ finder.failures l.initial.finder;
       writes : sink.failures l.log ≡ sink.failures l.initial.log;

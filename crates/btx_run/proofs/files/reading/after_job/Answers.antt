@@ -1,48 +1,30 @@
-use Rattle.std.proofs.Common.{rules, ◌≡◌, refl}
+use Rattle.std.proofs.Common.{rules, ◌≡◌}
 use Rattle.btx_aux.specs.declared.end.End.TheVariants as aux
-use Rattle.btx_run.proofs.ReadingLemmas.{after_long, after_many, after_none, after_whole, of_any, of_told, reads_is}
-use Rattle.btx_run.proofs.AnsweredLemmas as by
+use Rattle.btx_aux.proofs.AnswerLemmas.{by_map, by_none}
+use Rattle.btx_run.specs.Files.Asked.{names_in}
+use Rattle.btx_run.proofs.AskedLemmas.{among-none}
+use Rattle.btx_run.proofs.ReadingLemmas.{after_long, after_many, after_none, after_whole, reads_is}
 use Rattle.btx_run.proofs.files.reading.after_job.Goals as goal
 
 pub returns-in-Whole-clause-reads : goal.returns-in-Whole-clause-reads
 returns-in-Whole-clause-reads g c =
     let sink = g.L.Sink in
     let is : c.args.job.now.ending ≡ aux.Whole = search rules in
-    of_told (g.F.Finder.content c.args.finder.now) _ _ c.named_style.ensures.reads
+    by_map c.named_style.ensures.reads (λ names among. among)
     (λ files read. reads_is c.named_style.result (c.args.journal.now, c.named_style.new.journal) (sink.received c.args.log.now, sink.received c.named_style.new.log) _ _
     (after_whole files c.args.job.now c.args.job.now.ending is) read)
 
 pub returns-in-TooManyOpen-clause-reads : goal.returns-in-TooManyOpen-clause-reads
 returns-in-TooManyOpen-clause-reads g c =
     let is : c.args.job.now.ending ≡ aux.TooManyOpen = search rules in
-    of_any (g.F.Finder.content c.args.finder.now) _ (λ files. after_many files c.args.job.now c.args.job.now.ending c.args.journal.now (g.L.Sink.received c.args.log.now) is)
+    by_none (among-none (names_in c.args.job.now)) (λ files. after_many files c.args.job.now c.args.job.now.ending c.args.journal.now (g.L.Sink.received c.args.log.now) is)
 
 pub returns-in-TopMissing-clause-reads : goal.returns-in-TopMissing-clause-reads
 returns-in-TopMissing-clause-reads g c =
     let is : c.args.job.now.ending ≡ aux.TopMissing = search rules in
-    of_any (g.F.Finder.content c.args.finder.now) _ (λ files. after_none files c.args.job.now c.args.job.now.ending c.args.journal.now (g.L.Sink.received c.args.log.now) is)
+    by_none (among-none (names_in c.args.job.now)) (λ files. after_none files c.args.job.now c.args.job.now.ending c.args.journal.now (g.L.Sink.received c.args.log.now) is)
 
 pub returns-in-FileLimit-clause-reads : goal.returns-in-FileLimit-clause-reads
 returns-in-FileLimit-clause-reads g c =
     let is : c.args.job.now.ending ≡ aux.FileLimit = search rules in
-    of_any (g.F.Finder.content c.args.finder.now) _ (λ files. after_long files c.args.job.now c.args.job.now.ending c.args.journal.now (g.L.Sink.received c.args.log.now) is)
-
-pub returns-in-Whole-clause-answered : goal.returns-in-Whole-clause-answered
-returns-in-Whole-clause-answered g c =
-    let is : c.args.job.now.ending ≡ aux.Whole = search rules in
-    by.after_whole c.named_style.result c.args.job.now _ _ is c.named_style.ensures.answered
-
-pub returns-in-TooManyOpen-clause-answered : goal.returns-in-TooManyOpen-clause-answered
-returns-in-TooManyOpen-clause-answered g c =
-    let is : c.args.job.now.ending ≡ aux.TooManyOpen = search rules in
-    by.after_end c.args.job.now aux.TooManyOpen _ c.args.journal.now (g.L.Sink.received c.args.log.now) is (λ part. refl)
-
-pub returns-in-TopMissing-clause-answered : goal.returns-in-TopMissing-clause-answered
-returns-in-TopMissing-clause-answered g c =
-    let is : c.args.job.now.ending ≡ aux.TopMissing = search rules in
-    by.after_end c.args.job.now aux.TopMissing _ c.args.journal.now (g.L.Sink.received c.args.log.now) is (λ part. refl)
-
-pub returns-in-FileLimit-clause-answered : goal.returns-in-FileLimit-clause-answered
-returns-in-FileLimit-clause-answered g c =
-    let is : c.args.job.now.ending ≡ aux.FileLimit = search rules in
-    by.after_end c.args.job.now aux.FileLimit _ c.args.journal.now (g.L.Sink.received c.args.log.now) is (λ part. refl)
+    by_none (among-none (names_in c.args.job.now)) (λ files. after_long files c.args.job.now c.args.job.now.ending c.args.journal.now (g.L.Sink.received c.args.log.now) is)

@@ -1,16 +1,18 @@
-use Rattle.std.proofs.Common.{rules, None, Some}
-use Rattle.btx_run.specs.Files.Answered.{IsNamed}
-use Rattle.btx_run.proofs.AnsweredLemmas.{no_answers, style_is_absent, style_is_found}
-use Rattle.btx_run.proofs.ReadingLemmas.{reads_nothing}
+use Rattle.std.proofs.Common.{rules, ◌∷◌, []}
+use Rattle.btx_aux.proofs.AnswerLemmas.{by_both, by_map, by_none}
+use Rattle.btx_run.proofs.AskedLemmas.{among-first, among-front, among-none, among-one}
+use Rattle.btx_run.proofs.ReadingLemmas.{reads_nothing, style_is_found, style_is_missing}
 use Rattle.btx_run.proofs.files.reading.find_style.Goals as goal
 
-pub returns-in_err-style-clause-answered : goal.returns-in_err-style-clause-answered
-returns-in_err-style-clause-answered g c = record { answers = no_answers c.args.job.now; holds = reads_nothing c.from_residual.result _ _ _ _ (search rules) }
+pub returns-in_err-style-clause-reads : goal.returns-in_err-style-clause-reads
+returns-in_err-style-clause-reads g c = by_none (among-none (c.args.name.now ∷ c.args.job.now.databases)) (λ files. reads_nothing c.from_residual.result _ _ _ _ (search rules))
 
-pub returns-in-Some-clause-answered : goal.returns-in-Some-clause-answered
-returns-in-Some-clause-answered g c =
-    let named : IsNamed c.args.name.now (Some c.in-Some.style) = search (rules, c.in_ok-style.ensures.named) in
-    style_is_found c.tell_style.result c.args.job.now c.args.name.now c.in-Some.style _ _ named c.tell_style.ensures.answered
+pub returns-in-Some-clause-reads : goal.returns-in-Some-clause-reads
+returns-in-Some-clause-reads g c =
+    by_both c.in_ok-style.ensures.stays c.in_ok-style.ensures.answered c.tell_style.ensures.reads (among-first c.args.name.now c.args.job.now.databases)
+    (λ files is read. style_is_found c.tell_style.result files c.args.job.now c.args.name.now c.in_ok-style.field-0 c.in-Some.style _ _ c.in-Some.is is read)
 
-pub returns-in-None-clause-answered : goal.returns-in-None-clause-answered
-returns-in-None-clause-answered g c = style_is_absent c.without_style.result (λ name. None) c.args.job.now c.args.name.now _ _ (c.without_style.ensures.reads (λ name. None) c.args.job.now)
+pub returns-in-None-clause-reads : goal.returns-in-None-clause-reads
+returns-in-None-clause-reads g c =
+    by_map c.in_ok-style.ensures.answered (λ names is. among-front names (c.args.name.now ∷ []) c.args.job.now.databases (among-one c.args.name.now names is))
+    (λ files is. style_is_missing c.without_style.result files c.args.job.now c.args.name.now c.in_ok-style.field-0 _ _ c.in-None.is is (c.without_style.ensures.reads files c.args.job.now))

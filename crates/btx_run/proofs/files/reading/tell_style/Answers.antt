@@ -1,19 +1,22 @@
 use Rattle.std.proofs.Common.{rules, ◌≡◌, ◌∙◌, ◌∷◌, [], ap, subst}
+use Rattle.btx_aux.proofs.AnswerLemmas.{by_map, by_none}
 use Rattle.btx_out.specs.Pieces.{AppendsBeginning}
-use Rattle.btx_run.specs.Files.Answered.{databases_answered}
-use Rattle.btx_run.specs.Files.Readings.{style_found}
 use Rattle.btx_run.specs.Files.Telling.{Tells, bytes_of_lines}
 use Rattle.btx_run.specs.Files.Lines.{style_line}
-use Rattle.btx_run.proofs.ReadingLemmas.{of_any, of_told, reads_behind, reads_is, reads_nothing, reads_part, style_is_read}
-use Rattle.btx_run.proofs.AnsweredLemmas.{no_answers}
+use Rattle.btx_run.proofs.AskedLemmas.{among-none}
+use Rattle.btx_run.proofs.ReadingLemmas.{reads_behind, reads_is, reads_nothing, reads_part, style_is_read}
 use Rattle.btx_run.proofs.files.reading.tell_style.Goals as goal
+
+pub returns-in_err-line-clause-reads : goal.returns-in_err-line-clause-reads
+returns-in_err-line-clause-reads g c = by_none (among-none c.args.job.now.databases) (λ files. reads_nothing c.from_residual.result _ _ _ _ (search rules))
 
 pub returns-in_err-tell-clause-reads : goal.returns-in_err-tell-clause-reads
 returns-in_err-tell-clause-reads g c =
     let line : c.in_ok-line.line ≡ style_line c.args.style.name = c.in_ok-line.ensures ∙ ap style_line c.name.ensures in
     let part : AppendsBeginning (g.L.Sink.received c.args.log.now) (g.L.Sink.received c.tell.new.log) (bytes_of_lines (style_line c.args.style.name ∷ [])) =
     subst (λ line. AppendsBeginning (g.L.Sink.received c.args.log.now) (g.L.Sink.received c.tell.new.log) (bytes_of_lines (line ∷ []))) line c.in_err-tell.ensures.err in
-    of_any _ _ (λ files. reads_is c.from_residual-in_err-tell.result _ _ _ _ (style_is_read files c.args.job.now c.args.style.name c.args.style)
+    by_none (among-none c.args.job.now.databases)
+    (λ files. reads_is c.from_residual-in_err-tell.result _ _ _ _ (style_is_read files c.args.job.now c.args.style.name c.args.style)
     (reads_part c.from_residual-in_err-tell.result _ _ _ _ (style_line c.args.style.name ∷ []) _ (search rules) part))
 
 pub returns-clause-reads : goal.returns-clause-reads
@@ -22,31 +25,8 @@ returns-clause-reads g c =
     let line : c.in_ok-line.line ≡ style_line c.args.style.name = c.in_ok-line.ensures ∙ ap style_line c.name.ensures in
     let told : Tells (c.args.journal.now, c.tell.new.self) (sink.received c.args.log.now, sink.received c.tell.new.log) (style_line c.args.style.name ∷ []) =
     subst (λ line. Tells (c.args.journal.now, c.tell.new.self) (sink.received c.args.log.now, sink.received c.tell.new.log) (line ∷ [])) line c.in_ok-tell.ensures.ok in
-    of_told (g.F.Finder.content c.args.finder.now) _ _ c.with_style.ensures.reads
+    by_map c.with_style.ensures.reads (λ names among. among)
     (λ files read. reads_is c.with_style.result (c.args.journal.now, c.with_style.new.journal) (sink.received c.args.log.now, sink.received c.with_style.new.log) _ _
     (style_is_read files c.args.job.now c.args.style.name c.args.style)
     (reads_behind c.with_style.result c.args.journal.now c.tell.new.self c.with_style.new.journal (sink.received c.args.log.now) (sink.received c.tell.new.log) (sink.received c.with_style.new.log)
     (style_line c.args.style.name ∷ []) _ told read))
-
-pub returns-in_err-line-clause-answered : goal.returns-in_err-line-clause-answered
-returns-in_err-line-clause-answered g c = record { answers = no_answers c.args.job.now; holds = reads_nothing c.from_residual.result _ _ _ _ (search rules) }
-
-pub returns-in_err-tell-clause-answered : goal.returns-in_err-tell-clause-answered
-returns-in_err-tell-clause-answered g c =
-    let line : c.in_ok-line.line ≡ style_line c.args.style.name = c.in_ok-line.ensures ∙ ap style_line c.name.ensures in
-    let part : AppendsBeginning (g.L.Sink.received c.args.log.now) (g.L.Sink.received c.tell.new.log) (bytes_of_lines (style_line c.args.style.name ∷ [])) =
-    subst (λ line. AppendsBeginning (g.L.Sink.received c.args.log.now) (g.L.Sink.received c.tell.new.log) (bytes_of_lines (line ∷ []))) line c.in_err-tell.ensures.err in
-    record { answers = no_answers c.args.job.now; holds = reads_part c.from_residual-in_err-tell.result _ _ _ _ (style_line c.args.style.name ∷ []) _ (search rules) part }
-
-pub returns-clause-answered : goal.returns-clause-answered
-returns-clause-answered g c =
-    let sink = g.L.Sink in
-    let line : c.in_ok-line.line ≡ style_line c.args.style.name = c.in_ok-line.ensures ∙ ap style_line c.name.ensures in
-    let told : Tells (c.args.journal.now, c.tell.new.self) (sink.received c.args.log.now, sink.received c.tell.new.log) (style_line c.args.style.name ∷ []) =
-    subst (λ line. Tells (c.args.journal.now, c.tell.new.self) (sink.received c.args.log.now, sink.received c.tell.new.log) (line ∷ [])) line c.in_ok-tell.ensures.ok in
-    record {
-      answers = c.with_style.ensures.answered.answers;
-      holds =
-          reads_behind c.with_style.result c.args.journal.now c.tell.new.self c.with_style.new.journal (sink.received c.args.log.now) (sink.received c.tell.new.log) (sink.received c.with_style.new.log)
-          (style_line c.args.style.name ∷ []) (style_found c.args.style (databases_answered c.with_style.ensures.answered.answers.databases.each)) told c.with_style.ensures.answered.holds;
-    }
