@@ -21,6 +21,7 @@ pub mod Counts
 pub mod PlaceLemmas
 pub mod LookLemmas
 pub mod StepLemmas
+pub mod QuickLemmas
 pub mod ExecuteLemmas
 pub mod WithinLemmas
 pub mod VisitLemmas

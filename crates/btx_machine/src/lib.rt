@@ -9,6 +9,7 @@ pub mod law;
 pub mod machine;
 pub mod marks;
 pub mod outputs;
+pub mod quick;
 pub mod report;
 pub mod run;
 pub mod visits;

@@ -4,6 +4,7 @@ pub mod Order
 pub mod Ascent
 pub mod Bytes
 pub mod Orders
+pub mod QuickLemmas
 pub mod RowLemmas
 pub mod RuleLemmas
 pub mod AppliedLemmas

@@ -13,6 +13,7 @@ pub mod Variables
 pub mod Entries
 pub mod Table
 pub mod Steps
+pub mod Quick
 pub mod Notes
 pub mod Sorting
 pub mod Orders

@@ -12,6 +12,7 @@ mod arithmetic;
 mod control;
 mod entries;
 mod names;
+mod quick;
 mod stacks;
 mod starts;
 mod strings;
