@@ -22,7 +22,7 @@ in_front b [] = []
 in_front b (Taken text ∷ pieces) = Taken (b ∷ text) ∷ pieces
 in_front b (Cut slip ∷ pieces) = Cut slip ∷ pieces
 
--- what a `}` closes, where this follows it
+-- the piece that a `}` ends, if nothing stands behind the `}` on its line
 abbrev pub closed_before : List ℕ → List Piece
 closed_before [] = Taken [] ∷ []
 closed_before (b ∷ bs) = Cut StuffAfter ∷ []
@@ -46,7 +46,7 @@ first_piece (piece ∷ pieces) = piece
 abbrev pub piece_of : List ℕ → Piece
 piece_of argument = first_piece (pieces_of false argument)
 
--- the command of this name
+-- which of the four commands a name is, if it is one
 unfoldable pub command_named : List ℕ → Option Command
 command_named name =
     if bytes_eq name (codes "\\citation") then Some Citation
@@ -77,7 +77,7 @@ words_of_command (Some Bibdata) argument = Databases (pieces_of true argument) �
 words_of_command (Some Bibstyle) argument = Styles (piece_of argument) ∷ []
 words_of_command (Some Input) argument = Includes (piece_of argument) ∷ []
 
--- what a line with this first `{` says
+-- what a line says, by the place of its first `{`; without a `{` it says nothing
 abbrev pub words_at : Option ℕ → List ℕ → List Word
 words_at None line = []
 words_at (Some brace) line = words_of_command (command_named (take brace line)) (drop (brace + 1) line)

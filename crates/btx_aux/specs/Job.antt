@@ -55,12 +55,12 @@ cited event = cited_by event.word
 abbrev pub keys_of : List Event → List (List ℕ)
 keys_of events = fold with_key [] (flat_map cited events)
 
--- this count, if the piece is `*`
+-- the count of the keys before it, where a piece is `*`; another piece gives none
 abbrev pub star_in : Piece → ℕ → List ℕ
 star_in (Taken key) count = if is_star key then count ∷ [] else []
 star_in (Cut slip) count = []
 
--- this count at the piece `*` of a `\citation`; nothing else has it
+-- the count of the keys before it, where a `\citation` has the piece `*`; nothing else gives one
 abbrev pub star_by : Word → ℕ → List ℕ
 star_by (Cites piece) count = star_in piece count
 star_by (Databases pieces) count = []

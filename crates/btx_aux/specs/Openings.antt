@@ -31,6 +31,7 @@ opening_of event = map (λ (level : ℕ). (event.file, level)) (levels_by event.
 abbrev pub openings : List Event → List (List ℕ × ℕ)
 openings events = flat_map opening_of events
 
+-- the names of the files that are opened, in their order
 abbrev pub files_opened : List Event → List (List ℕ)
 files_opened events = map (λ (opening : List ℕ × ℕ). opening.0) (openings events)
 

@@ -17,7 +17,7 @@ use Rattle.btx_bib.specs.Told.{Database, Reading, read_next}
 
 -- ---- before the first database
 
--- nothing is known
+-- what is known before a macro or a database was read
 abbrev pub nothing : Known
 nothing = record { strings = []; stored = []; current = None; preamble = []; ending = end.Whole }
 

@@ -21,7 +21,7 @@ pub record Given : Type 0 where
 abbrev pub number_of : Wanted → Field → Option ℕ
 number_of wanted field = wanted.field (folded field.name)
 
--- this is the number
+-- a number, if there is one, is the one that is asked for
 abbrev pub is_number : ℕ → Option ℕ → Bool
 is_number number None = false
 is_number number (Some other) = nat_eq other number

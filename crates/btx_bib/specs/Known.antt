@@ -79,7 +79,7 @@ after_event wanted known (FieldOf field) = after_field wanted known known.curren
 after_event wanted known Close = known
 after_event wanted known (Wrong slip) = known
 
--- the same, while the reading goes on
+-- what is known after an event; once a limit was met, nothing changes any more
 abbrev pub after : Wanted → Known → Event → Known
 after wanted known event = if goes_on known.ending then after_event wanted known event else known
 

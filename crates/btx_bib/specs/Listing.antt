@@ -8,11 +8,12 @@ use Rattle.btx_bib.specs.Wanted.{Wanted}
 use Rattle.btx_bib.specs.Entries.{Given, body_of}
 use Rattle.btx_bib.specs.Stored.{keys_in, entry_of, parents_in, references}
 
--- the cited keys with which the list begins, and those that were cited after `*`
+-- the cited keys with which the list begins: with `*` those that were cited before it, else all
 abbrev pub first_cited : Option ℕ → List (List ℕ) → List (List ℕ)
 first_cited None cited = cited
 first_cited (Some place) cited = take place cited
 
+-- the cited keys with which the list ends: with `*` those that were cited after it, else none
 abbrev pub last_cited : Option ℕ → List (List ℕ) → List (List ℕ)
 last_cited None cited = []
 last_cited (Some place) cited = drop place cited
@@ -46,6 +47,6 @@ slot_of wanted stored key = record {
   body = option_map (body_of wanted) (entry_of stored key);
 }
 
--- the list
+-- the list, with a place for each of its keys, before the two passes of cross-references
 abbrev pub slots_of : Wanted → List Given → List Slot
 slots_of wanted stored = map (slot_of wanted stored) (keys_of wanted stored)

@@ -11,12 +11,12 @@ use Rattle.btx_bib.specs.declared.slots.Body.{Body}
 use Rattle.btx_bib.specs.declared.slots.Slot.{Slot}
 use Rattle.btx_bib.specs.Entries.{parent_in}
 
--- what a pass makes of the places of the list, where these are done
+-- the list after a pass: `judge` changes each place in its turn, by the list as it is then, of which the places `done` were changed already
 abbrev pub passed : (List Slot → Slot → Slot) → List Slot → List Slot → List Slot
 passed judge done [] = done
 passed judge done (slot ∷ slots) = passed judge (done ++ judge (done ++ slot ∷ slots) slot ∷ []) slots
 
--- the messages of a pass
+-- the messages of a pass: `judge` changes a place, `tell` gives its messages before that, and the places `done` were changed already
 abbrev pub told_in : (List Slot → Slot → Slot) → (List Slot → Slot → List Message) → List Slot → List Slot → List Message
 told_in judge tell done [] = []
 told_in judge tell done (slot ∷ slots) = tell (done ++ slot ∷ slots) slot ++ told_in judge tell (done ++ judge (done ++ slot ∷ slots) slot ∷ []) slots
@@ -39,10 +39,11 @@ abbrev pub parent_slot : List Slot → Option (List ℕ) → Option Slot
 parent_slot slots None = None
 parent_slot slots (Some key) = slot_at slots key
 
--- a place with other values
+-- a place of the list with another entry
 abbrev pub with_body : Slot → Option Body → Slot
 with_body slot body = record slot { body = body }
 
+-- an entry with other values for its fields, if there is an entry
 abbrev pub with_values : Option Body → List (Option (List ℕ)) → Option Body
 with_values None values = None
 with_values (Some body) values = Some (record body { values = values })
@@ -53,7 +54,7 @@ or_values [] parents = []
 or_values (value ∷ values) [] = value ∷ values
 or_values (value ∷ values) (parent ∷ parents) = option_or value parent ∷ or_values values parents
 
--- the same, with the parent's key for `crossref`
+-- an entry's values, where those that are missing are the parent's, and `crossref` is the parent's key as the list spells it
 abbrev pub inherited_values : List ℕ → List (Option (List ℕ)) → List (Option (List ℕ)) → List (Option (List ℕ))
 inherited_values key [] parents = []
 inherited_values key (value ∷ values) [] = Some key ∷ values
@@ -64,6 +65,7 @@ abbrev pub inherited_from : Option Slot → Slot → Slot
 inherited_from None slot = slot
 inherited_from (Some parent) slot = with_body slot (with_values slot.body (inherited_values parent.key (values_in slot.body) (values_in parent.body)))
 
+-- the first pass, at a place of the list: what the entry there lacks it takes from its parent, by what that has at that moment
 unfoldable pub inherited : List Slot → Slot → Slot
 inherited slots slot = inherited_from (parent_slot slots (parent_at slot)) slot
 
@@ -86,6 +88,7 @@ abbrev pub checked_by : Option (List ℕ) → List Slot → Slot → Slot
 checked_by None slots slot = slot
 checked_by (Some key) slots slot = if is_parent (slot_at slots key) then slot else cut slot
 
+-- the second pass, at a place of the list: the entry there keeps its parent only if that has an entry that stays
 unfoldable pub checked : List Slot → Slot → Slot
 checked slots slot = checked_by (parent_at slot) slots slot
 
@@ -98,10 +101,12 @@ abbrev pub parent_told : List ℕ → List ℕ → Option Slot → List Message
 parent_told child key None = BadReference child key ∷ []
 parent_told child key (Some parent) = if is_some parent.body then told_if (is_some (parent_at parent)) (NestedReference child key) else BadReference child key ∷ []
 
+-- the messages about a parent at a place of the list, if the entry there names one
 abbrev pub check_told_by : Option (List ℕ) → List Slot → Slot → List Message
 check_told_by None slots slot = []
 check_told_by (Some key) slots slot = parent_told slot.key key (slot_at slots key)
 
+-- what the second pass logs of a place: that the parent has no entry, or that it has a parent itself
 unfoldable pub check_told : List Slot → Slot → List Message
 check_told slots slot = check_told_by (parent_at slot) slots slot
 
@@ -110,6 +115,7 @@ abbrev pub entry_by : List ℕ → Bool → Option Body → List Entry
 entry_by key stays None = []
 entry_by key stays (Some body) = if stays then record { key = key; kind = body.kind; values = body.values } ∷ [] else []
 
+-- the entry of the library at a place of the list, if one is there and stays
 abbrev pub entry_at : Slot → List Entry
 entry_at slot = entry_by slot.key slot.stays slot.body
 
@@ -118,13 +124,15 @@ abbrev pub absence_by : List ℕ → Option Body → List Message
 absence_by key None = NoEntry key ∷ []
 absence_by key (Some body) = []
 
+-- the message of a place of the list, where its key has no entry
 abbrev pub absence_told : Slot → List Message
 absence_told slot = absence_by slot.key slot.body
 
--- the list after the first pass, and after the second
+-- the list after the first pass: children have what they inherit
 abbrev pub after_first : List Slot → List Slot
 after_first slots = passed inherited [] slots
 
+-- the list after both passes: entries whose parents are missing or leave have lost their `crossref`
 abbrev pub after_second : List Slot → List Slot
 after_second slots = passed checked [] slots
 

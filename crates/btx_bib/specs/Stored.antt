@@ -6,7 +6,7 @@ use Rattle.btx_aux.specs.Names.{is_same_key}
 use Rattle.btx_bib.specs.Wanted.{Wanted}
 use Rattle.btx_bib.specs.Entries.{Given, parent_of, listed}
 
--- one of some keys is this
+-- a key is one of some keys, where case is ignored
 abbrev pub is_any_key : List (List ℕ) → List ℕ → Bool
 is_any_key keys key = list_any (is_same_key key) keys
 
@@ -27,6 +27,7 @@ abbrev pub references_by : Option ℕ → Wanted → List Given → List (List �
 references_by None wanted entries = parents_in wanted entries
 references_by (Some place) wanted entries = []
 
+-- the references of stored entries that keep or add a parent, one for each child; with `*` there are none
 abbrev pub references : Wanted → List Given → List (List ℕ)
 references wanted entries = references_by wanted.all wanted entries
 

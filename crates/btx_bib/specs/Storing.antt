@@ -21,6 +21,7 @@ abbrev pub defines : List ℕ → Event → Bool
 defines name (Definition other value) = is_same_key name other
 defines name _ = false
 
+-- one of some events is a `@string` that gives a name a value
 abbrev pub is_defined_in : List ℕ → List Placed → Bool
 is_defined_in name events = list_any (λ (placed : Placed). defines name placed.event) events
 
@@ -37,10 +38,11 @@ abbrev pub OthersKeepTheirs : Type 0
 OthersKeepTheirs = (wanted : Wanted) (known : Known) (events : List Placed) (name : List ℕ)
     → is_defined_in name events ≡ false → string_value (after_all wanted known events).strings name ≡ string_value known.strings name
 
--- the same of the style's macros, before the first database: the last one of a name is its value, with its white squeezed
+-- one of some macros has a name, whose case is ignored
 abbrev pub is_macro_in : List ℕ → List (List ℕ × List ℕ) → Bool
 is_macro_in name macros = list_any (λ (macro : List ℕ × List ℕ). is_same_key name macro.0) macros
 
+-- before the first database, a name that macros of the style have stands for the text of the last of them, with its white squeezed
 abbrev pub LastMacroCounts : Type 0
 LastMacroCounts = (before behind : List (List ℕ × List ℕ)) (name own text : List ℕ) → is_same_key name own ≡ true → is_macro_in name behind ≡ false
     → (let known = with_macros (before ++ (own, text) ∷ behind) in goes_on known.ending ≡ true → string_value known.strings name ≡ Some (squeezed text))
@@ -58,10 +60,11 @@ WantedNewAreStored = (wanted : Wanted) (known : Known) (kind key : List ℕ) (ne
     stored_in (after wanted known read.0) ≡
     (if is_asked_for wanted stored key && not (is_any_key (keys_in stored) key) then stored ++ record { kind = kind; key = key; fields = [] } ∷ [] else stored))
 
--- what else is read changes no stored entry's key, and stores none
+-- the event is the type and the key of an entry
 abbrev pub is_entry : Event → Bool
 is_entry (Entry kind key) = true
 is_entry _ = false
 
+-- an event that isn't the key of an entry changes no stored entry's key, and stores none
 abbrev pub OthersStoreNone : Type 0
 OthersStoreNone = (wanted : Wanted) (known : Known) (event : Event) → is_entry event ≡ false → keys_in (stored_in (after wanted known event)) ≡ keys_in (stored_in known)

@@ -23,10 +23,11 @@ pub record Database : Type 0 where
   pub file : List ℕ
   pub text : List ℕ
 
--- the line of the byte with which this rest of a database begins, and the line of the last byte before it
+-- where a message points: the file, and the line of the byte with which a rest of the database begins
 abbrev pub spot_at : Database → List ℕ → Spot
 spot_at database rest = record { file = database.file; line = line_at database.text rest }
 
+-- where a message points: the file, and the line of the last byte before a rest of the database
 abbrev pub spot_before : Database → List ℕ → Spot
 spot_before database rest = record { file = database.file; line = line_before database.text rest }
 
@@ -71,7 +72,7 @@ event_told wanted database known (FieldOf field) rest = field_told wanted databa
 event_told wanted database known End rest = []
 event_told wanted database known (Wrong slip) rest = message.Wrong slip (spot_at database rest) ∷ []
 
--- the same, while the reading goes on
+-- the messages of an event that was read; once a limit was met there are none
 abbrev pub told_at : Wanted → Database → Known → Placed → List Message
 told_at wanted database known placed = if goes_on known.ending then event_told wanted database known placed.event placed.rest else []
 

@@ -27,13 +27,15 @@ field name =
     else if bytes_eq name (codes "title") then Some 1
     else if bytes_eq name (codes "booktitle") then Some 2 else None
 
--- the types are `misc` and `book`
+-- the number of the type `misc`
 abbrev pub misc : Option ℕ
 misc = Some 0
 
+-- the number of the type `book`
 abbrev pub book : Option ℕ
 book = Some 1
 
+-- the style has functions for the types `misc` and `book`
 abbrev pub kind : List ℕ → Option ℕ
 kind name = if bytes_eq name (codes "misc") then misc else if bytes_eq name (codes "book") then book else None
 
@@ -166,6 +168,7 @@ pub record Cut : Type 0 where
   pub first : List ℕ
   pub second : List ℕ
 
+-- a worked cut, of the text before it and the text behind it
 abbrev pub cut : List ℕ → List ℕ → Cut
 cut first second = record { first = first; second = second }
 
@@ -200,9 +203,11 @@ pub record WorkedMessage : Type 0 where
   pub message : Message
   pub line : Line
 
+-- a worked message, the kind of its line and the text of that: a `NoEntry` of `nope` is a warning, which says that no entry was found for it
 abbrev pub message_row : Message → LineKind → List ℕ → WorkedMessage
 message_row message kind text = record { message = message; line = record { text = text; kind = kind } }
 
+-- the line of each message about databases
 abbrev pub messages : List WorkedMessage
 messages =
     -- what is wrong is an error, with its line
@@ -230,6 +235,7 @@ messages =
 
 -- ---- each row is so
 
+-- the databases of each row give to its job the library of the row
 abbrev pub AreGiven : List Worked → Type 0
 AreGiven [] = Unit {0}
 AreGiven (row ∷ rows) = (library_of row.wanted row.macros row.databases ≡ row.library) × AreGiven rows
@@ -238,14 +244,17 @@ AreGiven (row ∷ rows) = (library_of row.wanted row.macros row.databases ≡ ro
 abbrev pub IsCut : Cut → Type 0
 IsCut row = IsCutBetweenItems (citing (codes "k" ∷ []) 2) (with_macros []) (database (row.first ++ row.second)) (database row.first) (database row.second)
 
+-- each row is a cut between items
 abbrev pub AreCuts : List Cut → Type 0
 AreCuts [] = Unit {0}
 AreCuts (row ∷ rows) = IsCut row × AreCuts rows
 
+-- no row is a cut between items
 abbrev pub AreNoCuts : List Cut → Type 0
 AreNoCuts [] = Unit {0}
 AreNoCuts (row ∷ rows) = (IsCut row → ⊥) × AreNoCuts rows
 
+-- the message of each row has the line of the row
 abbrev pub AreLines : List WorkedMessage → Type 0
 AreLines [] = Unit {0}
 AreLines (row ∷ rows) = (line_of row.message ≡ row.line) × AreLines rows

@@ -2,5 +2,6 @@
 use Rattle.std.specs.Prelude.{List}
 use Rattle.btx_bst.specs.declared.token.Token.{Token}
 
+-- the body of a function: its tokens, in the order in which they are executed
 abbrev pub Body : Type 0
 Body = List Token

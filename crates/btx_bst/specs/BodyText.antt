@@ -29,7 +29,7 @@ pub data End : Type 0 where
   Whole : (inside : Inside) → End
   Broken : (complaint : Complaint) (inside : Inside) → End
 
--- one more token
+-- one more token, at the end of the innermost function
 abbrev pub with_token : Token → Inside → Inside
 with_token token inside = record inside { tokens = inside.tokens ++ token ∷ [] }
 
@@ -41,11 +41,11 @@ with_text text inside = record inside { tokens = inside.tokens ++ Text (length i
 abbrev pub with_message : Complaint → Inside → Inside
 with_message complaint inside = record inside { items = inside.items ++ Message complaint inside.place.number ∷ [] }
 
--- a `{`
+-- a `{` begins a nameless function, which has no token yet, inside the innermost one
 abbrev pub opened_inside : Inside → Inside
 opened_inside inside = record inside { tokens = []; around = inside.tokens ∷ inside.around }
 
--- a `}`, with the functions round the innermost one
+-- a `}` ends the innermost function: a nameless one is defined, and stands as a literal in the one round it; the outermost one ends the body
 abbrev pub closed_inside : Inside → List Body → Turn Inside End
 closed_inside inside [] = Ends (Whole inside)
 closed_inside inside (outer ∷ around) =
@@ -56,7 +56,7 @@ abbrev pub with_named : (Callee → Token) → List ℕ → Inside → Option Ca
 with_named token name inside None = with_message (Unknown name) inside
 with_named token name inside (Some callee) = with_token (token callee) inside
 
--- what a word comes to
+-- how a word of a body changes what is known inside it, or ends the body
 abbrev pub word_turn : Names → Inside → Word → Turn Inside End
 word_turn names inside Open = Again (opened_inside inside)
 word_turn names inside Close = closed_inside inside inside.around
@@ -68,7 +68,7 @@ word_turn names inside (Faulty complaint) = Again (with_message complaint inside
 word_turn names inside Unended = Ends (Broken NoQuoteEnd inside)
 word_turn names inside Ended = Ends (Broken EndOfFile inside)
 
--- the next word
+-- the word that stands next is read: it changes what is known inside the body, or ends the body
 unfoldable pub body_turn : Names → Inside → Turn Inside End
 body_turn names inside = word_turn names (record inside { place = (met_at inside.place).place }) (met_at inside.place).word
 

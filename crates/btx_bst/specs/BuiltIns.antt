@@ -46,7 +46,7 @@ word_of While = codes "while$"
 word_of Width = codes "width$"
 word_of Write = codes "write$"
 
--- all of them
+-- the 37 built-in functions (btxhak, section 5.3)
 unfoldable pub built_ins : List BuiltIn
 built_ins =
     Equals ∷ Greater ∷ Less ∷ Plus ∷ Minus ∷ Concatenate ∷ Assign ∷ AddPeriod ∷ CallType ∷ ChangeCase ∷ CharacterToInteger ∷ Cite ∷ Duplicate ∷ Empty

@@ -76,6 +76,7 @@ abbrev pub AreNames : List (List ℕ) → Place → Place → Type 0
 AreNames [] from to = from ≡ to
 AreNames (name ∷ names) from to = (next : Place) × Spaced NameHere from (Took name next) × AreNames names next to
 
+-- a byte that may stand in a list of names: its `}`, or one with which a name begins
 abbrev pub goes_on : ℕ → Bool
 goes_on b = b == close_brace || begins_name b
 

@@ -3,6 +3,7 @@ use Rattle.std.specs.Prelude.{ℕ, List, codes}
 use Rattle.btx_bst.specs.declared.command.Command.{Command}
 use Rattle.btx_bst.specs.declared.command.Command.TheVariants.{Entry, Function, Read, Execute, Iterate, Reverse, Sort, Integers, Strings, Macro}
 
+-- the word of a command, in capitals
 abbrev pub word_of : Command → List ℕ
 word_of Entry = codes "ENTRY"
 word_of Function = codes "FUNCTION"

@@ -51,6 +51,7 @@ entry_lists style place =
     after_list style (list_at kind.EntryString style.names place) (λ style place.
     outcome None (with_item Entry (record style { has_entry = true })) place)))
 
+-- ENTRY declares the fields and the variables of entries, in three lists; it takes effect once (btxhak, section 5.2)
 unfoldable pub entry : Style → Place → Outcome
 entry style place = if style.has_entry then outcome (Some (Another command.Entry)) style place else entry_lists style place
 
@@ -71,7 +72,7 @@ function_ended style lowered (Whole inside) =
 abbrev pub inside_at : Style → Place → Inside
 inside_at style place = record { place = place; tokens = []; around = []; bodies = style.bodies; texts = style.texts; items = style.items }
 
--- the body of a function of this name
+-- the rest of a FUNCTION behind its new name: the `}` of the name, and the body in braces
 abbrev pub function_body : Style → List ℕ → Place → Outcome
 function_body style name place =
     after_read style (closing place) (λ _ place.
@@ -83,6 +84,7 @@ abbrev pub function_of : Style → List ℕ → Place → Option Callee → Outc
 function_of style name place (Some other) = outcome (Some (Defined name)) style place
 function_of style name place None = function_body style name place
 
+-- FUNCTION gives a new name to a function: the name in braces, and its body in braces (btxhak, section 5.2)
 unfoldable pub function : Style → Place → Outcome
 function style place =
     after_read style (opening place) (λ _ place.
@@ -95,6 +97,7 @@ function style place =
 abbrev pub has_read : Style → Bool
 has_read style = is_some style.before_read
 
+-- READ reads the databases: it stands behind ENTRY and takes effect once; the functions before it may be types of entries (btxhak, section 5.2)
 unfoldable pub read : Style → Place → Outcome
 read style place =
     if has_read style then outcome (Some (Another command.Read)) style place
@@ -113,6 +116,7 @@ abbrev pub run_of : (Callee → Item) → Style → List ℕ → Place → Optio
 run_of item style name place None = outcome (Some (Unknown name)) style place
 run_of item style name place (Some callee) = after_read style (closing place) (λ _ place. outcome None (with_item (item callee) style) place)
 
+-- the argument of EXECUTE, ITERATE and REVERSE: in braces the name of a function, built-in or the style's own
 abbrev pub run_name : (Callee → Item) → Style → Place → Outcome
 run_name item style place =
     after_read style (opening place) (λ _ place.
@@ -123,15 +127,17 @@ run_name item style place =
 unfoldable pub run : Command → (Callee → Item) → Style → Place → Outcome
 run command item style place = if has_read style then run_name item style place else outcome (Some (BeforeRead command)) style place
 
+-- SORT orders the list by the sort keys of its entries; it stands behind READ (btxhak, section 5.2)
 unfoldable pub sort : Style → Place → Outcome
 sort style place = if has_read style then outcome None (with_item Sort style) place else outcome (Some (BeforeRead command.Sort)) style place
 
 -- ---- INTEGERS, STRINGS and MACRO
 
+-- INTEGERS and STRINGS declare the names of a list in braces, as variables of the kind (btxhak, section 5.2)
 unfoldable pub declare : Kind → Item → Style → Place → Outcome
 declare kind item style place = after_list style (list_at kind style.names place) (λ style place. outcome None (with_item item style) place)
 
--- the text of a macro of this name
+-- the rest of a MACRO behind its new name: the `}` of the name, and the text in quotes, in braces
 abbrev pub macro_text : Style → List ℕ → Place → Outcome
 macro_text style name place =
     after_read style (closing place) (λ _ place.
@@ -145,16 +151,18 @@ abbrev pub macro_of : Style → List ℕ → Place → Option (List ℕ) → Out
 macro_of style name place (Some other) = outcome (Some (Defined name)) style place
 macro_of style name place None = macro_text style name place
 
+-- the arguments of a MACRO: in braces a name that no other macro has, and in braces its text
 abbrev pub macro_name : Style → Place → Outcome
 macro_name style place =
     after_read style (opening place) (λ _ place.
     after_read style (name_at place) (λ name place.
     macro_of style name place (macro_lower style.macros (folded name))))
 
+-- MACRO gives a string a name that databases may use, such as `jan`; it stands before READ (btxhak, section 5.2)
 unfoldable pub macro_command : Style → Place → Outcome
 macro_command style place = if has_read style then outcome (Some AfterRead) style place else macro_name style place
 
--- a command
+-- what a command makes of a style, read from the place behind the command's word on
 abbrev pub command_at : Command → Style → Place → Outcome
 command_at command.Entry style place = entry style place
 command_at command.Function style place = function style place

@@ -2,6 +2,7 @@
 use Rattle.std.specs.Prelude.{ℕ, List}
 use Rattle.btx_bst.specs.declared.command.Command.{Command}
 
+-- what can be wrong in a style's text; each complaint is an error of the log, with its line
 pub data Complaint : Type 0 where
   -- a command is missing
   NoCommand : Complaint

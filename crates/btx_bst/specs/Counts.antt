@@ -13,6 +13,7 @@ functions_behind count _ = count
 abbrev pub functions_in : List Item → ℕ
 functions_in items = fold functions_behind 0 items
 
+-- the item is a READ
 abbrev pub is_read : Item → Bool
 is_read Read = true
 is_read _ = false

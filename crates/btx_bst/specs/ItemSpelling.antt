@@ -42,5 +42,6 @@ AreFull (line ∷ lines) = (line ≡ [] → ⊥) × AreFull lines
 abbrev pub SkippedLaw : Type 0
 SkippedLaw = (number : ℕ) (line : List ℕ) (lines after : List (List ℕ)) → AreFull lines → skipped (place_at number line (lines ++ [] ∷ after)) ≡ place_at (number + length lines + 1) [] after
 
+-- Where no empty line stands behind a fault, all up to the end of the text is skipped, and the end has the number of the last line.
 abbrev pub SkippedToEndLaw : Type 0
 SkippedToEndLaw = (number : ℕ) (line : List ℕ) (lines : List (List ℕ)) → AreFull lines → skipped (place_at number line lines) ≡ place_at (number + length lines) [] []

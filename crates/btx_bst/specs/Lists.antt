@@ -16,11 +16,11 @@ abbrev pub brace_in : ℕ → Complaint → Place → List ℕ → Read (Unit {0
 brace_in brace complaint place [] = Slip EndOfFile place
 brace_in brace complaint place (b ∷ bs) = if b == brace then Took tt (further place bs) else Slip complaint place
 
--- a `{`
+-- the `{` that stands next, behind white and comments, or the complaint that it is missing
 abbrev pub opening : Place → Read (Unit {0})
 opening place = brace_in open_brace NoOpen (ink place) (ink place).line
 
--- a `}`
+-- the `}` that stands next, behind white and comments, or the complaint that it is missing
 abbrev pub closing : Place → Read (Unit {0})
 closing place = brace_in close_brace NoClose (ink place) (ink place).line
 
@@ -34,7 +34,7 @@ abbrev pub name_in : Place → List ℕ → Read (List ℕ)
 name_in place [] = Slip EndOfFile place
 name_in place (b ∷ bs) = front_of NoName place (b ∷ bs) (name_len (b ∷ bs))
 
--- a name
+-- the name that stands next, behind white and comments, or the complaint that there is none
 abbrev pub name_at : Place → Read (List ℕ)
 name_at place = name_in (ink place) (ink place).line
 
@@ -52,7 +52,7 @@ abbrev pub quoted_in : Place → List ℕ → Read (List ℕ)
 quoted_in place [] = Slip EndOfFile place
 quoted_in place (b ∷ bs) = if b == double_quote then text_of place (take (quote_len bs) bs) (drop (quote_len bs) bs) else Slip NoQuote place
 
--- a text in quotes
+-- the text in quotes that stands next, behind white and comments, or the complaint that a quote is missing
 abbrev pub quoted_at : Place → Read (List ℕ)
 quoted_at place = quoted_in (ink place) (ink place).line
 
@@ -61,6 +61,7 @@ pub record Listing : Type 0 where
   pub names : Names
   pub place : Place
 
+-- a list that is being read, of the names that are known so far and the place
 abbrev pub listing : Names → Place → Listing
 listing names place = record { names = names; place = place }
 
@@ -69,6 +70,7 @@ pub record Listed : Type 0 where
   pub complaint : Option Complaint
   pub listing : Listing
 
+-- the end of a list, of the complaint if there is one, the names that are known then, and the place
 abbrev pub listed : Option Complaint → Names → Place → Listed
 listed complaint names place = record { complaint = complaint; listing = listing names place }
 
@@ -104,5 +106,6 @@ abbrev pub list_read : Kind → Names → Read (Unit {0}) → Listed
 list_read kind names (Slip complaint place) = listed (Some complaint) names place
 list_read kind names (Took _ place) = list_end kind (listing names place)
 
+-- the list of names in braces that stands next: each of its names is declared, as a field or a variable of the kind
 abbrev pub list_at : Kind → Names → Place → Listed
 list_at kind names place = list_read kind names (opening place)

@@ -33,7 +33,7 @@ shown_of (Another command) = word_of command
 shown_of (BeforeRead command) = word_of command
 shown_of _ = []
 
--- what stands after it
+-- what stands behind the name or the command that is shown
 unfoldable pub after_of : Complaint → List ℕ
 after_of (NotCommand name) = codes " isn't a command"
 after_of (Defined name) = codes " is already defined"
@@ -42,6 +42,7 @@ after_of (Another command) = codes " command"
 after_of (BeforeRead command) = codes " command before READ"
 after_of _ = []
 
+-- the text of a complaint, as the log shows it between the mark of an error and the place
 abbrev pub text_of : Complaint → List ℕ
 text_of complaint = before_of complaint ++ (shown_of complaint ++ after_of complaint)
 

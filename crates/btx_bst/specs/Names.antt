@@ -25,7 +25,7 @@ pub record Names : Type 0 where
 abbrev pub no_names : Names
 no_names = record { functions = []; fields = []; entry_integers = []; entry_strings = []; global_integers = []; global_strings = [] }
 
--- a function has this name
+-- a function has the name; a nameless one has none
 abbrev pub has_name : List ℕ → Option (List ℕ) → Bool
 has_name name None = false
 has_name name (Some other) = bytes_eq name other

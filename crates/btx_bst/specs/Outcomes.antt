@@ -12,6 +12,7 @@ pub record Outcome : Type 0 where
   pub style : Style
   pub place : Place
 
+-- an outcome, of its three parts
 abbrev pub outcome : Option Complaint → Style → Place → Outcome
 outcome complaint style place = record { complaint = complaint; style = style; place = place }
 

@@ -3,6 +3,7 @@
 use Rattle.std.specs.Prelude.{[], ◌∷◌, codes}
 use Rattle.btx_bst.specs.Names.{Names}
 
+-- what every style can name without declaring it: one field, one string of an entry and two global integers
 abbrev pub predefined : Names
 predefined = record {
   functions = [];

@@ -75,10 +75,11 @@ made_word names line (Name name) made = made_named Run line name (named names na
 made_word names line (Faulty complaint) made = record made { items = made.items ++ Message complaint line ∷ [] }
 made_word names line _ made = made
 
--- the inside of a nameless function is read with no tokens; then it is defined, and stands as a literal in the function round it
+-- a `{`: the inside of a nameless function is read with no tokens
 abbrev pub begun : Made → Made
 begun made = record made { tokens = [] }
 
+-- a `}`: the nameless function is defined by the next number, and stands as a literal in the function round it
 abbrev pub defined : Body → Made → Made
 defined outer inner = record { tokens = outer ++ Quote (User (length inner.bodies)) ∷ []; bodies = inner.bodies ++ inner.tokens ∷ []; texts = inner.texts; items = inner.items }
 

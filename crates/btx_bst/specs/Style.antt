@@ -6,6 +6,7 @@ use Rattle.btx_bst.specs.Bodies.{Body}
 use Rattle.btx_bst.specs.Items.{Item}
 use Rattle.btx_bst.specs.Names.{Names, Macros, named_lower}
 
+-- a style that was read: its commands and messages in order, and the names, macros, functions and strings that they use
 pub record Style : Type 0 where
   -- the name of the file
   pub file : List ℕ

@@ -18,6 +18,7 @@ pub record State : Type 0 where
   pub style : Style
   pub place : Place
 
+-- how far the reading of a style has come, of the style so far and the place
 abbrev pub state : Style → Place → State
 state style place = record { style = style; place = place }
 
@@ -44,10 +45,11 @@ abbrev pub item_in : Style → Place → List ℕ → Turn State Style
 item_in style place [] = Ends style
 item_in style place (b ∷ bs) = Again (resumed_after (command_outcome style place))
 
--- the next command
+-- the command that stands next is read, or the text ends and with it the style
 unfoldable pub item_turn : State → Turn State Style
 item_turn state = item_in state.style (ink state.place) (ink state.place).line
 
+-- the style, as far as it was read
 abbrev pub style_in : State → Style
 style_in state = state.style
 
@@ -55,7 +57,7 @@ style_in state = state.style
 unfoldable pub style_from : State → Style
 style_from state = turns_within item_turn style_in (suc (size state.place)) state
 
--- nothing has been read: these names are known
+-- a style of which nothing has been read: it has the name of its file, and the names that are known before it
 abbrev pub start : List ℕ → Names → Style
 start file names = record { file = file; items = []; names = names; macros = []; bodies = []; texts = []; has_entry = false; before_read = None }
 

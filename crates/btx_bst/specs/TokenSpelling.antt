@@ -42,12 +42,15 @@ abbrev pub IsBlank : List ℕ → Type 0
 IsBlank [] = Unit {0}
 IsBlank (b ∷ bs) = (b ≡ percent) ⊎ ((is_white b ≡ true) × IsBlank bs)
 
+-- white, or the `%` that begins a comment
 abbrev pub is_blank : ℕ → Bool
 is_blank b = is_white b || b == percent
 
+-- neither white nor the `%` of a comment
 abbrev pub is_ink : ℕ → Bool
 is_ink b = not (is_blank b)
 
+-- a text that is white alone
 abbrev pub AllWhite : List ℕ → Type 0
 AllWhite [] = Unit {0}
 AllWhite (b ∷ bs) = (is_white b ≡ true) × AllWhite bs
@@ -81,19 +84,21 @@ abbrev pub SignHere : ℕ → Complaint → Spelling (Unit {0})
 SignHere sign wrong from (Took none to) = (rest : List ℕ) × (from.line ≡ sign ∷ rest) × (to ≡ further from rest)
 SignHere sign wrong from (Slip complaint to) = (to ≡ from) × IsMissing (λ b. b == sign) wrong complaint from.line
 
--- a name, which doesn't begin with a digit
+-- a byte with which a name begins: one of those of names, but no digit
 abbrev pub begins_name : ℕ → Bool
 begins_name b = is_name_byte b && not (is_digit b)
 
+-- a name stands here, which goes on up to the first byte that no name has; or there is none
 abbrev pub NameHere : Spelling (List ℕ)
 NameHere from (Took name to) = (rest : List ℕ) × IsUpTo ends_name name from.line rest × Begins begins_name name × (to ≡ further from rest)
 NameHere from (Slip complaint to) = (to ≡ from) × IsMissing begins_name NoName complaint from.line
 
--- a text between quotes, on one line
+-- what is wrong where no text in quotes stands: no quote begins it, none ends it on its line, or the file ends
 abbrev pub IsNoText : Complaint → List ℕ → Type 0
 IsNoText complaint [] = complaint ≡ EndOfFile
 IsNoText complaint (b ∷ bs) = (complaint ≡ NoQuote) × ((is_quote b ≡ false) ⊎ NoneIn is_quote bs)
 
+-- a text stands here between quotes, on one line; or there is none
 abbrev pub TextHere : Spelling (List ℕ)
 TextHere from (Took text to) = (rest : List ℕ) × (from.line ≡ double_quote ∷ (text ++ double_quote ∷ rest)) × NoneIn is_quote text × (to ≡ further from rest)
 TextHere from (Slip complaint to) = (to ≡ from) × IsNoText complaint from.line

@@ -24,6 +24,7 @@ abbrev pub Fits : Bool → ℕ → Type 0
 Fits false n = n < 2 ^ 31
 Fits true n = n ≤ 2 ^ 31
 
+-- the integer that digits of a value write, with a minus or without
 abbrev pub number_of : Bool → ℕ → ℤ
 number_of false n = pos n
 number_of true zero = pos 0

@@ -23,6 +23,7 @@ pub record Front : Type 0 where
   pub word : Word
   pub rest : List ℕ
 
+-- the word that a line begins with, of the word and the rest of the line
 abbrev pub front : Word → List ℕ → Front
 front word rest = record { word = word; rest = rest }
 
@@ -39,10 +40,11 @@ string_ended line text (quote ∷ rest) = string_before text rest
 abbrev pub string_at : List ℕ → Front
 string_at line = string_ended line (take (quote_len line) line) (drop (quote_len line) line)
 
--- what digits come to
+-- a number with one more decimal digit behind it
 abbrev pub with_digit : ℕ → ℕ → ℕ
 with_digit n d = n * 10 + (d - 48)
 
+-- the number that decimal digits write; without digits it is 0
 unfoldable pub value_of : List ℕ → ℕ
 value_of digits = fold with_digit 0 digits
 
@@ -86,6 +88,7 @@ pub record Met : Type 0 where
   pub word : Word
   pub place : Place
 
+-- a word that was met, of the word and the place behind it
 abbrev pub met : Word → Place → Met
 met word place = record { word = word; place = place }
 
@@ -94,6 +97,6 @@ abbrev pub met_in : Place → List ℕ → Met
 met_in place [] = met Ended place
 met_in place (b ∷ bs) = met (word_front b bs).word (further place (word_front b bs).rest)
 
--- the next word
+-- the word of a body that stands next, behind white and comments, and the place behind it
 abbrev pub met_at : Place → Met
 met_at place = met_in (ink place) (ink place).line

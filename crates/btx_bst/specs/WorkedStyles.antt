@@ -19,6 +19,8 @@ pub record Worked : Type 0 where
   pub text : List ℕ
   pub items : List Item
 
+-- a worked style: a text, and the items that it gives; `row (codes "SORT") (Message (BeforeRead command.Sort) 1 ∷ [])` says that a SORT without a
+-- READ before it is an error of line 1
 abbrev pub row : List ℕ → List Item → Worked
 row text items = record { text = text; items = items }
 
@@ -138,9 +140,11 @@ pub record WorkedBody : Type 0 where
   pub bodies : List Body
   pub texts : List (List ℕ)
 
+-- a worked body: a style's text, the bodies of its functions by their numbers, and the strings that stand in them
 abbrev pub body_row : List ℕ → List Body → List (List ℕ) → WorkedBody
 body_row text bodies texts = record { text = text; bodies = bodies; texts = texts }
 
+-- bodies of functions: `FUNCTION {f} {"a"} FUNCTION {g} {""}` has two, which push the strings 0 and 1: `a`, and the empty one
 abbrev pub bodies : List WorkedBody
 bodies =
     -- a body has integers, strings, names behind a quote, and names; strings are numbered through the style
@@ -168,6 +172,7 @@ pub record WorkedWord : Type 0 where
   pub word : List ℕ
   pub function : BuiltIn
 
+-- a worked word, and the built-in function that it names: `:=` is the assignment
 abbrev pub word_row : List ℕ → BuiltIn → WorkedWord
 word_row word function = record { word = word; function = function }
 
@@ -218,9 +223,11 @@ pub record WorkedMessage : Type 0 where
   pub complaint : Complaint
   pub text : List ℕ
 
+-- a worked message: what is wrong, and its text; for the name `F`, which is defined twice, it is `F is already defined`
 abbrev pub message_row : Complaint → List ℕ → WorkedMessage
 message_row complaint text = record { complaint = complaint; text = text }
 
+-- the text of each message about a style
 abbrev pub messages : List WorkedMessage
 messages =
     message_row NoCommand (codes "I was expecting a command")
@@ -251,6 +258,7 @@ abbrev pub AreRead : List Worked → Type 0
 AreRead [] = Unit {0}
 AreRead (row ∷ rows) = ((style_of [] row.text).items ≡ row.items) × AreRead rows
 
+-- the text of each row has the bodies and the strings of the row
 abbrev pub AreBodies : List WorkedBody → Type 0
 AreBodies [] = Unit {0}
 AreBodies (row ∷ rows) = ((style_of [] row.text).bodies ≡ row.bodies) × ((style_of [] row.text).texts ≡ row.texts) × AreBodies rows
@@ -266,6 +274,7 @@ AreWords (row ∷ rows) =
     ((style_of [] (function_of row.word)).items ≡ item.Function 0 ∷ [])
     × ((style_of [] (function_of row.word)).bodies ≡ (Run (callee.BuiltIn row.function) ∷ []) ∷ []) × AreWords rows
 
+-- what is wrong has the text of its row
 abbrev pub AreTexts : List WorkedMessage → Type 0
 AreTexts [] = Unit {0}
 AreTexts (row ∷ rows) = (text_of row.complaint ≡ row.text) × AreTexts rows

@@ -35,6 +35,7 @@ pub data Written : Type 0 where
   Strings : (names : List (List ℕ)) → Written
   Macro : (name text : List ℕ) → Written
 
+-- which of the ten commands it is
 abbrev pub command_of : Written → Command
 command_of (Entry fields integers strings) = command.Entry
 command_of (Function name body) = command.Function

@@ -20,15 +20,17 @@ pub record Product : Type 0 where
   pub told : List ℕ
   pub report : Report
 
--- the whole log
+-- the whole log: its last line gives the report
 abbrev pub log_of : Product → List ℕ
 log_of product = product.told ++ ended_line (last_line product.report)
 
--- what is sure of the list of references, for lines of at most this number of bytes: the lines that ended, and what of the pending one can't change
+-- what is sure of the list of references, which is broken into lines of at most `limit` bytes: the lines that ended, and what of the pending one
+-- can't change
 abbrev pub so_far : ℕ → Out → List ℕ
 so_far limit out = written_of limit out.lines out.pending
 
--- the list of references at an end: where the run finished, the pending line is ended if it isn't empty, and else what is sure of it stands
+-- the list of references at an end, in lines of at most `limit` bytes: where the run finished, a pending line that isn't empty is ended; else
+-- what is sure of it stands
 abbrev pub bbl_at : ℕ → Ending → Out → List ℕ
 bbl_at limit ending.Finished out = flat_map (wrap limit) out.lines ++ finished limit out.pending
 bbl_at limit ending.Stopped out = so_far limit out
@@ -38,6 +40,7 @@ bbl_at limit (ending.Limit kind) out = so_far limit out
 abbrev pub report_at : Ending → ℕ → State → Report
 report_at end steps s = report_of (end_as end) steps s.store.deepest (told_so s.out.warnings s.out.errors)
 
+-- the product of a run that ended in a state after some steps: the list of references, the log before its last line, and the report
 abbrev pub product_at : ℕ → Ending → ℕ → State → Product
 product_at limit end steps s = record { bbl = bbl_at limit end s.out; told = s.out.log; report = report_at end steps s }
 
@@ -51,7 +54,7 @@ product_of limit budget (Limit kind s left) = product_at limit (ending.Limit kin
 abbrev pub no_out : Told → Out
 no_out told = record { lines = []; pending = []; log = []; warnings = told.warnings; errors = told.errors }
 
--- the first state
+-- the state before the first command: nothing is written, and all variables have the values with which they begin
 abbrev pub first : Job → Told → State
 first job told = state (first_store job) (no_out told)
 

@@ -14,6 +14,7 @@ pub record Foretells (shorter longer : Product) : Type 0 where
   pub log : Begins shorter.told (log_of longer)
   pub same : shorter.report.end ≢ Stopped → longer ≡ shorter
 
+-- a run of a style foretells those with a larger budget
 abbrev pub RunLaw : Type 0
 RunLaw = (job : Job) (told : Told) (limit : ℕ) → IsLineLength limit → (c d : ℕ) → c ≤ d → Foretells (product job told limit c) (product job told limit d)
 

@@ -33,9 +33,11 @@ status_of ended.Stopped errors = 4
 status_of (ended.Limit kind) errors = 3
 status_of ended.NoTopFile errors = 3
 
+-- the counts of a log: how many of its lines are warnings, and how many errors
 abbrev pub told_so : ℕ → ℕ → Told
 told_so warnings errors = record { warnings = warnings; errors = errors }
 
+-- the report of a run: its status, its end, its steps, the most bodies that were open at once, and the counts of its log
 abbrev pub report_of : End → ℕ → ℕ → Told → Report
 report_of end steps deepest told = record {
   status = status_of end told.errors;

@@ -12,13 +12,15 @@ use Rattle.btx_machine.specs.States.{Out, State, state}
 
 -- ---- lines of the log
 
+-- a line with the line feed that ends it
 abbrev pub ended_line : List ℕ → List ℕ
 ended_line line = line ++ 10 ∷ []
 
--- one more; a count stays at its greatest value
+-- one more, but never above the greatest number of 64 bits
 abbrev pub counted : ℕ → ℕ
 counted n = min (n + 1) (2 ^ 64 - 1)
 
+-- a count of lines after a further one, which is of the kind that is counted or isn't
 abbrev pub counted_if : Bool → ℕ → ℕ
 counted_if true n = counted n
 counted_if false n = n
@@ -36,6 +38,7 @@ unfoldable pub lines_told : List Line → Out → Out
 lines_told [] out = out
 lines_told (line ∷ lines) out = lines_told lines (line_told line out)
 
+-- lines are logged one after another, and the store stays as it is
 abbrev pub telling : List Line → State → State
 telling lines s = state s.store (lines_told lines s.out)
 

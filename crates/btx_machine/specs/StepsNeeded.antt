@@ -27,5 +27,6 @@ StoppedSteps run = (budget : ℕ) → (run budget).report.end ≡ Stopped → (r
 abbrev pub NeedsLaw : Type 0
 NeedsLaw = (job : Job) (told : Told) (limit : ℕ) → NeededSteps (product job told limit)
 
+-- a stopped run of a style took all steps of its budget
 abbrev pub StoppedLaw : Type 0
 StoppedLaw = (job : Job) (told : Told) (limit : ℕ) → StoppedSteps (product job told limit)

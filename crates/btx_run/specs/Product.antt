@@ -48,6 +48,9 @@ product_of_reading job read options budget = told_before read.told (product_of_f
 abbrev pub product_with : Files → List ℕ → Options → ℕ → Product
 product_with files name options budget = product_of_reading (job_named files name) (reading_of files name) options budget
 
--- the product of the job of this name
+-- a run of BibTeX on a job reads the job's `.aux` files, and the style and the databases that these name, and executes the commands of the style.
+-- The list of references is what the style writes; the log has a line for each file that is read and each message, in the order in which they are
+-- met, and its last line gives the report. The run ends with the last command of the style, or before it: where the top `.aux` file or the style
+-- is missing, where a limit is met, or where the budget doesn't cover the next step.
 abbrev pub product : Files → List ℕ → Options → Product
 product files name options = product_with files name options options.budget

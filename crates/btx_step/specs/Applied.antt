@@ -84,5 +84,6 @@ abbrev pub FollowsRule : BuiltIn → Option ℕ → Type 0
 FollowsRule built_in.Missing None = ⊥
 FollowsRule f current = Unit {0}
 
+-- each built-in function does on its operands what its row of the table says, or logs what is wrong with them and follows its default
 abbrev pub AppliedOrReported : Type 0
 AppliedOrReported = (job : Job) (f : BuiltIn) (s : Store) → FollowsRule f s.current → IsApplied job f s ⊎ IsReported job f s

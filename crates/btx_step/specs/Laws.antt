@@ -25,11 +25,12 @@ DuplicatePop = (job : Job) (x : Literal) (xs : List Literal) (s : Store) → s.l
 
 -- ---- variables
 
--- a variable that is there takes this value uncut: one of an entry needs its entry to be the current one
+-- there is a current entry, of which something holds
 abbrev pub InEntry : Option ℕ → (ℕ → Type 0) → Type 0
 InEntry None P = ⊥
 InEntry (Some entry) P = P entry
 
+-- a variable that is there takes a value uncut: one of an entry needs its entry to be the current one
 abbrev pub Takes : Job → Store → Callee → Literal → Type 0
 Takes job s (callee.GlobalInteger i) (Integer n) = i < length s.integers
 Takes job s (callee.GlobalString i) (Text text) = (i < length s.strings) × (length text ≤ job.global_max)

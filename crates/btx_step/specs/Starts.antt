@@ -41,5 +41,6 @@ pub record BeginWithLimits (job : Job) : Type 0 where
   pub entry_limit : BeginsWith job (codes "entry.max$") job.entry_max
   pub global_limit : BeginsWith job (codes "global.max$") job.global_max
 
+-- a job whose style is that of a text begins with its limits, whatever the text says
 abbrev pub LimitsLaw : Type 0
 LimitsLaw = (file text : List ℕ) (job : Job) → job.style ≡ style_of file text → BeginWithLimits job

@@ -20,34 +20,43 @@ pub record WorkedAssignment : Type 0 where
   pub lines : List (List ℕ)
   pub after : Variables
 
+-- a worked assignment: `assigns count (number 9) [] ..` stores 9 in `count`, logs nothing, and is followed by the variables after it
 abbrev pub assigns : Callee → Literal → List (List ℕ) → Variables → WorkedAssignment
 assigns variable value lines after = record { variable = variable; value = value; lines = lines; after = after }
 
--- the variables where these integers, these strings or these values of the entries are others
+-- the worked variables, but for the values of the global integers
 abbrev pub with_integers : List ℤ → Variables
 with_integers integers = record variables { integers = integers }
 
+-- the worked variables, but for the values of the global strings
 abbrev pub with_strings : List (List ℕ) → Variables
 with_strings strings = record variables { strings = strings }
 
+-- the worked variables, but for the values of the two entries
 abbrev pub with_entries : Values → Values → Variables
 with_entries first second = record variables { entries = first ∷ second ∷ [] }
 
+-- the global integer `count`, which stands behind `entry.max$` and `global.max$`
 abbrev pub count : Callee
 count = GlobalInteger 2
 
+-- the global string `line`
 abbrev pub line : Callee
 line = GlobalString 0
 
+-- the integer `rank` of entries
 abbrev pub rank : Callee
 rank = EntryInteger 0
 
+-- the string `sort.key$` of entries
 abbrev pub sort_key : Callee
 sort_key = EntryString 0
 
+-- the string `label` of entries
 abbrev pub label : Callee
 label = EntryString 1
 
+-- the field `title`, which is no variable
 abbrev pub title : Callee
 title = Field 1
 
@@ -97,9 +106,11 @@ pub record WorkedTest : Type 0 where
   pub lines : List (List ℕ)
   pub after : List Literal
 
+-- a worked test of a loop: the literals that it left, whether the body runs, the lines of the log, and the literals after it
 abbrev pub tests : List Literal → Bool → List (List ℕ) → List Literal → WorkedTest
 tests before again lines after = record { before = before; again = again; lines = lines; after = after }
 
+-- tests of a loop: with 1 on top the body runs; with 0, an integer below 0, a string or nothing the loop ends
 abbrev pub loop_tests : List WorkedTest
 loop_tests =
     tests (number 1 ∷ missing ∷ []) true [] (missing ∷ [])

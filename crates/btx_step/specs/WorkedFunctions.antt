@@ -22,6 +22,8 @@ pub record Worked : Type 0 where
   pub lines : List (List ℕ)
   pub written : List ℕ
 
+-- a worked execution, of its six parts: the function `newline$` changes no literal, is followed by nothing, logs nothing and ends a line of the
+-- list
 abbrev pub worked : String → List Literal → List Literal → Next → List (List ℕ) → String → Worked
 worked name before after next lines written =
     record { name = codes name; before = before; after = after; next = next; lines = lines; written = codes written }
@@ -52,6 +54,7 @@ lacks name before after times = logs name before after (replicate times (error n
 
 -- ---- operands that are there and fit
 
+-- comparisons: `>` with 1 on top and 2 below it gives 1, since the second literal is greater
 abbrev pub comparisons : List Worked
 comparisons =
     gives "=" (number 2 ∷ number 2 ∷ []) (number 1 ∷ [])
@@ -69,6 +72,7 @@ comparisons =
     ∷ gives "<" (number 0 ∷ minus 2 ∷ []) (number 1 ∷ [])
     ∷ []
 
+-- sums and differences, and integers as strings and characters: `+` with 3 and 2 gives 5
 abbrev pub integers : List Worked
 integers =
     gives "+" (number 3 ∷ number 2 ∷ []) (number 5 ∷ [])
@@ -95,6 +99,7 @@ integers =
     ∷ errs "chr.to.int$" (string "AB" ∷ []) (number 0 ∷ []) "\"AB\" isn't a single character"
     ∷ []
 
+-- strings and names: `*` with `b` on top and `a` below it gives `ab`
 abbrev pub strings : List Worked
 strings =
     -- the second literal comes first
@@ -155,18 +160,21 @@ names =
 abbrev pub e_acute : Literal
 e_acute = literal.Text (0xC3 ∷ 0xA9 ∷ [])
 
+-- an `e` with an acute accent, where text is read as bytes: its length is 2
 abbrev pub bytes_characters : List Worked
 bytes_characters =
     gives "text.length$" (e_acute ∷ []) (number 2 ∷ [])
     ∷ gives "text.prefix$" (number 1 ∷ e_acute ∷ []) (literal.Text (0xC3 ∷ []) ∷ [])
     ∷ []
 
+-- an `e` with an acute accent, where text is read as UTF-8: its length is 1
 abbrev pub utf8_characters : List Worked
 utf8_characters =
     gives "text.length$" (e_acute ∷ []) (number 1 ∷ [])
     ∷ gives "text.prefix$" (number 1 ∷ e_acute ∷ []) (e_acute ∷ [])
     ∷ []
 
+-- the stack, the list and the log: `swap$` with `a` on top and 1 below it leaves 1 on top; `top$` with `a` logs `"a"`
 abbrev pub stack : List Worked
 stack =
     gives "duplicate$" (string "a" ∷ []) (string "a" ∷ string "a" ∷ [])
@@ -200,6 +208,7 @@ choices =
 
 -- ---- operands of a wrong kind: the first one is logged, and the default follows
 
+-- operands of a wrong kind: `>` with two strings gives 0, and the log says that the top one is not an integer
 abbrev pub wrong_operands : List Worked
 wrong_operands =
     errs "=" (number 1 ∷ string "1" ∷ []) (number 0 ∷ []) "= needs two integers or two strings"
@@ -243,6 +252,7 @@ wrong_operands =
 
 -- ---- the whole stack: operands that aren't there, `stack$`, and the limit of literals
 
+-- stacks with nothing below: `=` on an empty one gives 0, and logs twice that the stack is empty
 abbrev pub whole_stacks : List Worked
 whole_stacks =
     lacks "=" [] (number 0 ∷ []) 2
@@ -327,6 +337,7 @@ of_lamport =
     ∷ gives "type$" [] (string "" ∷ [])
     ∷ []
 
+-- in the entry of an unknown type, where `default.type` stands behind READ: `call.type$` does nothing
 abbrev pub of_lamport_without_default : List Worked
 of_lamport_without_default = gives "call.type$" [] [] ∷ []
 

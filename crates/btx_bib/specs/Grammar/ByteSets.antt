@@ -39,7 +39,7 @@ run_len set (b ∷ bs) = if is_in set b then suc (run_len set bs) else 0
 abbrev pub run : ByteSet → List ℕ → List ℕ
 run set text = take (run_len set text) text
 
--- what follows it
+-- the text behind the longest run of a set that it begins with
 abbrev pub past : ByteSet → List ℕ → List ℕ
 past set text = drop (run_len set text) text
 

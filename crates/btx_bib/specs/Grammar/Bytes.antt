@@ -5,10 +5,11 @@ use Rattle.std.specs.Prelude.{ℕ}
 abbrev pub at_sign : ℕ
 at_sign = 64
 
--- `(` and `)`
+-- `(`, which opens an item as `{` does
 abbrev pub open_parenthesis : ℕ
 open_parenthesis = 40
 
+-- `)`, which closes an item that a `(` opened
 abbrev pub close_parenthesis : ℕ
 close_parenthesis = 41
 
@@ -28,9 +29,10 @@ hash = 35
 abbrev pub quote : ℕ
 quote = 34
 
--- the space, and the end of a line
+-- the space, which stands for each run of white in a value
 abbrev pub space : ℕ
 space = 32
 
+-- the end of a line, which counts as white in a database
 abbrev pub line_feed : ℕ
 line_feed = 10

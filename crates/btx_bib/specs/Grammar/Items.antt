@@ -79,7 +79,7 @@ unfoldable pub behind_at : List ℕ → Option (List ℕ)
 behind_at [] = None
 behind_at (b ∷ bs) = if b == at_sign then Some bs else behind_at bs
 
--- what is read where this is wanted
+-- what is read next, where an item, the end of an item or a field is wanted; behind the last `@` no item is left
 unfoldable pub step_of : Wanted → List ℕ → Option Step
 step_of Item text = option_map (λ rest. step_by (head_at rest)) (behind_at text)
 step_of (Closing delimiter) text = Some (step_by (ended (sign_at (closing delimiter) (NoClosing delimiter) text)))
@@ -92,7 +92,7 @@ pub record Placed : Type 0 where
 
 -- ---- what is known of the items before
 
--- an entry whose key is one of these
+-- an event is the key of an entry, and the key is stored already
 abbrev pub is_repeated : (List ℕ → Bool) → Event → Bool
 is_repeated is_stored (Entry kind key) = is_stored key
 is_repeated is_stored _ = false
@@ -101,6 +101,7 @@ is_repeated is_stored _ = false
 abbrev pub as_known : (List ℕ → Bool) → Event × Wanted → Event × Wanted
 as_known is_stored got = if is_repeated is_stored got.0 then (Wrong Repeated, Item) else got
 
+-- what is read next, where some keys are stored: an entry that repeats one of them is a fault
 abbrev pub known_step : (List ℕ → Bool) → Option Step → Option Step
 known_step is_stored None = None
 known_step is_stored (Some step) =

@@ -36,10 +36,11 @@ abbrev pub KeyHere : Delimiter → Grammar (List ℕ)
 KeyHere delimiter (Ok key) front rest = (front ≡ key) × IsRun (KeyByte delimiter) key rest × (begins (λ b. true) (key ++ rest) ≡ true)
 KeyHere delimiter (Err slip) front rest = (slip ≡ EndOfFile) × (front ≡ []) × (rest ≡ [])
 
--- after the key or a field: the closing delimiter, or a comma and then the closing delimiter or a field
+-- after a comma in an entry: the closing delimiter or a field
 abbrev pub AfterComma : Delimiter → Grammar (Option Field)
 AfterComma delimiter = OnSign (closing delimiter) (Gives None) (Then FieldSpelling (λ field. Gives (Some field)))
 
+-- after the key or a field: the closing delimiter, or a comma and then the closing delimiter or a field
 abbrev pub MoreHere : Delimiter → Grammar (Option Field)
 MoreHere delimiter = OnSign (closing delimiter) (Gives None) (OnSign comma (Spaced (AfterComma delimiter)) (WrongHere (NoComma delimiter)))
 

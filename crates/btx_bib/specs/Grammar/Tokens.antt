@@ -29,34 +29,38 @@ abbrev pub slip_at : Slip → List ℕ → Slip
 slip_at slip [] = EndOfFile
 slip_at slip (b ∷ bs) = slip
 
+-- something is wanted that doesn't stand here: what is wrong, and the text from here on
 abbrev pub wrong_at : {A : Type 0} → Slip → List ℕ → Read A
 wrong_at slip text = Err (slip_at slip text, text)
 
--- a name
+-- the name that a text begins with, or what is wrong where it begins with none
 unfoldable pub name_in : List ℕ → Read (List ℕ)
 name_in rest = if begins begins_name rest then Ok (run NameByte rest, past NameByte rest) else wrong_at NoName rest
 
+-- the name that stands next, behind white
 abbrev pub name_at : List ℕ → Read (List ℕ)
 name_at text = name_in (past Gap text)
 
--- the opening delimiter
+-- the opening delimiter that a text begins with, `{` or `(`, or what is wrong where it begins with neither
 unfoldable pub open_in : List ℕ → Read Delimiter
 open_in rest =
     if begins (λ b. b == open_brace) rest then Ok (Braces, drop 1 rest)
     else if begins (λ b. b == open_parenthesis) rest then Ok (Parens, drop 1 rest) else wrong_at NoDelimiter rest
 
+-- the opening delimiter that stands next, behind white
 abbrev pub open_at : List ℕ → Read Delimiter
 open_at text = open_in (past Gap text)
 
--- the closing delimiter
+-- the delimiter that closes an item: `}` for `{`, and `)` for `(`
 abbrev pub closing : Delimiter → ℕ
 closing Braces = close_brace
 closing Parens = close_parenthesis
 
--- a sign
+-- the sign that a text begins with, or what is wrong where it begins with another byte
 unfoldable pub sign_in : ℕ → Slip → List ℕ → Read (Unit {0})
 sign_in sign slip rest = if begins (λ b. b == sign) rest then Ok (tt, drop 1 rest) else wrong_at slip rest
 
+-- the sign that stands next, behind white
 abbrev pub sign_at : ℕ → Slip → List ℕ → Read (Unit {0})
 sign_at sign slip text = sign_in sign slip (past Gap text)
 
@@ -65,5 +69,6 @@ unfoldable pub key_in : Delimiter → List ℕ → Read (List ℕ)
 key_in delimiter [] = Err (EndOfFile, [])
 key_in delimiter (b ∷ bs) = Ok (run (KeyByte delimiter) (b ∷ bs), past (KeyByte delimiter) (b ∷ bs))
 
+-- the key of an entry that stands next, behind white
 abbrev pub key_at : Delimiter → List ℕ → Read (List ℕ)
 key_at delimiter text = key_in delimiter (past Gap text)

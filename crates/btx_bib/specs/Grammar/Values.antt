@@ -28,6 +28,7 @@ closed enclosure text [] = Err (EndOfFile, [])
 closed Group text (b ∷ bs) = Ok (Braced text, bs)
 closed Quotes text (b ∷ bs) = if b == quote then Ok (Quoted text, bs) else Err (Unbalanced, b ∷ bs)
 
+-- a group or a text in quotes, from behind the byte that opens it to where it ends at depth 0
 abbrev pub enclosed_in : Enclosure → List ℕ → Read Part
 enclosed_in enclosure rest = closed enclosure (take (enclosed_len enclosure 0 rest) rest) (drop (enclosed_len enclosure 0 rest) rest)
 
@@ -41,6 +42,7 @@ part_in (b ∷ bs) =
     else if begins_name b then Ok (Named (record { name = run NameByte (b ∷ bs); rest = past NameByte (b ∷ bs) }), past NameByte (b ∷ bs))
     else Err (NoValue, b ∷ bs)
 
+-- the part of a value that stands next, behind white
 abbrev pub part_at : List ℕ → Read Part
 part_at text = part_in (past Gap text)
 
@@ -63,7 +65,7 @@ unfoldable pub value_within : ℕ → List ℕ → Read (List Part)
 value_within zero text = Err (EndOfFile, [])
 value_within (suc turns) text = followed_by (part_at text) (λ part rest. joined (value_within turns) part rest (next_part rest))
 
--- a value
+-- the value that stands next: its parts, which `#` joins, or what is wrong in it
 unfoldable pub value_at : List ℕ → Read (List Part)
 value_at text = value_within (suc (length text)) text
 

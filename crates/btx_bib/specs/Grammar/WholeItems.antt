@@ -58,6 +58,7 @@ ItemHere = Then (Spaced NameHere) (λ name. ItemOf (command_of name) name)
 
 -- ---- the item that a text begins with
 
+-- a field and those behind it, or none where the entry is at its end
 abbrev pub other_fields : (List ℕ → Read (List Field)) → Option Field → List ℕ → Read (List Field)
 other_fields others None rest = Ok ([], rest)
 other_fields others (Some field) rest = followed_by (others rest) (λ fields end. Ok (field ∷ fields, end))

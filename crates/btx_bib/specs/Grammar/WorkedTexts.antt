@@ -14,11 +14,12 @@ use Rattle.btx_bib.specs.Grammar.ValueTexts.{value_text}
 
 -- ---- events
 
--- an entry of this key is among some events
+-- an event is the entry of a key, whose case is ignored
 abbrev pub is_entry_of : List ℕ → Event → Bool
 is_entry_of key (Entry kind other) = is_same_key key other
 is_entry_of key _ = false
 
+-- an entry of a key is among some events
 abbrev pub has_entry : List Event → List ℕ → Bool
 has_entry events key = list_any (is_entry_of key) events
 
@@ -35,9 +36,11 @@ pub record Worked : Type 0 where
   pub text : List ℕ
   pub events : List Event
 
+-- a worked text and its events: `@misc{k,t={A{b}` is an entry with the key `k`, and then the file ends too early
 abbrev pub row : List ℕ → List Event → Worked
 row text events = record { text = text; events = events }
 
+-- what stands in texts: items with their fields, and what is wrong
 abbrev pub texts : List Worked
 texts =
     -- nothing, and what stands outside any item
@@ -96,6 +99,7 @@ pub record WorkedValue : Type 0 where
   pub parts : List Part
   pub text : List ℕ
 
+-- the texts of values: `{  a  b }` is `a b` as a field, and keeps a space at each end as a string
 abbrev pub values : List WorkedValue
 values =
     -- a field loses its first and its last space, a string keeps them
@@ -112,10 +116,12 @@ values =
 
 -- ---- each row is so
 
+-- the text of each row has the events of the row
 abbrev pub AreRead : List Worked → Type 0
 AreRead [] = Unit {0}
 AreRead (row ∷ rows) = (told (events_from (by_history has_entry) [] wanted.Item row.text) ≡ row.events) × AreRead rows
 
+-- the value of each row has the text of the row
 abbrev pub AreTexts : List WorkedValue → Type 0
 AreTexts [] = Unit {0}
 AreTexts (row ∷ rows) = (value_text row.ends row.strings row.parts ≡ row.text) × AreTexts rows
