@@ -27,8 +27,6 @@ from product import Options, run
 
 # The folders of a crate's wrong bodies. The kit's own gate tries those of the first as well, one by one.
 FOLDERS = ("must-fail", "wrong-bodies")
-# Whether a wrong body without a witness fails: once each has one.
-ALL_HAVE_ONE = False
 LINE = re.compile(r"(?m)^witness: (.*)$")
 CALLED = re.compile(r"(.+) gives (.+), not (.+)")
 NAMED = re.compile(r"(?:test|clause) (\S+) (\S+)")
@@ -166,7 +164,7 @@ def tell_lacking(names):
     """Says how many wrong bodies have no witness, and answers how many of them fail."""
     if names:
         print(f"{len(names)} wrong bodies have no line 'witness:': {' '.join(names)}")
-    return len(names) if ALL_HAVE_ONE else 0
+    return len(names)
 
 
 def check(chosen, program, complaints):

@@ -20,7 +20,7 @@ pub data Act (W : Type 0) : Type 0 where
   -- a fault was told on standard error
   ToldFault : (fault : RunFault) → Act W
 
--- what was done so far, by outputs that tell it
+-- what was done so far; of the real system's outputs nothing is known
 abbrev pub Done : Type 0 → Type 0
 Done W = Option (List (Act W))
 

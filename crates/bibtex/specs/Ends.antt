@@ -38,7 +38,7 @@ pub record IsRun {W : Type 0} (files : Option Files) (contents : W → Held) (se
   pub tells : Does done after (telling answer)
   pub ends : end ≡ exit_of answer
 
--- what was read is run or told
+-- the settings that were read are run; a refusal, or a text that was asked for, is printed
 abbrev pub IsAnswered : {W : Type 0} → Option Files → (W → Held) → List ℕ → Result Settings Refusal → Done W → Done W → Exit → Type 0
 IsAnswered files contents hint (Ok settings) before after end = IsRun files contents settings before after end
 IsAnswered files contents hint (Err refusal) before after end = IsTold hint refusal before after end

@@ -77,8 +77,8 @@ pub record DoesWith {W : Type 0} (content : Option Files) (contents : W → Held
   pub first : answer ≡ first_fault listed (both_done stored printed)
 
 -- A job is done, over a system of these files and lists' files of these contents. The file of its list is opened at the path of its list, an old log is
--- emptied at the path of its log, and with that file and that path the job is done over the files of its folder. If memory is refused for
--- the two paths, nothing is done; and if the list's file can't be opened, nothing else.
+-- emptied at the path of its log, and with that file and that path the job is done over the files of its folder. The answer may be want of
+-- memory before anything is done; and if the list's file can't be opened, nothing else is done.
 pub data DoesJob {W : Type 0} (files : Option Files) (contents : W → Held) (settings : Settings) (before after : Done W)
     (answer : Result Report RunFault) : Type 0 where
   HasNoMemory : after ≡ before → answer ≡ Err Memory → DoesJob files contents settings before after answer

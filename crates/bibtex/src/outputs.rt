@@ -15,7 +15,7 @@ pub trait Outputs {
     /// A list's file that is open.
     type List: EmptiedFile + Drop;
 
-    /// What was done so far, by outputs that tell it.
+    /// What was done so far; of the real system's outputs nothing is known.
     ghost acts: { Self → Done Self.List };
 
     /// Opens the list's file of this path, and makes it where there is none. What it holds stays.

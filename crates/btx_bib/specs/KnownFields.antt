@@ -1,4 +1,4 @@
--- Names of fields that are remembered with their numbers.
+-- Fields whose numbers the reader has looked up already.
 use Rattle.std.specs.Prelude.{◌≡◌, Option, Some, IfSome}
 use Rattle.btx_text.specs.Keys.{folded}
 use Rattle.btx_bst.specs.Style.{Style, field_of}

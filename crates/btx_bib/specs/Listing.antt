@@ -35,7 +35,7 @@ keys_of wanted stored = fold with_key (first_keys wanted stored) (last_cited wan
 abbrev pub spelled : Wanted → List Given → List ℕ → List ℕ
 spelled wanted stored key = unwrap_or (option_or (listed_as wanted.cited key) (option_map (λ (given : Given). given.key) (entry_of stored key))) key
 
--- what the list has of a key stays: it was cited, or at least `wanted.fewest` stored entries refer to it, which with `*` is 0
+-- what the list has of a key stays: it was cited, or at least `wanted.fewest` stored entries refer to it, which `asked` makes 0 where `*` was cited
 abbrev pub stays : Wanted → List Given → List ℕ → Bool
 stays wanted stored key = is_some (listed_as wanted.cited key) || nat_le wanted.fewest (count_by (is_same_key key) (references wanted stored))
 

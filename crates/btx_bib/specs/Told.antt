@@ -1,5 +1,5 @@
 -- The messages of a database, each with its line: faults, names that stand for no string, types that the style doesn't have, and fields
--- that an entry has already. They have names and keys as these are spelled there. Of what isn't stored only the faults have messages. The
+-- that an entry has already. They have names and keys as these are spelled there. An entry that isn't stored has no warning, only its faults. The
 -- reading goes from event to event: what is known, and the messages so far.
 use Rattle.std.specs.Prelude.{ℕ, Bool, false, List, [], ◌∷◌, ◌++◌, Option, None, Some, is_some, is_none, if◌then◌else◌}
 use Rattle.std.specs.List.{flat_map}

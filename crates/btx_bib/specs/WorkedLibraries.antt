@@ -82,7 +82,7 @@ entries =
     -- a string that names itself, a name that stands for no string, and white over parts
     row (citing (codes "k" ∷ []) 2) (codes "@string{s = \"x\" # s}\n@misc{k, title = s # \" y \" # zz # {  z}}")
     (library (entry misc (codes "k") None (Some (codes "x y z")) None ∷ []) (message.OwnString (codes "s") (at_line 1) ∷ message.UndefinedString (codes "zz") (at_line 2) ∷ []))
-    -- an extra field over two lines, and a name that stands for no string: each has the number of its last line, which isn't its entry's first
+    -- an extra field over two lines, and a name that stands for no string: the first message has the line where the value ends, the other the line of the name
     ∷ row (citing (codes "k" ∷ []) 2) (codes "@misc{k, title = {A},\n title = {B\nC},\n booktitle = zz}")
     (library (entry misc (codes "k") None (Some (codes "A")) (Some []) ∷ [])
     (message.ExtraField (codes "k") (codes "title") (at_line 3) ∷ message.UndefinedString (codes "zz") (at_line 4) ∷ []))
