@@ -58,7 +58,7 @@ wrong_operands-worked = (refl, (refl, (refl, (refl, (refl, (refl, (refl, (refl, 
 
 pub whole_stacks-worked : AreSo (job Bytes) outside [] row.whole_stacks
 unfolding named_lower built_in_of built_ins run_of built_in_run form_of not_ascii_text place_of text_of kind_of has_place line_of mark_of digits
-whole_stacks-worked = (refl, (refl, (refl, (refl, (refl, (refl, (refl, (refl, (refl, (refl, (refl, (refl, (refl, (refl, (refl, (refl, (refl, (refl, (refl, (refl, (refl, (refl, (refl, (refl, (refl, (refl, (refl, (refl, (refl, (refl, (refl, (refl, (refl, (refl, (refl, tt)))))))))))))))))))))))))))))))))))
+whole_stacks-worked = (refl, (refl, (refl, (refl, (refl, (refl, (refl, (refl, (refl, (refl, (refl, (refl, (refl, (refl, (refl, (refl, (refl, (refl, (refl, (refl, (refl, (refl, (refl, (refl, (refl, (refl, (refl, (refl, (refl, (refl, (refl, (refl, (refl, (refl, (refl, (refl, tt))))))))))))))))))))))))))))))))))))
 
 pub bytes_characters-worked : AreSo (job Bytes) outside one_below row.bytes_characters
 unfolding named_lower built_in_of built_ins run_of built_in_run form_of not_ascii_text place_of text_of kind_of has_place line_of mark_of digits elements_of elements_from kind_at group_len take_characters

@@ -287,6 +287,8 @@ whole_stacks =
     ∷ lacks "+" (string "a" ∷ []) (number 0 ∷ []) 1
     ∷ lacks "substring$" (string "a" ∷ []) (string "" ∷ []) 2
     ∷ lacks "swap$" (string "a" ∷ []) (string "a" ∷ []) 1
+    -- `missing$` reports the empty stack, and then that there is no entry
+    ∷ logs "missing$" [] [] (error "missing$" "You can't pop an empty literal stack" ∷ error "missing$" "You can't mess with entries here" ∷ [])
     -- all literals are shown, top first
     ∷ logs "stack$" [] [] []
     ∷ logs "stack$" (number 1 ∷ string "a" ∷ missing ∷ []) [] (codes "1" ∷ codes "\"a\"" ∷ codes "missing field" ∷ [])

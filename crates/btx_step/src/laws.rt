@@ -55,7 +55,7 @@ pub fn limits_begin_as_set()
 {}
 
 /// Each built-in function does to a stack, to the variables and to what is written and logged what is worked by hand: on operands that fit, of a
-/// wrong kind or missing (but `missing$` on an empty stack), outside an entry and in one; and so do fields and variables, and the test of a loop.
+/// wrong kind or missing, outside an entry and in one; and so do fields and variables, and the test of a loop.
 #[tactic(auto, using(crate::proofs::FunctionRows::worked_rows))]
 pub fn worked_functions_do_so()
     ensures comparisons { worked.AreSo (given.job Bytes) given.outside given.one_below worked.comparisons }
