@@ -8,12 +8,15 @@ words that people search for, and README the right sizes.
 
 Each crate has a README with the parts that one looks for. It names each wrong body of its crate, and its examples of Rattle are lines of the file that it
 says, in the file's order (a line `..` stands for what is left out). docs/PROOFS.md has an index of the promises of each crate with wrong bodies.
+The table at the end of docs/ARCHITECTURE.md, of what a change touches, has the files and numbers that places.py finds.
 
 Not checked: the counts in prose and the times of .ci/README.md, which are as they were measured."""
 
 import functools
 import pathlib
 import re
+
+import places
 
 ROOT = pathlib.Path(__file__).resolve().parents[2]
 DOCUMENTS = sorted(path for pattern in ("README.md", "docs/*.md", "docs/book/README.md", ".ci/*.md", "crates/*/README.md", "crates/*/docs/*.md", "tests/**/*.md",
@@ -186,6 +189,20 @@ def examples():
                     yield f"{crate}: the example of its README has a line that isn't in {cited} there: {line}", is_there
 
 
+def changes():
+    """The rows of the table of changes: each file that a row names, up to `Also`, has the row's example, and its numbers are right within a tenth or three."""
+    text = (ROOT / "docs/ARCHITECTURE.md").read_text(encoding="utf-8")
+    rows = [[it.strip() for it in line.strip("|").split(" | ")] for line in text.split("\n") if line.startswith("| a") and line.count(" | ") == 3]
+    yield "docs/ARCHITECTURE.md: the table of changes hasn't the kinds of tests/documents/places.py", [row[0] for row in rows] == list(places.KINDS)
+    for kind, _, touched, said in (row for row in rows if row[0] in places.KINDS):
+        found = places.files_of(kind)
+        for cited in PATH.findall(touched.split("Also")[0]):
+            yield f"docs/ARCHITECTURE.md: {kind}: {cited} doesn't name the example", cited in found
+        for sort, count in places.counts_of(kind).items():
+            number = int((re.search(rf"(\d+) {sort}", said) or [0, 0])[1])
+            yield f"docs/ARCHITECTURE.md: {kind}: {number} {sort}, and there are {count}", abs(number - count) <= max(3, count // 10)
+
+
 def missing_words():
     """The words that people search for and that the reference doesn't have."""
     text = REFERENCE.read_text(encoding="utf-8").lower()
@@ -219,7 +236,7 @@ def main():
             passed, failed = passed + (wrong is None), failed + (wrong is not None)
             if wrong:
                 print(f"{path.relative_to(ROOT)}, line {number}: `{cited}`: {wrong}")
-    for message, is_right in (*unnamed_bodies(), *missing_parts(), *examples()):
+    for message, is_right in (*unnamed_bodies(), *missing_parts(), *examples(), *changes()):
         passed, failed = passed + is_right, failed + (not is_right)
         if not is_right:
             print(message)
