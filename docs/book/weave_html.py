@@ -9,6 +9,7 @@ import definitions
 import glossary
 import layout
 import links
+import manuals
 import rules
 from definitions import KEYWORDS, TOKEN, Word
 
@@ -108,7 +109,8 @@ def section_html(section, examples, known):
     linked_rules = ", ".join(f'<a href="#{anchors[rule]}">{html.escape(rule)}</a>' for rule in section.rules if rule in anchors)
     out = [f'<h3 id="s{section.number}">{section.number} {text(section.title)}</h3>']
     if linked_rules:
-        out.append(f'<p class="rule">The rule in words: {linked_rules}.</p>')
+        of_manuals = f" The manuals: {manuals.sentence(section)}." if manuals.followed_by(section) else ""
+        out.append(f'<p class="rule">The rule in words: {linked_rules}.{of_manuals}</p>')
     out += [example_html(examples[name], known) for name in section.examples if name in examples]
     for module, found in section.parts:
         home = definitions.module(module) if "::" not in module else None
@@ -163,6 +165,14 @@ def rows_html(file, by_id):
     return f'<table class="words">{rows}</table>'
 
 
+def manuals_html(sections):
+    """The sections of BibTeX's manuals, each with the sections of the book that follow it."""
+    rows = "".join(f"<tr><td>{manual}, section {number}</td><td>" + ", ".join(
+        f'<a href="#s{section.number}">{text(section.title)}</a>&nbsp;{section.number}' for section in found) + "</td></tr>"
+        for (manual, number), found in manuals.followers(sections))
+    return f'<table class="words">{rows}</table>'
+
+
 def items_html(block, by_id):
     """A list, with points or with numbers."""
     mark, tag = (r"- ", "ul") if block.startswith("- ") else (r"\d+\. ", "ol")
@@ -175,7 +185,7 @@ def code_use(use):
     return " <code>" + html.escape(line, quote=False) + "</code>"
 
 
-def notation_html(blocks, by_id, found):
+def notation_html(blocks, by_id, found, sections):
     """The chapter on the notation: its paragraphs, lists and headings, the definitions that it shows, and the glossary."""
     out = ['<h2 id="notation">How to read this book</h2>']
     for block in blocks:
@@ -188,6 +198,8 @@ def notation_html(blocks, by_id, found):
             out.append(words_html(found))
         elif block in ("@terms", "@questions"):
             out.append(rows_html(f"{block[1:]}.txt", by_id))
+        elif block == "@manuals":
+            out.append(manuals_html(sections))
         elif block.startswith(("- ", "1. ")):
             out.append(items_html(block, by_id))
         else:
@@ -199,7 +211,7 @@ def book_html(book):
     """The whole book."""
     style = STYLE.read_text(encoding="utf-8")
     body = [f'<h1>BibTeX, proved: the book of definitions</h1><p class="opening">{text(book.summary)}</p>', contents_html(book.chapters),
-            notation_html(book.notation, book.by_id, book.found)]
+            notation_html(book.notation, book.by_id, book.found, book.sections)]
     body += [chapter_html(chapter, book.examples, book.by_id) for chapter in book.chapters]
     return ('<!doctype html>\n<html lang="en"><head><meta charset="utf-8"><meta name="viewport" content="width=device-width,initial-scale=1">'
             f"<title>BibTeX, proved: the book of definitions</title><style>{style}</style></head><body>\n" + "\n".join(body)
