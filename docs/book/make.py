@@ -5,7 +5,7 @@
 
 The book has every definition that the contract of `run` reaches (the language) and every one that only laws reach, in the order of chapters.txt. A line is
 printed for: a definition in the book without a comment, a name that means nothing, a definition that stands in no chapter, a module in chapters.txt
-that has none, a word of the library that words.txt doesn't explain or whose example isn't so, a link of the front matter to what isn't there, a definition that uses one of a later chapter, a section without a rule or without
+that has none, a word of the library that words.txt doesn't explain or whose example isn't so, a link of the front matter to what isn't there, a number of definitions in README that isn't right, a definition that uses one of a later chapter, a section without a rule or without
 an example, a rule or an example that isn't there. chapters.txt says how many of some of these are allowed. The last line is 'N passed, M failed', of
 definitions, names, sections, rules and examples, and the exit status is 0 only where M is 0.
 
@@ -28,6 +28,9 @@ import weave_markdown
 
 HERE = pathlib.Path(__file__).parent
 OUT = HERE / "out"
+# Where the repository says how many definitions of how many lines have to be believed.
+SIZES = {"README.md": r"some ([\d,]+) definitions of ([\d,]+) lines", "docs/PROOFS.md": r"some ([\d,]+) definitions of ([\d,]+) lines",
+         "docs/book/README.md": r"(?m)^\| language \|.*\| ([\d,]+) \| ([\d,]+) \|$"}
 
 
 class Book:
@@ -78,6 +81,7 @@ class Book:
         self.check_words()
         self.check_notation()
         self.check_links()
+        self.check_sizes()
 
     def check_sections(self):
         for section in self.sections:
@@ -130,6 +134,15 @@ class Book:
         comments = " ".join(" ".join(it.comment) for it in self.found).lower()
         for row in links.rows("terms.txt"):
             self.check(row.word.split()[0].lower() in comments, f"terms.txt: no comment uses the word `{row.word}`")
+
+    def check_sizes(self):
+        """What README, docs/PROOFS.md and the book's own page say of how much has to be believed, right within a twentieth."""
+        sizes = (len(self.reach.language), reach.lines_in(self.reach.language))
+        for name, said in SIZES.items():
+            found = re.search(said, (chapters.ROOT / name).read_text(encoding="utf-8"))
+            numbers = [int(number.replace(",", "")) for number in found.groups()] if found else []
+            is_right = len(numbers) == 2 and all(abs(number - size) * 20 <= size for number, size in zip(numbers, sizes))
+            self.check(is_right, f"{name}: it says {numbers} for the definitions that have to be believed and their lines, and there are {sizes}")
 
     # ---- what is printed ----
 
