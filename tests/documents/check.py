@@ -4,13 +4,15 @@
 
 It reads README.md and the .md files of docs/, crates/, tests/, examples/ and contrib/. A table says what its columns hold by their heads. Each
 failure is a line; the last line is 'N passed, M failed', of citations, and the exit status is 0 only where M is 0. The user's reference also has the
-words that people search for, and README the right sizes.
+words that people search for, and README the right sizes, and the version of the kit that `rt version` tells, where there is `rt`.
 
 Not checked: the counts and times of docs/PROOFS.md, which are as they were measured."""
 
 import functools
 import pathlib
 import re
+import shutil
+import subprocess
 
 ROOT = pathlib.Path(__file__).resolve().parents[2]
 DOCUMENTS = sorted(path for pattern in ("README.md", "docs/*.md", "crates/*/README.md", "crates/*/docs/*.md", "tests/**/*.md", "examples/**/*.md",
@@ -171,6 +173,15 @@ def wrong_sizes():
             for what, text, size in zip(("code", "definitions", "proofs"), said.groups(), sizes)]
 
 
+def wrong_kit():
+    """Of the kit that README says the program is proved with: what is wrong, or None. Nothing where there is no `rt`."""
+    if not shutil.which("rt"):
+        return []
+    version = subprocess.run(["rt", "version"], capture_output=True, text=True, check=True).stdout.strip()
+    said = f"Proved with `{version}`" in (ROOT / "README.md").read_text(encoding="utf-8")
+    return [None if said else f"README.md: it doesn't say that the program is proved with `{version}`, which `rt version` tells"]
+
+
 def main():
     missing = missing_words()
     passed, failed = len(SEARCHED) - len(missing), len(missing)
@@ -185,7 +196,7 @@ def main():
         passed, failed = passed + is_named, failed + (not is_named)
         if not is_named:
             print(f"{crate}: no document names the wrong body `{name}`")
-    for wrong in wrong_sizes():
+    for wrong in wrong_sizes() + wrong_kit():
         passed, failed = passed + (wrong is None), failed + (wrong is not None)
         if wrong:
             print(wrong)
