@@ -4,7 +4,7 @@
 
 It reads README.md and the .md files of docs/, .ci/, crates/, tests/, examples/ and contrib/. A table says what its columns hold by their heads. Each
 failure is a line; the last line is 'N passed, M failed', of citations, and the exit status is 0 only where M is 0. The user's reference also has the
-words that people search for, and README the right sizes.
+words that people search for, and README the right sizes, and the version of the kit that `rt version` tells, where there is `rt`.
 
 Each crate has a README with the parts that one looks for. It names each wrong body of its crate, and its examples of Rattle are lines of the file that it
 says, in the file's order (a line `..` stands for what is left out). docs/PROOFS.md has an index of the promises of each crate with wrong bodies.
@@ -15,6 +15,8 @@ Not checked: the counts in prose and the times of .ci/README.md, which are as th
 import functools
 import pathlib
 import re
+import shutil
+import subprocess
 
 import places
 
@@ -226,6 +228,15 @@ def wrong_sizes():
             for what, text, size in zip(("code", "definitions", "proofs"), said.groups(), sizes)]
 
 
+def wrong_kit():
+    """Of the kit that README says the program is proved with: what is wrong, or None. Nothing where there is no `rt`."""
+    if not shutil.which("rt"):
+        return []
+    version = subprocess.run(["rt", "version"], capture_output=True, text=True, check=True).stdout.strip()
+    said = f"Proved with `{version}`" in (ROOT / "README.md").read_text(encoding="utf-8")
+    return [None if said else f"README.md: it doesn't say that the program is proved with `{version}`, which `rt version` tells"]
+
+
 def main():
     missing = missing_words()
     passed, failed = len(SEARCHED) - len(missing), len(missing)
@@ -240,7 +251,7 @@ def main():
         passed, failed = passed + is_right, failed + (not is_right)
         if not is_right:
             print(message)
-    for wrong in wrong_sizes():
+    for wrong in wrong_sizes() + wrong_kit():
         passed, failed = passed + (wrong is None), failed + (wrong is not None)
         if wrong:
             print(wrong)

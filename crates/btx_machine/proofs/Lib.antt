@@ -38,3 +38,4 @@ pub mod DirectBodies
 pub mod DirectLemmas
 pub mod DirectRuns
 pub mod MeaningRows
+pub mod ReportRows

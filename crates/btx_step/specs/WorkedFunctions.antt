@@ -115,6 +115,9 @@ strings =
     ∷ gives "change.case$" (string "l" ∷ string "The {TeX}book: A {\\AE}ON" ∷ []) (string "the {TeX}book: a {\\ae}on" ∷ [])
     ∷ gives "change.case$" (string "u" ∷ string "The {TeX}book: A {\\ae}on" ∷ []) (string "THE {TeX}BOOK: A {\\AE}ON" ∷ [])
     ∷ gives "change.case$" (string "U" ∷ string "a" ∷ []) (string "A" ∷ [])
+    -- foreign control sequences have a case, and no others
+    ∷ gives "change.case$" (string "l" ∷ string "{\\O\\OE\\AE\\AA\\L} {\\RELAX}" ∷ []) (string "{\\o\\oe\\ae\\aa\\l} {\\RELAX}" ∷ [])
+    ∷ gives "change.case$" (string "u" ∷ string "{\\o\\oe\\ae\\aa\\l} {\\i\\j\\ss} {\\relax}" ∷ []) (string "{\\O\\OE\\AE\\AA\\L} {IJSS} {\\relax}" ∷ [])
     ∷ errs "change.case$" (string "x" ∷ string "Ab" ∷ []) (string "Ab" ∷ []) "\"x\" is an illegal case-conversion string"
     ∷ gives "empty$" (missing ∷ []) (number 1 ∷ [])
     ∷ gives "empty$" (string "" ∷ []) (number 1 ∷ [])
