@@ -213,7 +213,7 @@ def missing_words():
 
 def lines_of(folder, ending):
     """How many lines the files of this folder have, in the crates that the program stands on or that are libraries of their own."""
-    others = re.compile(r"_trials$|^btx_bench$|^btx_example$")
+    others = re.compile(r"_trials$|^btx_example$")
     files = [path for crate in crates() if not others.search(crate) for path in (ROOT / "crates" / crate / folder).rglob("*" + ending)]
     return sum(path.read_bytes().count(b"\n") for path in files)
 
