@@ -257,7 +257,7 @@ attack_empty_names() {
     printf '\\citation{k}\n\\bibdata{d%s}\n' "$(head -c 3000000 /dev/zero | tr '\0' ,)" >job.aux
 }
 attack_includes() {
-    for number in {1..400}; do
+    for number in {1..100}; do
         echo "\\@input{$((number + 1)).aux}" >"$number.aux"
     done
     mv 1.aux job.aux
@@ -309,8 +309,11 @@ wants_bounded() {
     [ "$memory" -le 1000000 ] || complaints+=("it took $memory KB")
     [ "$output" -le 100000000 ] || complaints+=("it wrote $output bytes")
     [ "$status" -eq 0 ] || grep -q '^bibtex-confined: ' stderr || complaints+=("standard error has no reason: $(head -c 500 stderr)")
-    [ "$status" -le 1 ] || ! grep -qx 'old log' job.blg || complaints+=('the old log is left')
-    [ "$status" -eq 1 ] || wants_list_begun "$1"
+    # (where the clock's seconds were up before the run, nothing is touched)
+    if [ "$status" -ne 1 ] && { [ "$status" -ne 124 ] || [ -e job.bbl ]; }; then
+        ! grep -qx 'old log' job.blg || complaints+=('the old log is left')
+        wants_list_begun "$1"
+    fi
     echo "        status $status, $seconds s, $memory KB, $output bytes; $(tail -n 1 stderr)"
 }
 
