@@ -1,5 +1,5 @@
 -- Lemmas on fields in their plainest form.
-use Rattle.std.proofs.Common.{◌≡◌, ℕ, ◌<◌, ◌≤◌, Bool, true, false, eqb, List, [], ◌∷◌, length, take, drop, Ok, Some, refl, sym, ◌∙◌, ap, arith}
+use Rattle.std.proofs.Common.{◌≡◌, ℕ, ◌<◌, ◌≤◌, Bool, true, false, eqb, List, ◌∷◌, length, take, drop, Ok, Some, refl, sym, ◌∙◌, ap, arith}
 use Rattle.std.proofs.lemmas.Bool.{eqb-true, true≢false}
 use Rattle.btx_bib.specs.declared.grammar.byte_sets.ByteSet.TheVariants.{Gap, NameByte}
 use Rattle.btx_bib.specs.declared.grammar.commands.Wanted.{Wanted}
@@ -9,7 +9,7 @@ use Rattle.btx_bib.specs.declared.grammar.byte_sets.Delimiter.{Delimiter}
 use Rattle.btx_bib.specs.declared.grammar.byte_sets.Delimiter.TheVariants.{Braces, Parens}
 use Rattle.btx_bib.specs.Grammar.ByteSets.{begins_name, is_gap, past, run, run_len}
 use Rattle.btx_bib.specs.Grammar.Tokens.{closing, name_in, sign_in}
-use Rattle.btx_bib.specs.Grammar.Fields.{Field, after_comma, field_at, more_at, more_in}
+use Rattle.btx_bib.specs.Grammar.Fields.{after_comma, field_at, more_at, more_in}
 use Rattle.btx_bib.specs.Grammar.Items.{known_step, next_step, step_of}
 use Rattle.btx_bib.specs.Grammar.PlainFields.{plain_step}
 use Rattle.btx_bib.specs.Grammar.Values.{Part, value_at}

@@ -54,11 +54,20 @@ fn plain_part(rest: &[u8]) -> Option<PlainValue<'_>>
     let (kind, (text, rest)) = if byte == b'{' {
         (PlainKind::Braced, plain_enclosed(Enclosure::Group, behind)?)
     } else if byte == b'"' {
-        (PlainKind::Quoted, plain_enclosed(Enclosure::Quotes, behind)?)
+        (
+            PlainKind::Quoted,
+            plain_enclosed(Enclosure::Quotes, behind)?,
+        )
     } else if byte.is_ascii_digit() {
-        (PlainKind::Digits, rest.split_at(run_len(ByteSet::Digit, rest)))
+        (
+            PlainKind::Digits,
+            rest.split_at(run_len(ByteSet::Digit, rest)),
+        )
     } else if begins_name(byte) {
-        (PlainKind::Named, rest.split_at(run_len(ByteSet::NameByte, rest)))
+        (
+            PlainKind::Named,
+            rest.split_at(run_len(ByteSet::NameByte, rest)),
+        )
     } else {
         return None;
     };

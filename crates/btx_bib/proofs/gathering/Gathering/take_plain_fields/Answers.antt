@@ -1,12 +1,10 @@
-use Rattle.std.proofs.Common.{◌≡◌, ◌∙◌, ◌++◌, ◌<◌, ◌≤◌, List, ℕ, [], true, length, ap, sym, arith}
+use Rattle.std.proofs.Common.{◌∙◌, ◌++◌, List, ℕ, length, ap, sym, arith}
 use Rattle.btx_bib.specs.declared.grammar.commands.Wanted.{Wanted as Next}
 use Rattle.btx_bib.specs.declared.message.Message.{Message}
-use Rattle.btx_bib.specs.Gatherings.{all_kept, all_told, events_with, is_kept, kept_told}
+use Rattle.btx_bib.specs.Gatherings.{all_kept, all_told, is_kept}
 use Rattle.btx_bib.specs.Grammar.PlainFields.{plain_step}
 use Rattle.btx_bib.specs.Known.{goes_on}
 use Rattle.btx_bib.specs.Requests.{wanted}
-use Rattle.btx_bib.specs.Told.{Database}
-use Rattle.btx_bib.proofs.GrammarLemmas.LengthLemmas.{left}
 use Rattle.btx_bib.proofs.GrammarLemmas.PlainLemmas.{left-shorter, plain-next, plain-shorter}
 use Rattle.btx_bib.proofs.GatheringLemmas.{turn-along, turn-told}
 use Rattle.btx_bib.proofs.gathering.Gathering.take_plain_fields.Goals as goal
@@ -28,10 +26,10 @@ loop-field-preserved c =
       whole = ap goes_on c.in_ok-taken.ensures.same ∙ inv.whole;
       state = ap (all_kept asked after) c.pass.ensures ∙ turn-along asked kept place.0 place.1 (plain_step place.0 field) after inv.whole next taken ∙ inv.state;
       told = λ database.
-        ap (all_told asked database after) c.pass.ensures
-        ∙ ap (λ (ms : List Message). ms ++ all_told asked database after (place.0, field.value.rest.now)) (sym (silent database field.value.rest.now))
-        ∙ turn-told asked kept place.0 place.1 (plain_step place.0 field) after inv.whole next taken database
-        ∙ inv.told database;
+          ap (all_told asked database after) c.pass.ensures
+          ∙ ap (λ (ms : List Message). ms ++ all_told asked database after (place.0, field.value.rest.now)) (sym (silent database field.value.rest.now))
+          ∙ turn-told asked kept place.0 place.1 (plain_step place.0 field) after inv.whole next taken database
+          ∙ inv.told database;
       next = ap (λ (r : Next × List ℕ). r.0) c.pass.ensures ∙ inv.next;
       shorter = omega (arith, ap (λ (r : Next × List ℕ). length r.1) c.pass.ensures, le, inv.shorter);
     }
