@@ -7,7 +7,8 @@ use Rattle.btx_bib.specs.declared.grammar.commands.Wanted.TheVariants.{Item, Clo
 use Rattle.btx_bib.specs.declared.grammar.plain_fields.PlainField.{PlainField}
 use Rattle.btx_bib.specs.declared.grammar.byte_sets.Delimiter.{Delimiter}
 use Rattle.btx_bib.specs.declared.grammar.byte_sets.Delimiter.TheVariants.{Braces, Parens}
-use Rattle.btx_bib.specs.Grammar.ByteSets.{begins_name, is_gap, past, run, run_len}
+use Rattle.btx_text.specs.Class.{begins_name}
+use Rattle.btx_bib.specs.Grammar.ByteSets.{is_gap, past, run, run_len}
 use Rattle.btx_bib.specs.Grammar.Tokens.{closing, name_in, sign_in}
 use Rattle.btx_bib.specs.Grammar.Fields.{after_comma, field_at, more_at, more_in}
 use Rattle.btx_bib.specs.Grammar.Items.{known_step, next_step, step_of}
