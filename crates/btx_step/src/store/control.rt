@@ -49,7 +49,10 @@ impl<'a> Store<'a> {
         requires { said.old ≡ silence }
         ensures { IfOk result (λ next. answer next said.new self.new ≡ runs built_in.While spec.loops self.old) }
     {
-        match (self.literals.pop(self.alloc)?, self.literals.pop(self.alloc)?) {
+        match (
+            self.literals.pop(self.alloc)?,
+            self.literals.pop(self.alloc)?,
+        ) {
             (Some(Literal::Function(body)), Some(Literal::Function(test))) => Ok(Next::Loop(
                 test, body,
             )),
