@@ -31,6 +31,7 @@ pub mod DoLemmas
 pub mod CloseLemmas
 pub mod LastLemmas
 pub mod RunLemmas
+pub mod EdgeLemmas
 pub mod DepthLemmas
 pub mod DeepLemmas
 pub mod LowLemmas

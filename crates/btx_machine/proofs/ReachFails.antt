@@ -1,10 +1,10 @@
 -- What a failure leaves, of a run within runs.
 use Rattle.std.proofs.Common.{◌≡◌, ℕ, zero, suc, ◌+◌, ◌≤◌, ◌⊎◌, inl, inr, sym, ap, subst, ◌∙◌, refl, arith}
-use Rattle.btx_machine.specs.declared.work.Work.{Work}
+use Rattle.btx_machine.specs.Outputs.{Outputs, Work}
 use Rattle.btx_machine.specs.States.{Out, State, state, Outcome, end_of}
 use Rattle.btx_machine.specs.Meaning.{then_do}
 use Rattle.btx_machine.specs.Commands.{Doing}
-use Rattle.btx_machine.specs.Written.{Received, Between, Within, FailsWithin, Fails, Comes, Start}
+use Rattle.btx_machine.specs.Written.{Between, Within, FailsWithin, Fails, Comes, Start}
 use Rattle.btx_machine.proofs.Goings.{starts_self}
 use Rattle.btx_machine.proofs.OutLemmas.{wider}
 use Rattle.btx_machine.proofs.Adds.{Adds, adds_self}
@@ -12,16 +12,16 @@ use Rattle.btx_machine.proofs.Tracks.{then_appends}
 use Rattle.btx_machine.specs.Progress.{Reached, FailsInStep}
 
 -- a step failed
-pub in_step : (old : Work) (budget : ℕ) (a c : Received) (run : Doing) → FailsWithin old budget a c run → FailsInStep old budget a c run
-in_step old budget a c run fails start out h = inr (fails start out h)
+pub in_step : (old : Work) (budget : ℕ) (c : Outputs) (run : Doing) → FailsWithin old budget c run → FailsInStep old budget c run
+in_step old budget c run fails start out h = inr (fails start out h)
 
 -- something failed that takes no step, and that a run without a step does
-pub without_step : (old : Work) (budget : ℕ) (a c : Received) (run : Doing) (f : State → State) → ((s : State) → Adds (f s) (end_of (run 0 s))) → Fails old a c f → FailsInStep old budget a c run
-without_step old budget a c run f adds fails start out h =
+pub without_step : (old : Work) (budget : ℕ) (c : Outputs) (run : Doing) (f : State → State) → ((s : State) → Adds (f s) (end_of (run 0 s))) → Fails old c f → FailsInStep old budget c run
+without_step old budget c run f adds fails start out h =
     let s = state old.store out in
     inl (wider start c out out (f s).out (end_of (run 0 s)).out (starts_self out) (fails start out h) (adds s))
 
-module _ (whole rest next : Doing) (go : ℕ → State → Outcome) (old mid : Work) (a b c : Received) (k left budget : ℕ) (e : left + k ≡ budget)
+module _ (whole rest next : Doing) (go : ℕ → State → Outcome) (old mid : Work) (c : Outputs) (k left budget : ℕ) (e : left + k ≡ budget)
     (split : (n : ℕ) (out : Out) → rest n (state mid.store out) ≡ then_do (next n (state mid.store out)) go) (grows : (n : ℕ) (s : State) → Adds s (end_of (go n s))) where
   -- with n more steps, the whole run begins with what the next does
   starts_later : (s t : State) (out : Out) (n m : ℕ) → t ≡ state mid.store out → m ≡ n + k → Reached whole rest k s t → Adds (end_of (next n t)) (end_of (whole m s))
@@ -57,7 +57,7 @@ module _ (whole rest next : Doing) (go : ℕ → State → Outcome) (old mid : W
       })
 
   -- the next piece of work failed
-  pub reached_fails : Comes old a mid b (Reached whole rest k) → FailsInStep mid left b c next → FailsInStep old budget a c whole
+  pub reached_fails : Comes old mid (Reached whole rest k) → FailsInStep mid left c next → FailsInStep old budget c whole
   reached_fails first fails start out h =
       let l = first start out h in
       later start (state old.store out) (state mid.store l.out) l.out refl l.is (fails start l.out l.stands)

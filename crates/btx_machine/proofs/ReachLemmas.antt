@@ -2,12 +2,12 @@
 use Rattle.std.proofs.Common.{◌≡◌, ℕ, zero, suc, ◌+◌, sym, ap, subst, ◌∙◌, refl, arith}
 use Rattle.btx_machine.specs.declared.ending.Ending.{Ending}
 use Rattle.btx_machine.specs.declared.ending.Ending.TheVariants as ends
-use Rattle.btx_machine.specs.declared.work.Work.{Work}
+use Rattle.btx_machine.specs.Outputs.{Work}
 use Rattle.btx_machine.specs.States.{Out, State, state, Outcome, Done, Stopped, Limit, end_of, outcome_of}
 use Rattle.btx_machine.specs.Meaning.{then_do}
 use Rattle.btx_machine.specs.Commands.{Doing}
 use Rattle.btx_machine.specs.Goings.{Starts}
-use Rattle.btx_machine.specs.Written.{Received, Comes, Runs}
+use Rattle.btx_machine.specs.Written.{Comes, Runs}
 use Rattle.btx_machine.proofs.Goings.{starts_self, starts_trans}
 use Rattle.btx_machine.proofs.Tracks.{Tracks}
 use Rattle.btx_machine.proofs.OrderLemmas.{Lasts, Grows}
@@ -79,8 +79,8 @@ module _ (whole rest next : Doing) (go : ℕ → State → Outcome) (s t : State
 
 -- ---- as the code does them
 
-pub reached_start : (whole rest : Doing) (work : Work) (a : Received) (k : ℕ) → k ≡ 0 → ((n : ℕ) (s : State) → rest n s ≡ whole n s) → Comes work a work a (Reached whole rest k)
-reached_start whole rest work a k z same start out h = record {
+pub reached_start : (whole rest : Doing) (work : Work) (k : ℕ) → k ≡ 0 → ((n : ℕ) (s : State) → rest n s ≡ whole n s) → Comes work work (Reached whole rest k)
+reached_start whole rest work k z same start out h = record {
   out = out;
   stands = h;
   is = record {
@@ -90,21 +90,21 @@ reached_start whole rest work a k z same start out h = record {
   };
 }
 
-module _ (whole rest next : Doing) (go : ℕ → State → Outcome) (old mid new : Work) (a b c : Received) (k taken k' : ℕ) (e : k' ≡ k + taken)
-    (split : (n : ℕ) (out : Out) → rest n (state mid.store out) ≡ then_do (next n (state mid.store out)) go) (lasts : Lasts 1 next) (grows : Grows next) (first : Comes old a mid b (Reached whole rest k)) where
-  pub reached_on : Comes mid b new c (Runs next taken ends.Finished) → Comes old a new c (Reached whole go k')
+module _ (whole rest next : Doing) (go : ℕ → State → Outcome) (old mid new : Work) (k taken k' : ℕ) (e : k' ≡ k + taken)
+    (split : (n : ℕ) (out : Out) → rest n (state mid.store out) ≡ then_do (next n (state mid.store out)) go) (lasts : Lasts 1 next) (grows : Grows next) (first : Comes old mid (Reached whole rest k)) where
+  pub reached_on : Comes mid new (Runs next taken ends.Finished) → Comes old new (Reached whole go k')
   reached_on second start out h =
       let l = first start out h in
       let m = second start l.out l.stands in
       record { out = m.out; stands = m.stands; is = later_reached whole rest next go (state old.store out) (state mid.store l.out) k l.is (λ n. split n l.out) lasts grows taken k' (state new.store m.out) e m.is }
 
-  pub reached_ends : (end : Ending) → (end ≡ ends.Finished → ⊥) → Comes mid b new c (Runs next taken end) → Comes old a new c (Ended whole k' end)
+  pub reached_ends : (end : Ending) → (end ≡ ends.Finished → ⊥) → Comes mid new (Runs next taken end) → Comes old new (Ended whole k' end)
   reached_ends end not second start out h =
       let l = first start out h in
       let m = second start l.out l.stands in
       record { out = m.out; stands = m.stands; is = later_ended whole rest next go (state old.store out) (state mid.store l.out) k l.is (λ n. split n l.out) lasts grows taken k' end (state new.store m.out) e not m.is }
 
-pub reached_all : (whole rest : Doing) (old new : Work) (a b : Received) (k : ℕ) → ((n : ℕ) (s : State) → rest n s ≡ Done s n) → Comes old a new b (Reached whole rest k) → Comes old a new b (Ended whole k ends.Finished)
-reached_all whole rest old new a b k all first start out h =
+pub reached_all : (whole rest : Doing) (old new : Work) (k : ℕ) → ((n : ℕ) (s : State) → rest n s ≡ Done s n) → Comes old new (Reached whole rest k) → Comes old new (Ended whole k ends.Finished)
+reached_all whole rest old new k all first start out h =
     let l = first start out h in
     record { out = l.out; stands = l.stands; is = record { runs = λ n z. sym (all n (state new.store l.out)) ∙ l.is.goes_on n; before = l.is.before } }

@@ -4,7 +4,7 @@ use Rattle.std.specs.Prelude.{Result, Ok, Err, IsSome}
 use Rattle.btx_text.specs.Counts.{Change, Stays, Rises, OneOfTwoRises}
 use Rattle.btx_text.specs.declared.fault.Fault.{Fault}
 use Rattle.btx_text.specs.declared.fault.Fault.TheVariants.{Memory, Device, FileLimit, StringLimit}
-use Rattle.btx_machine.specs.declared.outputs.Outputs.{Outputs}
+use Rattle.btx_machine.specs.Outputs.{Outputs, SameSinks}
 
 -- the counts of a call that writes to the log alone
 abbrev pub CountsOfLog : {T : Type 0} → Result T Fault → Change → Type 0
@@ -21,6 +21,10 @@ CountsOfOutputs (Err Memory) bbl log = Stays bbl × Stays log
 CountsOfOutputs (Err Device) bbl log = OneOfTwoRises bbl log
 CountsOfOutputs (Err FileLimit) bbl log = ⊥
 CountsOfOutputs (Err StringLimit) bbl log = ⊥
+
+-- a call over both outputs: they go where they went, and what its answer says of their counts is so
+abbrev pub CountsOfBoth : {T : Type 0} → Result T Fault → Outputs → Outputs → Type 0
+CountsOfBoth result old new = SameSinks old new × CountsOfOutputs result (old.bbl.failures, new.bbl.failures) (old.log.sink.failures, new.log.sink.failures)
 
 -- no write to the list of references has failed
 abbrev pub Writes : Outputs → Type 0

@@ -15,6 +15,7 @@ pub mod Product
 pub mod ProductLaws
 pub mod StepsNeeded
 pub mod DirectDepth
+pub mod Outputs
 pub mod Faults
 pub mod Written
 pub mod Running

@@ -1,10 +1,10 @@
 -- How far a run has come.
 use Rattle.std.specs.Prelude.{◌≡◌, ℕ, suc, ◌+◌, ◌⊎◌}
 use Rattle.btx_machine.specs.declared.ending.Ending.{Ending}
-use Rattle.btx_machine.specs.declared.work.Work.{Work}
+use Rattle.btx_machine.specs.Outputs.{Outputs, Work}
 use Rattle.btx_machine.specs.States.{Out, State, state, Stopped, end_of}
 use Rattle.btx_machine.specs.Goings.{Starts}
-use Rattle.btx_machine.specs.Written.{Received, Start, Stands, Between, Within, Runs}
+use Rattle.btx_machine.specs.Written.{Start, Stands, Between, Within, Runs}
 use Rattle.btx_machine.specs.Commands.{Doing}
 
 -- with this number of steps the run is stopped, and what it wrote begins what stands now
@@ -29,6 +29,6 @@ pub record Ended (whole : Doing) (taken : ℕ) (end : Ending) (s t : State) : Ty
   pub before : StoppedBefore whole taken s t
 
 -- a run that failed: the sinks have received no more than a run without a step writes, or stand within the same step
-abbrev pub FailsInStep : Work → ℕ → Received → Received → Doing → Type 0
-FailsInStep old budget before after run = (start : Start) (out : Out) → Stands start old.outputs before out →
-    Between start after out (end_of (run 0 (state old.store out))).out ⊎ Within start after budget (λ n. run n (state old.store out))
+abbrev pub FailsInStep : Work → ℕ → Outputs → Doing → Type 0
+FailsInStep old budget new run = (start : Start) (out : Out) → Stands start old.outputs out →
+    Between start new out (end_of (run 0 (state old.store out))).out ⊎ Within start new budget (λ n. run n (state old.store out))

@@ -1,20 +1,38 @@
-use Rattle.std.proofs.Common.{◌-◌, ◌∙◌, ap, arith}
-use Rattle.btx_bst.specs.Style.{Style}
-use Rattle.btx_bst.specs.Views.{items_view}
+use Rattle.std.proofs.Common.{rules, ap, ◌∙◌, IfOk, OnErr}
+use Rattle.btx_out.specs.Breakers.{Held}
+use Rattle.btx_machine.specs.Faults.{CountsOfOutputs}
+use Rattle.btx_machine.specs.KeepingStep.{AtFault, Completes}
+use Rattle.btx_machine.specs.Outputs.{Journal}
 use Rattle.btx_machine.specs.Product.{product}
-use Rattle.btx_machine.proofs.ComesLemmas.{on_err, err_map}
-use Rattle.btx_machine.proofs.DoLemmas.{ok_both}
-use Rattle.btx_machine.proofs.RunLemmas.{new_stands, nothing_written, items_fail, closes, close_fails}
+use Rattle.btx_machine.specs.Reports.{told_so}
+use Rattle.btx_machine.proofs.ComesLemmas.{on_err}
+use Rattle.btx_machine.proofs.EdgeLemmas.{ends_as, of_equals, pair_is}
+use Rattle.btx_machine.proofs.RunLemmas.{nothing_written}
 use Rattle.btx_machine.proofs.run.execute_style.Goals as goal
 
 pub returns-in_err-store-clause-err : goal.returns-in_err-store-clause-err
 returns-in_err-store-clause-err g c = on_err c.from_residual.result (nothing_written (g.W.Sink.received c.args.bbl.now, g.L.Sink.received c.args.log.now) (product c.args.job.now c.args.told c.args.line) c.args.budget)
 
-pub returns-in_err-end-clause-err : goal.returns-in_err-end-clause-err
-returns-in_err-end-clause-err g c = on_err c.from_residual-in_err-end.result (items_fail c.args.job.now c.args.told c.args.line c.new-outputs.ensures.range (record { alloc = c.args.alloc; store = c.in_ok-store.store; outputs = c.new-outputs.result }) (g.W.Sink.received c.args.bbl.now, g.L.Sink.received c.args.log.now) c.in_ok-store.ensures (new_stands c.args.line c.new-outputs.ensures.range c.new-outputs.result c.args.told (g.W.Sink.received c.args.bbl.now, g.L.Sink.received c.args.log.now) c.new-outputs.ensures.breaker c.new-outputs.ensures.warnings c.new-outputs.ensures.errors) (g.W.Sink.received c.do_items.new.bbl, g.L.Sink.received c.do_items.new.log) c.args.budget (items_view c.items.result.now) (c.items.ensures ∙ ap (λ (style : Style). style.items) c.style.ensures) c.in_err-end.ensures.err)
-
 pub returns-clause-ok : goal.returns-clause-ok
-returns-clause-ok g c = ok_both (λ report is closed. closes c.args.job.now c.args.told c.args.line c.new-outputs.ensures.range (record { alloc = c.args.alloc; store = c.in_ok-store.store; outputs = c.new-outputs.result }) (g.W.Sink.received c.args.bbl.now, g.L.Sink.received c.args.log.now) c.in_ok-store.ensures (new_stands c.args.line c.new-outputs.ensures.range c.new-outputs.result c.args.told (g.W.Sink.received c.args.bbl.now, g.L.Sink.received c.args.log.now) c.new-outputs.ensures.breaker c.new-outputs.ensures.warnings c.new-outputs.ensures.errors) c.do_items.new.work (g.W.Sink.received c.do_items.new.bbl, g.L.Sink.received c.do_items.new.log) c.in_ok-end.end c.do_items.new.left (c.args.budget - c.do_items.new.left) c.args.budget (omega (arith, c.do_items.ensures.fewer)) c.in_ok-end.ensures.spent (items_view c.items.result.now) (c.items.ensures ∙ ap (λ (style : Style). style.items) c.style.ensures) c.in_ok-end.ensures.outcome (g.W.Sink.received c.conclude.new.bbl, g.L.Sink.received c.conclude.new.log) report is closed) c.conclude.result c.conclude.ensures.report c.conclude.ensures.ok
+returns-clause-ok g c =
+    of_equals (λ a b told limit. IfOk c.do_all-result.result (λ report. Completes report a b (product c.args.job.now told limit c.args.budget))) _ _ _ _ _ _ _ _
+    (pair_is _ _ _ _ c.new-outputs.ensures.received (ap (λ (log : Journal). log.sink.received) c.new-outputs.ensures.log ∙ c.new-2.ensures.received))
+    (pair_is _ _ _ _ (ends_as g.W.Sink.received _ c.into_sinks-list.result.0 _ c.do_all-result.new.work.outputs.bbl.received (c.into_sinks-list.ensures.bbl_name ∙ c.do_all-result.ensures.counts.0.0 ∙ c.new-outputs.ensures.name) c.into_sinks-list.ensures.bbl_received (search rules)) (ends_as g.L.Sink.received _ c.into_sinks-list.result.1 _ c.do_all-result.new.work.outputs.log.sink.received (c.into_sinks-list.ensures.log_name ∙ c.do_all-result.ensures.counts.0.1 ∙ ap (λ (log : Journal). log.sink.name) c.new-outputs.ensures.log ∙ c.new-2.ensures.name) c.into_sinks-list.ensures.log_received (search rules)))
+    (ap (λ (log : Journal). told_so log.warnings log.errors) c.new-outputs.ensures.log ∙ ap (λ n. told_so n c.new-2.result.errors) c.new-2.ensures.warnings ∙ ap (told_so c.args.told.warnings) c.new-2.ensures.errors)
+    (ap (λ (held : Held). held.limit) c.new-outputs.ensures.breaker) c.do_all-result.ensures.ok
 
 pub returns-clause-err : goal.returns-clause-err
-returns-clause-err g c = err_map (close_fails c.args.job.now c.args.told c.args.line c.new-outputs.ensures.range (record { alloc = c.args.alloc; store = c.in_ok-store.store; outputs = c.new-outputs.result }) (g.W.Sink.received c.args.bbl.now, g.L.Sink.received c.args.log.now) c.in_ok-store.ensures (new_stands c.args.line c.new-outputs.ensures.range c.new-outputs.result c.args.told (g.W.Sink.received c.args.bbl.now, g.L.Sink.received c.args.log.now) c.new-outputs.ensures.breaker c.new-outputs.ensures.warnings c.new-outputs.ensures.errors) c.do_items.new.work (g.W.Sink.received c.do_items.new.bbl, g.L.Sink.received c.do_items.new.log) c.in_ok-end.end c.do_items.new.left (c.args.budget - c.do_items.new.left) c.args.budget (omega (arith, c.do_items.ensures.fewer)) c.in_ok-end.ensures.spent (items_view c.items.result.now) (c.items.ensures ∙ ap (λ (style : Style). style.items) c.style.ensures) c.in_ok-end.ensures.outcome (g.W.Sink.received c.conclude.new.bbl, g.L.Sink.received c.conclude.new.log)) c.conclude.result c.conclude.ensures.err
+returns-clause-err g c =
+    of_equals (λ a b told limit. OnErr c.do_all-result.result (AtFault a b (product c.args.job.now told limit) c.args.budget)) _ _ _ _ _ _ _ _
+    (pair_is _ _ _ _ c.new-outputs.ensures.received (ap (λ (log : Journal). log.sink.received) c.new-outputs.ensures.log ∙ c.new-2.ensures.received))
+    (pair_is _ _ _ _ (ends_as g.W.Sink.received _ c.into_sinks-list.result.0 _ c.do_all-result.new.work.outputs.bbl.received (c.into_sinks-list.ensures.bbl_name ∙ c.do_all-result.ensures.counts.0.0 ∙ c.new-outputs.ensures.name) c.into_sinks-list.ensures.bbl_received (search rules)) (ends_as g.L.Sink.received _ c.into_sinks-list.result.1 _ c.do_all-result.new.work.outputs.log.sink.received (c.into_sinks-list.ensures.log_name ∙ c.do_all-result.ensures.counts.0.1 ∙ ap (λ (log : Journal). log.sink.name) c.new-outputs.ensures.log ∙ c.new-2.ensures.name) c.into_sinks-list.ensures.log_received (search rules)))
+    (ap (λ (log : Journal). told_so log.warnings log.errors) c.new-outputs.ensures.log ∙ ap (λ n. told_so n c.new-2.result.errors) c.new-2.ensures.warnings ∙ ap (told_so c.args.told.warnings) c.new-2.ensures.errors)
+    (ap (λ (held : Held). held.limit) c.new-outputs.ensures.breaker) c.do_all-result.ensures.err
+
+pub returns-clause-counts : goal.returns-clause-counts
+returns-clause-counts g c =
+    of_equals (λ list list' log log'. CountsOfOutputs c.do_all-result.result (list, list') (log, log')) _ _ _ _ _ _ _ _
+    c.new-outputs.ensures.failures
+    (ends_as g.W.Sink.failures _ c.into_sinks-list.result.0 _ c.do_all-result.new.work.outputs.bbl.failures (c.into_sinks-list.ensures.bbl_name ∙ c.do_all-result.ensures.counts.0.0 ∙ c.new-outputs.ensures.name) c.into_sinks-list.ensures.bbl_failures (search rules))
+    (ap (λ (log : Journal). log.sink.failures) c.new-outputs.ensures.log ∙ c.new-2.ensures.failures)
+    (ends_as g.L.Sink.failures _ c.into_sinks-list.result.1 _ c.do_all-result.new.work.outputs.log.sink.failures (c.into_sinks-list.ensures.log_name ∙ c.do_all-result.ensures.counts.0.1 ∙ ap (λ (log : Journal). log.sink.name) c.new-outputs.ensures.log ∙ c.new-2.ensures.name) c.into_sinks-list.ensures.log_failures (search rules)) c.do_all-result.ensures.counts.1

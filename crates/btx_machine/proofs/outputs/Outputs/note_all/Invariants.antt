@@ -1,5 +1,6 @@
 use Rattle.std.proofs.Common.{◌≡◌, drop}
 use Rattle.btx_machine.specs.Saying.{lines_of}
+use Rattle.btx_machine.specs.Outputs.{SameSinks}
 use Rattle.btx_machine.proofs.SayLemmas.{Tells}
 use Rattle.btx_machine.proofs.outputs.Outputs.note_all.Given as goal
 
@@ -7,6 +8,8 @@ use Rattle.btx_machine.proofs.outputs.Outputs.note_all.Given as goal
 abbrev pub invariant-loop-note : goal.invariant-loop-note
 invariant-loop-note g l = record {
   breaker : l.self.breaker ≡ l.fn.self.breaker;
-  counts : g.L.Sink.failures l.log ≡ g.L.Sink.failures l.fn.log;
-  same : Tells l.fn.self (g.L.Sink.received l.fn.log) l.self (g.L.Sink.received l.log) (lines_of l.fn.job l.fn.executed l.fn.current (drop l.note-index l.notes)) (lines_of l.fn.job l.fn.executed l.fn.current l.notes);
+  sinks : SameSinks l.fn.self l.self;
+  bbl_counts : l.self.bbl.failures ≡ l.fn.self.bbl.failures;
+  log_counts : l.self.log.sink.failures ≡ l.fn.self.log.sink.failures;
+  same : Tells l.fn.self l.self (lines_of l.fn.job l.fn.executed l.fn.current (drop l.note-index l.notes)) (lines_of l.fn.job l.fn.executed l.fn.current l.notes);
 }

@@ -1,5 +1,6 @@
 use Rattle.std.proofs.Common.{◌≡◌, drop, map}
 use Rattle.btx_bib.specs.MessageTexts.{line_of}
+use Rattle.btx_machine.specs.Outputs.{SameSinks}
 use Rattle.btx_machine.proofs.SayLemmas.{Tells}
 use Rattle.btx_machine.proofs.outputs.Outputs.tell_messages.Given as goal
 
@@ -7,6 +8,8 @@ use Rattle.btx_machine.proofs.outputs.Outputs.tell_messages.Given as goal
 abbrev pub invariant-loop-message : goal.invariant-loop-message
 invariant-loop-message g l = record {
   breaker : l.self.breaker ≡ l.fn.self.breaker;
-  counts : g.L.Sink.failures l.log ≡ g.L.Sink.failures l.fn.log;
-  same : Tells l.fn.self (g.L.Sink.received l.fn.log) l.self (g.L.Sink.received l.log) (map line_of (drop l.message-index l.messages)) (map line_of l.messages);
+  sinks : SameSinks l.fn.self l.self;
+  bbl_counts : l.self.bbl.failures ≡ l.fn.self.bbl.failures;
+  log_counts : l.self.log.sink.failures ≡ l.fn.self.log.sink.failures;
+  same : Tells l.fn.self l.self (map line_of (drop l.message-index l.messages)) (map line_of l.messages);
 }

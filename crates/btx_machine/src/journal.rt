@@ -1,0 +1,109 @@
+//! The log of a run.
+ghost use Rattle.std.specs.Prelude.{◌≡◌, IfOk, OnErr, OnOk};
+ghost use Rattle.std.specs.Io.KnownBytes.{Appends};
+ghost use Rattle.btx_out.specs.Pieces.{AppendsBeginning};
+ghost use Rattle.btx_text.specs.LogLines.{is_error, is_warning};
+ghost use Rattle.btx_machine.specs.Faults.{CountsOfLog};
+ghost use Rattle.btx_machine.specs.Reports.{last_line};
+ghost use Rattle.btx_machine.specs.Saying.{counted_if, ended_line};
+
+use crate::last::tell_end;
+use crate::report::{Report, Told};
+use btx_out::{Log, Sink};
+use btx_text::{Fault, LineKind, LogLine};
+use std::alloc::Global;
+use std::marker::Model;
+
+/// Writes each line of a log when it happens, and counts the warnings and the errors. It keeps no line.
+#[derive(Drop)]
+pub struct Journal<'s, L: Sink> {
+    sink: &'s mut L,
+    warnings: u64,
+    errors: u64,
+}
+
+impl<'s, L: Sink> Model for Journal<'s, L> {
+    ghost use Rattle.btx_machine.specs.Outputs.{Journal as Logged};
+
+    ghost Value = { Logged };
+
+    ghost view = { λ journal. record {
+      sink = record { name = journal.sink.ghost_name; received = L.received journal.sink.now; failures = L.failures journal.sink.now };
+      warnings = journal.warnings;
+      errors = journal.errors;
+    } };
+}
+
+impl<'s, L: Sink> Journal<'s, L> {
+    /// A log that goes on in a sink, after lines with these counts.
+    pub fn new(sink: &'s mut L, told: Told) -> Self
+        ensures name { result.sink.name ≡ sink.entry.ghost_name }
+        ensures received { result.sink.received ≡ L.received sink.old }
+        ensures failures { result.sink.failures ≡ L.failures sink.old }
+        ensures warnings { result.warnings ≡ told.warnings }
+        ensures errors { result.errors ≡ told.errors }
+    {
+        Journal {
+            sink,
+            warnings: told.warnings,
+            errors: told.errors,
+        }
+    }
+
+    /// How many warnings and errors the log has.
+    pub fn told(&self) -> Told
+        ensures warnings { result.warnings ≡ self.now.warnings }
+        ensures errors { result.errors ≡ self.now.errors }
+    {
+        Told {
+            warnings: self.warnings,
+            errors: self.errors,
+        }
+    }
+
+    /// Writes a line, and counts it. At a fault the log received a beginning of the line.
+    pub fn tell(&mut self, line: &LogLine) -> Result<(), Fault>
+        ensures ok { OnOk result (Appends self.old.sink.received self.new.sink.received (ended_line line.now.text)) }
+        ensures err { OnErr result (AppendsBeginning self.old.sink.received self.new.sink.received (ended_line line.now.text)) }
+        ensures warnings { self.new.warnings ≡ counted_if (is_warning line.now.kind) self.old.warnings }
+        ensures errors { self.new.errors ≡ counted_if (is_error line.now.kind) self.old.errors }
+        ensures sink { self.new.sink.name ≡ self.old.sink.name }
+        ensures counts { CountsOfLog result (self.old.sink.failures, self.new.sink.failures) }
+    {
+        self.count(line.kind());
+        Log::new().line(line.text(), self.sink)
+    }
+
+    // Counts a line as a warning, as an error or not at all.
+    fn count(&mut self, kind: LineKind)
+        ensures sink { self.new.sink ≡ self.old.sink }
+        ensures warnings { self.new.warnings ≡ counted_if (is_warning kind) self.old.warnings }
+        ensures errors { self.new.errors ≡ counted_if (is_error kind) self.old.errors }
+    {
+        match kind {
+            LineKind::Plain => {}
+            LineKind::Warning => self.warnings = self.warnings.saturating_add(1),
+            LineKind::Error => self.errors = self.errors.saturating_add(1),
+        }
+    }
+
+    /// Writes the last line, which isn't counted, and answers the report that it gives.
+    pub fn end(&mut self, alloc: Global, report: Report) -> Result<Report, Fault>
+        ensures report { IfOk result (λ answer. answer ≡ report) }
+        ensures ok { OnOk result (Appends self.old.sink.received self.new.sink.received (ended_line (last_line report))) }
+        ensures err { OnErr result (AppendsBeginning self.old.sink.received self.new.sink.received (ended_line (last_line report))) }
+        ensures sink { self.new.sink.name ≡ self.old.sink.name }
+        ensures counts { CountsOfLog result (self.old.sink.failures, self.new.sink.failures) }
+    {
+        tell_end(alloc, report, self.sink)
+    }
+
+    /// Gives the sink back.
+    pub fn into_sink(self) -> &'s mut L
+        ensures name { result.ghost_name ≡ self.entry.sink.name }
+        ensures received { L.received result.now ≡ self.entry.sink.received }
+        ensures failures { L.failures result.now ≡ self.entry.sink.failures }
+    {
+        self.sink
+    }
+}
