@@ -12,7 +12,7 @@ pub enum Literal<'a> {
     Missing,
 }
 
-/// A kind of literal that a built-in function takes.
+/// The kind of literal that a built-in function expects.
 #[derive(Clone, Copy, PartialEq, Eq, Debug)]
 pub enum Wanted {
     Integer,
