@@ -19,16 +19,16 @@ pub record Event : Type 0 where
 abbrev pub event_at : List ℕ → ℕ → Word → Event
 event_at file line word = record { file = file; line = line; word = word }
 
--- what the lines of a file say, where the first of them has this number
+-- the events of the lines of a file, of which the first has line number `number`
 abbrev pub said_from : List ℕ → ℕ → List (List ℕ) → List Event
 said_from file number [] = []
 said_from file number (line ∷ lines) = map (event_at file number) (words_of line) ++ said_from file (number + 1) lines
 
--- what a file says
+-- the events of the lines of a file
 unfoldable pub said : List ℕ → List ℕ → List Event
 said file text = said_from file 1 (lines_of text)
 
--- the file that is named: the top one where it is opened, and that of an include whose name ends in `.aux`
+-- the file name that an event mentions: the top file's when it is opened, or that of an include, if it ends in `.aux`
 abbrev pub named_by : List ℕ → Word → List (List ℕ)
 named_by file (Opens zero) = file ∷ []
 named_by file (Opens (suc level)) = []
@@ -50,7 +50,7 @@ named event = named_by event.file event.word
 abbrev pub files_named : List Event → List (List ℕ)
 files_named events = distinct (flat_map named events)
 
--- the file that is asked for where these are named already
+-- the file that an event opens: that of an `\@input` line, if its name ends in `.aux` and isn't among `files`, the names met before
 abbrev pub asked_of : List (List ℕ) → Word → Option (List ℕ)
 asked_of files (Includes (Taken name)) = if has_ending (codes ".aux") name && not (is_among files name) then Some name else None
 asked_of files (Includes (Cut slip)) = None
@@ -67,17 +67,18 @@ asked_of files NoTop = None
 abbrev pub Reading : Type 0
 Reading = List Event → List ℕ → List ℕ → List Event
 
--- what becomes of a file that an event asks for
+-- the events after an `\@input`: that the file is missing, or else those of the file
 abbrev pub found : Reading → List Event → Event → List ℕ → Option (List ℕ) → List Event
 found reading earlier event name None = record event { word = Absent name } ∷ []
 found reading earlier event name (Some text) = reading earlier name text
 
--- what follows an event, which is the last of the earlier ones
+-- the events that come between this event and the next one of its file: those of the file that it asks for, or that this is missing; none if it
+-- asks for none
 abbrev pub followed : Files → Reading → List Event → Event → Option (List ℕ) → List Event
 followed files reading earlier event None = []
 followed files reading earlier event (Some name) = found reading earlier event name (files name)
 
--- all that is said, each event followed at once by what comes of it
+-- the events of a file, each followed at once by those of the file that it opens
 abbrev pub expanded : Files → Reading → List Event → List Event → List Event
 expanded files reading earlier [] = []
 expanded files reading earlier (event ∷ events) =
@@ -85,23 +86,24 @@ expanded files reading earlier (event ∷ events) =
     let more = followed files reading with_event event (asked_of (files_named earlier) event.word) in
     (event ∷ more) ++ expanded files reading (with_event ++ more) events
 
--- a file has more bytes than a file may have
+-- the text has more bytes than a file may have
 abbrev pub is_too_long : List ℕ → Bool
 is_too_long text = nat_lt greatest_file (length text)
 
--- the events inside an opened file
+-- the events of an opened file after its opening: those of its lines, or that it is too long
 abbrev pub inside : Bool → Files → Reading → List Event → List ℕ → List ℕ → List Event
 inside true files reading earlier name text = event_at name 0 TooLong ∷ []
 inside false files reading earlier name text = expanded files reading earlier (said name text)
 
--- the events of a file, where this number of the 20 files that may be open at once are not open yet
+-- the events of a file from its opening on, given how many of the 20 files that may be open at once aren't open yet; if there are none, that too
+-- many are open
 abbrev pub opened : Files → ℕ → Reading
 opened files zero earlier name text = event_at name 0 Full ∷ []
 opened files (suc room) earlier name text =
     let opening = event_at name 0 (Opens (19 - room)) in
     opening ∷ inside (is_too_long text) files (opened files room) (earlier ++ opening ∷ []) name text
 
--- the events of the top file
+-- the events of the top file and of the files that it opens, given its text; without a text, that it is missing
 abbrev pub from_top : Files → List ℕ → Option (List ℕ) → List Event
 from_top files top None = event_at top 0 NoTop ∷ []
 from_top files top (Some text) = opened files 20 [] top text

@@ -5,7 +5,7 @@ use Rattle.btx_text.specs.declared.fault.Fault.TheVariants as fault
 use Rattle.btx_aux.specs.declared.fetch_fault.FetchFault.{FetchFault}
 use Rattle.btx_aux.specs.declared.fetch_fault.FetchFault.TheVariants.{Memory, Device}
 
--- the fetch failed by its device
+-- the fetch failed because of the device, and not for want of memory
 abbrev pub is_device_fetch : {T : Type 0} → Result T FetchFault → Bool
 is_device_fetch (Ok found) = false
 is_device_fetch (Err Memory) = false

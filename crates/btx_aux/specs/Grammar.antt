@@ -16,19 +16,19 @@ pub data Piece : Type 0 where
   Taken : (text : List ℕ) → Piece
   Cut : (slip : Slip) → Piece
 
--- a byte in front of the first piece
+-- byte `b` added at the front of the first piece, if that piece was taken; else the pieces as they are
 abbrev pub in_front : ℕ → List Piece → List Piece
 in_front b [] = []
 in_front b (Taken text ∷ pieces) = Taken (b ∷ text) ∷ pieces
 in_front b (Cut slip ∷ pieces) = Cut slip ∷ pieces
 
--- the piece that a `}` ends, if nothing stands behind the `}` on its line
+-- the piece before a `}`: it is taken if nothing follows the `}` on its line, and else an error
 abbrev pub closed_before : List ℕ → List Piece
 closed_before [] = Taken [] ∷ []
 closed_before (b ∷ bs) = Cut StuffAfter ∷ []
 
--- the pieces of an argument. A piece ends at the first `}`, white or end of the line, and in a list at a `,` too; white, the end
--- of the line and anything behind the `}` are slips
+-- the pieces of an argument. A piece ends at the first `}`, at whitespace or at the end of the line, and in a list at a comma too. Whitespace,
+-- the end of the line and anything after the `}` are errors
 unfoldable pub pieces_of : Bool → List ℕ → List Piece
 pieces_of is_list [] = Cut Unclosed ∷ []
 pieces_of is_list (b ∷ bs) =
@@ -37,7 +37,7 @@ pieces_of is_list (b ∷ bs) =
     else (if is_list && b == 44 then Taken [] ∷ pieces_of is_list bs
     else in_front b (pieces_of is_list bs)))
 
--- the first of some pieces
+-- the first piece of an argument; without one the `}` is missing
 abbrev pub first_piece : List Piece → Piece
 first_piece [] = Cut Unclosed
 first_piece (piece ∷ pieces) = piece
@@ -77,7 +77,7 @@ words_of_command (Some Bibdata) argument = Databases (pieces_of true argument) �
 words_of_command (Some Bibstyle) argument = Styles (piece_of argument) ∷ []
 words_of_command (Some Input) argument = Includes (piece_of argument) ∷ []
 
--- what a line says, by the place of its first `{`; without a `{` it says nothing
+-- what a line says, given the place of its first `{`; a line without `{` says nothing
 abbrev pub words_at : Option ℕ → List ℕ → List Word
 words_at None line = []
 words_at (Some brace) line = words_of_command (command_named (take brace line)) (drop (brace + 1) line)

@@ -14,12 +14,12 @@ use Rattle.btx_aux.specs.Notes.{Complaint, Slipped, AnotherBibdata, AnotherBibst
 
 -- ---- reading along the events
 
--- what each event gives, judged by the events before it, all in a row
+-- for each event, in order, what `judge` makes of it and of the events before it, all in one list
 abbrev pub gathered : {T : Type 0} → (List Event → Event → List T) → List Event → List Event → List T
 gathered judge earlier [] = []
 gathered judge earlier (event ∷ events) = judge earlier event ++ gathered judge (earlier ++ event ∷ []) events
 
--- the first of a list
+-- the first element of a list, if it has one
 abbrev pub first_of : {T : Type 0} → List T → Option T
 first_of [] = None
 first_of (x ∷ xs) = Some x
@@ -30,7 +30,7 @@ first_of (x ∷ xs) = Some x
 abbrev pub is_star : List ℕ → Bool
 is_star key = bytes_eq key (codes "*")
 
--- the key that a piece of a `\citation` is, if it was taken and isn't `*`
+-- the key in a piece of a `\citation`: none if the piece is `*` or faulty
 abbrev pub key_in : Piece → List (List ℕ)
 key_in (Taken key) = if is_star key then [] else key ∷ []
 key_in (Cut slip) = []
@@ -55,12 +55,12 @@ cited event = cited_by event.word
 abbrev pub keys_of : List Event → List (List ℕ)
 keys_of events = fold with_key [] (flat_map cited events)
 
--- the count of the keys before it, where a piece is `*`; another piece gives none
+-- the number of keys before it, if the piece is `*`
 abbrev pub star_in : Piece → ℕ → List ℕ
 star_in (Taken key) count = if is_star key then count ∷ [] else []
 star_in (Cut slip) count = []
 
--- the count of the keys before it, where a `\citation` has the piece `*`; nothing else gives one
+-- the number of keys before it, if the event is a citation of `*`
 abbrev pub star_by : Word → ℕ → List ℕ
 star_by (Cites piece) count = star_in piece count
 star_by (Databases pieces) count = []
@@ -103,7 +103,7 @@ abbrev pub taken_with : List ℕ → Piece → List (List ℕ)
 taken_with ending (Taken name) = with_ending ending name ∷ []
 taken_with ending (Cut slip) = []
 
--- the databases that these pieces name: a database is taken if it is named first there
+-- the databases that the pieces of a `\bibdata` line name, each once, with `.bib`; none without such a line
 abbrev pub databases_in : Option (List Piece) → List (List ℕ)
 databases_in None = []
 databases_in (Some pieces) = distinct (flat_map (taken_with (codes ".bib")) pieces)
@@ -139,7 +139,7 @@ style_of events = style_in (bibstyle_of events)
 
 -- ---- the log
 
--- a complaint if something is so
+-- the complaint, if the test is true
 abbrev pub complain_if : Bool → Complaint → List Complaint
 complain_if true complaint = complaint ∷ []
 complain_if false complaint = []
@@ -149,7 +149,7 @@ abbrev pub spelling_complaints : Option (List ℕ) → List ℕ → List Complai
 spelling_complaints None key = []
 spelling_complaints (Some earlier) key = complain_if (not (bytes_eq earlier key)) (CaseMismatch earlier key)
 
--- what is wrong with a piece of a `\citation`, after these keys and this place of `*`
+-- what is wrong with a piece of a `\citation`, given the keys listed so far and the place of an earlier `*`
 abbrev pub citation_complaints : List (List ℕ) → Option ℕ → Piece → List Complaint
 citation_complaints keys all (Taken key) = if is_star key then complain_if (is_some all) SecondStar else spelling_complaints (listed_as keys key) key
 citation_complaints keys all (Cut slip) = Slipped slip ∷ []
@@ -162,7 +162,7 @@ database_complaints databases (Taken name ∷ pieces) =
     complain_if (is_among databases database) (RepeatedDatabase database) ++ database_complaints (with_name databases database) pieces
 database_complaints databases (Cut slip ∷ pieces) = Slipped slip ∷ database_complaints databases pieces
 
--- what is wrong with a `\bibdata` line, where there was one before or not
+-- what is wrong with a `\bibdata` line, given whether there was one before
 abbrev pub bibdata_complaints : Bool → List Piece → List Complaint
 bibdata_complaints true pieces = AnotherBibdata ∷ []
 bibdata_complaints false pieces = database_complaints [] pieces
@@ -187,11 +187,12 @@ abbrev pub file_note : ℕ → List ℕ → Note
 file_note zero name = TopFile name
 file_note (suc level) name = LevelFile (suc level) name
 
--- complaints as notes, with their place
+-- complaints with the file and line of their event
 abbrev pub placed : Event → List Complaint → List Note
 placed event complaints = map (λ (complaint : Complaint). Wrong complaint event.line event.file) complaints
 
--- the notes of an event, after these keys, this place of `*`, a `\bibdata` line or none, a `\bibstyle` line or none, these files
+-- the notes of an event, given the keys, the place of `*`, whether there were a `\bibdata` and a `\bibstyle` line, and the file names, all as
+-- they stand before it
 abbrev pub notes_by : List (List ℕ) → Option ℕ → Bool → Bool → List (List ℕ) → Event → Word → List Note
 notes_by keys all bibdata bibstyle files event (Cites piece) = placed event (citation_complaints keys all piece)
 notes_by keys all bibdata bibstyle files event (Databases pieces) = placed event (bibdata_complaints bibdata pieces)
@@ -203,7 +204,7 @@ notes_by keys all bibdata bibstyle files event Full = []
 notes_by keys all bibdata bibstyle files event TooLong = []
 notes_by keys all bibdata bibstyle files event NoTop = []
 
--- the notes of an event, after the earlier ones
+-- the notes of an event, given the events before it
 abbrev pub notes_at : List Event → Event → List Note
 notes_at earlier event = notes_by (keys_of earlier) (all_of earlier) (is_some (bibdata_of earlier)) (is_some (bibstyle_of earlier)) (files_named earlier) event event.word
 
@@ -214,12 +215,12 @@ abbrev pub end_of : List Event → End
 end_of [] = end.Whole
 end_of (event ∷ events) = if is_whole (end_by event.word) then end_of events else end_by event.word
 
--- a note if something is so
+-- the note, if the test is true
 abbrev pub note_if : Bool → Note → List Note
 note_if true note = note ∷ []
 note_if false note = []
 
--- there is no key
+-- the list of keys is empty
 abbrev pub is_empty : List (List ℕ) → Bool
 is_empty [] = true
 is_empty (key ∷ keys) = false
@@ -229,7 +230,7 @@ abbrev pub missing_notes : List (List ℕ) → Option ℕ → Bool → Bool → 
 missing_notes keys all bibdata bibstyle =
     note_if (is_empty keys && is_none all) NoCitations ++ note_if (not bibdata) NoBibdata ++ note_if (not bibstyle) NoBibstyle
 
--- the notes at the end: what is missing, after a whole reading alone
+-- the notes at the end: after a whole reading, what is missing; else none
 abbrev pub closing_notes : End → List (List ℕ) → Option ℕ → Bool → Bool → List Note
 closing_notes end.Whole keys all bibdata bibstyle = missing_notes keys all bibdata bibstyle
 closing_notes end.TooManyOpen keys all bibdata bibstyle = []

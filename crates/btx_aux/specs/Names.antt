@@ -4,23 +4,23 @@ use Rattle.std.specs.Str.{bytes_eq}
 use Rattle.std.specs.List.{ends_with, list_any, find}
 use Rattle.btx_text.specs.Keys.{folded}
 
--- the name ends so
+-- the name ends in `ending`
 abbrev pub has_ending : List ℕ → List ℕ → Bool
 has_ending ending name = ends_with nat_eq name ending
 
--- the name with this ending, which isn't put on where it stands already (this project's own rule for `.bib` and `.bst`)
+-- the name with `ending` appended, unless it ends so already (this project's own rule for `.bib` and `.bst`)
 abbrev pub with_ending : List ℕ → List ℕ → List ℕ
 with_ending ending name = if has_ending ending name then name else name ++ ending
 
--- the name is one of some
+-- the list has this name
 abbrev pub is_among : List (List ℕ) → List ℕ → Bool
 is_among names name = list_any (bytes_eq name) names
 
--- some names with a further one, each once, in the order in which they came
+-- a list of names with `name` appended, unless it is there already
 abbrev pub with_name : List (List ℕ) → List ℕ → List (List ℕ)
 with_name names name = if is_among names name then names else names ++ name ∷ []
 
--- each of some names once, in the order in which they come first
+-- the list of names without repetitions, in the order in which each first occurs
 abbrev pub distinct : List (List ℕ) → List (List ℕ)
 distinct names = fold with_name [] names
 

@@ -17,7 +17,7 @@ use Rattle.btx_bib.specs.Told.{Database, Reading, read_next}
 
 -- ---- before the first database
 
--- what is known before a macro or a database was read
+-- what is known before any macro or database is read: no strings, no entries and no preamble
 abbrev pub nothing : Known
 nothing = record { strings = []; stored = []; current = None; preamble = []; ending = end.Whole }
 
@@ -45,7 +45,7 @@ abbrev pub read_whole : Wanted → Reading → Database → Reading
 read_whole wanted reading database =
     let last = fold (read_next wanted database) reading (events_of wanted reading.known database) in record last { known = closed last.known }
 
--- a file that is too long ends the reading, and after the end nothing more is read
+-- reads a database, unless the reading has ended already; a file that is too long ends it
 abbrev pub read_one : Wanted → Reading → Database → Reading
 read_one wanted reading database =
     if goes_on reading.known.ending then
@@ -58,7 +58,7 @@ read_one wanted reading database =
 abbrev pub read_all : Wanted → List (List ℕ × List ℕ) → List Database → Reading
 read_all wanted macros databases = fold (read_one wanted) (record { known = with_macros macros; messages = [] }) databases
 
--- the library of what is known at the end of the reading, and of the messages: where it ended at a limit only those until then
+-- the library made of what is known at the end: after a limit it has no entries and no preamble, and only the messages until then
 abbrev pub library_by : End → Wanted → Known → List Message → Library
 library_by end.Whole wanted known messages = record {
   entries = entries_of (slots_of wanted known.stored);

@@ -21,16 +21,16 @@ pub record Given : Type 0 where
 abbrev pub number_of : Wanted → Field → Option ℕ
 number_of wanted field = wanted.field (folded field.name)
 
--- a number, if there is one, is the one that is asked for
+-- there is a number, and it is `number`
 abbrev pub is_number : ℕ → Option ℕ → Bool
 is_number number None = false
 is_number number (Some other) = nat_eq other number
 
--- the value of the first field of this number
+-- the value of an entry's first field with this number
 abbrev pub value_in : Wanted → List Field → ℕ → Option (List ℕ)
 value_in wanted fields number = option_map (λ (field : Field). field.value) (find (λ (field : Field). is_number number (number_of wanted field)) fields)
 
--- the values of this number of fields, from a number on
+-- the values of `count` fields, from field number `first` on
 abbrev pub values_from : Wanted → List Field → ℕ → ℕ → List (Option (List ℕ))
 values_from wanted fields first zero = []
 values_from wanted fields first (suc count) = value_in wanted fields first ∷ values_from wanted fields (suc first) count
@@ -52,7 +52,7 @@ parent_of wanted given = parent_in (values_of wanted given.fields)
 unfoldable pub body_of : Wanted → Given → Body
 body_of wanted given = record { kind = wanted.kind (folded given.kind); values = values_of wanted given.fields }
 
--- a list of one, or of none
+-- an optional value as a list of one or of none
 abbrev pub listed : {T : Type 0} → Option T → List T
 listed None = []
 listed (Some x) = x ∷ []

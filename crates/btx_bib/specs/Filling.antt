@@ -9,7 +9,7 @@ abbrev pub blanks : ℕ → List (Option (List ℕ))
 blanks zero = []
 blanks (suc count) = None ∷ blanks count
 
--- the value at a place, if there is a place
+-- the value at a place of the list, if there is such a place
 abbrev pub value_by : Option ℕ → List (Option (List ℕ)) → Option (List ℕ)
 value_by None values = None
 value_by (Some place) values = value_at place values

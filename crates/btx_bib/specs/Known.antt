@@ -34,11 +34,11 @@ goes_on end.StringLimit = false
 abbrev pub stored_in : Known → List Given
 stored_in known = known.stored ++ listed known.current
 
--- the entry that was being read is at its end
+-- what is known once the entry that is being read has ended: it is stored
 abbrev pub closed : Known → Known
 closed known = record known { stored = stored_in known; current = None }
 
--- a string that is too long ends the reading
+-- what is known after a string of this text: `next`, or the end of the reading if the text is too long
 abbrev pub if_fits : List ℕ → Known → Known → Known
 if_fits text known next = if nat_lt greatest_string (length text) then record known { ending = end.StringLimit } else next
 
@@ -46,7 +46,7 @@ if_fits text known next = if nat_lt greatest_string (length text) then record kn
 abbrev pub has_value : Wanted → Given → List ℕ → Bool
 has_value wanted given name = is_some (value_by (wanted.field (folded name)) (values_of wanted given.fields))
 
--- an entry takes a field that is declared and for which it has no value yet
+-- an entry keeps a field of this name: the style declares the field, and the entry has no value for it yet
 abbrev pub takes : Wanted → Given → List ℕ → Bool
 takes wanted given name = is_some (wanted.field (folded name)) && not (has_value wanted given name)
 
@@ -54,7 +54,7 @@ takes wanted given name = is_some (wanted.field (folded name)) && not (has_value
 abbrev pub with_field : Given → List ℕ → List ℕ → Given
 with_field given name text = record given { fields = given.fields ++ record { name = name; value = text } ∷ [] }
 
--- after a field, of the stored entry that is being read or of none
+-- what is known after a field, of the stored entry that is being read, or of an entry that isn't stored
 abbrev pub after_field : Wanted → Known → Option Given → Read → Known
 after_field wanted known None field = known
 after_field wanted known (Some given) field =
@@ -67,7 +67,7 @@ abbrev pub after_key : Wanted → Known → List ℕ → List ℕ → Known
 after_key wanted known kind key =
     if is_wanted wanted known.stored key then record known { current = Some (record { kind = kind; key = key; fields = [] }) } else known
 
--- after something that was read
+-- what is known after an event of a database
 abbrev pub after_event : Wanted → Known → Event → Known
 after_event wanted known Comment = known
 after_event wanted known (Preamble value) =

@@ -8,7 +8,7 @@ use Rattle.btx_bib.specs.Wanted.{Wanted}
 use Rattle.btx_bib.specs.Entries.{Given, body_of}
 use Rattle.btx_bib.specs.Stored.{keys_in, entry_of, parents_in, references}
 
--- the cited keys with which the list begins: with `*` those that were cited before it, else all
+-- the cited keys at the front of the list: with `*` those cited before it, else all
 abbrev pub first_cited : Option ℕ → List (List ℕ) → List (List ℕ)
 first_cited None cited = cited
 first_cited (Some place) cited = take place cited
@@ -18,7 +18,7 @@ abbrev pub last_cited : Option ℕ → List (List ℕ) → List (List ℕ)
 last_cited None cited = []
 last_cited (Some place) cited = drop place cited
 
--- the keys that stored entries add: with `*` their own, else those of their parents
+-- the keys that stored entries add to the list: with `*` their own keys, else their parents'
 abbrev pub added : Option ℕ → Wanted → List Given → List (List ℕ)
 added None wanted stored = parents_in wanted stored
 added (Some place) wanted stored = keys_in stored
@@ -31,11 +31,11 @@ first_keys wanted stored = fold with_key [] (first_cited wanted.all wanted.cited
 abbrev pub keys_of : Wanted → List Given → List (List ℕ)
 keys_of wanted stored = fold with_key (first_keys wanted stored) (last_cited wanted.all wanted.cited)
 
--- how the list spells a key: as it was cited, or as its entry has it, or as it is
+-- the spelling of a key in the list: as it was cited; else as its entry has it; else as it is given
 abbrev pub spelled : Wanted → List Given → List ℕ → List ℕ
 spelled wanted stored key = unwrap_or (option_or (listed_as wanted.cited key) (option_map (λ (given : Given). given.key) (entry_of stored key))) key
 
--- what the list has of a key stays: it was cited, or at least `wanted.fewest` stored entries refer to it, which `asked` makes 0 where `*` was cited
+-- a key stays in the list: it was cited, or at least `wanted.fewest` stored entries refer to it (0 with `*`)
 abbrev pub stays : Wanted → List Given → List ℕ → Bool
 stays wanted stored key = is_some (listed_as wanted.cited key) || nat_le wanted.fewest (count_by (is_same_key key) (references wanted stored))
 

@@ -11,12 +11,13 @@ use Rattle.btx_bib.specs.declared.slots.Body.{Body}
 use Rattle.btx_bib.specs.declared.slots.Slot.{Slot}
 use Rattle.btx_bib.specs.Entries.{parent_in}
 
--- the list after a pass: `judge` changes each place in its turn, by the list as it is then, of which the places `done` were changed already
+-- the list after a pass that changes each place in turn: `judge` sees the list as it is then, of which the places `done` have been changed
+-- already
 abbrev pub passed : (List Slot → Slot → Slot) → List Slot → List Slot → List Slot
 passed judge done [] = done
 passed judge done (slot ∷ slots) = passed judge (done ++ judge (done ++ slot ∷ slots) slot ∷ []) slots
 
--- the messages of a pass: `judge` changes a place, `tell` gives its messages before that, and the places `done` were changed already
+-- the messages of a pass, in the order of the places: `tell` sees a place before `judge` changes it
 abbrev pub told_in : (List Slot → Slot → Slot) → (List Slot → Slot → List Message) → List Slot → List Slot → List Message
 told_in judge tell done [] = []
 told_in judge tell done (slot ∷ slots) = tell (done ++ slot ∷ slots) slot ++ told_in judge tell (done ++ judge (done ++ slot ∷ slots) slot ∷ []) slots
@@ -48,7 +49,7 @@ abbrev pub with_values : Option Body → List (Option (List ℕ)) → Option Bod
 with_values None values = None
 with_values (Some body) values = Some (record body { values = values })
 
--- values, where those that are missing are the parent's
+-- an entry's values, with the parent's value for each missing one
 abbrev pub or_values : List (Option (List ℕ)) → List (Option (List ℕ)) → List (Option (List ℕ))
 or_values [] parents = []
 or_values (value ∷ values) [] = value ∷ values
@@ -74,7 +75,7 @@ abbrev pub without_parent : List (Option (List ℕ)) → List (Option (List ℕ)
 without_parent [] = []
 without_parent (value ∷ values) = None ∷ values
 
--- an entry without its parent
+-- a place of the list whose entry has lost its `crossref`
 abbrev pub cut : Slot → Slot
 cut slot = with_body slot (with_values slot.body (without_parent (values_in slot.body)))
 
@@ -92,7 +93,7 @@ checked_by (Some key) slots slot = if is_parent (slot_at slots key) then slot el
 unfoldable pub checked : List Slot → Slot → Slot
 checked slots slot = checked_by (parent_at slot) slots slot
 
--- a message, where something is so
+-- the message, if `b` is true
 abbrev pub told_if : Bool → Message → List Message
 told_if b message = if b then message ∷ [] else []
 
@@ -101,7 +102,7 @@ abbrev pub parent_told : List ℕ → List ℕ → Option Slot → List Message
 parent_told child key None = BadReference child key ∷ []
 parent_told child key (Some parent) = if is_some parent.body then told_if (is_some (parent_at parent)) (NestedReference child key) else BadReference child key ∷ []
 
--- the messages about a parent at a place of the list, if the entry there names one
+-- the messages about the parent that the entry at a place of the list names, if it names one
 abbrev pub check_told_by : Option (List ℕ) → List Slot → Slot → List Message
 check_told_by None slots slot = []
 check_told_by (Some key) slots slot = parent_told slot.key key (slot_at slots key)
@@ -110,7 +111,7 @@ check_told_by (Some key) slots slot = parent_told slot.key key (slot_at slots ke
 unfoldable pub check_told : List Slot → Slot → List Message
 check_told slots slot = check_told_by (parent_at slot) slots slot
 
--- the entry at a place, if there is one that stays
+-- the entry at a place of the list, if there is one and it stays
 abbrev pub entry_by : List ℕ → Bool → Option Body → List Entry
 entry_by key stays None = []
 entry_by key stays (Some body) = if stays then record { key = key; kind = body.kind; values = body.values } ∷ [] else []
@@ -119,7 +120,7 @@ entry_by key stays (Some body) = if stays then record { key = key; kind = body.k
 abbrev pub entry_at : Slot → List Entry
 entry_at slot = entry_by slot.key slot.stays slot.body
 
--- the message of a key without an entry
+-- the message that a key has no entry, if it has none
 abbrev pub absence_by : List ℕ → Option Body → List Message
 absence_by key None = NoEntry key ∷ []
 absence_by key (Some body) = []

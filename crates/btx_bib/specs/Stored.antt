@@ -22,15 +22,15 @@ entry_of entries key = find (λ (given : Given). is_same_key key given.key) entr
 abbrev pub parents_in : Wanted → List Given → List (List ℕ)
 parents_in wanted entries = flat_map (λ (given : Given). listed (parent_of wanted given)) entries
 
--- the references that count: with `*` none does
+-- the references that count for the list: the parents of stored entries; none with `*`
 abbrev pub references_by : Option ℕ → Wanted → List Given → List (List ℕ)
 references_by None wanted entries = parents_in wanted entries
 references_by (Some place) wanted entries = []
 
--- the references of stored entries that keep or add a parent, one for each child; with `*` there are none
+-- the parents that stored entries name, one for each child; none with `*`, which lists every entry anyway
 abbrev pub references : Wanted → List Given → List (List ℕ)
 references wanted entries = references_by wanted.all wanted entries
 
--- an entry of this key is wanted, after these stored ones
+-- an entry with this key is to be stored: `*` was cited, or the key was, or an entry that is stored already names it as its parent
 abbrev pub is_wanted : Wanted → List Given → List ℕ → Bool
 is_wanted wanted stored key = is_some wanted.all || is_any_key (wanted.cited ++ references wanted stored) key

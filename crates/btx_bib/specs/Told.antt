@@ -23,7 +23,7 @@ pub record Database : Type 0 where
   pub file : List ℕ
   pub text : List ℕ
 
--- where a message points: the file, and the line of the byte with which a rest of the database begins
+-- the file, and the line of the byte with which `rest` begins
 abbrev pub spot_at : Database → List ℕ → Spot
 spot_at database rest = record { file = database.file; line = line_at database.text rest }
 
@@ -36,7 +36,7 @@ abbrev pub is_own : Option (List ℕ) → List ℕ → Bool
 is_own None name = false
 is_own (Some own) name = is_same_key own name
 
--- the message of a name that stands for no string, where this string is being defined or none
+-- the message for a part of a value: a name without a string, or the own name in the definition of `own`
 abbrev pub name_told : Database → Strings → Option (List ℕ) → Part → List Message
 name_told database strings own (Braced text) = []
 name_told database strings own (Quoted text) = []
@@ -49,19 +49,20 @@ name_told database strings own (Named string) =
 abbrev pub names_told : Database → Strings → Option (List ℕ) → List Part → List Message
 names_told database strings own value = flat_map (name_told database strings own) value
 
--- the message of a type that is none of the style
+-- the message that the style has no function for an entry's type, if it has none
 abbrev pub kind_told : List ℕ → Option ℕ → Spot → List Message
 kind_told key None spot = message.UnknownKind key spot ∷ []
 kind_told key (Some kind) spot = []
 
--- the messages of a field of the stored entry that is being read, or of none
+-- the messages for a field: that the entry has a value for it already, or one for each name of its value without a string; none if the entry
+-- isn't stored or the style doesn't declare the field
 abbrev pub field_told : Wanted → Database → Strings → Option Given → Read → List ℕ → List Message
 field_told wanted database strings None field rest = []
 field_told wanted database strings (Some given) field rest =
     if has_value wanted given field.name then message.ExtraField given.key field.name (spot_before database rest) ∷ []
     else if is_some (wanted.field (folded field.name)) then names_told database strings None field.value else []
 
--- the messages of something that was read
+-- the messages for an event of a database
 abbrev pub event_told : Wanted → Database → Known → Event → List ℕ → List Message
 event_told wanted database known Comment rest = []
 event_told wanted database known (Preamble value) rest = names_told database known.strings None value
@@ -83,7 +84,7 @@ pub record Reading : Type 0 where
   pub known : Known
   pub messages : List Message
 
--- after something that was read
+-- what is known and the messages after a further event
 abbrev pub read_next : Wanted → Database → Reading → Placed → Reading
 read_next wanted database reading placed = record {
   known = after wanted reading.known placed.event;

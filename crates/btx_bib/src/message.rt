@@ -4,7 +4,7 @@ use crate::spelling::{Spelling, Word};
 use std::alloc::{AllocError, Global};
 use std::marker::Model;
 
-/// A line of a database.
+/// The file and the line that a message is about.
 #[derive(Drop)]
 pub struct Spot<'a> {
     /// The name of the file.
@@ -13,7 +13,7 @@ pub struct Spot<'a> {
     pub line: usize,
 }
 
-/// What is told.
+/// A message of READ, as data: its line is made when it is logged.
 #[derive(Drop)]
 pub enum Message<'a> {
     /// What is wrong in a database.

@@ -6,7 +6,7 @@ use btx_text::Text;
 use std::alloc::{AllocError, Global};
 use std::marker::Model;
 
-/// A piece of a file, of any length, which isn't copied.
+/// A piece of a file's bytes, of any length: borrowed, not copied.
 #[derive(Drop)]
 pub struct Word<'a> {
     bytes: &'a [u8],

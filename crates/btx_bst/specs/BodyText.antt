@@ -51,7 +51,7 @@ closed_inside inside [] = Ends (Whole inside)
 closed_inside inside (outer ∷ around) =
     Again (record inside { tokens = outer ++ Quote (User (length inside.bodies)) ∷ []; around = around; bodies = inside.bodies ++ inside.tokens ∷ [] })
 
--- a name that names something, or nothing
+-- a name in a body: a token if it names something, else an error
 abbrev pub with_named : (Callee → Token) → List ℕ → Inside → Option Callee → Inside
 with_named token name inside None = with_message (Unknown name) inside
 with_named token name inside (Some callee) = with_token (token callee) inside

@@ -6,7 +6,7 @@ use Rattle.btx_bst.specs.declared.built_in.BuiltIn.{BuiltIn}
 use Rattle.btx_bst.specs.declared.built_in.BuiltIn.TheVariants.{Equals, Greater, Less, Plus, Minus, Concatenate, Assign, AddPeriod, CallType, ChangeCase, CharacterToInteger, Cite, Duplicate, Empty, FormatName, If, IntegerToCharacter, IntegerToString, Missing, NewLine, NumNames, Pop, Preamble, Purify, Quote, Skip, Stack, Substring, Swap, TextLength, TextPrefix, Top, Warning, While, Width, Write}
 use Rattle.btx_bst.specs.declared.built_in.BuiltIn.TheVariants as built_in
 
--- the word that a style writes
+-- the name of a built-in function, as a style writes it
 abbrev pub word_of : BuiltIn → List ℕ
 word_of Equals = codes "="
 word_of Greater = codes ">"

@@ -34,12 +34,12 @@ command_named name =
 
 -- ---- ENTRY
 
--- what follows what may have a complaint
+-- goes on, unless there is a complaint, which ends the command
 abbrev pub after_listed : Option Complaint → Style → Place → (Style → Place → Outcome) → Outcome
 after_listed None style place go = go style place
 after_listed (Some complaint) style place go = outcome (Some complaint) style place
 
--- what follows a list of names, which is declared in any case
+-- goes on after a list of names; the names that were declared stay declared, also after a complaint
 abbrev pub after_list : Style → Listed → (Style → Place → Outcome) → Outcome
 after_list style list go = after_listed list.complaint (record style { names = list.listing.names }) list.listing.place go
 
@@ -57,7 +57,7 @@ entry style place = if style.has_entry then outcome (Some (Another command.Entry
 
 -- ---- FUNCTION
 
--- a function, of a name in lower case, whose body ended: it gets its number; after a complaint nothing stays but the messages of the body
+-- the end of a FUNCTION, whose name is in lower case: it gets its number and its name; after a complaint only the messages of its body stay
 abbrev pub function_ended : Style → List ℕ → End → Outcome
 function_ended style lowered (Broken complaint inside) = outcome (Some complaint) (record style { items = inside.items }) inside.place
 function_ended style lowered (Whole inside) =
@@ -68,7 +68,7 @@ function_ended style lowered (Whole inside) =
       items = inside.items ++ Function (length inside.bodies) ∷ [];
     }) inside.place
 
--- the inside of a body, where nothing has been read
+-- the start of a body: nothing of it has been read
 abbrev pub inside_at : Style → Place → Inside
 inside_at style place = record { place = place; tokens = []; around = []; bodies = style.bodies; texts = style.texts; items = style.items }
 
@@ -79,7 +79,7 @@ function_body style name place =
     after_read style (opening place) (λ _ place.
     function_ended style (folded name) (body_end style.names (inside_at style place))))
 
--- a name that names something already, or doesn't
+-- FUNCTION with this name: an error if something has the name already
 abbrev pub function_of : Style → List ℕ → Place → Option Callee → Outcome
 function_of style name place (Some other) = outcome (Some (Defined name)) style place
 function_of style name place None = function_body style name place
@@ -104,14 +104,14 @@ read style place =
     else if style.has_entry then outcome None (with_item Read (record style { before_read = Some (length style.bodies) })) place
     else outcome (Some BeforeEntry) style place
 
--- what is a function: a built-in one or a user's
+-- the function that a name stands for, if it is a built-in function or one of the style
 abbrev pub function_in : Option Callee → Option Callee
 function_in None = None
 function_in (Some (User number)) = Some (User number)
 function_in (Some (BuiltIn built_in)) = Some (BuiltIn built_in)
 function_in (Some _) = None
 
--- a name that names a function, or doesn't; the item is made of the function
+-- EXECUTE, ITERATE or REVERSE with this name: an error unless it names a function; `item` makes the command of the function
 abbrev pub run_of : (Callee → Item) → Style → List ℕ → Place → Option Callee → Outcome
 run_of item style name place None = outcome (Some (Unknown name)) style place
 run_of item style name place (Some callee) = after_read style (closing place) (λ _ place. outcome None (with_item (item callee) style) place)
@@ -123,7 +123,7 @@ run_name item style place =
     after_read style (name_at place) (λ name place.
     run_of item style name place (function_in (named style.names name))))
 
--- EXECUTE, ITERATE and REVERSE stand after READ
+-- EXECUTE, ITERATE and REVERSE: an error before READ
 unfoldable pub run : Command → (Callee → Item) → Style → Place → Outcome
 run command item style place = if has_read style then run_name item style place else outcome (Some (BeforeRead command)) style place
 
@@ -146,7 +146,7 @@ macro_text style name place =
     after_read style (closing place) (λ _ place.
     outcome None (with_item Macro (record style { macros = style.macros ++ (folded name, text) ∷ [] })) place))))
 
--- a macro's name, which is new or isn't
+-- MACRO with this name: an error if a macro has the name already
 abbrev pub macro_of : Style → List ℕ → Place → Option (List ℕ) → Outcome
 macro_of style name place (Some other) = outcome (Some (Defined name)) style place
 macro_of style name place None = macro_text style name place

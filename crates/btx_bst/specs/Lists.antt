@@ -11,7 +11,7 @@ use Rattle.btx_bst.specs.Fronts.{name_len, letters_len, quote_len}
 use Rattle.btx_bst.specs.Names.{Names, named, with_name}
 use Rattle.btx_bst.specs.Turns.{Turn, Again, Ends, turns_within}
 
--- a brace at a place without white, or what is wrong if it isn't there
+-- reads this brace at a place that isn't in whitespace or a comment, or says what is wrong
 abbrev pub brace_in : ℕ → Complaint → Place → List ℕ → Read (Unit {0})
 brace_in brace complaint place [] = Slip EndOfFile place
 brace_in brace complaint place (b ∷ bs) = if b == brace then Took tt (further place bs) else Slip complaint place
@@ -24,7 +24,7 @@ opening place = brace_in open_brace NoOpen (ink place) (ink place).line
 abbrev pub closing : Place → Read (Unit {0})
 closing place = brace_in close_brace NoClose (ink place) (ink place).line
 
--- the first bytes of a line, as many as a number says, or what is wrong if it is 0
+-- the first `n` bytes of a line, and the place after them; the complaint if `n` is 0
 abbrev pub front_of : Complaint → Place → List ℕ → ℕ → Read (List ℕ)
 front_of complaint place line zero = Slip complaint place
 front_of complaint place line (suc n) = Took (take (suc n) line) (further place (drop (suc n) line))
@@ -74,26 +74,26 @@ pub record Listed : Type 0 where
 abbrev pub listed : Option Complaint → Names → Place → Listed
 listed complaint names place = record { complaint = complaint; listing = listing names place }
 
--- a name of a list, which is of this kind, if it names nothing yet
+-- declares a name of a list; if it names something already, that is an error and ends the list
 abbrev pub with_new : Kind → Names → List ℕ → Place → Option Callee → Turn Listing Listed
 with_new kind names name place None = Again (listing (with_name kind (folded name) names) place)
 with_new kind names name place (Some other) = Ends (listed (Some (Defined name)) names place)
 
--- a name of a list, or what is wrong
+-- declares the next name of a list, or ends the list with what is wrong
 abbrev pub name_turn : Kind → Names → Read (List ℕ) → Turn Listing Listed
 name_turn kind names (Slip complaint place) = Ends (listed (Some complaint) names place)
 name_turn kind names (Took name place) = with_new kind names name place (named names name)
 
--- the `}` of a list, or a name of it
+-- ends the list at its `}`, or reads the next name of it
 abbrev pub list_turn_in : Kind → Names → Read (Unit {0}) → Turn Listing Listed
 list_turn_in kind names (Took _ behind) = Ends (listed None names behind)
 list_turn_in kind names (Slip complaint before) = name_turn kind names (name_at before)
 
--- what stands next in a list
+-- reads the next name of a list, or its `}`
 unfoldable pub list_turn : Kind → Listing → Turn Listing Listed
 list_turn kind listing = list_turn_in kind listing.names (closing listing.place)
 
--- a list whose reading goes on without end
+-- the result if the bound on turns is reached. It never is, since each turn reads a byte at least
 abbrev pub unlisted : Listing → Listed
 unlisted listing = listed (Some EndOfFile) listing.names listing.place
 

@@ -25,7 +25,7 @@ pub record Names : Type 0 where
 abbrev pub no_names : Names
 no_names = record { functions = []; fields = []; entry_integers = []; entry_strings = []; global_integers = []; global_strings = [] }
 
--- a function has the name; a nameless one has none
+-- a function has this name; a nameless function has none
 abbrev pub has_name : List ℕ → Option (List ℕ) → Bool
 has_name name None = false
 has_name name (Some other) = bytes_eq name other
@@ -80,7 +80,7 @@ callee_of kind.EntryString number = EntryString number
 callee_of kind.GlobalInteger number = GlobalInteger number
 callee_of kind.GlobalString number = GlobalString number
 
--- names with a further one, in lower case, of a kind
+-- the names with a further field or variable of this kind; `name` is in lower case
 abbrev pub with_name : Kind → List ℕ → Names → Names
 with_name kind.Field name names = record names { fields = names.fields ++ name ∷ [] }
 with_name kind.EntryInteger name names = record names { entry_integers = names.entry_integers ++ name ∷ [] }
@@ -88,11 +88,11 @@ with_name kind.EntryString name names = record names { entry_strings = names.ent
 with_name kind.GlobalInteger name names = record names { global_integers = names.global_integers ++ name ∷ [] }
 with_name kind.GlobalString name names = record names { global_strings = names.global_strings ++ name ∷ [] }
 
--- functions, and then nameless ones up to this count in all
+-- the list of functions, filled up with nameless ones to `count` functions
 abbrev pub padded : ℕ → List (Option (List ℕ)) → List (Option (List ℕ))
 padded count functions = functions ++ replicate (count - length functions) None
 
--- names where the function of this number has this name, in lower case, and those between the last one with a name and it are nameless
+-- the names with a function of this number; `name` is in lower case, and the functions between the last named one and it are nameless
 abbrev pub with_function : ℕ → List ℕ → Names → Names
 with_function number name names = record names { functions = padded number names.functions ++ Some name ∷ [] }
 

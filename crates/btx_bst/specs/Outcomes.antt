@@ -12,11 +12,11 @@ pub record Outcome : Type 0 where
   pub style : Style
   pub place : Place
 
--- an outcome, of its three parts
+-- an outcome made of its three parts
 abbrev pub outcome : Option Complaint → Style → Place → Outcome
 outcome complaint style place = record { complaint = complaint; style = style; place = place }
 
--- what follows the reading of something; a complaint ends the command
+-- goes on with what was read and the place after it; a complaint ends the command
 abbrev pub after_read : {A : Type 0} → Style → Read A → (A → Place → Outcome) → Outcome
 after_read style (Took x place) go = go x place
 after_read style (Slip complaint place) go = outcome (Some complaint) style place

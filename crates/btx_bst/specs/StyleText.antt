@@ -27,20 +27,20 @@ abbrev pub resumed : Option Complaint → Style → Place → State
 resumed None style place = state style place
 resumed (Some complaint) style place = state (with_item (Message complaint place.number) style) (skipped place)
 
--- what follows a command
+-- goes on after a command: directly after it, or after a complaint at the next empty line
 abbrev pub resumed_after : Outcome → State
 resumed_after outcome = resumed outcome.complaint outcome.style outcome.place
 
--- the command of a word
+-- the command with this word, or the error that the word is no command
 abbrev pub word_outcome : Style → Place → List ℕ → Option Command → Outcome
 word_outcome style place word None = outcome (Some (NotCommand word)) style place
 word_outcome style place word (Some command) = command_at command style place
 
--- a command, which begins with letters
+-- reads a command, which begins with a word of letters
 abbrev pub command_outcome : Style → Place → Outcome
 command_outcome style place = after_read style (letters_at place) (λ word behind. word_outcome style behind word (command_named (folded word)))
 
--- what stands at a place without white: a command, or the end
+-- at a place that isn't in whitespace or a comment: reads a command; at the end of the text the style ends
 abbrev pub item_in : Style → Place → List ℕ → Turn State Style
 item_in style place [] = Ends style
 item_in style place (b ∷ bs) = Again (resumed_after (command_outcome style place))
@@ -49,7 +49,7 @@ item_in style place (b ∷ bs) = Again (resumed_after (command_outcome style pla
 unfoldable pub item_turn : State → Turn State Style
 item_turn state = item_in state.style (ink state.place) (ink state.place).line
 
--- the style, as far as it was read
+-- the style as it has been read so far
 abbrev pub style_in : State → Style
 style_in state = state.style
 

@@ -23,15 +23,16 @@ pub record Front : Type 0 where
   pub word : Word
   pub rest : List ℕ
 
--- the word that a line begins with, of the word and the rest of the line
+-- a word at the front of a line, with the rest of the line
 abbrev pub front : Word → List ℕ → Front
 front word rest = record { word = word; rest = rest }
 
--- a string and what stands behind its quote: white, `}`, `%` or the end of the line must come, else all up to there is left out
+-- a string, and the rest of the line after its closing quote: whitespace, `}`, `%` or the end of the line must follow, else everything up to one
+-- of these is skipped and the string is an error
 abbrev pub string_before : List ℕ → List ℕ → Front
 string_before text rest = if is_word_end rest then front (String text) rest else front (Faulty TextAfter) (drop (word_len rest) rest)
 
--- what begins at the next quote of the line, if there is one, behind this text
+-- the string before the next quote of the line; without a quote it has no end
 abbrev pub string_ended : List ℕ → List ℕ → List ℕ → Front
 string_ended line text [] = front Unended line
 string_ended line text (quote ∷ rest) = string_before text rest
@@ -44,11 +45,11 @@ string_at line = string_ended line (take (quote_len line) line) (drop (quote_len
 abbrev pub with_digit : ℕ → ℕ → ℕ
 with_digit n d = n * 10 + (d - 48)
 
--- the number that decimal digits write; without digits it is 0
+-- the number that the decimal digits stand for; 0 without digits
 unfoldable pub value_of : List ℕ → ℕ
 value_of digits = fold with_digit 0 digits
 
--- a number with or without a minus, if it is one of 32 bits
+-- a number with its sign, if it fits into 32 bits
 unfoldable pub signed : Bool → ℕ → Option ℤ
 signed false n = if nat_lt n (2 ^ 31) then Some (pos n) else None
 signed true zero = Some (pos 0)
@@ -58,7 +59,7 @@ signed true (suc n) = if nat_lt n (2 ^ 31) then Some (negsuc n) else None
 abbrev pub minus_sign : ℕ
 minus_sign = 45
 
--- an integer, and what stands behind its digits
+-- an integer and the rest of the line after its digits; it is an error if it isn't one of 32 bits or if text follows directly
 abbrev pub integer_before : List ℕ → List ℕ → Option ℤ → Front
 integer_before line rest None = front (Faulty BadInteger) (drop (word_len line) line)
 integer_before line rest (Some value) = if is_word_end rest then front (Integer value) rest else front (Faulty TextAfter) (drop (word_len rest) rest)
@@ -73,7 +74,7 @@ unfoldable pub integer_at : List ℕ → Front
 integer_at [] = front (Faulty BadInteger) []
 integer_at (b ∷ bs) = if b == minus_sign then integer_of (b ∷ bs) true bs (digits_len bs) else integer_of (b ∷ bs) false (b ∷ bs) (digits_len (b ∷ bs))
 
--- the word that a line begins with, where its first byte is no white and no `%`
+-- the word at the front of a line whose first byte `b` is no whitespace and no `%`
 unfoldable pub word_front : ℕ → List ℕ → Front
 word_front b bs =
     if b == open_brace then front Open bs
@@ -92,7 +93,7 @@ pub record Met : Type 0 where
 abbrev pub met : Word → Place → Met
 met word place = record { word = word; place = place }
 
--- the word that stands at a place without white
+-- the word at a place that isn't in whitespace or a comment; there is none at the end of the text
 abbrev pub met_in : Place → List ℕ → Met
 met_in place [] = met Ended place
 met_in place (b ∷ bs) = met (word_front b bs).word (further place (word_front b bs).rest)

@@ -2,7 +2,7 @@
 ghost use Rattle.std.specs.Prelude.{◌≡◌};
 ghost use Rattle.btx_bst.specs.BuiltIns.{word_of};
 
-/// A built-in function.
+/// One of the 37 built-in functions of styles.
 #[derive(Clone, Copy, Debug, PartialEq, Eq)]
 pub enum BuiltIn {
     /// `=`

@@ -2,7 +2,7 @@
 ghost use Rattle.std.specs.Prelude.{◌≡◌};
 ghost use Rattle.btx_bst.specs.CommandWords.{word_of};
 
-/// A command.
+/// One of the ten commands of a style.
 #[derive(Clone, Copy, Debug, PartialEq, Eq)]
 pub enum Command {
     /// The names of fields, entry integers and entry strings.

@@ -1,7 +1,7 @@
 //! The tokens of functions.
 use crate::callee::Callee;
 
-/// A token of a function.
+/// A token of a function's body: what is pushed or executed.
 #[derive(Clone, Copy, Debug, PartialEq, Eq)]
 pub enum Token {
     /// The string of this number among the texts of the style.

@@ -12,7 +12,7 @@ pub record Completes (report : Report) (before after : Received) (product : Prod
   pub bbl_whole : Appends before.0 after.0 product.bbl
   pub log_whole : Appends before.1 after.1 (log_of product)
 
--- both outputs are beginnings of a product's
+-- both outputs are prefixes of a product's
 pub record BothBegin (before after : Received) (product : Product) : Type 0 where
   pub bbl_begins : AppendsBeginning before.0 after.0 product.bbl
   pub log_begins : AppendsBeginning before.1 after.1 (log_of product)
@@ -22,15 +22,15 @@ pub record BothExtend (before after : Received) (product : Product) : Type 0 whe
   pub bbl_extends : AppendsAtLeast before.0 after.0 product.bbl
   pub log_extends : AppendsAtLeast before.1 after.1 product.told
 
--- there is a number of steps below the budget, the same for both outputs, such that each begins with what a run of that number of steps
--- writes, and is a beginning of what a run of one step more writes
+-- there is a number of steps n below the budget such that each output begins with what a run of n steps writes, the log's last line aside, and
+-- is a prefix of what a run of n + 1 steps writes
 pub record WithinOneStep (before after : Received) (make : ℕ → Product) (budget : ℕ) : Type 0 where
   pub steps : ℕ
   pub within : steps < budget
   pub extends : BothExtend before after (make steps)
   pub begins : BothBegin before after (make (steps + 1))
 
--- the two outputs keep step: both are beginnings of what a run without a step writes, or both stand within the same step
+-- the two outputs keep step: both are prefixes of what a run without a step writes, or both broke off within the same step
 abbrev pub KeepsStep : Received → Received → (ℕ → Product) → ℕ → Type 0
 KeepsStep before after make budget = BothBegin before after (make 0) ⊎ WithinOneStep before after make budget
 
@@ -38,7 +38,7 @@ KeepsStep before after make budget = BothBegin before after (make 0) ⊎ WithinO
 abbrev pub LastLineBehindList : Received → Received → Product → Type 0
 LastLineBehindList before after product = Appends before.0 after.0 product.bbl ⊎ AppendsBeginning before.1 after.1 product.told
 
--- after a fault both outputs are beginnings of the product's, and keep step; who finds the log's last line has the whole list
+-- after a fault both outputs are prefixes of the product's and keep step, and nothing of the log's last line is written before the whole list
 pub record AtFault (before after : Received) (make : ℕ → Product) (budget : ℕ) : Type 0 where
   pub beginnings : BothBegin before after (make budget)
   pub last_line : LastLineBehindList before after (make budget)

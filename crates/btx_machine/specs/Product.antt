@@ -24,8 +24,8 @@ pub record Product : Type 0 where
 abbrev pub log_of : Product → List ℕ
 log_of product = product.told ++ ended_line (last_line product.report)
 
--- what is sure of the list of references, which is broken into lines of at most `limit` bytes: the lines that ended, and what of the pending one
--- can't change
+-- what has been written of the list so far, which is broken into lines for a length of `limit` bytes: the lines that have ended, and the part of
+-- the pending one that can't change
 abbrev pub so_far : ℕ → Out → List ℕ
 so_far limit out = written_of limit out.lines out.pending
 
@@ -50,7 +50,7 @@ product_of limit budget (Done s left) = product_at limit ending.Finished (budget
 product_of limit budget (Stopped s) = product_at limit ending.Stopped budget s
 product_of limit budget (Limit kind s left) = product_at limit (ending.Limit kind) (budget - left) s
 
--- nothing was written or logged here, but these lines were logged before
+-- no output yet; the counts are those of the warnings and errors that were logged before
 abbrev pub no_out : Told → Out
 no_out told = record { lines = []; pending = []; log = []; warnings = told.warnings; errors = told.errors }
 
@@ -58,7 +58,7 @@ no_out told = record { lines = []; pending = []; log = []; warnings = told.warni
 abbrev pub first : Job → Told → State
 first job told = state (first_store job) (no_out told)
 
--- what the items of the style come to
+-- the outcome of all commands of the style
 abbrev pub executed : Job → Told → ℕ → Outcome
 executed job told budget = items_of job job.style.items [] budget (first job told)
 

@@ -16,16 +16,16 @@ use Rattle.btx_machine.specs.States.{Out, State, state}
 abbrev pub ended_line : List ℕ → List ℕ
 ended_line line = line ++ 10 ∷ []
 
--- one more, but never above the greatest number of 64 bits
+-- `n` and one more, but at most the greatest number of 64 bits
 abbrev pub counted : ℕ → ℕ
 counted n = min (n + 1) (2 ^ 64 - 1)
 
--- a count of lines after a further one, which is of the kind that is counted or isn't
+-- a count after a further line: one more if the line is of the kind that is counted
 abbrev pub counted_if : Bool → ℕ → ℕ
 counted_if true n = counted n
 counted_if false n = n
 
--- a line is logged: it is the log's next one, and counts as a warning, as an error or not at all
+-- appends a line to the log, and counts it if it is a warning or an error
 abbrev pub line_told : Line → Out → Out
 line_told line out = record out {
   log = out.log ++ ended_line line.text;
@@ -56,11 +56,11 @@ lines_of job executed current notes = map (line_of job.style executed (key_at jo
 abbrev pub wrote : List ℕ → Out → Out
 wrote text out = record out { pending = out.pending ++ text }
 
--- `newline$` ends it
+-- `newline$`: the pending line becomes one that has ended
 abbrev pub ended : Out → Out
 ended out = record out { lines = out.lines ++ out.pending ∷ []; pending = [] }
 
--- what a function of this name says is written and logged
+-- writes or logs what a step of the function `executed` said
 unfoldable pub said_on : Job → List ℕ → Option ℕ → Said → Out → Out
 said_on job executed current said.Nothing out = out
 said_on job executed current (said.Wrote text) out = wrote text out

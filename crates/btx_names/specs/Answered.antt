@@ -22,22 +22,25 @@ nth_name names number = option_and_then (slice_get (names_of names)) (names_befo
 unfoldable pub one_name_text : TextMode → List ℕ → List ℕ → List ℕ
 one_name_text mode name format = if is_legal format then formatted mode (parts_of name) format else []
 
--- what is wrong: a comma at the name's end, a third comma, the format
+-- the errors of `format.name$`: a comma at the name's end, a third comma, an illegal format
 abbrev pub complaints_with : Bool → Bool → Bool → Complaints
 complaints_with ends_in_comma has_third_comma is_legal =
     record { x9 = false; x10 = false; x11 = ends_in_comma; x12 = has_third_comma; x13 = not is_legal }
 
+-- the errors for this name in this format
 unfoldable pub one_name_complaints : List ℕ → List ℕ → Complaints
 one_name_complaints name format = complaints_with (ends_in_comma name) (has_third_comma (sections_of name)) (is_legal format)
 
--- where there is no name of the number, that alone is wrong
+-- the only error if there is no name of this number
 abbrev pub there_is_none : Complaints
 there_is_none = record no_complaints { x10 = true }
 
+-- the text for a name in a format; empty if there is no such name
 abbrev pub text_of_answer : TextMode → Option (List ℕ) → List ℕ → List ℕ
 text_of_answer mode None format = []
 text_of_answer mode (Some name) format = one_name_text mode name format
 
+-- the errors for a name in a format, or that there is no such name
 abbrev pub complaints_of_answer : Option (List ℕ) → List ℕ → Complaints
 complaints_of_answer None format = there_is_none
 complaints_of_answer (Some name) format = one_name_complaints name format
@@ -46,6 +49,6 @@ complaints_of_answer (Some name) format = one_name_complaints name format
 abbrev pub format_name_text : TextMode → List ℕ → ℤ → List ℕ → List ℕ
 format_name_text mode names number format = text_of_answer mode (nth_name names number) format
 
--- the complaints
+-- the errors of `format.name$`, for the name of this number in the list `names` and this format
 abbrev pub format_name_complaints : List ℕ → ℤ → List ℕ → Complaints
 format_name_complaints names number format = complaints_of_answer (nth_name names number) format

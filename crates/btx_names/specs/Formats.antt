@@ -38,6 +38,7 @@ abbrev pub is_doubled : ℕ → List ℕ → Bool
 is_doubled letter [] = false
 is_doubled letter (second ∷ rest) = to_ascii_lowercase second == to_ascii_lowercase letter
 
+-- the text after the letter or the two letters of a piece; `rest` follows the first letter
 abbrev pub behind_letters : ℕ → List ℕ → List ℕ
 behind_letters letter rest = if is_doubled letter rest then drop 1 rest else rest
 
@@ -55,26 +56,29 @@ after_of rest =
 abbrev pub has_no_letter : List ℕ → Bool
 has_no_letter text = run_len Letter 0 text == length text
 
+-- a piece as an item: it is illegal if a further letter stands at its own level
 abbrev pub legal_piece : Piece → Item
 legal_piece piece = if has_no_letter piece.after then Name piece else Illegal
 
+-- the item of a group with a letter for this part
 unfoldable pub piece_item : List ℕ → ℕ → List ℕ → PartName → Item
 piece_item before letter rest part =
     let behind = behind_letters letter rest in
     legal_piece (record { before = before; part = part; is_full = is_doubled letter rest; between = between_of behind; after = after_of behind })
 
+-- the item of a group with this letter at its own level: a piece, or illegal if the letter names no part
 abbrev pub lettered_item : List ℕ → ℕ → List ℕ → Option PartName → Item
 lettered_item before letter rest None = Illegal
 lettered_item before letter rest (Some part) = piece_item before letter rest part
 
 -- ---- the items
 
--- a group, of what stands before the first letter at its own level, and of the rest
+-- the item of a group, given the text before the first letter at its own level and the rest from that letter on
 abbrev pub split_item : List ℕ → List ℕ → Item
 split_item before [] = Plain before
 split_item before (letter ∷ rest) = lettered_item before letter rest (part_named letter)
 
--- a group, of what stands in its braces
+-- the item of a group, given the text inside its braces
 unfoldable pub inside_item : List ℕ → Item
 inside_item inside = let size = run_len Letter 0 inside in split_item (take size inside) (drop size inside)
 
@@ -82,14 +86,14 @@ inside_item inside = let size = run_len Letter 0 inside in split_item (take size
 unfoldable pub group_item : List ℕ → Item
 group_item rest = let size = run_len Closing 0 rest in if size == length rest then Illegal else inside_item (take size rest)
 
--- the item that a format begins with, of its first byte and the rest: a `}` begins none
+-- the item that begins with byte `b` and goes on in `bs`; a `}` is illegal
 abbrev pub item_at : ℕ → List ℕ → Item
 item_at b bs =
     if b == open_brace then group_item bs
     else if b == close_brace then Illegal
     else Literal (take (run_len Brace 0 (b ∷ bs)) (b ∷ bs))
 
--- how many bytes of the rest belong to it
+-- the number of bytes of `bs` that belong to the item that begins with byte `b`
 abbrev pub item_rest : ℕ → List ℕ → ℕ
 item_rest b bs =
     if b == open_brace then suc (run_len Closing 0 bs)
@@ -106,6 +110,7 @@ items_from zero (b ∷ bs) = item_at b bs ∷ items_from (item_rest b bs) bs
 unfoldable pub items_of : List ℕ → List Item
 items_of format = items_from 0 format
 
+-- the item is illegal
 abbrev pub is_illegal : Item → Bool
 is_illegal Illegal = true
 is_illegal _ = false

@@ -48,8 +48,8 @@ space = 32
 abbrev pub period : ℕ
 period = 46
 
--- what joins a token to the next: the `~` or `-` of the name; else a tie before the part's last token and in a text that is still short,
--- the piece's own beginning included; else a space
+-- the byte between two tokens: the `~` or `-` of the name; else a `~` before the last token of the part, and while the piece's text is shorter
+-- than three characters; else a space
 abbrev pub tie_of : TextMode → List ℕ → Joint → Bool → ℕ
 tie_of mode so_far Tie is_last = tilde
 tie_of mode so_far Hyphen is_last = hyphen
@@ -59,17 +59,17 @@ tie_of mode so_far Space is_last = if is_last || is_short mode so_far then tilde
 abbrev pub period_of : Bool → List ℕ
 period_of is_full = if is_full then [] else period ∷ []
 
--- what the piece says, or else a period and a tie
+-- the text between two tokens: the piece's own, if it has one; else a period after an abbreviation, and then a `~`, a `-` or a space
 abbrev pub joined_by : TextMode → Bool → Option (List ℕ) → List ℕ → Joint → Bool → List ℕ
 joined_by mode is_full (Some between) so_far joint is_last = between
 joined_by mode is_full None so_far joint is_last = period_of is_full ++ tie_of mode (so_far ++ period_of is_full) joint is_last ∷ []
 
--- what stands behind a token, with how many are left: nothing behind the last one
+-- the text after a token, if `left` tokens of the part follow it; nothing after the last one
 unfoldable pub between_text : TextMode → Piece → List ℕ → Joint → ℕ → List ℕ
 between_text mode piece so_far joint left =
     if left == 0 then [] else joined_by mode piece.is_full piece.between so_far joint (left == 1)
 
--- the text of a piece with some more tokens, each after the text so far
+-- the text of a piece, `so_far`, with further tokens appended
 unfoldable pub with_tokens : TextMode → Piece → List ℕ → List Token → List ℕ
 with_tokens mode piece so_far [] = so_far
 with_tokens mode piece so_far (token ∷ tokens) =
@@ -86,7 +86,8 @@ front_of text = take (length text - 1) text
 abbrev pub ends_in_tie : List ℕ → Bool
 ends_in_tie text = slice_index text (length text - 1) == tilde
 
--- a piece's text, finished: of a final `~~` one goes; a single final `~` becomes a space, unless what stands before it is short
+-- a piece's text, finished: of a final `~~` one `~` is removed; a single final `~` becomes a space, unless the text before it is shorter than
+-- three characters
 unfoldable pub finished : TextMode → List ℕ → List ℕ
 finished mode text =
     if ends_in_tie text then

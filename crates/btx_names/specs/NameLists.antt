@@ -9,7 +9,7 @@ use Rattle.btx_text.specs.Lines.{in_front}
 
 -- ---- separators
 
--- a byte is a letter in either case, which is given in lower case
+-- the byte is this letter, which is given in lower case, in either case
 abbrev pub is_letter : ℕ → ℕ → Bool
 is_letter lower b = to_ascii_lowercase b == lower
 
@@ -30,8 +30,8 @@ separators_of string = filter (separates_at string) (range_with_len 0 (length st
 
 -- ---- names
 
--- the pieces between the separators of a text whose brace depth is given: the white bytes round an `and` belong to the pieces, so that two
--- separators may share one; the first `skip` bytes are letters of a separator
+-- the pieces of a text between its separators, from brace depth `depth` on. The whitespace round an `and` belongs to the pieces, so that two
+-- separators may share a byte of it; the first `skip` bytes are the letters of a separator
 unfoldable pub pieces_from : ℕ → ℕ → List ℕ → List (List ℕ)
 pieces_from skip depth [] = [] ∷ []
 pieces_from (suc skip) depth (b ∷ bs) = pieces_from skip depth bs

@@ -13,7 +13,7 @@ use Rattle.btx_names.specs.VonTokens.{is_von}
 
 -- ---- commas
 
--- a text has no token
+-- the text has no token: only whitespace, `~`, `-` and commas
 abbrev pub is_all_breaks : List ℕ → Bool
 is_all_breaks text = list_all is_break text
 
@@ -35,6 +35,7 @@ abbrev pub cut_again : List ℕ → List ℕ → Option (List ℕ × List ℕ) �
 cut_again one rest None = Two one rest
 cut_again one rest (Some cut) = Three one cut.0 cut.1
 
+-- the sections of a name, given its first cut at a comma, if there is one
 abbrev pub cut_first : List ℕ → Option (List ℕ × List ℕ) → Sections
 cut_first name None = One name
 cut_first name (Some cut) = cut_again cut.0 cut.1 (split_at_comma cut.1)
@@ -51,7 +52,7 @@ is_ink b = not (is_white b || is_sep b)
 abbrev pub last_ink : List ℕ → Option ℕ
 last_ink text = find is_ink (reverse text)
 
--- that byte is a comma, at depth 0
+-- the name's last byte that is neither whitespace nor `~` nor `-` is a comma, at depth 0
 unfoldable pub ends_in_comma : List ℕ → Bool
 ends_in_comma name = option_map_or (λ b. b == comma) (last_ink name) false && depth_of name == 0
 
@@ -68,17 +69,18 @@ before_final [] = []
 before_final (token ∷ []) = []
 before_final (token ∷ next ∷ tokens) = token ∷ before_final (next ∷ tokens)
 
--- how many tokens there are up to the last one that passes a test, 0 where none does
+-- the number of tokens up to and including the last one that passes the test; 0 if none does
 unfoldable pub up_to_last : (Token → Bool) → List Token → ℕ
 up_to_last passes [] = 0
 up_to_last passes (token ∷ tokens) =
     if nat_lt 0 (up_to_last passes tokens) then suc (up_to_last passes tokens) else if passes token then 1 else 0
 
--- how many tokens stand before the first that passes a test
+-- the number of tokens before the first one that passes the test; all if none does
 unfoldable pub before_first : (Token → Bool) → List Token → ℕ
 before_first passes [] = 0
 before_first passes (token ∷ tokens) = if passes token then 0 else suc (before_first passes tokens)
 
+-- the token is joined to the next one by a `-`
 abbrev pub is_hyphen : Joint → Bool
 is_hyphen Hyphen = true
 is_hyphen _ = false
@@ -87,7 +89,7 @@ is_hyphen _ = false
 abbrev pub is_von_token : Token → Bool
 is_von_token token = is_von token.text
 
--- no `-` joins a token to the next
+-- the token isn't joined to the next one by a `-`
 abbrev pub is_apart : Token → Bool
 is_apart token = not (is_hyphen token.joint)
 
@@ -95,7 +97,8 @@ is_apart token = not (is_hyphen token.joint)
 abbrev pub von_end : List Token → ℕ
 von_end tokens = up_to_last (is_von_token) (before_final tokens)
 
--- where Last begins in a name without commas: behind von, or, without von, with those that are joined to the final token by `-`
+-- the index of the first token of Last in a name without commas: the one after von; without von the final token, or the first of those that `-`
+-- joins to it
 abbrev pub last_start : List Token → ℕ
 last_start tokens = if nat_lt 0 (von_end tokens) then von_end tokens else up_to_last (is_apart) (before_final tokens)
 
@@ -112,7 +115,7 @@ pub record NameParts : Type 0 where
   pub last : List Token
   pub jr : List Token
 
--- the parts of a name without commas, of its tokens: First von Last
+-- the parts of a name without commas, First von Last, given its tokens
 abbrev pub unsplit : List Token → NameParts
 unsplit tokens =
     record {
@@ -122,7 +125,7 @@ unsplit tokens =
       jr = [];
     }
 
--- the parts of a name with commas, of the tokens of its sections: von and Last stand in the first
+-- the parts of a name with commas, given the tokens of its sections: von and Last stand in the first section
 abbrev pub parted : List Token → List Token → List Token → NameParts
 parted surname jr first = record { first = first; von = take (von_end surname) surname; last = drop (von_end surname) surname; jr = jr }
 

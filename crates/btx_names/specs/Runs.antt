@@ -13,7 +13,7 @@ comma = 44
 abbrev pub is_break : ℕ → Bool
 is_break b = is_white b || is_sep b || b == comma
 
--- the bytes at which a run ends
+-- the byte ends a run of this kind
 abbrev pub stops : Stop → ℕ → Bool
 stops Break b = is_break b
 stops Comma b = b == comma
@@ -21,7 +21,7 @@ stops Letter b = is_alpha b
 stops Closing b = b == close_brace
 stops Brace b = b == open_brace || b == close_brace
 
--- how many bytes of a text, whose brace depth is given, stand before the first of a kind at depth 0; all, where there is none
+-- the number of bytes before the first byte at depth 0 that ends a run of this kind, from brace depth `depth` on; all bytes if there is none
 unfoldable pub run_len : Stop → ℕ → List ℕ → ℕ
 run_len stop depth [] = 0
 run_len stop depth (b ∷ bs) = if depth == 0 && stops stop b then 0 else suc (run_len stop (depth_after depth b) bs)

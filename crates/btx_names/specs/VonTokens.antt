@@ -33,6 +33,7 @@ casing_of Special depth text = Some (is_lower_special text)
 casing_of Byte depth text = if depth == 0 && is_cased (slice_index text 0) then Some (is_lower (slice_index text 0)) else None
 casing_of _ depth text = None
 
+-- whether an element is lower case, if it decides that for its token
 abbrev pub casing : Element → Option Bool
 casing element = casing_of element.kind element.depth element.text
 

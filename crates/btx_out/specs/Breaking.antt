@@ -7,7 +7,7 @@ use Rattle.btx_text.specs.Lines.{trimmed}
 
 -- ---- a line
 
--- a text with byte 10 after it, but nothing for no text
+-- a text with a line feed after it; nothing for the empty text
 abbrev pub ended : List ℕ → List ℕ
 ended [] = []
 ended (b ∷ bs) = b ∷ bs ++ 10 ∷ []
@@ -38,7 +38,7 @@ unfoldable pub from_white : List ℕ → List ℕ
 from_white [] = []
 from_white (b ∷ bs) = if is_white b then b ∷ bs else from_white bs
 
--- the last white of a text at an index from 3 on and below an end
+-- the index of the last whitespace of a text, from index 3 on and below an end
 unfoldable pub last_white : ℕ → List ℕ → Option ℕ
 last_white zero text = None
 last_white (suc i) text = if nat_le 3 i && is_white (slice_index text i) then Some i else last_white i text
@@ -53,7 +53,8 @@ abbrev pub break_past : List ℕ → List ℕ → Break
 break_past head [] = Unbroken
 break_past head (b ∷ bs) = Broken true head (skip_white bs)
 
--- the break at a white of the line, which alone goes, or else at the first run of white past the line, which goes whole
+-- the break at the whitespace of index `i`, which alone is removed; without one, at the first run of whitespace past the line, which is removed
+-- whole; without that, none
 abbrev pub break_at : ℕ → List ℕ → Option ℕ → Break
 break_at limit text (Some i) = Broken false (take i text) (drop (i + 1) text)
 break_at limit text None =
@@ -81,15 +82,15 @@ pub record Cut : Type 0 where
   pub heads : List (List ℕ)
   pub last : Last
 
--- a logical line without a break
+-- a logical line that isn't broken
 abbrev pub only : Last → Cut
 only last = record { heads = []; last = last }
 
--- one more head in front
+-- a logical line whose first line is `head`, and that goes on as `cut`
 abbrev pub after : List ℕ → Cut → Cut
 after head cut = record { heads = head ∷ cut.heads; last = cut.last }
 
--- the pieces of a text that is broken so, where `cut` gives those of what goes on
+-- the pieces of a text with this break; `cut` gives those of the text after it
 abbrev pub cut_at : (List ℕ → Cut) → List ℕ → Break → Cut
 cut_at cut text Unbroken = only (Long text)
 cut_at cut text (Broken past head []) = after head (only (Nothing past))
@@ -113,7 +114,7 @@ written_last (Short text) = line text
 written_last (Long text) = text ++ 10 ∷ []
 written_last (Nothing past) = []
 
--- what of the last piece is sure, whatever follows: the beginning of a line that is broken past its end or not at all
+-- what of the last piece is certain to be written, whatever follows: all of a text that is longer than a line and has no break; else nothing
 abbrev pub sure_last : Last → List ℕ
 sure_last (Long text) = text
 sure_last _ = []
@@ -122,7 +123,7 @@ sure_last _ = []
 abbrev pub wrap : ℕ → List ℕ → List ℕ
 wrap limit text = flat_map line (cut_of limit text).heads ++ written_last (cut_of limit text).last
 
--- what is written of a logical line that is pending: no more than what is sure, whatever follows
+-- what is written of a logical line before it has ended: only what no further byte can change
 abbrev pub sure : ℕ → List ℕ → List ℕ
 sure limit text = flat_map line (cut_of limit text).heads ++ sure_last (cut_of limit text).last
 

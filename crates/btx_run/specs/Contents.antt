@@ -14,10 +14,10 @@ use Rattle.btx_run.specs.Files.Found.{NamedFile}
 abbrev pub database_of : NamedFile → Database
 database_of file = record { file = file.name; text = file.bytes }
 
--- the style
+-- the style whose file was found
 abbrev pub style_in : JobFiles → Style
 style_in found = style_of found.style.name found.style.bytes
 
--- what the databases give to a job, where an entry that isn't cited takes this number of references to stay
+-- the library of the databases that were found; an entry that isn't cited needs at least `least` references to stay
 abbrev pub library_in : Job → JobFiles → ℕ → Library
 library_in job found least = library_of (asked (style_in found) job least) (style_in found).macros (map database_of found.databases)

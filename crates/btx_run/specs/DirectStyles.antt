@@ -5,7 +5,7 @@ use Rattle.btx_run.specs.declared.files.found.FilesRead.{FilesRead}
 use Rattle.btx_run.specs.declared.files.found.FilesRead.TheVariants.{Ends, Found}
 use Rattle.btx_run.specs.Contents.{style_in}
 
--- where a direct style was found, this holds of the number of its functions
+-- if a direct style was found, `claim` holds of the number of its functions
 abbrev pub WhereDirect : FilesRead → (ℕ → Type 0) → Type 0
 WhereDirect (Ends end) claim = Unit {0}
 WhereDirect (Found found) claim = IsDirect (style_in found) → claim (length (style_in found).bodies)

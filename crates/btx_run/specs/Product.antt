@@ -23,15 +23,15 @@ use Rattle.btx_run.specs.Files.Telling.{bytes_of_lines}
 abbrev pub work_of : Style → Library → Options → StyleJob
 work_of style library options = record { style = style; library = library; mode = options.text; entry_max = options.entry_max; global_max = options.global_max }
 
--- the same of the style and the databases that were found
+-- what the machine works on, made of the files that were found
 abbrev pub work_in : Job → JobFiles → Options → StyleJob
 work_in job found options = work_of (style_in found) (library_in job found options.min_crossrefs) options
 
--- the warnings and the errors of these lines
+-- the number of warnings and of errors among the lines, each at most the greatest number of 64 bits
 abbrev pub told_in : List Line → Told
 told_in lines = told_so (counts_of lines).warnings (counts_of lines).errors
 
--- a product behind these lines
+-- a product with further log lines before its own
 abbrev pub told_before : List Line → Product → Product
 told_before lines product = record product { told = bytes_of_lines lines ++ product.told }
 

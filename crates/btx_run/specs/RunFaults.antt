@@ -5,7 +5,7 @@ use Rattle.btx_text.specs.Counts.{Change, Stays, OneOfThreeRises}
 use Rattle.btx_run.specs.declared.run_fault.RunFault.{RunFault}
 use Rattle.btx_run.specs.declared.run_fault.RunFault.TheVariants.{Memory, Device}
 
--- the counts of a run
+-- the three counts of failures after a run: after a device's fault exactly one of them rose, by one; else all stay
 abbrev pub CountsOfRun : {T : Type 0} → Result T RunFault → Change → Change → Change → Type 0
 CountsOfRun (Ok value) a b c = Stays a × Stays b × Stays c
 CountsOfRun (Err Memory) a b c = Stays a × Stays b × Stays c

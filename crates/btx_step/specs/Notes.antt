@@ -74,7 +74,7 @@ has_place (note.Warning text) = false
 has_place (note.Shown v) = false
 has_place _ = true
 
--- the function that is executed and the key of the entry, behind a message that has a place
+-- the end of a message: the function that is executed and the key of the entry, if the message has a place
 abbrev pub place_if : Bool → List ℕ → Option (List ℕ) → List ℕ
 place_if true executed key = place_of executed key
 place_if false executed key = []

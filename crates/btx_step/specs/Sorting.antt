@@ -5,23 +5,23 @@ use Rattle.std.specs.Cmp.Lexicographic.{slice_cmp}
 use Rattle.btx_step.specs.Stores.{Store}
 use Rattle.btx_step.specs.Variables.{string_of}
 
--- a key comes before another: by the first byte that differs, and a proper beginning comes first
+-- a key comes before another one: at the first byte that differs it has the smaller byte, or it is a proper prefix
 abbrev pub precedes : List ℕ → List ℕ → Bool
 precedes key other = is_lt (slice_cmp nat_cmp key other)
 
 module _ {X : Type 0} (lt : X → X → Bool) where
-  -- x goes before the first element that is not less than it
+  -- inserts `x` before the first element that isn't less than it
   abbrev pub placed : X → List X → List X
   placed x [] = x ∷ []
   placed x (y ∷ ys) = if lt y x then y ∷ placed x ys else x ∷ y ∷ ys
 
-  -- elements ascend, and those that tie keep their order
+  -- the elements in ascending order; equal ones keep their order
   unfoldable pub sorted_by : List X → List X
   sorted_by [] = []
   sorted_by (x ∷ xs) = placed x (sorted_by xs)
 
 module _ {X : Type 0} where
-  -- elements compare as their keys do
+  -- an element comes before another one: its key does
   abbrev pub by_key : (X → List ℕ) → X → X → Bool
   by_key key x y = precedes (key x) (key y)
 

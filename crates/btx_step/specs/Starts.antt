@@ -16,7 +16,7 @@ first_integers job = slice_set (slice_set (replicate (length job.style.names.glo
 abbrev pub first_values : Style → Values
 first_values style = record { integers = replicate (length style.names.entry_integers) (pos 0); strings = replicate (length style.names.entry_strings) [] }
 
--- no literal, no current entry, and no body was open
+-- the store before the first command: no literal on the stack, no current entry, each variable with its first value, and no body open yet
 abbrev pub first_store : Job → Store
 first_store job = record {
   literals = [];

@@ -41,11 +41,11 @@ lowered = codes "O" ∷ codes "OE" ∷ codes "AE" ∷ codes "AA" ∷ codes "L" �
 abbrev pub raised : List (List ℕ)
 raised = codes "o" ∷ codes "oe" ∷ codes "ae" ∷ codes "aa" ∷ codes "l" ∷ []
 
--- those that no raised sequence stands for: raised they become letters, without a backslash
+-- the control sequences `\i`, `\j` and `\ss`: in upper case they become letters without a backslash, `I`, `J` and `SS`
 abbrev pub bare : List (List ℕ)
 bare = codes "i" ∷ codes "j" ∷ codes "ss" ∷ []
 
--- a control sequence in another case; any other than those above stays
+-- a control sequence in another case; one that isn't among the lists above stays
 unfoldable pub cased_control : Conversion → List ℕ → List ℕ
 cased_control Upper name =
     if is_among bare name then map to_ascii_uppercase name
@@ -97,22 +97,22 @@ pub record EndInColonAndWhite (before : List Part) : Type 0 where
   pub all_white : IsTrue (list_all (λ part. is_white_text part.text) white)
   pub is_colon : IsTrue (is_colon colon)
 
--- a title
+-- the conversion is that to a title, `t`
 abbrev pub is_title : Conversion → Bool
 is_title Title = true
 is_title _ = false
 
--- an element that changes, by its kind: bytes at depth 0 and special characters do
+-- an element in another case, given its kind, depth and text: bytes at depth 0 and special characters change, others stay
 abbrev pub cased_as : Conversion → Kind → ℕ → List ℕ → List ℕ
 cased_as conversion Byte depth text = if depth == 0 then map (case_of conversion) text else text
 cased_as conversion Special depth text = cased_special conversion text
 cased_as conversion _ depth text = text
 
--- an element in another case; as a title, what begins one is kept
+-- an element in another case; in a title it stays as it is if it begins the title or a part of it, which `begins` says
 abbrev pub cased_part : Conversion → Bool → Part → List ℕ
 cased_part conversion begins part = if is_title conversion && begins then part.text else cased_as conversion part.kind part.depth part.text
 
--- elements in another case, that stand after those before (nearest first)
+-- elements in another case; `before` are the elements before them, the nearest first
 unfoldable pub cased_parts : Conversion → List Part → List Part → List ℕ
 cased_parts conversion before [] = []
 cased_parts conversion before (part ∷ parts) = cased_part conversion (begins_title before) part ++ cased_parts conversion (part ∷ before) parts
@@ -128,12 +128,15 @@ abbrev pub cased_by : Option Conversion → List ℕ → List ℕ
 cased_by None string = string
 cased_by (Some conversion) string = cased conversion string
 
+-- an error if the conversion isn't `t`, `l` or `u`
 abbrev pub complaints_by : Option Conversion → Complaints
 complaints_by None = wrong_conversion
 complaints_by (Some conversion) = no_complaints
 
+-- `change.case$`: the string in the case that the conversion names; unchanged if it is none
 abbrev pub change_case_of : List ℕ → List ℕ → List ℕ
 change_case_of string conversion = cased_by (conversion_of conversion) string
 
+-- the errors of `change.case$` with this conversion
 abbrev pub case_complaints : List ℕ → Complaints
 case_complaints conversion = complaints_by (conversion_of conversion)

@@ -15,7 +15,7 @@ pub data Glyph : Type 0 where
 abbrev pub is_brace : ℕ → Bool
 is_brace b = b == open_brace || b == close_brace
 
--- after a backslash that no alpha byte follows: the one next byte, but no brace (this project's own rule)
+-- the name of a control sequence without letters: the one byte after the backslash, but no brace (this project's own rule)
 abbrev pub lone : List ℕ → List ℕ
 lone [] = []
 lone (b ∷ bs) = if is_brace b then [] else b ∷ []
@@ -38,7 +38,7 @@ glyphs_of text = glyphs_from 0 text
 
 -- ---- foreign ones
 
--- a name is one of these
+-- the list has this name
 abbrev pub is_among : List (List ℕ) → List ℕ → Bool
 is_among names name = list_any (bytes_eq name) names
 
@@ -58,7 +58,7 @@ letters_of name =
 
 -- ---- white after a control sequence
 
--- the glyphs before, nearest first, end in a control sequence that passes a test, with only white after it
+-- the glyphs before this one (the nearest first) end in a control sequence that passes the test, followed only by whitespace
 abbrev pub follows : (List ℕ → Bool) → List Glyph → Bool
 follows test [] = false
 follows test (Control name ∷ before) = test name
@@ -69,7 +69,8 @@ abbrev pub is_white_glyph : Glyph → Bool
 is_white_glyph (Control name) = false
 is_white_glyph (Plain b) = is_white b
 
--- glyphs, that stand after those before (nearest first), without the white that directly follows a sequence which passes a test
+-- the glyphs without the whitespace directly after a control sequence that passes the test; `before` are the glyphs before them, the nearest
+-- first
 unfoldable pub without_white : (List ℕ → Bool) → List Glyph → List Glyph → List Glyph
 without_white test before [] = []
 without_white test before (glyph ∷ glyphs) =

@@ -7,17 +7,17 @@ use Rattle.btx_text.specs.Elements.{Part, is_character, elements_of, text_of, de
 abbrev pub text_length_of : TextMode → List ℕ → ℕ
 text_length_of mode string = count_by (λ part. is_character part.kind) (elements_of mode string)
 
--- the fewest first elements with this number of characters of text, or all of them
+-- the shortest prefix of the elements with `n` characters of text, or all elements if there are fewer
 unfoldable pub take_characters : ℕ → List Part → List Part
 take_characters n [] = []
 take_characters zero (part ∷ parts) = []
 take_characters (suc n) (part ∷ parts) = part ∷ take_characters (if is_character part.kind then n else suc n) parts
 
--- a text with the braces closed that it leaves open
+-- a text followed by a `}` for each brace that it leaves open
 abbrev pub closed : List ℕ → List ℕ
 closed text = text ++ replicate (depth_of text) close_brace
 
--- how many characters a number asks for: none below 1
+-- the number of characters that `text.prefix$` is asked for; 0 if it is negative
 abbrev pub wanted : ℤ → ℕ
 wanted (pos n) = n
 wanted (negsuc n) = 0

@@ -16,6 +16,7 @@ is_stop b = b == period || b == 63 || b == 33
 abbrev pub last_mark : List ℕ → Option ℕ
 last_mark string = find (λ b. not (b == close_brace)) (reverse string)
 
+-- the last byte that is no `}` is a period, a `?` or a `!`
 abbrev pub is_ended : Option ℕ → Bool
 is_ended None = false
 is_ended (Some b) = is_stop b
@@ -27,11 +28,12 @@ add_period_of (b ∷ bs) = if is_ended (last_mark (b ∷ bs)) then b ∷ bs else
 
 -- ---- `substring$`
 
--- the first `n` bytes of what stands from the `start`-th byte on, counted from 1; nothing where there is no such byte
+-- the first `n` bytes from the `start`-th byte on, which is counted from 1: fewer if the string ends before, none if it has no such byte
 abbrev pub from_left : List ℕ → ℕ → ℕ → List ℕ
 from_left string start n = take n (drop (start - 1) string)
 
--- the last `n` bytes of what ends with the `start`-th byte from the right, counted from 1; nothing where there is no such byte
+-- the last `n` bytes up to and including the `start`-th byte from the right, which is counted from 1: fewer if the string begins after the first
+-- of them, none if it has no such byte
 abbrev pub from_right : List ℕ → ℕ → ℕ → List ℕ
 from_right string start n =
     let front = take (length string - (start - 1)) string in

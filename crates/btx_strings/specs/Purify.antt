@@ -10,7 +10,7 @@ use Rattle.btx_text.specs.Class.{class_of}
 use Rattle.btx_text.specs.Elements.{Part, elements_of}
 use Rattle.btx_strings.specs.Controls.{Glyph, Control, Plain, glyphs_of, letters_of}
 
--- a byte of a class: white and separators become a space, letters and digits stay, any other goes
+-- what becomes of a byte of this class: whitespace and separators become a space, letters and digits stay, others are removed
 abbrev pub purified_class : Class → ℕ → List ℕ
 purified_class White b = 32 ∷ []
 purified_class Sep b = 32 ∷ []
@@ -33,12 +33,13 @@ abbrev pub purified_glyph : Glyph → List ℕ
 purified_glyph (Control name) = letters_of name
 purified_glyph (Plain b) = kept_class (class_of b) b
 
--- an element of a kind, by its text
+-- what `purify$` leaves of an element of this kind with this text; nothing of a brace
 abbrev pub purified_as : Kind → List ℕ → List ℕ
 purified_as Byte text = flat_map purified_byte text
 purified_as Special text = flat_map purified_glyph (glyphs_of text)
 purified_as _ text = []
 
+-- what `purify$` leaves of an element
 abbrev pub purified_part : Part → List ℕ
 purified_part part = purified_as part.kind part.text
 

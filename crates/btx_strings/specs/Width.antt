@@ -28,6 +28,7 @@ widths =
     -- from `{` to `~`
     ++ 500 ∷ 1000 ∷ 500 ∷ 500 ∷ []
 
+-- the width of a byte, by the table
 abbrev pub byte_width : ℕ → ℕ
 byte_width b = slice_index widths b
 
@@ -36,7 +37,7 @@ abbrev pub first_width : List ℕ → ℕ
 first_width [] = 0
 first_width (b ∷ bs) = byte_width b
 
--- a control sequence: five foreign ones have a width of their own, any other counts the letter that it stands for, if it does
+-- the width of a control sequence: five foreign ones have a width of their own; any other has that of the first letter that it stands for, or 0
 unfoldable pub control_width : List ℕ → ℕ
 control_width name =
     if bytes_eq name (codes "ss") then 500
@@ -51,7 +52,7 @@ abbrev pub glyph_width : Glyph → ℕ
 glyph_width (Control name) = control_width name
 glyph_width (Plain b) = if is_brace b then 0 else byte_width b
 
--- a special character: its glyphs, without the white directly after a control sequence
+-- the width of a special character: that of its glyphs, without the whitespace directly after a control sequence
 abbrev pub special_width : List ℕ → ℕ
 special_width text = sum_by glyph_width (without_white (λ _. true) [] (glyphs_of text))
 
@@ -60,9 +61,10 @@ abbrev pub width_as : Kind → List ℕ → ℕ
 width_as Special text = special_width text
 width_as _ text = sum_by byte_width text
 
+-- the width of an element
 abbrev pub part_width : Part → ℕ
 part_width part = width_as part.kind part.text
 
--- the sum over the elements
+-- `width$`: the sum of the widths of a string's elements
 abbrev pub width_of : List ℕ → ℕ
 width_of string = sum_by part_width (elements_of Bytes string)

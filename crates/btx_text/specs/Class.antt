@@ -8,7 +8,7 @@ use Rattle.btx_text.specs.declared.byte_class.Class.TheVariants.{White, Alpha, D
 abbrev pub is_white : ℕ → Bool
 is_white b = b == 32 || b == 9 || b == 13
 
--- the byte lies from one to another
+-- the byte is from `low` up to `high`, both included
 abbrev pub is_between : ℕ → ℕ → ℕ → Bool
 is_between low high b = nat_le low b && nat_le b high
 
@@ -36,7 +36,7 @@ is_sep b = b == 126 || b == 45
 abbrev pub is_sign : ℕ → Bool
 is_sign b = b == 34 || b == 35 || b == 37 || b == 39 || b == 40 || b == 41 || b == 44 || b == 61 || b == 123 || b == 125
 
--- a byte that names are made of, in styles and in databases: from 33 up, and none of these signs
+-- a byte that can stand in a name, in styles and in databases: from 33 up, and none of `" # % ' ( ) , = { }`
 abbrev pub is_name_byte : ℕ → Bool
 is_name_byte b = nat_le 33 b && not (is_sign b)
 

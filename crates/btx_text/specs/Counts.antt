@@ -2,11 +2,11 @@
 -- the greatest value it goes to 0. A call stops at its first failure: one count at most changes in it, by one.
 use Rattle.std.specs.Prelude.{◌≡◌, ℕ, ◌+◌, ◌%◌, ◌^◌, ◌⊎◌, Bool, if◌then◌else◌}
 
--- one more
+-- the count `n` after one more failure; a counter of 64 bits, it goes back to 0 after its greatest value
 abbrev pub risen : ℕ → ℕ
 risen n = (n + 1) % 2 ^ 64
 
--- one more where the call has failed, and else the same
+-- a count of failures after a call: `risen` if the call failed, else the same
 abbrev pub count_after : Bool → ℕ → ℕ
 count_after failed n = if failed then risen n else n
 
@@ -14,11 +14,11 @@ count_after failed n = if failed then risen n else n
 abbrev pub Change : Type 0
 Change = ℕ × ℕ
 
--- the count stayed
+-- a count is the same after a call as before it
 abbrev pub Stays : Change → Type 0
 Stays count = count.1 ≡ count.0
 
--- the count rose, by one
+-- a count is one more after a call than before it, as `risen` counts
 abbrev pub Rises : Change → Type 0
 Rises count = count.1 ≡ risen count.0
 

@@ -37,20 +37,20 @@ pub record Part : Type 0 where
 abbrev pub text_of : List Part → List ℕ
 text_of parts = flat_map (λ part. part.text) parts
 
--- a special character begins where, at depth 0, a `{` stands directly before a backslash
+-- a special character begins here: at depth 0, with a `{` directly before a backslash
 abbrev pub begins_special : ℕ → List ℕ → Bool
 begins_special depth rest = depth == 0 && starts_with nat_eq rest (open_brace ∷ backslash ∷ [])
 
--- characters of more than one byte are told apart in UTF-8 alone
+-- the text is UTF-8: only then can a character have more than one byte
 abbrev pub is_utf8 : TextMode → Bool
 is_utf8 Bytes = false
 is_utf8 Utf8 = true
 
--- the kind of a byte by itself
+-- the kind of an element that is one byte: a brace or a plain byte
 abbrev pub kind_of : ℕ → Kind
 kind_of b = if b == open_brace then Open else if b == close_brace then Close else Byte
 
--- the kind of the element that begins at a depth, with the string from there on
+-- the kind of the element with which `rest` begins, at brace depth `depth`
 unfoldable pub kind_at : TextMode → ℕ → List ℕ → Kind
 kind_at mode depth rest =
     if begins_special depth rest then Special
@@ -82,24 +82,24 @@ pub record IsDivision (mode : TextMode) (string : List ℕ) (parts : List Part) 
 
 -- ---- the same list, computed
 
--- how many bytes there are from a depth until it is 0 after one of them, or to the end
+-- the number of bytes up to and including the first after which the brace depth is 0, from depth `depth` on; all bytes if there is none
 unfoldable pub group_len : ℕ → List ℕ → ℕ
 group_len depth [] = 0
 group_len depth (b ∷ bs) = if depth_after depth b == 0 then 1 else suc (group_len (depth_after depth b) bs)
 
--- how many bytes the element of a kind has that a text begins with
+-- the number of bytes of the element with which `rest` begins, given its kind
 abbrev pub extent : Kind → List ℕ → ℕ
 extent Special rest = group_len 0 rest
 extent Wide rest = sequence_size (slice_index rest 0)
 extent _ rest = 1
 
--- the element that begins at a place, with the string from there on
+-- the element with which `rest` begins, at index `start` and brace depth `depth` of the string
 abbrev pub element_at : TextMode → ℕ → ℕ → List ℕ → Part
 element_at mode start depth rest =
     let kind = kind_at mode depth rest in
     record { kind = kind; text = take (extent kind rest) rest; start = start; depth = depth }
 
--- the elements that begin in the rest of a string, whose first `skip` bytes belong to an element before
+-- the elements that begin in `rest`; its first `skip` bytes belong to the element before
 unfoldable pub elements_from : TextMode → ℕ → ℕ → ℕ → List ℕ → List Part
 elements_from mode skip start depth [] = []
 elements_from mode (suc skip) start depth (b ∷ bs) = elements_from mode skip (start + 1) (depth_after depth b) bs
@@ -107,13 +107,13 @@ elements_from mode zero start depth (b ∷ bs) =
     let part = element_at mode start depth (b ∷ bs) in
     part ∷ elements_from mode (length part.text - 1) (start + 1) (depth_after depth b) bs
 
--- the one division of a string
+-- the elements of a string, from left to right: the one way to divide it
 unfoldable pub elements_of : TextMode → List ℕ → List Part
 elements_of mode string = elements_from mode 0 0 0 string
 
 -- ---- what elements count as
 
--- a byte that is no brace, a special character and a wide one count as one character of text
+-- an element of this kind counts as one character of text: a plain byte, a special character or a wide element, but not a brace by itself
 abbrev pub is_character : Kind → Bool
 is_character Open = false
 is_character Close = false

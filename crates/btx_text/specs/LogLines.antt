@@ -21,7 +21,7 @@ is_error Plain = false
 is_error Warning = false
 is_error Error = true
 
--- how a line of this kind begins
+-- the prefix of a log line of this kind
 unfoldable pub mark_of : LineKind → List ℕ
 mark_of Plain = []
 mark_of Warning = codes "Warning--"
@@ -31,10 +31,10 @@ mark_of Error = codes "Error--"
 unfoldable pub place_text : ℕ → List ℕ → List ℕ
 place_text line file = codes "--line " ++ decimal line ++ codes " of file " ++ file
 
--- a message on the whole
+-- a log line without a file and line number
 abbrev pub message : LineKind → List ℕ → Line
 message kind text = record { text = mark_of kind ++ text; kind = kind }
 
--- a message that is met at a line of a file
+-- a log line with the line number and the file that its message is about
 abbrev pub message_at : LineKind → List ℕ → ℕ → List ℕ → Line
 message_at kind text line file = record { text = mark_of kind ++ text ++ place_text line file; kind = kind }

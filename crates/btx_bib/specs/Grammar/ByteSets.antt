@@ -35,7 +35,7 @@ run_len set (b ∷ bs) = if is_in set b then suc (run_len set bs) else 0
 abbrev pub run : ByteSet → List ℕ → List ℕ
 run set text = take (run_len set text) text
 
--- the text behind the longest run of a set that it begins with
+-- the text after its longest prefix of bytes of the set
 abbrev pub past : ByteSet → List ℕ → List ℕ
 past set text = drop (run_len set text) text
 
@@ -44,7 +44,7 @@ abbrev pub begins : (ℕ → Bool) → List ℕ → Bool
 begins test [] = false
 begins test (b ∷ bs) = test b
 
--- the bytes at which, at depth 0, what is enclosed ends: in quotes a `}` ends it too, and is a fault
+-- the byte ends an enclosed part, at depth 0: its closing delimiter, and in quotes also a `}`, which is an error
 abbrev pub ends_enclosed : Enclosure → ℕ → Bool
 ends_enclosed Group b = b == close_brace
 ends_enclosed Quotes b = b == quote || b == close_brace

@@ -20,7 +20,7 @@ field_at text =
     followed_by (sign_at equals NoEquals behind_name) (λ sign behind_sign.
     followed_by (value_at behind_sign) (λ value rest. Ok (record { name = name; value = value }, rest))))
 
--- a field, where one more may stand
+-- a field that was read, as one further field of its entry
 abbrev pub one_more : Read Field → Read (Option Field)
 one_more (Ok got) = Ok (Some got.0, got.1)
 one_more (Err wrong) = Err wrong
@@ -30,7 +30,7 @@ unfoldable pub after_comma : Delimiter → List ℕ → Read (Option Field)
 after_comma delimiter rest =
     if begins (λ b. b == closing delimiter) rest then Ok (None, drop 1 rest) else one_more (field_at rest)
 
--- after the key or a field: the closing delimiter ends the entry, or a comma stands
+-- after a key or a field: the closing delimiter, which ends the entry, or a comma and then a field or the closing delimiter; else an error
 unfoldable pub more_in : Delimiter → List ℕ → Read (Option Field)
 more_in delimiter rest =
     if begins (λ b. b == closing delimiter) rest then Ok (None, drop 1 rest)

@@ -33,7 +33,7 @@ command_of name =
     else if bytes_eq (folded name) (codes "preamble") then command.Preamble
     else if bytes_eq (folded name) (codes "string") then command.Definition else command.Entry
 
--- what a command begins, and what is wanted after it
+-- reads the first part of an item, given its command: the event, and what is expected next
 unfoldable pub head_of : Command → List ℕ → List ℕ → Read (Event × Wanted)
 head_of command.Comment name text = Ok ((Comment, Item), text)
 head_of command.Preamble name text =
@@ -52,12 +52,12 @@ head_of command.Entry name text =
 unfoldable pub head_at : List ℕ → Read (Event × Wanted)
 head_at text = followed_by (name_at text) (λ name rest. head_of (command_of name) name rest)
 
--- the end of an item
+-- the end of an item as an event; an item is expected next
 abbrev pub ended : Read (Unit {0}) → Read (Event × Wanted)
 ended (Ok got) = Ok ((End, Item), got.1)
 ended (Err wrong) = Err wrong
 
--- a field, or the end of an entry
+-- a field as an event, after which the entry goes on; or the end of the entry, after which an item is expected
 abbrev pub field_event : Delimiter → Read (Option Field) → Read (Event × Wanted)
 field_event delimiter (Ok (None, rest)) = Ok ((End, Item), rest)
 field_event delimiter (Ok (Some field, rest)) = Ok ((FieldOf field, Fields delimiter), rest)
@@ -69,7 +69,7 @@ pub record Step : Type 0 where
   pub wanted : Wanted
   pub rest : List ℕ
 
--- after what is wrong an item is wanted
+-- a reading as one step; after an error an item is expected
 abbrev pub step_by : Read (Event × Wanted) → Step
 step_by (Ok got) = record { event = got.0.0; wanted = got.0.1; rest = got.1 }
 step_by (Err wrong) = record { event = Wrong wrong.0; wanted = Item; rest = wrong.1 }
@@ -79,7 +79,7 @@ unfoldable pub behind_at : List ℕ → Option (List ℕ)
 behind_at [] = None
 behind_at (b ∷ bs) = if b == at_sign then Some bs else behind_at bs
 
--- what is read next, where an item, the end of an item or a field is wanted; behind the last `@` no item is left
+-- the next event of a text, given what is expected there; none if an item is expected and no `@` is left
 unfoldable pub step_of : Wanted → List ℕ → Option Step
 step_of Item text = option_map (λ rest. step_by (head_at rest)) (behind_at text)
 step_of (Closing delimiter) text = Some (step_by (ended (sign_at (closing delimiter) (NoClosing delimiter) text)))
@@ -97,7 +97,7 @@ abbrev pub is_repeated : (List ℕ → Bool) → Event → Bool
 is_repeated is_stored (Entry kind key) = is_stored key
 is_repeated is_stored _ = false
 
--- what is read and what is wanted next, where these keys are stored: a repeated entry is wrong, and an item is wanted behind its key
+-- an event, given which keys are stored: the key of a stored entry is the error `Repeated entry`, after which an item is expected
 abbrev pub as_known : (List ℕ → Bool) → Event × Wanted → Event × Wanted
 as_known is_stored got = if is_repeated is_stored got.0 then (Wrong Repeated, Item) else got
 
@@ -107,7 +107,7 @@ known_step is_stored None = None
 known_step is_stored (Some step) =
     let got = as_known is_stored (step.event, step.wanted) in Some (record { event = got.0; wanted = got.1; rest = step.rest })
 
--- what is read where this is wanted and these keys are stored
+-- the next event of a text, given what is expected there and which keys are stored
 abbrev pub next_step : (List ℕ → Bool) → Wanted → List ℕ → Option Step
 next_step is_stored wanted text = known_step is_stored (step_of wanted text)
 
@@ -122,18 +122,19 @@ by_history is_stored = record { is_stored = is_stored; after = λ before event. 
 
 -- ---- the events of a text
 
--- what is read, and the others
+-- this event, if there is one, and the events after it, given what is known then
 abbrev pub events_by : {S : Type 0} → Keeping S → (S → Wanted → List ℕ → List Placed) → S → Option Step → List Placed
 events_by keeping others state None = []
 events_by keeping others state (Some step) =
     record { event = step.event; rest = step.rest } ∷ others (keeping.after state step.event) step.wanted step.rest
 
--- the events of a text, at most this number of them
+-- at most `turns` events of a text
 unfoldable pub events_within : {S : Type 0} → Keeping S → ℕ → S → Wanted → List ℕ → List Placed
 events_within keeping zero state wanted text = []
 events_within keeping (suc turns) state wanted text =
     events_by keeping (events_within keeping turns) state (next_step (keeping.is_stored state) wanted text)
 
--- the events of a text where this is known and this is wanted first
+-- the events of a text, given what is known before it and what is expected first. The bound on their number is never reached, since each takes a
+-- byte or ends an item
 unfoldable pub events_from : {S : Type 0} → Keeping S → S → Wanted → List ℕ → List Placed
 events_from keeping state wanted text = events_within keeping (suc (2 * length text + 1)) state wanted text

@@ -4,15 +4,15 @@ use Rattle.std.specs.Prelude.{ℕ, suc, ◌-◌, ◌==◌, List, [], ◌∷◌, 
 use Rattle.btx_text.specs.Lines.{pieces_of}
 use Rattle.btx_bib.specs.Grammar.Bytes.{line_feed}
 
--- how many lines have begun when this number of bytes of a text has been read
+-- the number of lines that begin in the first `count` bytes of a text
 unfoldable pub lines_begun : ℕ → List ℕ → ℕ
 lines_begun count text = length (pieces_of (take count text))
 
--- the line of the byte with which this rest of a text begins
+-- the line number of the byte with which `rest` begins
 abbrev pub line_at : List ℕ → List ℕ → ℕ
 line_at text rest = lines_begun (suc (length text - length rest)) text
 
--- the line of the last byte before this rest of a text
+-- the line number of the last byte before `rest`
 abbrev pub line_before : List ℕ → List ℕ → ℕ
 line_before text rest = lines_begun (length text - length rest) text
 

@@ -20,17 +20,17 @@ abbrev pub seen : {A B : Type 0} → (A → B) → Result (A × Bor (List ℕ)) 
 seen view (Ok got) = Ok (view got.0, got.1.now)
 seen view (Err wrong) = Err (wrong.0, wrong.1.now)
 
--- a reading, and another one after it
+-- reads one thing and then another; an error of the first is the error of both
 abbrev pub followed_by : {A B : Type 0} → Read A → (A → List ℕ → Read B) → Read B
 followed_by (Ok got) next = next got.0 got.1
 followed_by (Err wrong) next = Err wrong
 
--- what is wrong where something is wanted that doesn't stand here: at the end of the file it is that end
+-- the error if something expected isn't here; at the end of the file it is that the file ends
 abbrev pub slip_at : Slip → List ℕ → Slip
 slip_at slip [] = EndOfFile
 slip_at slip (b ∷ bs) = slip
 
--- something is wanted that doesn't stand here: what is wrong, and the text from here on
+-- the result if something expected isn't here: the error, and the text from here on
 abbrev pub wrong_at : {A : Type 0} → Slip → List ℕ → Read A
 wrong_at slip text = Err (slip_at slip text, text)
 
@@ -65,7 +65,7 @@ sign_in sign slip rest = if begins (λ b. b == sign) rest then Ok (tt, drop 1 re
 abbrev pub sign_at : ℕ → Slip → List ℕ → Read (Unit {0})
 sign_at sign slip text = sign_in sign slip (past Gap text)
 
--- a key: it may be empty, but the file goes on
+-- reads a key, which may be empty; at the end of the file it is an error
 unfoldable pub key_in : Delimiter → List ℕ → Read (List ℕ)
 key_in delimiter [] = Err (EndOfFile, [])
 key_in delimiter (b ∷ bs) = Ok (run (KeyByte delimiter) (b ∷ bs), past (KeyByte delimiter) (b ∷ bs))

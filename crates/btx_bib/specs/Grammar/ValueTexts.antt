@@ -16,7 +16,7 @@ use Rattle.btx_bib.specs.Grammar.Values.{Part, Braced, Quoted, Digits, Named}
 abbrev pub Strings : Type 0
 Strings = List ℕ → Option (List ℕ)
 
--- a value, or nothing where there is none
+-- the text, or the empty one if there is none
 abbrev pub or_nothing : Option (List ℕ) → List ℕ
 or_nothing None = []
 or_nothing (Some text) = text
@@ -37,12 +37,12 @@ unfoldable pub squeezed : List ℕ → List ℕ
 squeezed [] = []
 squeezed (b ∷ bs) = if is_gap b then (if begins is_gap bs then squeezed bs else space ∷ squeezed bs) else b ∷ squeezed bs
 
--- a first space goes
+-- a text without its first byte, if that is a space
 abbrev pub without_first_space : List ℕ → List ℕ
 without_first_space [] = []
 without_first_space (b ∷ bs) = if b == space then bs else b ∷ bs
 
--- a last space goes
+-- a text without its last byte, if that is a space
 abbrev pub without_last_space : List ℕ → List ℕ
 without_last_space text = if slice_index text (length text - 1) == space then take (length text - 1) text else text
 

@@ -22,7 +22,7 @@ pub data Part : Type 0 where
   Digits : (text : List ℕ) → Part
   Named : (string : StringName) → Part
 
--- what is enclosed, with what follows it: a `}` at depth 0 is wrong in quotes
+-- an enclosed part, with the text after it, given what follows its text: the end of the file is an error, and in quotes a `}`, too
 abbrev pub closed : Enclosure → List ℕ → List ℕ → Read Part
 closed enclosure text [] = Err (EndOfFile, [])
 closed Group text (b ∷ bs) = Ok (Braced text, bs)
@@ -55,12 +55,12 @@ behind_hash (b ∷ bs) = if b == hash then Some bs else None
 abbrev pub next_part : List ℕ → Option (List ℕ)
 next_part rest = behind_hash (past Gap rest)
 
--- a part and the other parts
+-- the parts of a value from this one on: `others` reads those after a `#`
 abbrev pub joined : (List ℕ → Read (List Part)) → Part → List ℕ → Option (List ℕ) → Read (List Part)
 joined others part rest None = Ok (part ∷ [], rest)
 joined others part rest (Some text) = followed_by (others text) (λ parts end. Ok (part ∷ parts, end))
 
--- a value of at most this number of parts
+-- reads a value of at most `turns` parts. The bound is never reached, since each part takes a byte at least
 unfoldable pub value_within : ℕ → List ℕ → Read (List Part)
 value_within zero text = Err (EndOfFile, [])
 value_within (suc turns) text = followed_by (part_at text) (λ part rest. joined (value_within turns) part rest (next_part rest))

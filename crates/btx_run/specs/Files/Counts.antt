@@ -17,7 +17,7 @@ counts warnings errors = record { warnings = warnings; errors = errors }
 abbrev pub at_most_greatest : ℕ → ℕ
 at_most_greatest n = min n (2 ^ 64 - 1)
 
--- the counts of these lines
+-- the number of warnings and of errors among the lines, each at most the greatest number of 64 bits
 abbrev pub counts_of : List Line → Counts
 counts_of lines =
     counts (at_most_greatest (count_by (λ line. is_warning line.kind) lines)) (at_most_greatest (count_by (λ line. is_error line.kind) lines))

@@ -8,7 +8,7 @@ pub record NamedFile : Type 0 where
   pub name : List ℕ
   pub bytes : List ℕ
 
--- the file of this name with these bytes
+-- the file with this name and these bytes
 abbrev pub named : List ℕ → List ℕ → NamedFile
 named name bytes = record { name = name; bytes = bytes }
 

@@ -24,17 +24,17 @@ pub record Reading (T : Type 0) : Type 0 where
   pub told : List Line
   pub gives : T
 
--- the part that has these lines and gives this
+-- a part of the reading, made of its log lines and its result
 abbrev pub reading : {T : Type 0} → List Line → T → Reading T
 reading told gives = record { told = told; gives = gives }
 
--- a part of the reading, behind these lines
+-- a part of the reading with further log lines before its own
 abbrev pub behind : {T : Type 0} → List Line → Reading T → Reading T
 behind lines part = reading (lines ++ part.told) part.gives
 
 -- ---- databases
 
--- the file, if there is one, as a list
+-- an optional file as a list of one or of none
 abbrev pub as_list : Option NamedFile → List NamedFile
 as_list None = []
 as_list (Some file) = file ∷ []
@@ -43,7 +43,7 @@ as_list (Some file) = file ∷ []
 abbrev pub files_found : Files → List (List ℕ) → List NamedFile
 files_found files names = flat_map (λ name. as_list (file_at files name)) names
 
--- what is logged of a database, which would be found as the one of this number
+-- the log line of a database, which has this number if it is found
 abbrev pub database_told : ℕ → List ℕ → Option NamedFile → Line
 database_told number name None = no_database_line name
 database_told number name (Some file) = database_line number name
@@ -52,7 +52,7 @@ database_told number name (Some file) = database_line number name
 abbrev pub database_read : Files → ℕ → List ℕ → Reading (Option NamedFile)
 database_read files number name = reading (database_told number name (file_at files name) ∷ []) (file_at files name)
 
--- what is logged of databases, each numbered behind those that were found before it
+-- the log lines of the databases, which are numbered as they are found
 abbrev pub databases_told : Files → List (List ℕ) → List (List ℕ) → List Line
 databases_told files earlier [] = []
 databases_told files earlier (name ∷ names) =
@@ -68,7 +68,7 @@ databases_read files names = reading (databases_told files [] names) (files_foun
 abbrev pub with_style : NamedFile → Reading (List NamedFile) → Reading FilesRead
 with_style style part = reading part.told (Found (record { style = style; databases = part.gives }))
 
--- what follows a style that was found, with what the databases give: a style that is too long ends the run, and no database is looked for
+-- the reading after the style was found: a style that is too long ends the run, and no database is looked for
 abbrev pub style_found : NamedFile → Reading (List NamedFile) → Reading FilesRead
 style_found style databases = if is_too_long style.bytes then reading [] (Ends (ended.Limit kind.File)) else with_style style databases
 
@@ -76,7 +76,7 @@ style_found style databases = if is_too_long style.bytes then reading [] (Ends (
 unfoldable pub after_style : Files → Job → NamedFile → Reading FilesRead
 after_style files job style = style_found style (databases_read files job.databases)
 
--- a style that was looked for by this name, with what the databases give: without it the run ends
+-- the reading from the search for the style on; if the style is missing, the run ends
 abbrev pub style_sought : List ℕ → Option NamedFile → Reading (List NamedFile) → Reading FilesRead
 style_sought name None databases = reading (no_style_line name ∷ []) (Ends ended.Finished)
 style_sought name (Some style) databases = behind (style_line name ∷ []) (style_found style databases)

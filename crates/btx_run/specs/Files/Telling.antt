@@ -6,7 +6,7 @@ use Rattle.btx_text.specs.LogLines.{Line}
 use Rattle.btx_machine.specs.Saying.{ended_line}
 use Rattle.btx_run.specs.Files.Counts.{Counts, counts_of}
 
--- the bytes of these lines
+-- the bytes of log lines, each with its line feed
 abbrev pub bytes_of_lines : List Line → List ℕ
 bytes_of_lines lines = flat_map (λ line. ended_line line.text) lines
 
