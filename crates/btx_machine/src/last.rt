@@ -3,13 +3,13 @@ ghost use Rattle.std.specs.Prelude.{◌≡◌, ◌++◌, ◌∷◌, [], IfOk, On
 ghost use Rattle.std.specs.Io.KnownBytes.{Appends};
 ghost use Rattle.btx_out.specs.Pieces.{AppendsBeginning};
 ghost use Rattle.btx_machine.specs.Closing.{Closes, ClosesPart, FinishedAt, FinishedPart};
-ghost use Rattle.btx_machine.specs.Faults.{CountsOfBoth, CountsOfLog, Writes};
+ghost use Rattle.btx_machine.specs.Faults.{CountsOfLog, CountsOfOutputs, Writes};
 ghost use Rattle.btx_machine.specs.Reports.{end_as, last_line, report_of, told_so};
 ghost use Rattle.btx_machine.specs.Saying.{ended_line};
 
 use crate::ending::Ending;
 use crate::outputs::Outputs;
-use crate::report::{End, Report, report_of};
+use crate::report::{End, Report, Told, report_of};
 use crate::work::Work;
 use btx_out::{Log, Sink};
 use btx_text::Fault;
@@ -46,33 +46,36 @@ pub fn tell_end<L: Sink>(alloc: Global, report: Report, log: &mut L) -> Result<R
 }
 
 // Ends the pending line of a run that finished.
-fn finish<W: Sink, L: Sink>(outputs: &mut Outputs<'_, W, L>, end: Ending) -> Result<(), Fault>
+fn finish<W: Sink>(outputs: &mut Outputs, end: Ending, bbl: &mut W) -> Result<(), Fault>
     requires { Writes outputs.old }
-    ensures ok { OnOk result (FinishedAt outputs.old end outputs.new) }
-    ensures err { OnErr result (FinishedPart outputs.old end outputs.new) }
-    ensures log { outputs.new.log ≡ outputs.old.log }
-    ensures counts { CountsOfBoth result outputs.old outputs.new }
+    ensures ok { OnOk result (FinishedAt outputs.old end (W.received bbl.old) (W.received bbl.new)) }
+    ensures err { OnErr result (FinishedPart outputs.old end (W.received bbl.old) (W.received bbl.new)) }
+    ensures warnings { outputs.new.warnings ≡ outputs.old.warnings }
+    ensures errors { outputs.new.errors ≡ outputs.old.errors }
+    ensures counts { CountsOfLog result (W.failures bbl.old, W.failures bbl.new) }
 {
     match end {
-        Ending::Finished => outputs.finish(),
+        Ending::Finished => outputs.breaker.finish(bbl),
         Ending::Stopped | Ending::Limit(_) => Ok(()),
     }
 }
 
 /// Writes what a run writes last, and answers its report.
 pub fn conclude<W: Sink, L: Sink>(
-    work: &mut Work<'_, '_, W, L>,
+    mut work: Work<'_>,
     end: Ending,
     steps: u64,
+    bbl: &mut W,
+    log: &mut L,
 ) -> Result<Report, Fault>
-    requires { Writes work.old.outputs }
-    ensures report { IfOk result (λ report. report ≡ report_of (end_as end) steps work.old.store.deepest (told_so work.old.outputs.log.warnings work.old.outputs.log.errors)) }
-    ensures ok { OnOk result (Closes work.old end steps work.new.outputs) }
-    ensures err { OnErr result (ClosesPart work.old end steps work.new.outputs) }
-    ensures counts { CountsOfBoth result work.old.outputs work.new.outputs }
+    requires { Writes work.outputs }
+    ensures report { IfOk result (λ report. report ≡ report_of (end_as end) steps work.entry.store.deepest (told_so work.entry.outputs.warnings work.entry.outputs.errors)) }
+    ensures ok { OnOk result (Closes work.entry end steps (W.received bbl.old, L.received log.old) (W.received bbl.new, L.received log.new)) }
+    ensures err { OnErr result (ClosesPart work.entry end steps (W.received bbl.old, L.received log.old) (W.received bbl.new, L.received log.new)) }
+    ensures counts { CountsOfOutputs result (W.failures bbl.old, W.failures bbl.new) (L.failures log.old, L.failures log.new) }
 {
-    finish(&mut work.outputs, end)?;
+    finish(&mut work.outputs, end, bbl)?;
     let told = work.outputs.told();
     let report = report_of(End::of(end), steps, work.store.deepest(), told);
-    work.outputs.end(work.alloc, report)
+    tell_end(work.alloc, report, log)
 }

@@ -4,7 +4,6 @@
 pub mod command;
 pub mod ending;
 pub mod items;
-pub mod journal;
 pub mod last;
 pub mod law;
 pub mod machine;

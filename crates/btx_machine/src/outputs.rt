@@ -1,201 +1,160 @@
 //! What is written and logged while a run goes on.
-ghost use Rattle.std.specs.Prelude.{◌≡◌, [], IfOk, IsSome, OnErr, OnOk, map};
-ghost use Rattle.std.specs.Io.KnownBytes.{Appends};
-ghost use Rattle.btx_out.specs.Pieces.{AppendsBeginning};
+ghost use Rattle.std.specs.Prelude.{◌≡◌, [], List, ℕ, Option, IsSome, OnErr, OnOk, map};
+ghost use Rattle.btx_text.specs.LogLines.{is_error, is_warning};
 ghost use Rattle.btx_bib.specs.MessageTexts.{line_of as message_line};
 ghost use Rattle.btx_step.specs.Answers.{silence};
-ghost use Rattle.btx_machine.specs.declared.ending.Ending.TheVariants.{Finished};
-ghost use Rattle.btx_machine.specs.Reports.{last_line};
-ghost use Rattle.btx_machine.specs.Saying.{ended, ended_line, line_told, lines_of, lines_told, said_on, wrote};
+ghost use Rattle.btx_machine.specs.Saying.{counted_if, line_told, lines_of, lines_told, said_on};
 
-use crate::journal::Journal;
-use crate::report::{Report, Told};
+use crate::report::Told;
 use btx_bib::Message;
-use btx_out::{Breaker, LineLength, Sink};
+use btx_out::{Breaker, LineLength, Log, Sink};
 use btx_step::lines::line_of;
 use btx_step::{Job, Note, Said};
-use btx_text::{Fault, LogLine};
+use btx_text::{Fault, LineKind, LogLine};
 use std::alloc::Global;
-use std::marker::Model;
 
-/// Both outputs of a run: the list of references, with the breaker of its long lines, and the log.
+/// The pending line of the list of references, and how many warnings and errors the log has.
 #[derive(Drop)]
-pub struct Outputs<'s, W: Sink, L: Sink> {
-    bbl: &'s mut W,
-    breaker: Breaker,
-    log: Journal<'s, L>,
+pub struct Outputs {
+    pub breaker: Breaker,
+    pub warnings: u64,
+    pub errors: u64,
 }
 
-impl<'s, W: Sink, L: Sink> Model for Outputs<'s, W, L> {
-    ghost use Rattle.btx_machine.specs.Outputs.{Outputs as Both};
-
-    ghost Value = { Both };
-
-    ghost view = { λ outputs. record {
-      bbl = record { name = outputs.bbl.ghost_name; received = W.received outputs.bbl.now; failures = W.failures outputs.bbl.now };
-      breaker = outputs.breaker;
-      log = outputs.log;
-    } };
-}
-
-impl<'s, W: Sink, L: Sink> Outputs<'s, W, L> {
+impl Outputs {
     ghost use Rattle.btx_out.specs.Breaking.{Collecting};
     ghost use Rattle.btx_out.specs.Breakers.{holding};
     ghost use Rattle.btx_out.specs.Lengths.{IsLineLength};
-    ghost use Rattle.btx_machine.specs.Closing.{FinishedAt, FinishedPart};
-    ghost use Rattle.btx_machine.specs.Faults.{CountsOfBoth, Writes};
+    ghost use Rattle.btx_machine.specs.Faults.{CountsOfLog, CountsOfOutputs, Writes};
     ghost use Rattle.btx_machine.specs.Saying.{key_at};
     ghost use Rattle.btx_machine.specs.Written.{Becomes, Stops};
 
-    /// Outputs with nothing pending, for lines of at most this number of bytes, which go on with this log.
-    pub fn new(bbl: &'s mut W, line: LineLength, log: Journal<'s, L>) -> Self
-        ensures name { result.bbl.name ≡ bbl.entry.ghost_name }
-        ensures received { result.bbl.received ≡ W.received bbl.old }
-        ensures failures { result.bbl.failures ≡ W.failures bbl.old }
+    /// Outputs with nothing pending, for lines of at most this number of bytes, after this state of the log.
+    pub fn new(line: LineLength, told: Told) -> Self
         ensures breaker { result.breaker ≡ holding line (Collecting []) }
         ensures range { IsLineLength line }
-        ensures log { result.log ≡ log.entry }
+        ensures warnings { result.warnings ≡ told.warnings }
+        ensures errors { result.errors ≡ told.errors }
         ensures writes { Writes result }
     {
         Outputs {
-            bbl,
             breaker: Breaker::new(line),
-            log,
+            warnings: told.warnings,
+            errors: told.errors,
         }
-    }
-
-    /// Gives the two sinks back.
-    pub fn into_sinks(self) -> (&'s mut W, &'s mut L)
-        ensures bbl_name { result.0.ghost_name ≡ self.entry.bbl.name }
-        ensures bbl_received { W.received result.0.now ≡ self.entry.bbl.received }
-        ensures bbl_failures { W.failures result.0.now ≡ self.entry.bbl.failures }
-        ensures log_name { result.1.ghost_name ≡ self.entry.log.sink.name }
-        ensures log_received { L.received result.1.now ≡ self.entry.log.sink.received }
-        ensures log_failures { L.failures result.1.now ≡ self.entry.log.sink.failures }
-    {
-        (self.bbl, self.log.into_sink())
     }
 
     /// How many warnings and errors the log has.
     pub fn told(&self) -> Told
-        ensures warnings { result.warnings ≡ self.now.log.warnings }
-        ensures errors { result.errors ≡ self.now.log.errors }
+        ensures warnings { result.warnings ≡ self.now.warnings }
+        ensures errors { result.errors ≡ self.now.errors }
     {
-        self.log.told()
+        Told {
+            warnings: self.warnings,
+            errors: self.errors,
+        }
     }
 
     /// Writes and logs what is said while a function of this name is executed.
-    pub fn say(
+    pub fn say<W: Sink, L: Sink>(
         &mut self,
         alloc: Global,
         job: &Job<'_>,
         executed: &[u8],
         current: Option<usize>,
         said: &mut Said<'_>,
+        bbl: &mut W,
+        log: &mut L,
     ) -> Result<(), Fault>
         requires { Writes self.old }
-        ensures ok { OnOk result (Becomes self.old self.new (λ out. said_on job.now executed.now current said.old out)) }
-        ensures err { OnErr result (Stops self.old self.new (λ out. said_on job.now executed.now current said.old out)) }
+        ensures ok { OnOk result (Becomes self.old (W.received bbl.old, L.received log.old) self.new (W.received bbl.new, L.received log.new)
+            (λ out. said_on job.now executed.now current said.old out)) }
+        ensures err { OnErr result (Stops self.old (W.received bbl.old, L.received log.old) (W.received bbl.new, L.received log.new)
+            (λ out. said_on job.now executed.now current said.old out)) }
         ensures silent { said.new ≡ silence }
         ensures writes { OnOk result (Writes self.new) }
-        ensures counts { CountsOfBoth result self.old self.new }
+        ensures counts { CountsOfOutputs result (W.failures bbl.old, W.failures bbl.new) (L.failures log.old, L.failures log.new) }
     {
         match std::mem::replace(said, Said::Nothing) {
             Said::Nothing => Ok(()),
-            Said::Wrote(text) => self.write(text.as_bytes()),
-            Said::EndedLine => self.end_line(),
-            Said::Noted(notes) => self.note_all(alloc, job, executed, current, notes.as_slice()),
+            Said::Wrote(text) => self.breaker.put(text.as_bytes(), bbl),
+            Said::EndedLine => self.breaker.newline(bbl),
+            Said::Noted(notes) => {
+                self.note_all(alloc, job, executed, current, notes.as_slice(), log)
+            }
         }
     }
 
-    // Adds to the pending line of the list of references.
-    fn write(&mut self, bytes: &[u8]) -> Result<(), Fault>
-        requires { Writes self.old }
-        ensures ok { OnOk result (Becomes self.old self.new (λ out. wrote bytes.now out)) }
-        ensures err { OnErr result (Stops self.old self.new (λ out. wrote bytes.now out)) }
-        ensures writes { OnOk result (Writes self.new) }
-        ensures counts { CountsOfBoth result self.old self.new }
-    {
-        self.breaker.put(bytes, self.bbl)
-    }
-
-    // Ends the pending line.
-    fn end_line(&mut self) -> Result<(), Fault>
-        requires { Writes self.old }
-        ensures ok { OnOk result (Becomes self.old self.new (λ out. ended out)) }
-        ensures err { OnErr result (Stops self.old self.new (λ out. ended out)) }
-        ensures writes { OnOk result (Writes self.new) }
-        ensures counts { CountsOfBoth result self.old self.new }
-    {
-        self.breaker.newline(self.bbl)
-    }
-
     // Tells what is noted while a function of this name is executed.
-    fn note_all(
+    fn note_all<L: Sink>(
         &mut self,
         alloc: Global,
         job: &Job<'_>,
         executed: &[u8],
         current: Option<usize>,
         notes: &[Note<'_>],
+        log: &mut L,
     ) -> Result<(), Fault>
-        ensures ok { OnOk result (Becomes self.old self.new (λ out. lines_told (lines_of job.now executed.now current notes.now) out)) }
-        ensures err { OnErr result (Stops self.old self.new (λ out. lines_told (lines_of job.now executed.now current notes.now) out)) }
+        ensures ok { OnOk result ((bbl : Option (List ℕ)) → Becomes self.old (bbl, L.received log.old) self.new (bbl, L.received log.new)
+            (λ out. lines_told (lines_of job.now executed.now current notes.now) out)) }
+        ensures err { OnErr result ((bbl : Option (List ℕ)) → Stops self.old (bbl, L.received log.old) (bbl, L.received log.new)
+            (λ out. lines_told (lines_of job.now executed.now current notes.now) out)) }
         ensures breaker { self.new.breaker ≡ self.old.breaker }
-        ensures counts { CountsOfBoth result self.old self.new }
+        ensures counts { CountsOfLog result (L.failures log.old, L.failures log.new) }
     {
         let key = key_at(job, current);
         for note in notes {
             let line = line_of(alloc, job.style(), executed, key, note)?;
-            self.tell(&line)?;
+            self.tell(&line, log)?;
         }
         Ok(())
     }
 
     /// Tells messages of the databases, one after another; no more than one's line is held at a time.
-    pub fn tell_messages(&mut self, alloc: Global, messages: &[Message<'_>]) -> Result<(), Fault>
-        ensures ok { OnOk result (Becomes self.old self.new (λ out. lines_told (map message_line messages.now) out)) }
-        ensures err { OnErr result (Stops self.old self.new (λ out. lines_told (map message_line messages.now) out)) }
+    pub fn tell_messages<L: Sink>(
+        &mut self,
+        alloc: Global,
+        messages: &[Message<'_>],
+        log: &mut L,
+    ) -> Result<(), Fault>
+        ensures ok { OnOk result ((bbl : Option (List ℕ)) → Becomes self.old (bbl, L.received log.old) self.new (bbl, L.received log.new)
+            (λ out. lines_told (map message_line messages.now) out)) }
+        ensures err { OnErr result ((bbl : Option (List ℕ)) → Stops self.old (bbl, L.received log.old) (bbl, L.received log.new)
+            (λ out. lines_told (map message_line messages.now) out)) }
         ensures breaker { self.new.breaker ≡ self.old.breaker }
-        ensures counts { CountsOfBoth result self.old self.new }
+        ensures counts { CountsOfLog result (L.failures log.old, L.failures log.new) }
     {
         for message in messages {
             let line = message.log_line(alloc)?;
-            self.tell(&line)?;
+            self.tell(&line, log)?;
         }
         Ok(())
     }
 
     /// Tells a line of the log.
-    pub fn tell(&mut self, line: &LogLine) -> Result<(), Fault>
-        ensures ok { OnOk result (Becomes self.old self.new (λ out. line_told line.now out)) }
-        ensures err { OnErr result (Stops self.old self.new (λ out. line_told line.now out)) }
+    pub fn tell<L: Sink>(&mut self, line: &LogLine, log: &mut L) -> Result<(), Fault>
+        ensures ok { OnOk result ((bbl : Option (List ℕ)) → Becomes self.old (bbl, L.received log.old) self.new (bbl, L.received log.new)
+            (λ out. line_told line.now out)) }
+        ensures err { OnErr result ((bbl : Option (List ℕ)) → Stops self.old (bbl, L.received log.old) (bbl, L.received log.new)
+            (λ out. line_told line.now out)) }
         ensures breaker { self.new.breaker ≡ self.old.breaker }
-        ensures counts { CountsOfBoth result self.old self.new }
+        ensures counts { CountsOfLog result (L.failures log.old, L.failures log.new) }
     {
-        self.log.tell(line)
+        self.count(line.kind());
+        Log::new().line(line.text(), log)
     }
 
-    /// Ends the pending line of a run that finished, if there is anything in it.
-    pub fn finish(&mut self) -> Result<(), Fault>
-        requires { Writes self.old }
-        ensures ok { OnOk result (FinishedAt self.old Finished self.new) }
-        ensures err { OnErr result (FinishedPart self.old Finished self.new) }
-        ensures log { self.new.log ≡ self.old.log }
-        ensures counts { CountsOfBoth result self.old self.new }
+    // Counts a line as a warning, as an error or not at all.
+    fn count(&mut self, kind: LineKind)
+        ensures breaker { self.new.breaker ≡ self.old.breaker }
+        ensures warnings { self.new.warnings ≡ counted_if (is_warning kind) self.old.warnings }
+        ensures errors { self.new.errors ≡ counted_if (is_error kind) self.old.errors }
     {
-        self.breaker.finish(self.bbl)
-    }
-
-    /// Writes the last line of the log, and answers the report that it gives.
-    pub fn end(&mut self, alloc: Global, report: Report) -> Result<Report, Fault>
-        ensures report { IfOk result (λ answer. answer ≡ report) }
-        ensures ok { OnOk result (Appends self.old.log.sink.received self.new.log.sink.received (ended_line (last_line report))) }
-        ensures err { OnErr result (AppendsBeginning self.old.log.sink.received self.new.log.sink.received (ended_line (last_line report))) }
-        ensures bbl { self.new.bbl ≡ self.old.bbl }
-        ensures counts { CountsOfBoth result self.old self.new }
-    {
-        self.log.end(alloc, report)
+        match kind {
+            LineKind::Plain => {}
+            LineKind::Warning => self.warnings = self.warnings.saturating_add(1),
+            LineKind::Error => self.errors = self.errors.saturating_add(1),
+        }
     }
 }
 

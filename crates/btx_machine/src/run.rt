@@ -1,17 +1,10 @@
 //! A run whose files are read.
-ghost use Rattle.std.specs.Prelude.{◌≡◌, ◌≤◌, [], IfOk, OnErr};
-ghost use Rattle.btx_out.specs.Breaking.{Collecting};
-ghost use Rattle.btx_out.specs.Breakers.{holding};
-ghost use Rattle.btx_out.specs.Lengths.{IsLineLength};
-ghost use Rattle.btx_step.specs.Starts.{first_store};
-ghost use Rattle.btx_machine.specs.Faults.{CountsOfBoth, CountsOfOutputs};
+ghost use Rattle.std.specs.Prelude.{◌≡◌, ◌≤◌, IfOk, OnErr};
+ghost use Rattle.btx_machine.specs.Faults.{CountsOfOutputs};
 ghost use Rattle.btx_machine.specs.KeepingStep.{AtFault, Completes};
 ghost use Rattle.btx_machine.specs.Product.{product};
-ghost use Rattle.btx_machine.specs.Reports.{told_so};
-ghost use Rattle.btx_machine.specs.Written.{received};
 
 use crate::items::do_items;
-use crate::journal::Journal;
 use crate::last::conclude;
 use crate::outputs::Outputs;
 use crate::report::{Report, Told};
@@ -40,36 +33,13 @@ pub fn execute_style<'a, W: Sink, L: Sink>(
     ensures counts { CountsOfOutputs result (W.failures bbl.old, W.failures bbl.new) (L.failures log.old, L.failures log.new) }
 {
     let store = Store::new(alloc, job)?;
-    let outputs = Outputs::new(bbl, line, Journal::new(log, told));
+    let outputs = Outputs::new(line, told);
     let mut work = Work {
         alloc,
         store,
         outputs,
     };
-    let result = do_all(&mut work, job, budget);
-    let (list, log) = work.into_sinks();
-    let _ = list;
-    let _ = log;
-    result
-}
-
-// Does all items of a style, from the state in which nothing is done, and writes what a run writes last.
-fn do_all<'a, W: Sink, L: Sink>(
-    work: &mut Work<'a, '_, W, L>,
-    job: &Job<'a>,
-    budget: u64,
-) -> Result<Report, Fault>
-    requires store { work.old.store ≡ first_store job.now }
-    requires fresh { work.old.outputs.breaker ≡ holding work.old.outputs.breaker.limit (Collecting []) }
-    requires range { IsLineLength work.old.outputs.breaker.limit }
-    ensures ok { IfOk result (λ report. Completes report (received work.old.outputs) (received work.new.outputs)
-        (product job.now (told_so work.old.outputs.log.warnings work.old.outputs.log.errors) work.old.outputs.breaker.limit budget)) }
-    ensures bound { IfOk result (λ report. report.steps ≤ budget) }
-    ensures err { OnErr result (AtFault (received work.old.outputs) (received work.new.outputs)
-        (product job.now (told_so work.old.outputs.log.warnings work.old.outputs.log.errors) work.old.outputs.breaker.limit) budget) }
-    ensures counts { CountsOfBoth result work.old.outputs work.new.outputs }
-{
     let mut left = budget;
-    let end = do_items(work, job, job.style().items(), &mut left)?;
-    conclude(work, end, budget - left)
+    let end = do_items(&mut work, job, job.style().items(), &mut left, bbl, log)?;
+    conclude(work, end, budget - left, bbl, log)
 }

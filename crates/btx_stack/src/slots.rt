@@ -3,12 +3,13 @@ ghost use Rattle.std.specs.Prelude.{◌≡◌, ◌≤◌, ◌<◌, ◌+◌, [], 
 ghost use Rattle.btx_text.specs.Limits.{greatest_string};
 ghost use Rattle.btx_code.specs.Ops.{callee_of, Runs};
 ghost use Rattle.btx_stack.specs.Slots.{greatest_short};
+ghost use Rattle.std.specs.Str.{bytes_eq};
 ghost use Rattle.btx_stack.specs.Steps.{Steps, Partly, Gives, compared, put_for_integers, replaced, below_choice, one_if, large_on, integer_on, has_function, has_missing, plain_on, plain_off, pushed, below_top, has_text, joined, swapped, duplicated};
 ghost use Rattle.btx_stack.specs.Content as content;
 
 use crate::literal::Literal;
 use crate::pool::{again, append_two, exchange, put_before};
-use crate::slot::{Kind, Slot, are_large, are_same};
+use crate::slot::{Kind, Slot, are_large};
 use crate::variable::Variable;
 use btx_code::Op;
 use btx_code::op::Function;
@@ -369,7 +370,7 @@ impl<'a> Slots<'a> {
 
     /// Compares the two integers or the two strings on top, replaces them by 1 where they are equal and by 0 where not, and answers true; or answers false
     /// where they are neither, or one is a long string.
-    #[tactic(auto, using(crate::proofs::Alone::integers_compared, crate::proofs::Alone::integers_stand, crate::proofs::Alone::texts_compared, crate::proofs::Alone::texts_stand, crate::proofs::Alone::first_within, crate::proofs::Alone::second_within))]
+    #[tactic(auto, using(crate::proofs::Alone::integers_compared, crate::proofs::Alone::integers_stand, crate::proofs::Alone::texts_compared, crate::proofs::Alone::texts_stand, crate::proofs::Alone::texts_within))]
     #[inline(always)]
     pub fn equal(&mut self) -> bool
         ensures { Partly result self.old (compared self.old) self.new }
@@ -386,7 +387,8 @@ impl<'a> Slots<'a> {
         if !a.kind.is_text() {
             return false;
         }
-        let same = are_same(&self.pool, &a, &b);
+        let size = self.pool.len();
+        let same = are_same(b.text(&self.pool, a.start as usize), a.text(&self.pool, size));
         self.pool.truncate(b.start as usize);
         self.all[at + 1].set_integer(truth(same), b.start);
         self.top = at + 1;
@@ -451,9 +453,8 @@ impl<'a> Slots<'a> {
         if a.kind.is_large() {
             return false;
         }
-        let start = a.start;
-        self.pool.truncate(start as usize);
-        self.all[at].set_integer(integer, start);
+        self.pool.truncate(a.start as usize);
+        self.all[at].set_integer(integer, a.start);
         true
     }
 
@@ -476,6 +477,26 @@ impl<'a> Slots<'a> {
                 true
             }
             _ => false,
+        }
+    }
+
+    #[inline(always)]
+    pub fn join_lent(&mut self, bytes: &'a [u8]) -> Result<bool, AllocError> {
+        let at = self.top;
+        if at == 1000 {
+            return Ok(false);
+        }
+        let a = self.all[at];
+        match a.kind {
+            Kind::Made => {
+                let size = self.pool.len();
+                if size - a.start as usize + bytes.len() > GREATEST_SHORT {
+                    return Ok(false);
+                }
+                self.pool.extend_from_slice(bytes)?;
+                Ok(true)
+            }
+            _ => Ok(false),
         }
     }
 
@@ -618,6 +639,14 @@ impl<'a> Slots<'a> {
             _ => Ok(false),
         }
     }
+}
+
+// Whether two strings are the same.
+#[inline(always)]
+fn are_same(a: &[u8], b: &[u8]) -> bool
+    ensures { result ≡ bytes_eq a.now b.now }
+{
+    a == b
 }
 
 // The truth as an integer.

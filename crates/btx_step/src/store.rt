@@ -1,9 +1,7 @@
 //! The literals, the variables and the current entry, and what functions do to them.
 ghost use Rattle.std.specs.Prelude.{◌≡◌, ◌≤◌, ◌==◌, [], ◌∷◌, IfOk, IfSome, IfNone, length};
 ghost use Rattle.btx_step.specs.Answers.{answer, quiet, silence, pushes, pushed, pushed_text, complained, complains, lacks, refuses, outside, truth, with_literals};
-ghost use Rattle.btx_text.specs.Limits.{greatest_string};
 ghost use Rattle.btx_step.specs.Control.{tested, tested_as};
-ghost use Rattle.btx_step.specs.Quick.{next_of_push};
 ghost use Rattle.btx_step.specs.Steps.{built_in_run, run_of, step_of, with_current, with_depth};
 ghost use Rattle.btx_stack.specs.declared.literal.Literal.TheVariants as literal;
 ghost use Rattle.btx_step.specs.declared.said.Said.{Said as Words};
@@ -210,7 +208,6 @@ impl<'a> Store<'a> {
     }
 
     // One more literal, if there is room.
-    #[tactic(auto, using(crate::proofs::QuickLemmas::push_answer))]
     fn push(&mut self, value: Literal<'a>) -> Result<Next, AllocError>
         ensures quiet { IfOk result (λ next. quiet next self.new ≡ pushed value.entry self.old) }
         ensures aloud { IfOk result (λ next. (saying : Words) → answer next saying self.new ≡ pushes saying value.entry self.old) }
@@ -219,7 +216,6 @@ impl<'a> Store<'a> {
     }
 
     // One more integer, if there is room.
-    #[tactic(auto, using(crate::proofs::QuickLemmas::push_answer))]
     fn push_number(&mut self, n: i32) -> Next
         ensures quiet { quiet result self.new ≡ pushed (literal.Integer n) self.old }
         ensures aloud { (saying : Words) → answer result saying self.new ≡ pushes saying (literal.Integer n) self.old }
@@ -228,21 +224,12 @@ impl<'a> Store<'a> {
     }
 
     // One more string that isn't copied, if there is room.
-    #[tactic(auto, using(crate::proofs::QuickLemmas::push_answer))]
     fn push_lent(&mut self, text: &'a [u8]) -> Next
         requires { length text.now ≤ greatest_string }
         ensures quiet { quiet result self.new ≡ pushed (literal.Text text.now) self.old }
         ensures aloud { (saying : Words) → answer result saying self.new ≡ pushes saying (literal.Text text.now) self.old }
     {
         pushed_if(self.literals.push_lent(text))
-    }
-
-    // One more value of a missing field, if there is room.
-    #[tactic(auto, using(crate::proofs::QuickLemmas::push_answer))]
-    fn push_missing(&mut self) -> Next
-        ensures { quiet result self.new ≡ pushed literal.Missing self.old }
-    {
-        pushed_if(self.literals.push_missing())
     }
 
     // One more string, if it isn't too long.

@@ -5,7 +5,7 @@ ghost use Rattle.btx_step.specs.Answers.{answer, quiet, silence};
 ghost use Rattle.btx_step.specs.Entries as spec;
 ghost use Rattle.btx_step.specs.Table.{runs, runs_missing, misses_entry};
 
-use super::Store;
+use super::{Store, pushed_if};
 use crate::job::Job;
 use crate::literal::{Literal, Wanted};
 use crate::next::Next;
@@ -28,7 +28,7 @@ impl<'a> Store<'a> {
         match self.current {
             Some(entry) => Ok(match job.library().value(entry, field) {
                 Some(text) => self.push_lent(text.as_bytes()),
-                None => self.push_missing(),
+                None => pushed_if(self.literals.push_missing()),
             }),
             None => self.miss_entry(said),
         }

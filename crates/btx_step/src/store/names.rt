@@ -32,7 +32,6 @@ impl<'a> Store<'a> {
     }
 
     // `format.name$`
-    #[tactic(auto, using(crate::proofs::QuickLemmas::name_lacks))]
     pub(super) fn format_name(
         &mut self,
         job: &Job<'a>,
@@ -62,7 +61,7 @@ impl<'a> Store<'a> {
                 StandIn::Empty,
                 said,
             ),
-            (Some(_top), Some(_below), None) => self.lack(1, StandIn::Empty, said),
+            (Some(_), Some(_), None) => self.lack(1, StandIn::Empty, said),
             (Some(_), None, _) => self.lack(2, StandIn::Empty, said),
             (None, _, _) => self.lack(3, StandIn::Empty, said),
         }

@@ -36,10 +36,7 @@ impl<'a> Store<'a> {
         requires { said.old ≡ silence }
         ensures { IfOk result (λ next. answer next said.new self.new ≡ runs built_in.Swap spec.swaps self.old) }
     {
-        match (
-            self.literals.pop(self.alloc)?,
-            self.literals.pop(self.alloc)?,
-        ) {
+        match (self.literals.pop(self.alloc)?, self.literals.pop(self.alloc)?) {
             (Some(top), Some(below)) => {
                 self.literals.put(top)?;
                 self.literals.put(below)?;
@@ -116,7 +113,10 @@ impl<'a> Store<'a> {
 
 // Takes all literals off the stack, as lines of the log.
 #[tactic(auto, using(std::proofs::Common::append_assoc))]
-fn take_shown<'a>(alloc: Global, literals: &mut Literals<'a>) -> Result<Notes<'a>, AllocError>
+fn take_shown<'a>(
+    alloc: Global,
+    literals: &mut Literals<'a>,
+) -> Result<Notes<'a>, AllocError>
     ensures notes { IfOk result (λ notes. notes ≡ map note.Shown literals.old) }
     ensures none { OnOk result (literals.new ≡ []) }
 {
