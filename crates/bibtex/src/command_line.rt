@@ -220,87 +220,85 @@ mod tests {
         Ok(())
     }
 
+    // What lines of words give. The lines are handed to each loop over them: a loop over a constant has all of its text at each of its steps, and
+    // takes long to prove.
+    fn all_give(rt: &impl Abort, alloc: Global, rows: &[(&str, &str)]) -> Result<(), Fail> {
+        for (line, want) in rows {
+            gives(rt, answered(alloc, line), want)?;
+        }
+        Ok(())
+    }
+
+    // How what lines of words give begins.
+    fn all_begin(rt: &impl Abort, alloc: Global, rows: &[(&str, &str)]) -> Result<(), Fail> {
+        for (line, front) in rows {
+            begins(rt, answered(alloc, line), front)?;
+        }
+        Ok(())
+    }
+
+    // Usual words; then each end of each range; and the version.
+    const GIVEN: [(&str, &str); 9] = [
+        ("bibtex j", ". j j false 2 1000000000 Bytes 79 250 20000"),
+        (
+            "bibtex --dir a/b j.aux --terse",
+            "a/b j.aux j true 2 1000000000 Bytes 79 250 20000",
+        ),
+        (
+            "bibtex j.aux.aux --min-crossrefs 3 --budget=7",
+            ". j.aux.aux j.aux false 3 7 Bytes 79 250 20000",
+        ),
+        (
+            "bibtex --text utf8 --line=80 --entry-max 12 --global-max=+34 -- -j",
+            ". -j -j false 2 1000000000 Utf8 80 12 34",
+        ),
+        (
+            "bibtex .aux --dir= --text=bytes",
+            " .aux  false 2 1000000000 Bytes 79 250 20000",
+        ),
+        (
+            "bibtex --min-crossrefs 0 --budget 0 --line 20 --entry-max 1 --global-max 1 j",
+            ". j j false 0 0 Bytes 20 1 1",
+        ),
+        (
+            "bibtex --min-crossrefs 2147483647 --budget 1000000000000000 --line 1000 --entry-max 1000000 --global-max 1000000 j",
+            ". j j false 2147483647 1000000000000000 Bytes 1000 1000000 1000000",
+        ),
+        ("bibtex --version", "refused 0 bibtex 1.0.0\n"),
+        ("bibtex -V", "refused 0 bibtex 1.0.0\n"),
+    ];
+
+    // Numbers past the ends of their ranges, and texts that are no number, are mistakes; and each refusal has a text.
+    const REFUSED: [(&str, &str); 19] = [
+        ("bibtex --min-crossrefs=2147483648 j", "refused 1 error: "),
+        ("bibtex --budget=1000000000000001 j", "refused 1 error: "),
+        ("bibtex --budget=x j", "refused 1 error: "),
+        ("bibtex --budget=-1 j", "refused 1 error: "),
+        ("bibtex --line=19 j", "refused 1 error: "),
+        ("bibtex --line=1001 j", "refused 1 error: "),
+        ("bibtex --entry-max=0 j", "refused 1 error: "),
+        ("bibtex --entry-max=1000001 j", "refused 1 error: "),
+        ("bibtex --global-max=0 j", "refused 1 error: "),
+        ("bibtex --global-max=1000001 j", "refused 1 error: "),
+        ("bibtex --text=utf-8 j", "refused 1 error: "),
+        ("bibtex --text=UTF8 j", "refused 1 error: "),
+        ("bibtex --terse=1 j", "refused 1 error: "),
+        ("bibtex -h", "refused 0 "),
+        ("bibtex", "refused 1 error: "),
+        ("bibtex --nope", "refused 1 error: "),
+        ("bibtex --dir=a", "refused 1 error: "),
+        ("bibtex --terse --terse j", "refused 1 error: "),
+        ("bibtex --text j", "refused 1 error: "),
+    ];
+
     #[test]
     fn reads_words(rt: HostRuntime) -> Result<(), Fail> {
-        for (line, want) in [
-            ("bibtex j", ". j j false 2 1000000000 Bytes 79 250 20000"),
-            (
-                "bibtex --dir a/b j.aux --terse",
-                "a/b j.aux j true 2 1000000000 Bytes 79 250 20000",
-            ),
-            (
-                "bibtex j.aux.aux --min-crossrefs 3 --budget=7",
-                ". j.aux.aux j.aux false 3 7 Bytes 79 250 20000",
-            ),
-            (
-                "bibtex --text utf8 --line=80 --entry-max 12 --global-max=+34 -- -j",
-                ". -j -j false 2 1000000000 Utf8 80 12 34",
-            ),
-            (
-                "bibtex .aux --dir= --text=bytes",
-                " .aux  false 2 1000000000 Bytes 79 250 20000",
-            ),
-        ] {
-            gives(&rt, answered(rt.alloc(), line), want)?;
-        }
-        Ok(())
+        all_give(&rt, rt.alloc(), &GIVEN)
     }
 
-    // Each range has both of its ends.
-    #[test]
-    fn reads_ends(rt: HostRuntime) -> Result<(), Fail> {
-        for (line, want) in [
-            (
-                "bibtex --min-crossrefs 0 --budget 0 --line 20 --entry-max 1 --global-max 1 j",
-                ". j j false 0 0 Bytes 20 1 1",
-            ),
-            (
-                "bibtex --min-crossrefs 2147483647 --budget 1000000000000000 --line 1000 --entry-max 1000000 --global-max 1000000 j",
-                ". j j false 2147483647 1000000000000000 Bytes 1000 1000000 1000000",
-            ),
-        ] {
-            gives(&rt, answered(rt.alloc(), line), want)?;
-        }
-        Ok(())
-    }
-
-    // Numbers past the ends of their ranges, and texts that are no number, are mistakes.
-    #[test]
-    fn refuses_values(rt: HostRuntime) -> Result<(), Fail> {
-        for line in [
-            "bibtex --min-crossrefs=2147483648 j",
-            "bibtex --budget=1000000000000001 j",
-            "bibtex --budget=x j",
-            "bibtex --budget=-1 j",
-            "bibtex --line=19 j",
-            "bibtex --line=1001 j",
-            "bibtex --entry-max=0 j",
-            "bibtex --entry-max=1000001 j",
-            "bibtex --global-max=0 j",
-            "bibtex --global-max=1000001 j",
-            "bibtex --text=utf-8 j",
-            "bibtex --text=UTF8 j",
-            "bibtex --terse=1 j",
-        ] {
-            begins(&rt, answered(rt.alloc(), line), "refused 1 error: ")?;
-        }
-        Ok(())
-    }
-
-    // Each refusal has a text.
     #[test]
     fn refuses_words(rt: HostRuntime) -> Result<(), Fail> {
-        for (line, front) in [
-            ("bibtex -h", "refused 0 "),
-            ("bibtex", "refused 1 error: "),
-            ("bibtex --nope", "refused 1 error: "),
-            ("bibtex --dir=a", "refused 1 error: "),
-            ("bibtex --terse --terse j", "refused 1 error: "),
-            ("bibtex --text j", "refused 1 error: "),
-        ] {
-            begins(&rt, answered(rt.alloc(), line), front)?;
-        }
-        Ok(())
+        all_begin(&rt, rt.alloc(), &REFUSED)
     }
 
     // The help says what the program does, and lists the statuses.
@@ -309,14 +307,6 @@ mod tests {
         let help = answered(rt.alloc(), "bibtex --help")?;
         let help = help.as_str();
         assert!(rt; help.contains(ABOUT) && help.contains(STATUSES), "{help}");
-        Ok(())
-    }
-
-    #[test]
-    fn tells_its_version(rt: HostRuntime) -> Result<(), Fail> {
-        for line in ["bibtex --version", "bibtex -V"] {
-            gives(&rt, answered(rt.alloc(), line), "refused 0 bibtex 1.0.0\n")?;
-        }
         Ok(())
     }
 }

@@ -84,8 +84,8 @@ fn long_size(alloc: Global, before: &[u8], letters: usize, after: &[u8]) -> Resu
 }
 
 // The number of the first of these databases that gives something else, if one does.
-fn first_wrong(alloc: Global) -> Result<Option<usize>, Fault> {
-    for (number, (before, letters, after, wanted)) in LONG.iter().enumerate() {
+fn first_wrong(alloc: Global, rows: &[Long]) -> Result<Option<usize>, Fault> {
+    for (number, (before, letters, after, wanted)) in rows.iter().enumerate() {
         if long_size(alloc, before, *letters, after)? != *wanted {
             return Ok(Some(number));
         }
@@ -95,7 +95,7 @@ fn first_wrong(alloc: Global) -> Result<Option<usize>, Fault> {
 
 #[test]
 fn strings_have_a_million_bytes(rt: HostRuntime) -> Result<(), Fault> {
-    assert!(rt; first_wrong(rt.alloc())? == None);
+    assert!(rt; first_wrong(rt.alloc(), &LONG)? == None);
     Ok(())
 }
 

@@ -114,11 +114,20 @@ fn shown(alloc: Global, row: &Row) -> Result<Vec<u8>, Fault> {
     Ok(shown)
 }
 
+// The number of the first row that comes to something else, which is that of all where none does. The rows are handed to the loop: a loop over
+// a constant has all of its text at each of its steps, and takes long to prove.
+fn first_wrong(alloc: Global, rows: &[Row]) -> Result<usize, Fault> {
+    for (number, row) in rows.iter().enumerate() {
+        if shown(alloc, row)?.as_slice() != row.shown {
+            return Ok(number);
+        }
+    }
+    Ok(rows.len())
+}
+
 #[test]
 fn jobs_of_a_few_lines(rt: HostRuntime) -> Result<(), Fail> {
-    for row in &ROWS {
-        let shown = shown(rt.alloc(), row)?;
-        assert!(rt; shown.as_slice() == row.shown);
-    }
+    let row = first_wrong(rt.alloc(), &ROWS)?;
+    assert!(rt; row == ROWS.len(), "row {row}");
     Ok(())
 }

@@ -96,12 +96,19 @@ fn is_broken(rt: &(impl Abort + AllocGlobal), row: &Row<'_>) -> Result<(), Fail>
     )
 }
 
-#[test]
-fn breaks_lines(rt: HostRuntime) -> Result<(), Fail> {
-    for row in ROWS.iter().filter(|row| row.limit == 79) {
-        is_broken(&rt, row)?;
+// The rows are handed to the loop: a loop over a constant has all of its text at each of its steps, and takes long to prove.
+fn are_broken(rt: &(impl Abort + AllocGlobal), rows: &[Row<'_>]) -> Result<(), Fail> {
+    for row in rows {
+        if row.limit == 79 {
+            is_broken(rt, row)?;
+        }
     }
     Ok(())
+}
+
+#[test]
+fn breaks_lines(rt: HostRuntime) -> Result<(), Fail> {
+    are_broken(&rt, &ROWS)
 }
 
 // A line is broken in the same way where it is written in two pieces.

@@ -39,71 +39,101 @@ fn begins(
     Ok(())
 }
 
+/// What a body pushes that has pushed a thousand literals.
+const PUSHES: [&str; 14] = [
+    "#8",
+    "\"a\"",
+    "'i",
+    "author",
+    "title",
+    "i",
+    "s",
+    "n",
+    "t",
+    "cite$",
+    "type$",
+    "preamble$",
+    "quote$",
+    "duplicate$",
+];
+
+/// What fits behind a thousand literals, and what it answers.
+const FITTING: [(&str, &str); 4] = [
+    ("+", "14 | 7 | 7"),
+    ("pop$ #8", "8 | 7 | 7"),
+    ("swap$ skip$ newline$", "newline | 7 | 7"),
+    ("int.to.str$", "\"7\" | 7 | 7"),
+];
+
+/// Whether a thousand literals and what follows them answer so.
+fn thousand_answer(
+    rt: &impl Abort,
+    alloc: Global,
+    more: &'static str,
+    wanted: &str,
+) -> Result<(), Fail> {
+    begins(
+        rt,
+        alloc,
+        &usual(Some(0)),
+        &[("#7 ", 1_000), (more, 1)],
+        wanted,
+    )
+}
+
+/// Whether each of these is one literal too many. Rows are handed to a loop: a loop over a constant has all of its text at each of its steps,
+/// and takes long to prove.
+fn are_too_many(rt: &impl Abort, alloc: Global, pushes: &[&'static str]) -> Result<(), Fail> {
+    for more in pushes {
+        thousand_answer(rt, alloc, more, "limit literals | 7 | 7 | 7")?;
+    }
+    Ok(())
+}
+
+fn all_fit(rt: &impl Abort, alloc: Global, rows: &[(&'static str, &str)]) -> Result<(), Fail> {
+    for (more, wanted) in rows {
+        thousand_answer(rt, alloc, more, wanted)?;
+    }
+    Ok(())
+}
+
 #[test]
 fn the_thousandth_literal_and_one_more(rt: HostRuntime) -> Result<(), Fail> {
-    for more in [
-        "#8",
-        "\"a\"",
-        "'i",
-        "author",
-        "title",
-        "i",
-        "s",
-        "n",
-        "t",
-        "cite$",
-        "type$",
-        "preamble$",
-        "quote$",
-        "duplicate$",
-    ] {
-        let full = [("#7 ", 1_000), (more, 1)];
-        begins(
-            &rt,
-            rt.alloc(),
-            &usual(Some(0)),
-            &full,
-            "limit literals | 7 | 7 | 7",
-        )?;
-    }
-    for (more, wanted) in [
-        ("+", "14 | 7 | 7"),
-        ("pop$ #8", "8 | 7 | 7"),
-        ("swap$ skip$ newline$", "newline | 7 | 7"),
-        ("int.to.str$", "\"7\" | 7 | 7"),
-    ] {
-        begins(
-            &rt,
-            rt.alloc(),
-            &usual(Some(0)),
-            &[("#7 ", 1_000), (more, 1)],
-            wanted,
-        )?;
+    are_too_many(&rt, rt.alloc(), &PUSHES)?;
+    all_fit(&rt, rt.alloc(), &FITTING)
+}
+
+/// How many bytes a string has, what follows it, and what that answers.
+const LONG: [(usize, &str, &str); 7] = [
+    (1_000_000, " text.length$", "1000000"),
+    (1_000_001, " text.length$", "limit string"),
+    (1_000_000, " \"b\" *", "limit string"),
+    (1_000_000, " add.period$", "limit string"),
+    (1_000_000, " \"\" * text.length$", "1000000"),
+    (1_000_000, " purify$ text.length$", "1000000"),
+    (
+        1_000_000,
+        " \"q\" change.case$ text.length$",
+        "Error--\"q\" is an illegal case-conversion string",
+    ),
+];
+
+/// Whether each string answers so with what follows it.
+fn all_answer(
+    rt: &impl Abort,
+    alloc: Global,
+    rows: &[(usize, &'static str, &str)],
+) -> Result<(), Fail> {
+    for (times, more, wanted) in rows {
+        let body = [("\"", 1), ("x", *times), ("\"", 1), (*more, 1)];
+        begins(rt, alloc, &usual(Some(0)), &body, wanted)?;
     }
     Ok(())
 }
 
 #[test]
 fn the_longest_string_and_one_byte_more(rt: HostRuntime) -> Result<(), Fail> {
-    let quote = ("\"", 1);
-    let longest = [quote, ("x", 1_000_000), quote, (" text.length$", 1)];
-    begins(&rt, rt.alloc(), &usual(Some(0)), &longest, "1000000")?;
-    let longer = [quote, ("x", 1_000_001), quote, (" text.length$", 1)];
-    begins(&rt, rt.alloc(), &usual(Some(0)), &longer, "limit string")?;
-    for (more, wanted) in [
-        (" \"b\" *", "limit string"),
-        (" add.period$", "limit string"),
-        (" \"\" * text.length$", "1000000"),
-        (" purify$ text.length$", "1000000"),
-        (
-            " \"q\" change.case$ text.length$",
-            "Error--\"q\" is an illegal case-conversion string",
-        ),
-    ] {
-        let body = [quote, ("x", 1_000_000), quote, (more, 1)];
-        begins(&rt, rt.alloc(), &usual(Some(0)), &body, wanted)?;
-    }
-    Ok(())
+    all_answer(&rt, rt.alloc(), &LONG)
 }
 
 #[test]
@@ -138,54 +168,64 @@ fn cut_short(rt: &impl Abort, alloc: Global, body: &'static str, wanted: &str) -
     begins(rt, alloc, &setting, &[(body, 1)], wanted)
 }
 
-#[test]
-fn strings_that_variables_cut(rt: HostRuntime) -> Result<(), Fail> {
-    for (body, wanted) in [
-        ("\"abc\" 's := s", "\"abc\""),
-        (
-            "\"abcd\" 's := s",
-            "Warning--string of 4 bytes cut to 3 while executing := for entry k | \"abc\"",
-        ),
-        ("\"ab\" 't := t", "\"ab\""),
-        (
-            "\"abc\" 't := t",
-            "Warning--string of 3 bytes cut to 2 while executing := for entry k | \"ab\"",
-        ),
-        (
-            "\"abc\" 's := s \"d\" * 's := s",
-            "Warning--string of 4 bytes cut to 3 while executing := for entry k | \"abc\"",
-        ),
-        ("entry.max$ global.max$", "3 | 2"),
-        (
-            "#9 'entry.max$ := \"abc\" 't := entry.max$",
-            "Warning--string of 3 bytes cut to 2 while executing := for entry k | 9",
-        ),
-    ] {
-        cut_short(&rt, rt.alloc(), body, wanted)?;
+/// Bodies where variables keep two bytes, and global ones three, and what they answer.
+const CUT: [(&str, &str); 7] = [
+    ("\"abc\" 's := s", "\"abc\""),
+    (
+        "\"abcd\" 's := s",
+        "Warning--string of 4 bytes cut to 3 while executing := for entry k | \"abc\"",
+    ),
+    ("\"ab\" 't := t", "\"ab\""),
+    (
+        "\"abc\" 't := t",
+        "Warning--string of 3 bytes cut to 2 while executing := for entry k | \"ab\"",
+    ),
+    (
+        "\"abc\" 's := s \"d\" * 's := s",
+        "Warning--string of 4 bytes cut to 3 while executing := for entry k | \"abc\"",
+    ),
+    ("entry.max$ global.max$", "3 | 2"),
+    (
+        "#9 'entry.max$ := \"abc\" 't := entry.max$",
+        "Warning--string of 3 bytes cut to 2 while executing := for entry k | 9",
+    ),
+];
+
+fn all_cut_short(
+    rt: &impl Abort,
+    alloc: Global,
+    rows: &[(&'static str, &str)],
+) -> Result<(), Fail> {
+    for (body, wanted) in rows {
+        cut_short(rt, alloc, body, wanted)?;
     }
     Ok(())
 }
 
 #[test]
+fn strings_that_variables_cut(rt: HostRuntime) -> Result<(), Fail> {
+    all_cut_short(&rt, rt.alloc(), &CUT)
+}
+
+/// How many bytes a string has that is given to a variable, and what that answers.
+const USUALLY_CUT: [(usize, &str, &str); 4] = [
+    (250, " 't := t text.length$", "250"),
+    (
+        251,
+        " 't := t text.length$",
+        "Warning--string of 251 bytes cut to 250 while executing := for entry k | 250",
+    ),
+    (20_000, " 's := s text.length$", "20000"),
+    (
+        20_001,
+        " 's := s text.length$",
+        "Warning--string of 20001 bytes cut to 20000 while executing := for entry k | 20000",
+    ),
+];
+
+#[test]
 fn strings_that_variables_usually_cut(rt: HostRuntime) -> Result<(), Fail> {
-    for (times, more, wanted) in [
-        (250, "\" 't := t text.length$", "250"),
-        (
-            251,
-            "\" 't := t text.length$",
-            "Warning--string of 251 bytes cut to 250 while executing := for entry k | 250",
-        ),
-        (20_000, "\" 's := s text.length$", "20000"),
-        (
-            20_001,
-            "\" 's := s text.length$",
-            "Warning--string of 20001 bytes cut to 20000 while executing := for entry k | 20000",
-        ),
-    ] {
-        let body = [("\"", 1), ("x", times), (more, 1)];
-        begins(&rt, rt.alloc(), &usual(Some(0)), &body, wanted)?;
-    }
-    Ok(())
+    all_answer(&rt, rt.alloc(), &USUALLY_CUT)
 }
 
 /// A body of characters of two bytes, in both text modes.

@@ -126,10 +126,16 @@ fn sorts_row(rt: &impl Abort, alloc: Global, titles: &str, wanted: &str) -> Resu
     Ok(())
 }
 
-#[test]
-fn entries_in_the_order_of_their_keys(rt: HostRuntime) -> Result<(), Fail> {
-    for (titles, wanted) in ROWS {
-        sorts_row(&rt, rt.alloc(), titles, wanted)?;
+/// Whether each row's entries are sorted so. The rows are handed to the loop: a loop over a constant has all of its text at each of its steps,
+/// and takes long to prove.
+fn sorts_rows(rt: &impl Abort, alloc: Global, rows: &[(&str, &str)]) -> Result<(), Fail> {
+    for (titles, wanted) in rows {
+        sorts_row(rt, alloc, titles, wanted)?;
     }
     Ok(())
+}
+
+#[test]
+fn entries_in_the_order_of_their_keys(rt: HostRuntime) -> Result<(), Fail> {
+    sorts_rows(&rt, rt.alloc(), &ROWS)
 }
