@@ -171,12 +171,18 @@ fn is_written(rt: &(impl Abort + AllocGlobal), row: &Row<'_>) -> Result<(), Allo
     Ok(())
 }
 
-#[test]
-fn rows(rt: HostRuntime) -> Result<(), Fail> {
-    for row in &ROWS {
-        is_written(&rt, row)?;
+// Each row is written so. The rows are handed to each loop over them: a loop over a constant has all of its text at each of its steps, and
+// takes long to prove.
+fn are_written(rt: &(impl Abort + AllocGlobal), rows: &[Row<'_>]) -> Result<(), AllocError> {
+    for row in rows {
+        is_written(rt, row)?;
     }
     Ok(())
+}
+
+#[test]
+fn rows(rt: HostRuntime) -> Result<(), Fail> {
+    Ok(are_written(&rt, &ROWS)?)
 }
 
 // What is sure of the first bytes of a text is what stood there behind them.
@@ -206,22 +212,21 @@ fn is_cut(rt: &(impl Abort + AllocGlobal), row: &Row<'_>, size: usize) -> Result
     Ok(())
 }
 
-#[test]
-fn cuts(rt: HostRuntime) -> Result<(), Fail> {
-    for row in &ROWS {
+// Each row is written so in pieces of each size.
+fn are_cut(rt: &(impl Abort + AllocGlobal), rows: &[Row<'_>]) -> Result<(), AllocError> {
+    for row in rows {
         let limit = row.limit as usize;
-        for size in [
-            1,
-            2,
-            3,
-            limit,
-            limit.saturating_add(1),
-            limit.saturating_add(2),
-        ] {
-            is_cut(&rt, row, size)?;
+        let (longer, longest) = (limit.saturating_add(1), limit.saturating_add(2));
+        for size in [1, 2, 3, limit, longer, longest] {
+            is_cut(rt, row, size)?;
         }
     }
     Ok(())
+}
+
+#[test]
+fn cuts(rt: HostRuntime) -> Result<(), Fail> {
+    Ok(are_cut(&rt, &ROWS)?)
 }
 
 // Lines of several pieces, and one that is finished: how much was written at the first `finish`, at the one that ends a line, at the
@@ -282,20 +287,33 @@ fn whole_lines(rt: HostRuntime) -> Result<(), Fail> {
     Ok(())
 }
 
-#[test]
-fn short_writes(rt: HostRuntime) -> Result<(), Fail> {
-    for row in &ROWS {
-        let literal = text_of(rt.alloc(), row.literal)?;
-        let lines = text_of(rt.alloc(), row.lines)?;
+// A row is written so where each write takes at most so many bytes.
+fn is_written_shortly(
+    rt: &(impl Abort + AllocGlobal),
+    row: &Row<'_>,
+    most: usize,
+) -> Result<(), AllocError> {
+    let literal = text_of(rt.alloc(), row.literal)?;
+    let lines = text_of(rt.alloc(), row.lines)?;
+    gives(rt, &write_line(rt, row.limit, &literal, 5000, most), &lines);
+    Ok(())
+}
+
+fn are_written_shortly(
+    rt: &(impl Abort + AllocGlobal),
+    rows: &[Row<'_>],
+) -> Result<(), AllocError> {
+    for row in rows {
         for most in 1..8 {
-            gives(
-                &rt,
-                &write_line(&rt, row.limit, &literal, 5000, most),
-                &lines,
-            );
+            is_written_shortly(rt, row, most)?;
         }
     }
     Ok(())
+}
+
+#[test]
+fn short_writes(rt: HostRuntime) -> Result<(), Fail> {
+    Ok(are_written_shortly(&rt, &ROWS)?)
 }
 
 // What a breaker has done whose sink fails at one write.
@@ -356,21 +374,35 @@ fn fails(rt: &impl Abort, tried: &Tried, at: u64, lines: &[u8]) -> bool {
     true
 }
 
-#[test]
-fn failed_writes(rt: HostRuntime) -> Result<(), Fail> {
-    for row in &ROWS {
-        let literal = text_of(rt.alloc(), row.literal)?;
-        let lines = text_of(rt.alloc(), row.lines)?;
-        for how in [Failing::Error, Failing::Zero, Failing::Interrupted] {
-            for at in 0..1000 {
-                let tried = try_failing(&rt, row.limit, &literal, how, at);
-                if !fails(&rt, &tried, at, &lines) {
-                    break;
-                }
-            }
+// A row is written so up to each write that fails.
+fn fails_at_each_write(
+    rt: &(impl Abort + AllocGlobal),
+    row: &Row<'_>,
+    how: Failing,
+) -> Result<(), AllocError> {
+    let literal = text_of(rt.alloc(), row.literal)?;
+    let lines = text_of(rt.alloc(), row.lines)?;
+    for at in 0..1000 {
+        let tried = try_failing(rt, row.limit, &literal, how, at);
+        if !fails(rt, &tried, at, &lines) {
+            break;
         }
     }
     Ok(())
+}
+
+fn all_fail(rt: &(impl Abort + AllocGlobal), rows: &[Row<'_>]) -> Result<(), AllocError> {
+    for row in rows {
+        for how in [Failing::Error, Failing::Zero, Failing::Interrupted] {
+            fails_at_each_write(rt, row, how)?;
+        }
+    }
+    Ok(())
+}
+
+#[test]
+fn failed_writes(rt: HostRuntime) -> Result<(), Fail> {
+    Ok(all_fail(&rt, &ROWS)?)
 }
 
 #[test]
