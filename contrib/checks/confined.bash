@@ -41,6 +41,65 @@ wants_error_with "I couldn't open file name \`nosuch.aux'"
 wants_text nosuch.bbl $'old list\n'
 end
 
+# What the program refuses touches nothing: a value, and a job's name that isn't UTF-8.
+for words in --line=19 --text=latin1 --min-crossrefs=x --entry-max=0 --global-max=1000001; do
+    begin "confined_value_$((passed + failed))"
+    echo 'old list' >job.bbl
+    echo 'old log' >job.blg
+    run_confined job "$words"
+    wants_status 1
+    wants_error_with "error: invalid value '${words#*=}' for '${words%=*} "
+    wants_error_with 'bibtex-confined: the program refuses the words'
+    wants_text job.bbl $'old list\n'
+    wants_text job.blg $'old log\n'
+    wants_no_links
+    end
+done
+
+begin confined_name_that_is_no_text
+mv job.aux $'\xff.aux'
+echo 'old list' >$'\xff.bbl'
+run_confined $'\xff'
+wants_status 1
+wants_error_with 'bibtex-confined: the program refuses the words'
+wants_text $'\xff.bbl' $'old list\n'
+[ ! -e $'\xff.blg' ] || complaints+=('there is a log')
+end
+
+for name in 'two words' $'two\nlines' -job '*' '$HOME' 'a"b' "a'b" '`b`' j.aux 'ü'; do
+    begin "confined_job_$((passed + failed))"
+    mv -- job.aux "$name.aux"
+    run_confined "$name.aux"
+    wants_status 0
+    wants_error ''
+    wants_text "./$name.bbl" $'a\n'
+    wants_no_links
+    end
+done
+
+# An output that can't be written is a device error, with a reason, however the shell takes it.
+if [ "$(id -u)" -eq 0 ] && setpriv --reuid 65534 --regid 65534 --clear-groups test -r "$confined" 2>/dev/null; then
+    chmod a+rx "$room"
+    chmod 777 "$TMPDIR"
+    install -m 755 "$program" "$room/program"
+    for output in job.bbl job.blg; do
+        begin "confined_${output}_of_another"
+        chmod 777 .
+        echo 'old' >"$output"
+        chmod 644 "$output"
+        status=0
+        setpriv --reuid 65534 --regid 65534 --clear-groups env BIBTEX_PROGRAM="$room/program" "$confined" job \
+            </dev/null >"$folder/stdout" 2>"$folder/stderr" || status=$?
+        wants_status 6
+        wants_error_with "bibtex-confined: $output can't be written"
+        wants_text "$output" $'old\n'
+        wants_no_links
+        end
+    done
+else
+    echo 'left out: outputs of another user (needs root and setpriv)'
+fi
+
 begin confined_errors_and_budget
 printf '\\citation{k}\n\\bibdata{d,e}\n\\bibstyle{s}\n' >job.aux
 run_confined job
@@ -180,8 +239,25 @@ attack_waiting() {
     printf '#!/bin/sh\nsleep 100\n' >waits
     chmod +x waits
 }
+# Names as long as an .aux file may be, for a shell that reads them byte by byte.
+attack_long_name() {
+    printf '\\citation{k}\n\\bibdata{d,%s}\n\\bibstyle{s}\n' "$(long 900000)" >job.aux
+}
+attack_long_names() {
+    cite k
+    for number in {1..200}; do
+        printf '\\@input{%s.aux}\n' "$number" >>job.aux
+        printf '\\bibdata{%s}\n' "$(long 20000)" >"$number.aux"
+    done
+}
+attack_long_path() {
+    printf '\\citation{k}\n\\bibdata{%sd}\n' "$(printf 'a/../%.0s' {1..500})" >job.aux
+}
+attack_empty_names() {
+    printf '\\citation{k}\n\\bibdata{d%s}\n' "$(head -c 3000000 /dev/zero | tr '\0' ,)" >job.aux
+}
 attack_includes() {
-    for number in {1..400}; do
+    for number in {1..100}; do
         echo "\\@input{$((number + 1)).aux}" >"$number.aux"
     done
     mv 1.aux job.aux
@@ -213,7 +289,7 @@ list_of() {
         "$program" --dir lettered --terse job
         cat lettered/job.bbl
         ;;
-    fewer_zeros | fewer_zeros_as_* | many_databases | one_string_used_again) echo a ;;
+    fewer_zeros | fewer_zeros_as_* | many_databases | one_string_used_again | long_name | long_names) echo a ;;
     esac
 }
 
@@ -233,8 +309,11 @@ wants_bounded() {
     [ "$memory" -le 1000000 ] || complaints+=("it took $memory KB")
     [ "$output" -le 100000000 ] || complaints+=("it wrote $output bytes")
     [ "$status" -eq 0 ] || grep -q '^bibtex-confined: ' stderr || complaints+=("standard error has no reason: $(head -c 500 stderr)")
-    [ "$status" -le 1 ] || ! grep -qx 'old log' job.blg || complaints+=('the old log is left')
-    [ "$status" -eq 1 ] || wants_list_begun "$1"
+    # (where the clock's seconds were up before the run, nothing is touched)
+    if [ "$status" -ne 1 ] && { [ "$status" -ne 124 ] || [ -e job.bbl ]; }; then
+        ! grep -qx 'old log' job.blg || complaints+=('the old log is left')
+        wants_list_begun "$1"
+    fi
     echo "        status $status, $seconds s, $memory KB, $output bytes; $(tail -n 1 stderr)"
 }
 
@@ -253,7 +332,7 @@ cheap_steps 4 152 137
 dear_steps 152 137
 list 6
 line 6
-log 6
+log 6 152 137
 long_log 6 5
 literals 5 3
 recursion 3
@@ -270,6 +349,10 @@ missing_parent 5 6 152 137
 repeated_fields 5 6
 one_string_used_again 0 152 137
 includes 3
+long_name 2
+long_names 2
+long_path 1
+empty_names 1 124
 '
 if has kpsewhich && kpsewhich plain-letters.bst >/dev/null; then
     attacks+='style_of_tex_live 4 6 152 137'

@@ -183,3 +183,17 @@ run_search -explain job
 grep -q "^    d.bib:2: \.\.x*} 1y*\.\.$" "$folder/stdout" || complaints+=("the line is $(grep d.bib: "$folder/stdout")")
 [ "$(wc -L <"$folder/stdout")" -lt 200 ] || complaints+=('the line was not cut')
 end
+
+# Of a file that isn't an ordinary one, or that has no name of a file, no line is shown, and nothing waits for a pipe.
+begin explained_and_odd_files
+rm d.bib
+mkfifo d.bib
+printf '%s\n' 'The top-level auxiliary file: job.aux' 'The style file: s?.bst' 'Database file #1: d.bib' 'Error--I was expecting an =--line 1 of file d.bib' \
+    'Error--I was expecting a name--line 1 of file s?.bst' 'Error--No "}"--line 999999999999 of file job.aux' 'Error--No "}"--line 0 of file job.aux' \
+    'Ended: finished, warnings 0, errors 4, steps 4' | tr '?' '\0' >job.blg
+status=0
+timeout 20 "$here/bibtex-explain" job </dev/null >"$folder/stdout" 2>"$folder/stderr" || status=$?
+wants_status 0
+wants_error ''
+[ "$(grep -c 'what to do' "$folder/stdout")" -eq 4 ] || complaints+=("the explanation is $(cat "$folder/stdout")")
+end

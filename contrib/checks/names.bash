@@ -201,6 +201,20 @@ BIBINPUTS= BSTINPUTS=nowhere: run_plainly job
 wants_first job
 end
 
+# One name a million times is one name, and one that is longer than any path is none.
+begin names_again_and_again
+{
+    printf '\\citation{k}\n\\bibdata{d}\n\\bibstyle{s}\n\\bibdata{'
+    head -c 2000000 < <(yes e, | tr -d '\n')
+    printf 'e}\n\\bibstyle{%s}\n' "$(head -c 1000000 /dev/zero | tr '\0' n)"
+} >job.aux
+run_search job
+wants_status 2
+wants_text job.bbl $'a\n'
+grep -qx 'Ended: finished, warnings 0, errors 2, steps 4' job.blg || complaints+=("the log ends $(tail -n 1 job.blg)")
+wants_no_links
+end
+
 if has kpsewhich; then
     begin search_paths
     mkdir -p refs styles/deep/deeper

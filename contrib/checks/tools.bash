@@ -170,3 +170,13 @@ if has bibtex; then
 else
     echo 'left out: the table of expressions with the original (without bibtex)'
 fi
+
+# Of very many messages, each of which shows a long line, the first ones are repeated.
+begin very_many_messages
+printf '\\citation{k}\n\\bibstyle{s}\n\\bibdata{d%s}\n' "$(head -c 100000 /dev/zero | tr '\0' ,)" >job.aux
+run_search job
+wants_status 2
+[ "$(tail -n 1 job.blg)" = '(There were 100000 error messages)' ] || complaints+=("the log ends $(tail -n 1 job.blg | cut -c 1-200)")
+sed '1,/^The same for tools/d' job.blg >repeated
+[ "$(wc -l <repeated)" -gt 10000 ] && [ "$(wc -c <repeated)" -lt 25000000 ] || complaints+=("$(wc <repeated) lines, words and bytes are repeated")
+end

@@ -227,7 +227,16 @@ def type_in(file, name):
     for path, items in re.findall(r"(?m)^(?:pub )?use ([\w:]+?)(?:::\{([^}]*)\})?;", sources(crate)[file]):
         if name in [item.split(" as ")[-1].strip() for item in (items or path.split("::")[-1]).split(",")]:
             crate = crate if path.split("::")[0] in ("crate", "super", "self") else path.split("::")[0]
-    return rust_type(crate, None, name) if (CRATES / crate / "src").is_dir() else None
+    return exported_type(crate, name) if (CRATES / crate / "src").is_dir() else None
+
+
+def exported_type(crate, name):
+    """The type of this name in a crate: its own, or another crate's that it hands on."""
+    found = rust_type(crate, None, name)
+    for text in sources(crate).values():
+        for other in re.findall(rf"(?m)^pub use (\w+)::(?:\w+::)*(?:{name};|\{{[^}}]*\b{name}\b)", text):
+            found = found or rust_type(other, None, name) if (CRATES / other / "src").is_dir() else found
+    return found
 
 
 def target_of(path, name):

@@ -1,4 +1,4 @@
-"""The words and signs of the library that occur in the book: what each means, and where the book uses it."""
+"""The words and signs of the library that occur in the book: what each means, an example with its value, and where the book uses it."""
 
 import pathlib
 import re
@@ -8,10 +8,24 @@ import layout
 FILE = pathlib.Path(__file__).with_name("words.txt")
 
 
+def rows():
+    lines = [line for line in FILE.read_text(encoding="utf-8").split("\n") if line.strip() and not line.startswith("//")]
+    return [line.split("\t") for line in lines]
+
+
 def meanings():
     """What each word means, in the order of the file."""
-    lines = [line for line in FILE.read_text(encoding="utf-8").split("\n") if line.strip() and not line.startswith("//")]
-    return dict((part.strip() for part in line.split("\t", 1)) for line in lines)
+    return {row[0]: row[1] for row in rows()}
+
+
+def examples():
+    """The example of each word that has one, as it stands in the file."""
+    return {row[0]: row[2] for row in rows() if len(row) > 2}
+
+
+def sentence(example):
+    """An example as it is printed: what doesn't hold says so."""
+    return f"`{example.removeprefix('not so: ')}`" + (" doesn't hold" if example.startswith("not so: ") else "" if " = " in example else " holds")
 
 
 def uses(found):

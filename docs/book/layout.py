@@ -5,8 +5,8 @@ import re
 WIDE = 88
 # More lines than this are a table.
 LONG_TABLE = 12
-# Where a long line may be broken, outside parentheses, the best place first; and whether what follows is indented.
-JOINTS = [(r"(?<= in) ", False), (r" (?=else )", True), (r" (?=∷ )", True), (r" (?=\+\+ )", True), (r" (?=\|\| |&& )", True), (r" (?=→ )", True)]
+# Where a long line may be broken, outside parentheses, the loosest sign first; and whether what follows is indented.
+JOINTS = [(r"(?<= in) ", False), (r" (?=else )", True), (r" (?=→ )", True), (r" (?=\|\| |&& )", True), (r" (?=∷ )", True), (r" (?=\+\+ )", True)]
 CODES = re.compile(r'\(codes ("(?:[^"\\]|\\.)*")\)|codes (?=")')
 
 

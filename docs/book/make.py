@@ -5,7 +5,7 @@
 
 The book has every definition that the contract of `run` reaches (the language) and every one that only laws reach, in the order of chapters.txt. A line is
 printed for: a definition in the book without a comment, a name that means nothing, a definition that stands in no chapter, a module in chapters.txt
-that has none, a word of the library that words.txt doesn't explain, a definition that uses one of a later chapter, a section without a rule or without
+that has none, a word of the library that words.txt doesn't explain or whose example isn't so, a link of the front matter to what isn't there, a number of definitions in README that isn't right, a definition that uses one of a later chapter, a section without a rule or without
 an example, a rule or an example that isn't there. chapters.txt says how many of some of these are allowed. The last line is 'N passed, M failed', of
 definitions, names, sections, rules and examples, and the exit status is 0 only where M is 0.
 
@@ -18,7 +18,9 @@ import re
 import sys
 
 import chapters
+import examples
 import glossary
+import links
 import reach
 import rules
 import weave_html
@@ -26,6 +28,9 @@ import weave_markdown
 
 HERE = pathlib.Path(__file__).parent
 OUT = HERE / "out"
+# Where the repository says how many definitions of how many lines have to be believed.
+SIZES = {"README.md": r"some ([\d,]+) definitions of ([\d,]+) lines", "docs/PROOFS.md": r"some ([\d,]+) definitions of ([\d,]+) lines",
+         "docs/book/README.md": r"(?m)^\| language \|.*\| ([\d,]+) \| ([\d,]+) \|$"}
 
 
 class Book:
@@ -75,6 +80,8 @@ class Book:
         self.check_sections()
         self.check_words()
         self.check_notation()
+        self.check_links()
+        self.check_sizes()
 
     def check_sections(self):
         for section in self.sections:
@@ -105,6 +112,8 @@ class Book:
             self.check(word in known, f"{where(used[word][0])}: words.txt doesn't explain `{word}`")
         for word in known:
             self.check(word in used, f"words.txt: no definition uses `{word}`")
+        for word, example in glossary.examples().items():
+            self.check(examples.holds(example), f"words.txt: the example of `{word}` isn't so: {example}")
 
     def check_notation(self):
         for block in list(self.notation):
@@ -113,6 +122,27 @@ class Book:
                 self.check(is_there, f"notation.md: the book has no definition `{block[6:]}`")
                 if not is_there:
                     self.notation.remove(block)
+
+    def check_links(self):
+        """The definitions that the front matter and the openings of chapters name, and the words that the front matter explains."""
+        texts = {"notation.md": "\n".join(self.notation)}
+        texts |= {f"chapters.txt, `{chapter.title}`": " ".join(chapter.opening) for chapter in self.chapters}
+        found = [(place, name) for place, text in texts.items() for name in links.named_in(text)]
+        found += [(file, name) for file in ("terms.txt", "questions.txt") for row in links.rows(file) for name in row.names]
+        for place, name in found:
+            self.check(links.key(name) in self.by_id, f"{place}: the book has no definition `{name}`")
+        comments = " ".join(" ".join(it.comment) for it in self.found).lower()
+        for row in links.rows("terms.txt"):
+            self.check(row.word.split()[0].lower() in comments, f"terms.txt: no comment uses the word `{row.word}`")
+
+    def check_sizes(self):
+        """What README, docs/PROOFS.md and the book's own page say of how much has to be believed, right within a twentieth."""
+        sizes = (len(self.reach.language), reach.lines_in(self.reach.language))
+        for name, said in SIZES.items():
+            found = re.search(said, (chapters.ROOT / name).read_text(encoding="utf-8"))
+            numbers = [int(number.replace(",", "")) for number in found.groups()] if found else []
+            is_right = len(numbers) == 2 and all(abs(number - size) * 20 <= size for number, size in zip(numbers, sizes))
+            self.check(is_right, f"{name}: it says {numbers} for the definitions that have to be believed and their lines, and there are {sizes}")
 
     # ---- what is printed ----
 

@@ -42,7 +42,7 @@ def inline(text):
         else:
             part = re.sub(r"\*\*([^*]+)\*\*", r"<b>\1</b>", html.escape(part, quote=False))
             out.append(re.sub(r"(?<!\w)\*([^*]+)\*(?!\w)", r"<i>\1</i>", part))
-    return re.sub(r"\[((?:[^\]<]|<[^>]*>)+)\]\((#[\w-]+)\)", r'<a href="\2">\1</a>', "".join(out))
+    return re.sub(r"\[((?:[^\]<]|<[^>]*>)+)\]\((#[\w.'-]+)\)", r'<a href="\2">\1</a>', "".join(out))
 
 
 def table(lines):

@@ -8,6 +8,8 @@ import chapters
 import definitions
 import glossary
 import layout
+import links
+import manuals
 import rules
 from definitions import KEYWORDS, TOKEN, Word
 
@@ -107,7 +109,8 @@ def section_html(section, examples, known):
     linked_rules = ", ".join(f'<a href="#{anchors[rule]}">{html.escape(rule)}</a>' for rule in section.rules if rule in anchors)
     out = [f'<h3 id="s{section.number}">{section.number} {text(section.title)}</h3>']
     if linked_rules:
-        out.append(f'<p class="rule">The rule in words: {linked_rules}.</p>')
+        of_manuals = f" The manuals: {manuals.sentence(section)}." if manuals.followed_by(section) else ""
+        out.append(f'<p class="rule">The rule in words: {linked_rules}.{of_manuals}</p>')
     out += [example_html(examples[name], known) for name in section.examples if name in examples]
     for module, found in section.parts:
         home = definitions.module(module) if "::" not in module else None
@@ -117,8 +120,8 @@ def section_html(section, examples, known):
     return "\n".join(out)
 
 
-def chapter_html(chapter, examples):
-    opening, known = text(" ".join(chapter.opening)), set()
+def chapter_html(chapter, examples, by_id):
+    opening, known = text(links.linked(" ".join(chapter.opening), by_id)), set()
     return (f'<h2 id="ch{chapter.number}">{chapter.number}. {text(chapter.title)}</h2><p class="opening">{opening}</p>'
             + "\n".join(section_html(section, examples, known) for section in chapter.sections))
 
@@ -146,12 +149,35 @@ def index_html(found):
 
 
 def words_html(found):
-    by_word, rows = glossary.uses(found), []
+    by_word, computed, rows = glossary.uses(found), glossary.examples(), []
     for word, meaning in glossary.meanings().items():
         use = glossary.shortest_use(word, by_word.get(word, []))
         example = f'<a href="#{use[0].id}">{use[0].number}</a>{code_use(use)}' if use else ""
-        rows.append(f'<tr id="{word_id(word)}"><td><code>{html.escape(word)}</code></td><td>{text(meaning)}</td><td>{example}</td></tr>')
+        rows.append(f'<tr id="{word_id(word)}"><td><code>{html.escape(word)}</code></td><td>{text(meaning)}'
+                    + (f"<br>{text(glossary.sentence(computed[word]))}" if word in computed else "") + f'</td><td>{example}</td></tr>')
     return f'<table class="words">{"".join(rows)}</table>'
+
+
+def rows_html(file, by_id):
+    """A table of words or of questions, with what is said of each and the definitions that say it."""
+    rows = "".join(f"<tr><td>{text(row.word)}</td><td>{text(row.meaning)}</td><td>{text('; '.join(links.to(name, by_id) for name in row.names))}</td></tr>"
+                   for row in links.rows(file))
+    return f'<table class="words">{rows}</table>'
+
+
+def manuals_html(sections):
+    """The sections of BibTeX's manuals, each with the sections of the book that follow it."""
+    rows = "".join(f"<tr><td>{manual}, section {number}</td><td>" + ", ".join(
+        f'<a href="#s{section.number}">{text(section.title)}</a>&nbsp;{section.number}' for section in found) + "</td></tr>"
+        for (manual, number), found in manuals.followers(sections))
+    return f'<table class="words">{rows}</table>'
+
+
+def items_html(block, by_id):
+    """A list, with points or with numbers."""
+    mark, tag = (r"- ", "ul") if block.startswith("- ") else (r"\d+\. ", "ol")
+    found = [text(links.linked(" ".join(item.split()), by_id)) for item in re.split(rf"(?m)^{mark}", block)[1:]]
+    return f"<{tag}>" + "".join(f"<li>{item}</li>" for item in found) + f"</{tag}>"
 
 
 def code_use(use):
@@ -159,7 +185,7 @@ def code_use(use):
     return " <code>" + html.escape(line, quote=False) + "</code>"
 
 
-def notation_html(blocks, by_id, found):
+def notation_html(blocks, by_id, found, sections):
     """The chapter on the notation: its paragraphs, lists and headings, the definitions that it shows, and the glossary."""
     out = ['<h2 id="notation">How to read this book</h2>']
     for block in blocks:
@@ -170,10 +196,14 @@ def notation_html(blocks, by_id, found):
             out.append(f'<div class="shown"><p><a href="#{it.id}">{it.number}</a> {text(layout.prose(it.comment))}</p>{code(it)}</div>')
         elif block == "@words":
             out.append(words_html(found))
-        elif block.startswith("- "):
-            out.append("<ul>" + "".join(f"<li>{text(' '.join(item.split()))}</li>" for item in re.split(r"(?m)^- ", block)[1:]) + "</ul>")
+        elif block in ("@terms", "@questions"):
+            out.append(rows_html(f"{block[1:]}.txt", by_id))
+        elif block == "@manuals":
+            out.append(manuals_html(sections))
+        elif block.startswith(("- ", "1. ")):
+            out.append(items_html(block, by_id))
         else:
-            out.append(f"<p>{text(' '.join(block.split()))}</p>")
+            out.append(f"<p>{text(links.linked(' '.join(block.split()), by_id))}</p>")
     return "\n".join(out)
 
 
@@ -181,8 +211,8 @@ def book_html(book):
     """The whole book."""
     style = STYLE.read_text(encoding="utf-8")
     body = [f'<h1>BibTeX, proved: the book of definitions</h1><p class="opening">{text(book.summary)}</p>', contents_html(book.chapters),
-            notation_html(book.notation, book.by_id, book.found)]
-    body += [chapter_html(chapter, book.examples) for chapter in book.chapters]
+            notation_html(book.notation, book.by_id, book.found, book.sections)]
+    body += [chapter_html(chapter, book.examples, book.by_id) for chapter in book.chapters]
     return ('<!doctype html>\n<html lang="en"><head><meta charset="utf-8"><meta name="viewport" content="width=device-width,initial-scale=1">'
             f"<title>BibTeX, proved: the book of definitions</title><style>{style}</style></head><body>\n" + "\n".join(body)
             + rules.as_html() + index_html(book.found) + "\n</body></html>\n")

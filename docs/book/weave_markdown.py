@@ -6,6 +6,8 @@ import chapters
 import definitions
 import glossary
 import layout
+import links
+import manuals
 import rules
 
 HEAD = """---
@@ -51,7 +53,8 @@ def definition_markdown(it):
 def section_markdown(section, examples, known):
     anchors = rules.headings()
     linked_rules = ", ".join(f"[{rule}](#{anchors[rule]})" for rule in section.rules if rule in anchors)
-    out = [f"## {section.number} {section.title} {{.unnumbered}}\n"] + [f"The rule in words: {linked_rules}.\n"] * bool(linked_rules)
+    of_manuals = f" The manuals: {manuals.sentence(section)}." if manuals.followed_by(section) else ""
+    out = [f"## {section.number} {section.title} {{#s{section.number} .unnumbered}}\n"] + [f"The rule in words: {linked_rules}.{of_manuals}\n"] * bool(linked_rules)
     for example in (examples[name] for name in section.examples if name in examples):
         caption = f". {layout.prose([example.caption])}" if example.caption and example.row.kind != "job" else "."
         words = "".join(f"- {word}\n" for word in layout.words_of(example, known))
@@ -63,22 +66,34 @@ def section_markdown(section, examples, known):
     return "\n".join(out)
 
 
-def chapter_markdown(chapter, examples):
+def chapter_markdown(chapter, examples, by_id):
     known = set()
     sections = "\n".join(section_markdown(section, examples, known) for section in chapter.sections)
-    return f"# {chapter.number}. {chapter.title} {{.unnumbered}}\n\n{' '.join(chapter.opening)}\n\n{sections}"
+    return f"# {chapter.number}. {chapter.title} {{.unnumbered}}\n\n{links.linked(' '.join(chapter.opening), by_id, True)}\n\n{sections}"
 
 
 def words_markdown(found):
-    by_word, rows = glossary.uses(found), []
+    by_word, computed, rows = glossary.uses(found), glossary.examples(), []
     for word, meaning in glossary.meanings().items():
         use = glossary.shortest_use(word, by_word.get(word, []))
+        example = f" {glossary.sentence(computed[word])}." if word in computed else ""
         shown = f" As in [{use[0].number}](#{anchor(use[0])}): `{use[1]}`" if use else ""
-        rows.append(f"- `{word}`: {meaning}.{shown}")
+        rows.append(f"- `{word}`: {meaning}.{example}{shown}")
     return "\n".join(rows) + "\n"
 
 
-def notation_markdown(blocks, by_id, found):
+def rows_markdown(file, by_id):
+    """A table of words or of questions, as a list."""
+    return "\n".join(f"- **{row.word}**: {row.meaning.rstrip('.')}. {', '.join(links.to(name, by_id, True) for name in row.names)}" for row in links.rows(file)) + "\n"
+
+
+def manuals_markdown(sections):
+    """The sections of BibTeX's manuals, each with the sections of the book that follow it."""
+    return "\n".join(f"- {manual}, section {number}: " + ", ".join(f"[{section.title}](#s{section.number}) {section.number}" for section in found)
+                     for (manual, number), found in manuals.followers(sections)) + "\n"
+
+
+def notation_markdown(blocks, by_id, found, sections):
     out = ["# How to read this book {.unnumbered}\n"]
     for block in blocks:
         if block.startswith("## "):
@@ -88,12 +103,16 @@ def notation_markdown(blocks, by_id, found):
             out.append(f"[{it.number}](#{anchor(it)}) {layout.prose(it.comment)}\n\n{code(it)}\n")
         elif block == "@words":
             out.append(words_markdown(found))
+        elif block in ("@terms", "@questions"):
+            out.append(rows_markdown(f"{block[1:]}.txt", by_id))
+        elif block == "@manuals":
+            out.append(manuals_markdown(sections))
         else:
-            out.append(re.sub(r"\n(?!- )", " ", block) + "\n")
+            out.append(links.linked(re.sub(r"\n(?!- |\d+\. )", " ", block), by_id, True) + "\n")
     return "\n".join(out)
 
 
 def book_markdown(book):
     """The whole book."""
-    parts = [HEAD, book.summary + "\n", notation_markdown(book.notation, book.by_id, book.found)]
-    return "\n".join(parts + [chapter_markdown(chapter, book.examples) for chapter in book.chapters] + [rules.as_markdown()])
+    parts = [HEAD, book.summary + "\n", notation_markdown(book.notation, book.by_id, book.found, book.sections)]
+    return "\n".join(parts + [chapter_markdown(chapter, book.examples, book.by_id) for chapter in book.chapters] + [rules.as_markdown()])

@@ -172,21 +172,3 @@ wants_output ''
 wants_error "$device_error"
 wants_files d.bib job.aux s.bst
 end
-
-# Standard output is closed: no file of the job takes its place.
-begin closed_output
-status=0
-timeout 60 "$program" job </dev/null >&- 2>"$folder/stderr" || status=$?
-wants_status 6
-wants_error "$device_error"
-wants_text job.bbl $'a\n'
-wants_text job.blg "$first_log"
-end
-
-begin closed_streams
-status=0
-timeout 60 "$program" job <&- >&- 2>&- || status=$?
-wants_status 6
-wants_text job.bbl $'a\n'
-wants_text job.blg "$first_log"
-end

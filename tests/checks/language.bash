@@ -241,6 +241,15 @@ begin deepest_calls
     done
     printf 'EXECUTE {f4096} EXECUTE {f4097}\n'
 } >s.bst
+wants_deepest_calls() {
+    wants_found 3 '' 'Ended: limit calls, warnings 0, errors 0, steps 8193'
+}
 run_program job
-wants_found 3 '' 'Ended: limit calls, warnings 0, errors 0, steps 8193'
+wants_deepest_calls
+status=0
+(
+    ulimit -s 128
+    exec timeout 60 "$program" job </dev/null >"$folder/stdout" 2>"$folder/stderr"
+) || status=$?
+wants_deepest_calls
 end

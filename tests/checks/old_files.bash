@@ -79,6 +79,37 @@ wants_status 0
 wants_text "$folder/piped" $'a\n'
 end
 
+# A pipe or a device in the log's place isn't opened before the log is written: what reads the pipe gets the whole log, however long the run takes.
+begin old_log_that_is_a_pipe
+mkfifo job.blg
+use_style 'FUNCTION {f} {{#1} {} while$} EXECUTE {f}'
+timeout 90 cat job.blg >"$folder/piped" &
+run_program --budget 10000000 job
+wait $! || true
+wants_status 4
+wants_text job.bbl ''
+wants_text "$folder/piped" "${found_log}Ended: stopped, warnings 0, errors 0, steps 10000000
+"
+end
+
+begin old_log_that_is_a_device
+ln -s /dev/null job.blg
+run_program job
+wants_status 0
+wants_output "$first_log"
+wants_text job.bbl $'a\n'
+end
+
+# What leads to an old log by a link is emptied there.
+begin old_log_behind_a_link
+printf '%s' "$old_log" >kept.blg
+ln -s kept.blg job.blg
+run_program job
+wants_status 0
+wants_text kept.blg "$first_log"
+[ -L job.blg ] || complaints+=('the link was replaced')
+end
+
 # The run is killed while it writes: no old log stands beside the new list.
 begin no_old_log_beside_a_new_list
 leave_old_files

@@ -2,19 +2,27 @@
 
     python3 check.py
 
-It reads README.md and the .md files of docs/, crates/, tests/, examples/ and contrib/. A table says what its columns hold by their heads. Each
+It reads README.md and the .md files of docs/, .ci/, crates/, tests/, examples/ and contrib/. A table says what its columns hold by their heads. Each
 failure is a line; the last line is 'N passed, M failed', of citations, and the exit status is 0 only where M is 0. The user's reference also has the
-words that people search for, and README the right sizes.
+words that people search for, and README the right sizes, and the version of the kit that `rt version` tells, where there is `rt`.
 
-Not checked: the counts and times of docs/PROOFS.md, which are as they were measured."""
+Each crate has a README with the parts that one looks for. It names each wrong body of its crate, and its examples of Rattle are lines of the file that it
+says, in the file's order (a line `..` stands for what is left out). docs/PROOFS.md has an index of the promises of each crate with wrong bodies.
+The table at the end of docs/ARCHITECTURE.md, of what a change touches, has the files and numbers that places.py finds.
+
+Not checked: the counts in prose and the times of .ci/README.md, which are as they were measured."""
 
 import functools
 import pathlib
 import re
+import shutil
+import subprocess
+
+import places
 
 ROOT = pathlib.Path(__file__).resolve().parents[2]
-DOCUMENTS = sorted(path for pattern in ("README.md", "docs/*.md", "crates/*/README.md", "crates/*/docs/*.md", "tests/**/*.md", "examples/**/*.md",
-                                        "contrib/*.md") for path in ROOT.glob(pattern))
+DOCUMENTS = sorted(path for pattern in ("README.md", "docs/*.md", "docs/book/README.md", ".ci/*.md", "crates/*/README.md", "crates/*/docs/*.md", "tests/**/*.md",
+                                        "examples/**/*.md", "contrib/*.md") for path in ROOT.glob(pattern))
 # What a build makes, and no clone has.
 BUILT = re.compile(r"crates/\w+/out\b")
 PATH = re.compile(r"(?<![\w./-])(?:crates|docs|tests|examples|contrib|\.ci|specs|proofs|src)/[\w.*/-]*\w\*?/?")
@@ -28,6 +36,11 @@ SEARCHED = ["bibliography", "whitespace", "natbib", "biblatex", "Unicode", "Wind
 OF_NAMES = re.compile(r"public call|carried by|definitions?|rests on|clause|law|function|call")
 OF_BODIES = re.compile(r"wrong bod")
 A_LIST_OF_BODIES = re.compile(r"\*{0,2}Wrong bodies")
+# An example of a crate's README: the file that its lines are from, which the paragraph before it names last, and the lines.
+EXAMPLE = re.compile(r"`((?:crates|src)/[\w/]+\.rt)`[^`]*\n```rust\n(.*?)```", re.S)
+FENCED = re.compile(r"```.*?```", re.S)
+# What each crate's README has, by the name of the crate.
+PARTS = ["# `{}`: ", "**Contract in a sentence.** ", "**Read first.** ", "## A call"]
 
 
 # ---- what there is ----
@@ -140,12 +153,56 @@ class Document:
         return all(any(part in names_of(crate) for crate in crates_here or crates()) for part in cited.split("::"))
 
 
+def readme_of(crate):
+    path = ROOT / "crates" / crate / "README.md"
+    return path.read_text(encoding="utf-8") if path.exists() else ""
+
+
 def unnamed_bodies():
-    """The wrong bodies that no document of proofs names."""
-    texts = "\n".join(path.read_text(encoding="utf-8") for path in [ROOT / "docs/PROOFS.md", *ROOT.glob("crates/*/README.md")])
-    named = set(CODE.findall(texts))
-    for name, where in sorted(bodies().items()):
-        yield ", ".join(sorted(where)), name, name in named
+    """The wrong bodies, each with its crate, and whether that crate's README names it."""
+    for crate in crates():
+        named = set(CODE.findall(FENCED.sub("", readme_of(crate))))
+        for name in sorted(name for name, where in bodies().items() if crate in where):
+            yield f"{crate}: its README doesn't name the wrong body `{name}`", name in named
+
+
+def missing_parts():
+    """The parts of each crate's README, and the crates of docs/PROOFS.md's index."""
+    index = (ROOT / "docs/PROOFS.md").read_text(encoding="utf-8")
+    for crate in crates():
+        for part in PARTS:
+            yield f"{crate}: its README has no `{part.format(crate).strip()}`", any(line.startswith(part.format(crate)) for line in readme_of(crate).split("\n"))
+        if any(crate in where for where in bodies().values()):
+            yield f"docs/PROOFS.md: the index has no `{crate}`", f"### `{crate}`: " in index and f"`crates/{crate}/README.md`" in index
+
+
+def examples():
+    """The examples of the crates' READMEs: each line is to stand in the example's file, behind the line before."""
+    for crate in crates():
+        found = EXAMPLE.findall(readme_of(crate))
+        yield f"{crate}: its README has no example in Rattle with its file", bool(found)
+        for cited, text in found:
+            path = ROOT / (cited if cited.startswith("crates/") else f"crates/{crate}/{cited}")
+            left = [line.strip() for line in path.read_text(encoding="utf-8").split("\n")] if path.exists() else []
+            for line in (it.strip() for it in text.split("\n")):
+                if line and line != "..":
+                    is_there = line in left
+                    left = left[left.index(line) + 1:] if is_there else left
+                    yield f"{crate}: the example of its README has a line that isn't in {cited} there: {line}", is_there
+
+
+def changes():
+    """The rows of the table of changes: each file that a row names, up to `Also`, has the row's example, and its numbers are right within a tenth or three."""
+    text = (ROOT / "docs/ARCHITECTURE.md").read_text(encoding="utf-8")
+    rows = [[it.strip() for it in line.strip("|").split(" | ")] for line in text.split("\n") if line.startswith("| a") and line.count(" | ") == 3]
+    yield "docs/ARCHITECTURE.md: the table of changes hasn't the kinds of tests/documents/places.py", [row[0] for row in rows] == list(places.KINDS)
+    for kind, _, touched, said in (row for row in rows if row[0] in places.KINDS):
+        found = places.files_of(kind)
+        for cited in PATH.findall(touched.split("Also")[0]):
+            yield f"docs/ARCHITECTURE.md: {kind}: {cited} doesn't name the example", cited in found
+        for sort, count in places.counts_of(kind).items():
+            number = int((re.search(rf"(\d+) {sort}", said) or [0, 0])[1])
+            yield f"docs/ARCHITECTURE.md: {kind}: {number} {sort}, and there are {count}", abs(number - count) <= max(3, count // 10)
 
 
 def missing_words():
@@ -156,7 +213,7 @@ def missing_words():
 
 def lines_of(folder, ending):
     """How many lines the files of this folder have, in the crates that the program stands on or that are libraries of their own."""
-    others = re.compile(r"_trials$|^btx_bench$|^btx_example$")
+    others = re.compile(r"_trials$|^btx_example$")
     files = [path for crate in crates() if not others.search(crate) for path in (ROOT / "crates" / crate / folder).rglob("*" + ending)]
     return sum(path.read_bytes().count(b"\n") for path in files)
 
@@ -171,6 +228,15 @@ def wrong_sizes():
             for what, text, size in zip(("code", "definitions", "proofs"), said.groups(), sizes)]
 
 
+def wrong_kit():
+    """Of the kit that README says the program is proved with: what is wrong, or None. Nothing where there is no `rt`."""
+    if not shutil.which("rt"):
+        return []
+    version = subprocess.run(["rt", "version"], capture_output=True, text=True, check=True).stdout.strip()
+    said = f"Proved with `{version}`" in (ROOT / "README.md").read_text(encoding="utf-8")
+    return [None if said else f"README.md: it doesn't say that the program is proved with `{version}`, which `rt version` tells"]
+
+
 def main():
     missing = missing_words()
     passed, failed = len(SEARCHED) - len(missing), len(missing)
@@ -181,11 +247,11 @@ def main():
             passed, failed = passed + (wrong is None), failed + (wrong is not None)
             if wrong:
                 print(f"{path.relative_to(ROOT)}, line {number}: `{cited}`: {wrong}")
-    for crate, name, is_named in unnamed_bodies():
-        passed, failed = passed + is_named, failed + (not is_named)
-        if not is_named:
-            print(f"{crate}: no document names the wrong body `{name}`")
-    for wrong in wrong_sizes():
+    for message, is_right in (*unnamed_bodies(), *missing_parts(), *examples(), *changes()):
+        passed, failed = passed + is_right, failed + (not is_right)
+        if not is_right:
+            print(message)
+    for wrong in wrong_sizes() + wrong_kit():
         passed, failed = passed + (wrong is None), failed + (wrong is not None)
         if wrong:
             print(wrong)

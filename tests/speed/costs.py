@@ -1,9 +1,9 @@
 #!/usr/bin/env python3
 """What a job can cost at most: the figures of the table in docs/RULES.md, on jobs that are made to cost much in one way each.
 
-    python3 tests/speed/costs.py [--only NAME,..] [PROGRAM]
+    python3 tests/speed/costs.py [--only NAME,.. | --without-times] [PROGRAM]
 
-PROGRAM is crates/bibtex/out/bibtex if none is given. Each job is run in two sizes; a figure is the difference of what they took, by the
+PROGRAM is crates/bibtex/out/bibtex if none is given. --without-times leaves out what is measured in seconds: `tests/run` does so. Each job is run in two sizes; a figure is the difference of what they took, by the
 difference of what it grows with. Memory is to be at most what RULES says, the lengths of outputs a hundredth more, and seconds, which depend on
 the machine and on what else it does, three times as many. A row of RULES without a job here, and a job without a row, is a bar that isn't
 met. Its last line is 'N bars met, M not'; the exit status is 0 only where M is 0."""
@@ -333,12 +333,14 @@ def named_costs(text):
 def read_arguments():
     parser = argparse.ArgumentParser()
     parser.add_argument("--only", type=named_costs, default=list(COSTS.values()), metavar="NAME,..", help="these costs alone")
+    parser.add_argument("--without-times", action="store_true", help="leave out what is measured in seconds")
     parser.add_argument("program", nargs="?", type=pathlib.Path, default=PROGRAM)
     return parser.parse_args()
 
 
 def main():
     arguments = read_arguments()
+    chosen = [cost for cost in arguments.only if not (arguments.without_times and cost.quantity == "seconds")]
     missing = [name for name in ("gcc", "timeout") if shutil.which(name) is None]
     if missing:
         print(f"{' and '.join(missing)} not found: nothing is measured")
@@ -350,7 +352,7 @@ def main():
     with tempfile.TemporaryDirectory() as room:
         room = pathlib.Path(room)
         compile_once(room)
-        for cost in arguments.only:
+        for cost in chosen:
             judge(arguments.program.resolve(), cost, said, room, bars)
             sys.stdout.flush()
     print(f"{bars.met} bars met, {bars.missed} not")

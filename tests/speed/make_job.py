@@ -94,6 +94,7 @@ def make_job(folder, entries, style, seed=1):
     cited = maker.random.sample(keys, len(keys))
     aux = "".join("\\citation{%s}\n" % key for key in cited) + "\\bibdata{works}\n\\bibstyle{%s}\n" % style
     folder = pathlib.Path(folder)
+    folder.mkdir(parents=True, exist_ok=True)
     (folder / "job.aux").write_text(aux)
     (folder / "works.bib").write_text(STRINGS + "".join(texts))
 

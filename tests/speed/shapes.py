@@ -1,4 +1,4 @@
-"""Jobs that are large in one way each. Their style executes nothing, so that reading is all they take.
+"""Jobs that are large in one way each. Their style executes nothing, so that reading is all they take; but for the last three, which format one name.
 
     python3 shapes.py NAME SIZE FOLDER
 
@@ -154,6 +154,39 @@ def functions(size):
     """One on each line, each executes the one before it. They stand before READ, so that each is a type as well."""
     defined = "FUNCTION {f000000} {}\n" + "".join(FUNCTION % (number, number - 1) for number in range(1, size))
     return style_job(READING.replace("READ\n", defined + "READ\n"))
+
+
+@shape("names", 50_000, 500_000)
+def declared_names(size):
+    """One command that declares names, each on a line, all of one length."""
+    return style_job(READING + "INTEGERS {\n" + "".join("a.long.name.%06d\n" % number for number in range(size)) + "}\n")
+
+
+# ---- names, which a style formats once: for these a style executes a function ----
+
+
+def name_job(size, name, piece):
+    """Formats a name of about as many bytes as the size, in a format of as many, which is made of one piece."""
+    called = 'FUNCTION {f} {"%s" #1 "%s" format.name$ pop$}\nEXECUTE {f}\n' % (name, piece * (size // len(piece)))
+    return style_job(READING + called)
+
+
+@shape("bytes", 20_000, 200_000)
+def name_without_letters(size):
+    """Tokens without a letter, abbreviated with nothing between: no piece gives anything."""
+    return name_job(size, "1 " + "2 " * (size // 2) + "C", "{f{}}")
+
+
+@shape("bytes", 20_000, 200_000)
+def name_with_white_between(size):
+    """Two tokens with much white between."""
+    return name_job(size, "A" + " " * size + "B C", "{ff}")
+
+
+@shape("bytes", 20_000, 200_000)
+def name_whose_letter_comes_late(size):
+    """A token whose letter is its last byte, abbreviated."""
+    return name_job(size, "1" + "2" * size + "A C", "{f}")
 
 
 # ---- the command ----

@@ -1,19 +1,19 @@
 """Plants the wrong bodies that the crates keep, and sees that the prover refuses each of them.
 
-    python3 plant.py [--alone] [--kept] [--jobs N] [CRATE..]
+    python3 plant.py [--alone] [--kept] [--unplanted] [--jobs N] [CRATE..]
 
 A wrong body is a file crates/NAME/wrong-bodies/*.edit, or must-fail/*.edit: a line 'function:' with the function that must be refused, a line 'file:', and pairs of
 lines 'old:' and 'new:'; each old text stands in that file once. Further lines 'file:' may follow, with their pairs: so a slip is made in a
 definition and the code alike, with what lemmas say of it, and a law must refuse it; such a body is planted alone. A function is proved from the contracts of those that it calls, never from
-their bodies: so the wrong bodies of one crate are planted together, in as few rounds as have each function once, and only their functions are
-checked. What isn't refused so for a reason of its own (the check may only tell that a function is called that isn't proved) is planted once
-more, alone. For each it prints the goal that refused: its name and what it says, where the check tells; and for each crate how many rounds there were,
+their bodies: so the wrong bodies of one crate are planted together, in as few rounds as have each function once, only their functions are
+checked, and all others have stand-ins (stand_ins.py), whose proofs are holes: a round costs what its own functions cost. What isn't refused so for a reason of its own
+(the check may only tell that a function is called that isn't proved) is planted once more among the functions' own bodies and proofs, together with the others of its kind,
+and at last alone. For each it prints the goal that refused: its name and what it says, where the check tells; and for each crate how many rounds there were,
 and how long they took.
 
-For a crate with nothing in must-fail/, which the kit's own gate tries, the kit's judge tries one body here, as a second judge.
-
-With --alone each is planted alone from the beginning. With --kept the first round stands on what `rt check` kept in the crate's folder out/, and takes a
-minute in the place of many: for work on a crate, never for the gate.
+With --alone each is planted alone from the beginning. With --kept the first round stands on what `rt check` kept in the crate's folder out/: for work on a crate, never for the gate.
+With --unplanted nothing is planted, and the prover must take each function over the stand-ins as it stands: so what is refused otherwise is refused for what was planted. It is for work
+on the stand-ins.
 
 One that changes a definition too, a file of specs/, has a round of its own behind the others, which are to be judged by the definitions that stand. Two of
 these in one round could not be told apart: a law that the one breaks may be refused for the other's definition.
@@ -25,6 +25,7 @@ It stands on the libraries that the gate has built (rt ci), and on the kit's own
 
 import argparse
 import concurrent.futures
+import copy
 import importlib.machinery
 import importlib.util
 import os
@@ -35,12 +36,15 @@ import sys
 import tempfile
 import time
 
+from stand_ins import stand_in
 from witnesses import FOLDERS, ROOT, tell_lacking, witness_of
 
 # How much of a goal is printed.
 LONGEST_GOAL = 300
 # An error that tells only that a name is gone says nothing of a contract.
 GONE = re.compile(r"is not in scope|has no field|has no `|was not admitted")
+# What the check says of a function that is proved, but for holes that stand in.
+TAKEN = re.compile(r"proved$|no holes|depends on a hole")
 
 
 def load_kit():
@@ -98,7 +102,7 @@ def judged(crate, body, said):
     """What the check said of this body: a goal of its function must be left, or an answer for one be wrong."""
     name = re.escape(f"{crate}::{body.function}")
     verdict = re.search(rf"(?m)^fn {name}: (.*)$", said)
-    if not verdict or verdict[1] == "proved":
+    if not verdict or TAKEN.match(verdict[1]):
         return Judged(body, "NOT REFUSED: its function is still proved" if verdict else "nothing is told of its function")
     open_goal = re.search(r"did not prove `([^`]*)`", verdict[1])
     if open_goal:
@@ -124,7 +128,24 @@ def folder_of(body):
     return "/".join([*modules, rf"(?:{name}|\+\w+)"])
 
 
-def try_round(kit, crate, bodies, kept):
+def checked(kit, crate, texts, functions, kept, over_stand_ins):
+    """What a check of these functions says, with these texts in the place of the crate's own, and stand-ins for all other functions if they are wanted."""
+    only = [word for function in functions for word in ("--only", function)]
+    if not over_stand_ins:
+        return kit.checked(crate, texts, ["--jobs", "1", *only], kept).stdout
+    with tempfile.TemporaryDirectory(prefix="stand-ins-") as room:
+        for part in kit.rtlib.PARTS:
+            if pathlib.Path(crate.folder, part).is_dir():
+                shutil.copytree(pathlib.Path(crate.folder, part), pathlib.Path(room, part))
+        for file, text in texts.items():
+            pathlib.Path(room, file).write_text(text, encoding="utf-8")
+        stand_in(pathlib.Path(room), crate.name, functions)
+        changed = copy.copy(crate)
+        changed.folder = room
+        return kit.checked(changed, {}, ["--jobs", "1", "--allow-holes", *only], kept).stdout
+
+
+def try_round(kit, crate, bodies, kept, over_stand_ins):
     """What becomes of each body of the round."""
     folder, texts, results, planted = pathlib.Path(crate.folder), {}, [], []
     for body in bodies:
@@ -133,23 +154,36 @@ def try_round(kit, crate, bodies, kept):
             planted.append(body)
         except (OSError, ValueError) as error:
             results.append(Judged(body, str(error)))
-    only = [word for body in planted for word in ("--only", body.function)]
-    said = kit.checked(crate, texts, ["--jobs", "1", *only], kept).stdout
-    told = re.search(r"^only=\d+ proved=\d+", said.rstrip("\n").rpartition("\n")[2])
+    said = checked(kit, crate, texts, [body.function for body in planted], kept, over_stand_ins)
+    told = re.search(r"^only=\d+ (proved|holes)=\d+", said.rstrip("\n").rpartition("\n")[2])
     for body in planted:
         results.append(judged(crate.name, body, said) if told else Judged(body, "the check came to no end: " + said[:400]))
     return results
 
 
-def unrefused_by_kit(kit, crate, bodies, kept):
-    """The kit's own gate tries what stands in must-fail/, each time from nothing. For a crate without such an edit its judge tries one of the bodies here,
-    over what the rounds kept. The body, if it isn't refused."""
-    of_code = [it for it in bodies if not it.changes_definitions]
-    if not of_code or any(it.path.parent.name == "must-fail" for it in bodies):
-        return []
-    refused, said = kit.must_fail(crate, str(of_code[0].path), ["--jobs", "1"], kept)
-    print(f"{crate.name}, by the kit's own judge: {said}", flush=True)
-    return [] if refused else [Judged(of_code[0], said)]
+def try_bodies(kit, crate, bodies, kept, alone):
+    """What becomes of each body, first over stand-ins, then together among the functions' own bodies, and at last alone; and how many rounds that took each time."""
+    refused, taken = [], []
+    for over_stand_ins, is_alone in ((True, alone), (False, alone), (False, True)):
+        rounds = in_rounds(bodies, is_alone)
+        tried = [it for some in rounds for it in try_round(kit, crate, some, kept, over_stand_ins)]
+        refused += [it for it in tried if not it.why]
+        bodies = [it.body for it in tried if it.why]
+        taken.append(len(rounds))
+        if not bodies:
+            break
+    return refused + [it for it in tried if it.why], taken
+
+
+def take_unplanted(kit, crate, bodies, kept):
+    """Which functions of these bodies the prover takes as they stand, over stand-ins for all others."""
+    said = checked(kit, crate, {}, sorted({it.function for it in bodies}), kept, True)
+    verdicts = dict(re.findall(rf"(?m)^fn {crate.name}::(\S+): (.*)$", said))
+    results = []
+    for body in bodies:
+        verdict = verdicts.get(body.function, "nothing is told of its function")
+        results.append(Judged(body, None if TAKEN.match(verdict) else verdict[:LONGEST_GOAL], "unplanted: " + verdict[:40]))
+    return results
 
 
 def kept_folder(crate, room, is_given):
@@ -162,20 +196,22 @@ def kept_folder(crate, room, is_given):
     return str(kept)
 
 
-def try_crate(kit, crate, alone, is_given):
+def try_crate(kit, crate, given):
     paths = sorted(path for folder in FOLDERS for path in pathlib.Path(crate.folder, folder).glob("*.edit"))
-    bodies = [WrongBody(path) for path in paths]
-    began, rounds = time.monotonic(), in_rounds(bodies, alone)
+    bodies, began = [WrongBody(path) for path in paths], time.monotonic()
+    if not bodies:
+        return []
     with tempfile.TemporaryDirectory() as room:
-        kept = kept_folder(crate, room, is_given)
-        tried = [it for bodies in rounds for it in try_round(kit, crate, bodies, kept)]
-        results = [try_round(kit, crate, [it.body], kept)[0] if it.why else it for it in tried]
-        results += unrefused_by_kit(kit, crate, bodies, kept)
+        kept = kept_folder(crate, room, given.kept)
+        if given.unplanted:
+            results, rounds = take_unplanted(kit, crate, bodies, kept), [1]
+        else:
+            results, rounds = try_bodies(kit, crate, bodies, kept, given.alone)
     for it in results:
-        print(f"{crate.name}/{it.body.name}: {it.why or f'refused, as it must be, at {it.body.function}, {it.goal}'}", flush=True)
-    if results:
-        again = sum(it.why is not None for it in tried)
-        print(f"{crate.name}: wrong bodies {len(results)}, rounds {len(rounds)}, once more alone {again}, seconds {time.monotonic() - began:.0f}", flush=True)
+        verdict = it.why or (it.goal if given.unplanted else f"refused, as it must be, at {it.body.function}, {it.goal}")
+        print(f"{crate.name}/{it.body.name}: {verdict}", flush=True)
+    again = f", and once more {rounds[1:]}" if rounds[1:] else ""
+    print(f"{crate.name}: wrong bodies {len(results)}, rounds {rounds[0]}{again}, seconds {time.monotonic() - began:.0f}", flush=True)
     return results
 
 
@@ -183,6 +219,7 @@ def main():
     parser = argparse.ArgumentParser()
     parser.add_argument("--alone", action="store_true")
     parser.add_argument("--kept", action="store_true")
+    parser.add_argument("--unplanted", action="store_true")
     parser.add_argument("--jobs", type=int, default=len(os.sched_getaffinity(0)))
     parser.add_argument("crates", nargs="*")
     arguments = parser.parse_args()
@@ -191,7 +228,7 @@ def main():
     kit.rtlib.guarded()
     crates = [it for it in kit.rtlib.crates_below(str(ROOT)) if not arguments.crates or it.name in arguments.crates]
     with concurrent.futures.ThreadPoolExecutor(arguments.jobs) as pool:
-        results = [*pool.map(lambda crate: try_crate(kit, crate, arguments.alone, arguments.kept), reversed(crates))]
+        results = [*pool.map(lambda crate: try_crate(kit, crate, arguments), reversed(crates))]
     refused = [not it.why for of_crate in results for it in of_crate]
     lacking = tell_lacking([it.body.name for of_crate in results for it in of_crate if witness_of(it.body.text) is None])
     print(f"{refused.count(True)} passed, {refused.count(False) + lacking} failed")

@@ -27,7 +27,7 @@ pub trait Outputs {
         ensures { Does (acts self.old) (acts self.new) (ClosedList file ∷ []) };
 
     /// Empties the log that an earlier run left in the file of this path, so that no old log stands beside a new list. Where there is none, or
-    /// that can't be done, nothing is said: the end of the run tells.
+    /// that can't be done, nothing is said: the end of the run tells. A pipe or a device is left alone.
     fn empty_log(&mut self, path: &str)
         ensures { Does (acts self.old) (acts self.new) (EmptiedLog path.now ∷ []) };
 
@@ -66,6 +66,14 @@ impl<'a, R: Files + Print + Eprint> SystemOutputs<'a, R> {
     }
 }
 
+// Whether an ordinary file has this path, which may lead through links.
+fn is_ordinary(files: &impl Files, path: &str) -> bool {
+    match fs::metadata(files, path) {
+        Ok(metadata) => metadata.is_file(),
+        Err(_) => false,
+    }
+}
+
 impl<R: Files + Print + Eprint> Outputs for SystemOutputs<'_, R> {
     type List = SystemFile<R::File>;
 
@@ -84,7 +92,11 @@ impl<R: Files + Print + Eprint> Outputs for SystemOutputs<'_, R> {
         drop(file);
     }
 
+    // What reads a pipe would see the end of the log already when this opening of it is closed.
     fn empty_log(&mut self, path: &str) {
+        if !is_ordinary(self.rt, path) {
+            return;
+        }
         let _ = OpenOptions::new()
             .write(true)
             .truncate(true)

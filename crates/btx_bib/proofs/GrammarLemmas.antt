@@ -3,6 +3,7 @@ pub mod MarkLemmas
 pub mod ValueLemmas
 pub mod ItemLemmas
 pub mod LengthLemmas
+pub mod PlainLemmas
 pub mod SpellingLemmas
 pub mod SqueezeLemmas
 pub mod ReadingLemmas

@@ -1,8 +1,14 @@
 -- Lemmas on what is told of a value.
-use Rattle.std.proofs.Common.{◌≡◌, ℕ, List, [], ◌∷◌, Option}
+use Rattle.std.proofs.Common.{◌≡◌, ◌∙◌, ℕ, true, false, List, [], ◌∷◌, Option, Some, None, is_some, refl, ap}
+use Rattle.std.specs.Prelude.{is_none}
 use Rattle.std.proofs.lemmas.List.{append-nil}
-use Rattle.btx_bib.specs.Grammar.Values.{Part}
-use Rattle.btx_bib.specs.Strings.{Strings}
+use Rattle.btx_bib.specs.declared.gathering.Pending.{Pending}
+use Rattle.btx_bib.specs.Grammar.Fields.{Field}
+use Rattle.btx_bib.specs.Grammar.PlainFields.{HasString}
+use Rattle.btx_bib.specs.Grammar.Values.{Part, Braced, Quoted, Digits, Named}
+use Rattle.btx_bib.specs.Gatherings.{told_of_number}
+use Rattle.btx_bib.specs.Values.{value_at}
+use Rattle.btx_bib.specs.Strings.{Strings, string_value}
 use Rattle.btx_bib.specs.Told.{Database, name_told, names_told}
 
 -- what is told of a value of one part
@@ -10,3 +16,27 @@ pub names-one : (database : Database) (strings : Strings) (own : Option (List �
 names-one database strings own part = append-nil (name_told database strings own part)
 
 pub ruleset one_name = (names-one)
+
+-- ---- a field in its plainest form
+
+some-none : (o : Option (List ℕ)) → is_some o ≡ true → is_none o ≡ false
+some-none (Some text) h = refl
+some-none None h = cc
+
+-- no message comes of its value, if a name in it stands for a string
+plain-names : (database : Database) (strings : Strings) (part : Part) → HasString (string_value strings) part → names_told database strings None (part ∷ []) ≡ []
+plain-names database strings (Braced text) h = refl
+plain-names database strings (Quoted text) h = refl
+plain-names database strings (Digits text) h = refl
+plain-names database strings (Named string) h = rw (some-none (string_value strings string.name) h) refl
+
+-- none comes of a field that isn't declared
+pub silent-none : (database : Database) (strings : Strings) (pending : Pending) (field : Field) (rest : List ℕ) (number : Option ℕ) → number ≡ None →
+    told_of_number database strings pending field rest number ≡ []
+silent-none database strings pending field rest number is = ap (told_of_number database strings pending field rest) is
+
+-- none comes of one that has no value yet
+pub silent-some : (database : Database) (strings : Strings) (pending : Pending) (field : Field) (rest : List ℕ) (number : Option ℕ) (place : ℕ) (part : Part) → number ≡ Some place →
+    is_some (value_at place pending.body.values) ≡ false → field.value ≡ part ∷ [] → HasString (string_value strings) part → told_of_number database strings pending field rest number ≡ []
+silent-some database strings pending field rest number place part is lacks one known =
+    ap (told_of_number database strings pending field rest) is ∙ rw (lacks, one) (plain-names database strings part known)

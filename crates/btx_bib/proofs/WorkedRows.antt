@@ -32,11 +32,11 @@ values-worked = (refl, (refl, (refl, (refl, (refl, (refl, tt))))))
 
 pub entries-worked : AreGiven entries
 unfolding library_of entries_of references_told slot_of inherited checked check_told body_of events_from events_within step_of behind_at head_at head_of command_of more_in after_comma field_at value_at value_within part_in name_in open_in sign_in key_in run_len enclosed_len squeezed lines_begun pieces_of
-entries-worked = (refl, (refl, (refl, (refl, (refl, (refl, (refl, (refl, (refl, tt)))))))))
+entries-worked = (refl, (refl, (refl, (refl, (refl, (refl, (refl, (refl, (refl, (refl, (refl, (refl, (refl, tt)))))))))))))
 
 pub references-worked : AreGiven references
 unfolding library_of entries_of references_told slot_of inherited checked check_told body_of events_from events_within step_of behind_at head_at head_of command_of more_in after_comma field_at value_at value_within part_in name_in open_in sign_in key_in run_len enclosed_len squeezed lines_begun pieces_of
-references-worked = (refl, (refl, (refl, (refl, (refl, (refl, (refl, (refl, (refl, (refl, (refl, tt)))))))))))
+references-worked = (refl, (refl, (refl, (refl, (refl, (refl, (refl, (refl, (refl, (refl, (refl, (refl, tt))))))))))))
 
 pub cuts-worked : AreCuts cuts
 unfolding events_from events_within step_of behind_at head_at head_of command_of more_in after_comma field_at value_at value_within part_in name_in open_in sign_in key_in run_len enclosed_len squeezed

@@ -1,5 +1,5 @@
 -- What the code keeps while databases are read.
-use Rattle.std.specs.Prelude.{ℕ, nat_lt, ◌||◌, Bool, true, false, List, [], ◌∷◌, ◌++◌, length, Option, None, Some, is_some, if◌then◌else◌}
+use Rattle.std.specs.Prelude.{◌≡◌, ℕ, nat_lt, ◌||◌, Bool, true, false, List, [], ◌∷◌, ◌++◌, length, Option, None, Some, is_some, if◌then◌else◌}
 use Rattle.btx_text.specs.Keys.{folded}
 use Rattle.btx_text.specs.Limits.{greatest_string}
 use Rattle.btx_aux.specs.Names.{is_same_key}
@@ -158,3 +158,21 @@ keeping_kept wanted = record { is_stored = is_kept; after = kept_next wanted }
 
 abbrev pub events_with : Wanted → Gathering → Next → List ℕ → List Placed
 events_with wanted kept next text = events_from (keeping_kept wanted) kept next text
+
+-- what is kept after all events from a place on, and the messages along them
+abbrev pub all_kept : Wanted → Gathering → Next × List ℕ → Gathering
+all_kept wanted kept place = kept_along wanted kept (events_with wanted kept place.0 place.1)
+
+abbrev pub all_told : Wanted → Database → Gathering → Next × List ℕ → List Message
+all_told wanted database kept place = kept_told wanted database kept (events_with wanted kept place.0 place.1)
+
+-- ---- a field in its plainest form, which is taken or not
+
+-- what holds if it was taken, and what if it wasn't
+abbrev pub IfTaken : Bool → Type 0 → Type 0 → Type 0
+IfTaken true taken left = taken
+IfTaken false taken left = left
+
+-- no message comes of a field of the entry that is being read, or of none
+abbrev pub IsSilent : Wanted → Strings → Field → Option Pending → Type 0
+IsSilent wanted strings field current = (database : Database) (rest : List ℕ) → told_of_current wanted database strings field rest current ≡ []

@@ -10,6 +10,7 @@ pub mod EventViews
 pub mod Spelling
 pub mod ValueTexts
 pub mod Squeezing
+pub mod PlainFields
 pub mod Reading
 pub mod Reads
 pub mod PlaceLines

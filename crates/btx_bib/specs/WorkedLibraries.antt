@@ -98,6 +98,23 @@ entries =
     -- an entry that isn't stored has no message
     ∷ row (citing (codes "k" ∷ []) 2) (codes "@misc{j, title = zz} @misc{k}")
     (library (entry misc (codes "k") None None None ∷ []) [])
+    -- nor has a type that the style doesn't have, where its entry isn't stored
+    ∷ row (citing (codes "k" ∷ []) 2) (codes "@other{j} @misc{k}")
+    (library (entry misc (codes "k") None None None ∷ []) [])
+    -- nor has a field that the style doesn't declare
+    ∷ row (citing (codes "k" ∷ []) 2) (codes "@misc{k, note = zz, title = {A}}")
+    (library (entry misc (codes "k") None (Some (codes "A")) None ∷ []) [])
+    -- a name that stands for no string has a message each time; a string that is made of it alone is empty
+    ∷ row (citing (codes "k" ∷ []) 2) (codes "@string{s = zz}\n@misc{k, title = s, booktitle = yy # {B} # yy}")
+    (library (entry misc (codes "k") None (Some []) (Some (codes "B")) ∷ [])
+    (message.UndefinedString (codes "zz") (at_line 1) ∷ message.UndefinedString (codes "yy") (at_line 2) ∷ message.UndefinedString (codes "yy") (at_line 2) ∷ []))
+    -- and so in a preamble
+    ∷ row (citing (codes "k" ∷ []) 2) (codes "@preamble{zz}\n@preamble{{x} # yy}@misc{k}") (record {
+      entries = entry misc (codes "k") None None None ∷ [];
+      preamble = codes "x";
+      messages = message.UndefinedString (codes "zz") (at_line 1) ∷ message.UndefinedString (codes "yy") (at_line 2) ∷ [];
+      ending = end.Whole;
+    })
     -- at the end of the file the fields that were read stand
     ∷ row (citing (codes "k" ∷ []) 2) (codes "@misc{k, title = {A}, note = \"cu")
     (library (entry misc (codes "k") None (Some (codes "A")) None ∷ []) (message.Wrong EndOfFile (at_line 1) ∷ []))
@@ -132,6 +149,10 @@ references =
     -- a parent that stands before its child and isn't cited is not stored
     ∷ row (citing (codes "c" ∷ []) 2) (codes "@book{p, booktitle={V}}\n@misc{c, crossref={p}}")
     (library (entry misc (codes "c") None None None ∷ []) (message.BadReference (codes "c") (codes "p") ∷ message.NoEntry (codes "p") ∷ []))
+    -- the messages of databases come first, then those of references, and then those of keys without an entry
+    ∷ row (citing (codes "c" ∷ codes "nope" ∷ []) 2) (codes "@misc{c, crossref={p}}\n@misc{C}")
+    (library (entry misc (codes "c") None None None ∷ [])
+    (message.Wrong Repeated (at_line 2) ∷ message.BadReference (codes "c") (codes "p") ∷ message.NoEntry (codes "nope") ∷ message.NoEntry (codes "p") ∷ []))
     -- one reference is fewer than two
     ∷ row (citing (codes "c1" ∷ []) 2) (codes "@misc{c1, title = {One}, crossref = {p}}\n@misc{c2, title = {Two}, crossref = {p}}\n@book{P, booktitle = {Vol}}")
     (library (entry misc (codes "c1") None (Some (codes "One")) (Some (codes "Vol")) ∷ []) [])

@@ -3,9 +3,10 @@ use crate::draft::{Draft, Standing};
 use crate::end::End;
 use crate::grammar::events::Event;
 use crate::grammar::fields::Field;
+use crate::grammar::plain_fields::PlainField;
 use crate::grammar::reader::{Reader, StoredKeys};
 use crate::grammar::value_ends::Ends;
-use crate::grammar::value_texts::value_text;
+use crate::grammar::value_texts::{plain_text, value_text};
 use crate::grammar::values::Value;
 use crate::message::{Message, Messages};
 use crate::request::Request;
@@ -42,9 +43,10 @@ pub struct Gathering<'a> {
 }
 
 impl<'a> Pending<'a> {
-    ghost use Rattle.std.specs.Prelude.{◌≡◌, ◌++◌, IfOk, OnOk};
+    ghost use Rattle.std.specs.Prelude.{◌≡◌, ◌++◌, true, Some, IfOk, OnOk};
     ghost use Rattle.btx_bib.specs.Grammar.FieldViews.{field_view};
-    ghost use Rattle.btx_bib.specs.Gatherings.{field_told_of, taken_by};
+    ghost use Rattle.btx_bib.specs.Grammar.PlainFields.{IsPlain, part_in_view, plain_field_view};
+    ghost use Rattle.btx_bib.specs.Gatherings.{IfTaken, IsSilent, field_told_of, taken_by};
     ghost use Rattle.btx_bib.specs.Requests.{wanted};
     ghost use Rattle.btx_bib.specs.Sites.{database};
 
@@ -83,15 +85,44 @@ impl<'a> Pending<'a> {
             Err(Fault::Device | Fault::FileLimit) => unreachable!(),
         }
     }
+
+    // Takes a field in its plainest form, where no message comes of it. Answers whether it did.
+    #[inline(always)]
+    fn take_plainly(
+        &mut self,
+        alloc: Global,
+        request: &Request<'_, 'a>,
+        strings: &StringTable<'a>,
+        field: &PlainField<'a>,
+    ) -> Result<bool, AllocError>
+        requires { IsPlain (part_in_view field.now.value) }
+        ensures entry { IfOk result (λ taken. IfTaken taken ((self.new, true) ≡ taken_by (wanted request.now) strings.now self.old (plain_field_view field.now)) (self.new ≡ self.old)) }
+        ensures told { IfOk result (λ taken. taken ≡ true → IsSilent (wanted request.now) strings.now (plain_field_view field.now) (Some self.old)) }
+    {
+        let Some(number) = request.field(alloc, field.name)? else {
+            return Ok(true);
+        };
+        if self.body.values.has(number) {
+            return Ok(false);
+        }
+        match plain_text(alloc, &field.value, strings)? {
+            Some(text) => {
+                self.body.values.put(number, text)?;
+                Ok(true)
+            }
+            None => Ok(false),
+        }
+    }
 }
 
 impl<'a> Gathering<'a> {
-    ghost use Rattle.std.specs.Prelude.{◌≡◌, ◌++◌, None, Some, true, not, OnOk};
+    ghost use Rattle.std.specs.Prelude.{◌≡◌, ◌≤◌, ◌++◌, None, Some, true, not, length, IfOk, OnOk};
     ghost use Rattle.btx_bib.specs.declared.draft.Standing.TheVariants as standing;
-    ghost use Rattle.btx_bib.specs.Gatherings.{closed, begun, begun_by, entered, events_with, fielded_by, kept_after, kept_along, kept_told, told_of, told_of_current, told_of_entry, told_of_standing, with_preamble, with_string};
+    ghost use Rattle.btx_bib.specs.Gatherings.{IfTaken, IsSilent, all_kept, all_told, closed, begun, begun_by, entered, events_with, fielded_by, kept_after, kept_along, kept_told, told_of, told_of_current, told_of_entry, told_of_standing, with_preamble, with_string};
     ghost use Rattle.btx_bib.specs.Sites.{database};
-    ghost use Rattle.btx_bib.specs.Told.{names_told};
+    ghost use Rattle.btx_bib.specs.Told.{Database, names_told};
     ghost use Rattle.btx_bib.specs.Grammar.FieldViews.{field_view};
+    ghost use Rattle.btx_bib.specs.Grammar.PlainFields.{IsPlain, part_in_view, plain_field_view};
     ghost use Rattle.btx_bib.specs.Grammar.EventViews.{event_view};
     ghost use Rattle.btx_bib.specs.Known.{goes_on};
     ghost use Rattle.btx_bib.specs.declared.grammar.commands.Wanted.TheVariants as next;
@@ -302,11 +333,57 @@ impl<'a> Gathering<'a> {
         ensures same { OnOk result (site.new ≡ site.old) }
     {
         let mut reader = Reader::of(text);
+        self.take_plain_fields(alloc, request, &mut reader)?;
         while let Some(placed) = reader.read(alloc, self)? {
             self.take(alloc, request, &placed.event, placed.rest, site, messages)?;
             if self.has_ended() {
                 return Ok(());
             }
+            self.take_plain_fields(alloc, request, &mut reader)?;
+        }
+        Ok(())
+    }
+
+    // Takes a field in its plainest form, of the entry that is being read or of none, where no message comes of it. Answers whether it did.
+    #[inline(always)]
+    fn take_plainly(
+        &mut self,
+        alloc: Global,
+        request: &Request<'_, 'a>,
+        field: &PlainField<'a>,
+    ) -> Result<bool, AllocError>
+        requires { IsPlain (part_in_view field.now.value) }
+        ensures state { IfOk result (λ taken. IfTaken taken (self.new ≡ fielded_by (wanted request.now) self.old (plain_field_view field.now) self.old.current) (self.new ≡ self.old)) }
+        ensures told { IfOk result (λ taken. taken ≡ true → IsSilent (wanted request.now) self.old.strings (plain_field_view field.now) self.old.current) }
+        ensures same { IfOk result (λ taken. self.new.ending ≡ self.old.ending) }
+    {
+        match &mut self.current {
+            Some(pending) => pending.take_plainly(alloc, request, &self.strings, field),
+            None => Ok(true),
+        }
+    }
+
+    // Takes the fields in their plainest form that stand next, until there is none or a message comes of it.
+    #[inline(never)]
+    fn take_plain_fields(
+        &mut self,
+        alloc: Global,
+        request: &Request<'_, 'a>,
+        reader: &mut Reader<'a>,
+    ) -> Result<(), AllocError>
+        requires { goes_on self.old.ending ≡ true }
+        ensures whole { OnOk result (goes_on self.new.ending ≡ true) }
+        ensures state { OnOk result (all_kept (wanted request.now) self.new reader.new ≡ all_kept (wanted request.now) self.old reader.old) }
+        ensures told { OnOk result ((database : Database) → all_told (wanted request.now) database self.new reader.new ≡ all_told (wanted request.now) database self.old reader.old) }
+        ensures next { OnOk result (reader.new.0 ≡ reader.old.0) }
+        ensures shorter { OnOk result (length reader.new.1 ≤ length reader.old.1) }
+    {
+        while let Some(field) = reader.plain_field() {
+            let taken = self.take_plainly(alloc, request, &field)?;
+            if !taken {
+                return Ok(());
+            }
+            reader.pass(field.value.rest);
         }
         Ok(())
     }

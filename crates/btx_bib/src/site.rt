@@ -104,10 +104,10 @@ pub fn tell_names<'a>(
     ensures told { OnOk result (messages.new ≡ messages.old ++ spec.names_told (database site.old) strings.now (option_copied own.entry) value.now) }
     ensures same { OnOk result (site.new ≡ site.old) }
 {
-    let Some(lone) = value.lone_part() else {
+    let Some(part) = value.lone_part() else {
         return tell_parts(alloc, value, strings, own, site, messages);
     };
-    tell_part(alloc, lone.part, strings, own, site, messages)?;
+    tell_part(alloc, part, strings, own, site, messages)?;
     Ok(())
 }
 

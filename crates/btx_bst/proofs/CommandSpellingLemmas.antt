@@ -3,6 +3,7 @@ use Rattle.std.proofs.Common.{◌≡◌, ℕ, zero, suc, ◌+◌, ◌<◌, ◌==
 use Rattle.std.specs.Prelude.{◌||◌, codes}
 use Rattle.std.specs.Str.{bytes_eq}
 use Rattle.std.proofs.lemmas.Slice.Eq.{bytes_eq-Decides}
+use Rattle.btx_text.specs.Class.{begins_name}
 use Rattle.btx_text.specs.Keys.{folded}
 use Rattle.btx_bst.specs.declared.callee.Callee.{Callee}
 use Rattle.btx_bst.specs.declared.callee.Kind.{Kind}
@@ -27,7 +28,7 @@ use Rattle.btx_bst.specs.StyleText.{State, state, start, resumed, resumed_after,
 use Rattle.btx_bst.specs.Spelling.{complaint_in, made_by, made_till, Division, IsBroken}
 use Rattle.btx_bst.specs.ItemSpelling.{AreFull, IsEnd}
 use Rattle.btx_bst.specs.Written.{AreNew, declared, made_in, with_body}
-use Rattle.btx_bst.specs.TokenSpelling.{Gap, Spaced, IsMissing, SignHere, begins_name, NameHere, TextHere, LettersHere}
+use Rattle.btx_bst.specs.TokenSpelling.{Gap, Spaced, IsMissing, SignHere, NameHere, TextHere, LettersHere}
 use Rattle.btx_bst.specs.CommandSpelling.{Rule, Then, Opened, Closed, Where, Unless, New, Known, Makes, AreNames, goes_on, EndsList, InList, Lists, HasBody, Executes, Behind, IsWordOf, Named, CommandHere, Skips, GoesOn, IsStyle, ReadingLaw, OneReadingLaw}
 use Rattle.btx_bst.proofs.ListLemmas.{Sized, name_at-size, list_end-again, list_end-ends}
 use Rattle.btx_bst.proofs.StyleLemmas.{style_from-again, style_from-ends, item_turn-less}

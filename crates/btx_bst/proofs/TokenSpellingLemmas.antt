@@ -4,13 +4,13 @@ use Rattle.std.specs.Prelude.{not, ◌||◌, ◌&&◌}
 use Rattle.std.proofs.Math.Seq.{take-append_seam, drop-append_seam}
 use Rattle.std.proofs.lemmas.Bool.{eqb-true, eq-eqb}
 use Rattle.std.proofs.lemmas.List.{take-append-drop}
-use Rattle.btx_text.specs.Class.{is_white, is_digit, is_name_byte}
+use Rattle.btx_text.specs.Class.{is_white, is_digit, is_name_byte, begins_name}
 use Rattle.btx_bst.specs.Places.{Place, place_at, further, behind_white, line_or, ink_from, ink}
 use Rattle.btx_bst.specs.Complaints.{Complaint, NoCommand, NoName, NoQuote}
 use Rattle.btx_bst.specs.Reads.{Read, Took, Slip}
 use Rattle.btx_bst.specs.Fronts.{len_till, ends_name, is_no_letter, is_quote, quote_len, letters_len}
 use Rattle.btx_bst.specs.Lists.{brace_in, front_of, name_in, text_of, quoted_in, letters_at}
-use Rattle.btx_bst.specs.TokenSpelling.{NoneIn, Begins, EndsBefore, IsUpTo, IsBlank, is_ink, AllWhite, InkIn, GapFrom, Gap, Spaced, IsMissing, SignHere, begins_name, NameHere, IsNoText, TextHere, LettersHere}
+use Rattle.btx_bst.specs.TokenSpelling.{NoneIn, Begins, EndsBefore, IsUpTo, IsBlank, is_ink, AllWhite, InkIn, GapFrom, Gap, Spaced, IsMissing, SignHere, NameHere, IsNoText, TextHere, LettersHere}
 
 -- ---- runs of bytes
 

@@ -2,6 +2,7 @@
 -- A command is its word and its arguments; the first thing that is wrong ends it, and then all is skipped up to the next empty line.
 use Rattle.std.specs.Prelude.{ℕ, ◌+◌, ◌≡◌, ◌⊎◌, ◌||◌, ◌==◌, Bool, true, false, List, [], ◌∷◌, ◌++◌, length, Option, None, Some}
 use Rattle.btx_text.specs.Bytes.{open_brace, close_brace}
+use Rattle.btx_text.specs.Class.{begins_name}
 use Rattle.btx_text.specs.Keys.{folded}
 use Rattle.btx_bst.specs.declared.callee.Callee.{Callee}
 use Rattle.btx_bst.specs.declared.callee.Kind.{Kind}
@@ -24,7 +25,7 @@ use Rattle.btx_bst.specs.StyleText.{State, state, start, style_of}
 use Rattle.btx_bst.specs.Spelling.{Parts, Fragment, complaint_in, made_by, made_till}
 use Rattle.btx_bst.specs.ItemSpelling.{AreFull}
 use Rattle.btx_bst.specs.Written.{AreNew, declared, made_in, with_body}
-use Rattle.btx_bst.specs.TokenSpelling.{Spelling, Gap, Spaced, IsMissing, SignHere, begins_name, NameHere, TextHere, LettersHere}
+use Rattle.btx_bst.specs.TokenSpelling.{Spelling, Gap, Spaced, IsMissing, SignHere, NameHere, TextHere, LettersHere}
 use Rattle.btx_bst.specs.WordSpelling.{AreParts, BreakOff}
 
 -- what is known, the place, and what it comes to from there

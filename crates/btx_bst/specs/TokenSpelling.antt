@@ -1,8 +1,8 @@
 -- How the words of a style are spelled: relations between two places of a text. What stands at the first is this, and the text goes on at the
 -- second; or this is wrong, and it is met at the second.
-use Rattle.std.specs.Prelude.{ℕ, ◌+◌, ◌≡◌, ◌==◌, ◌||◌, ◌&&◌, ◌⊎◌, Bool, true, false, not, List, [], ◌∷◌, ◌++◌}
+use Rattle.std.specs.Prelude.{ℕ, ◌+◌, ◌≡◌, ◌==◌, ◌||◌, ◌⊎◌, Bool, true, false, not, List, [], ◌∷◌, ◌++◌}
 use Rattle.btx_text.specs.Bytes.{double_quote, percent}
-use Rattle.btx_text.specs.Class.{is_white, is_digit, is_name_byte}
+use Rattle.btx_text.specs.Class.{is_white, begins_name}
 use Rattle.btx_bst.specs.Places.{Place, place_at, further}
 use Rattle.btx_bst.specs.Complaints.{Complaint, NoCommand, NoName, NoQuote, EndOfFile}
 use Rattle.btx_bst.specs.Reads.{Read, Took, Slip}
@@ -83,10 +83,6 @@ IsMissing test wrong complaint (b ∷ bs) = (test b ≡ false) × (complaint ≡
 abbrev pub SignHere : ℕ → Complaint → Spelling (Unit {0})
 SignHere sign wrong from (Took none to) = (rest : List ℕ) × (from.line ≡ sign ∷ rest) × (to ≡ further from rest)
 SignHere sign wrong from (Slip complaint to) = (to ≡ from) × IsMissing (λ b. b == sign) wrong complaint from.line
-
--- a byte with which a name begins: one of those of names, but no digit
-abbrev pub begins_name : ℕ → Bool
-begins_name b = is_name_byte b && not (is_digit b)
 
 -- a name stands here, which goes on up to the first byte that no name has; or there is none
 abbrev pub NameHere : Spelling (List ℕ)

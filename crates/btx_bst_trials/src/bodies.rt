@@ -1,8 +1,10 @@
-//! The bodies that texts come to.
-use crate::showing::{Row, Shown, wrong_rows};
+//! The bodies that texts come to, and the test of all rows.
+use crate::messages::{ARGUMENTS, COMMANDS, WORDS};
+use crate::showing::{Row, Shown, push_wrong_rows};
 use btx_text::Fault;
+use std::alloc::Global;
 
-const ROWS: [Row; 12] = [
+const BODIES: [Row; 12] = [
     (b"ENTRY {title}{}{} FUNCTION {misc}{} READ", b"0:\n"),
     (
         b"ENTRY {title}{}{} FUNCTION {misc}{} READ FUNCTION {f} {#1 {skip$} {} if$}",
@@ -41,9 +43,19 @@ const ROWS: [Row; 12] = [
     (b"FUNCTION {f} {#1{skip$} pop$}", b"0:\n"),
 ];
 
+// Every row that is shown otherwise.
+fn all_wrong_rows(alloc: Global) -> Result<Vec<u8>, Fault> {
+    let mut wrong = Vec::new(alloc);
+    push_wrong_rows(alloc, &BODIES, Shown::Bodies, &mut wrong)?;
+    push_wrong_rows(alloc, &COMMANDS, Shown::Items, &mut wrong)?;
+    push_wrong_rows(alloc, &ARGUMENTS, Shown::Items, &mut wrong)?;
+    push_wrong_rows(alloc, &WORDS, Shown::Items, &mut wrong)?;
+    Ok(wrong)
+}
+
 #[test]
-fn bodies(rt: HostRuntime) -> Result<(), Fault> {
-    let wrong = wrong_rows(rt.alloc(), &ROWS, Shown::Bodies)?;
+fn rows(rt: HostRuntime) -> Result<(), Fault> {
+    let wrong = all_wrong_rows(rt.alloc())?;
     assert!(rt; std::str::from_utf8(&wrong) == Ok(""));
     Ok(())
 }

@@ -1,5 +1,5 @@
 //! A style read and shown by each call.
-use btx_bst::{BuiltIn, Callee, Item, Style, Token, is_direct, read_style};
+use btx_bst::{BuiltIn, Callee, Style, Token, is_direct, read_style};
 use btx_text::Fault;
 use std::alloc::Global;
 use std::process::Abort;
@@ -26,54 +26,60 @@ const NOT_DIRECT: &[&[u8]] = &[
     b"FUNCTION {f} {} FUNCTION {g} {call.type$}",
 ];
 
-// The calls that take a name.
-fn names(rt: &impl Abort, style: &Style<'_>) {
-    assert!(rt; style.field(b"title") == Some(1));
-    assert!(rt; style.named(b"crossref") == Some(Callee::Field(0)));
-    assert!(rt; style.named(b"while$") == Some(Callee::BuiltIn(BuiltIn::While)));
-    assert!(rt; style.type_function(b"misc") == Some(0));
-    assert!(rt; style.type_function(b"f") == None);
-    assert!(rt; style.macro_text(b"jan").is_some() == true);
-    assert!(rt; style.name(Callee::User(2)) == b"f".as_slice());
-    assert!(rt; style.name(Callee::User(1)) == b"{}".as_slice());
-    assert!(rt; style.name(Callee::Field(1)) == b"title".as_slice());
+// What the calls that take a name answer: whether each is as it is to be. A test that asserts of a style itself takes long to prove, since each
+// assertion is a way out beside the style; so these answer plain values.
+fn names(style: &Style<'_>) -> [bool; 9] {
+    [
+        style.field(b"title") == Some(1),
+        style.named(b"crossref") == Some(Callee::Field(0)),
+        style.named(b"while$") == Some(Callee::BuiltIn(BuiltIn::While)),
+        style.type_function(b"misc") == Some(0),
+        style.type_function(b"f").is_none(),
+        style.macro_text(b"jan").is_some(),
+        style.name(Callee::User(2)) == b"f".as_slice(),
+        style.name(Callee::User(1)) == b"{}".as_slice(),
+        style.name(Callee::Field(1)) == b"title".as_slice(),
+    ]
 }
 
-// The calls that count.
-fn counts(rt: &impl Abort, style: &Style<'_>) {
-    assert!(rt; style.functions() == 3);
-    assert!(rt; style.items().len() == 11);
-    assert!(rt; style.fields() == 2);
-    assert!(rt; style.entry_integers() == 1);
-    assert!(rt; style.entry_strings() == 2);
-    assert!(rt; style.global_integers() == 3);
-    assert!(rt; style.global_strings() == 1);
-    assert!(rt; style.macros().len() == 1);
-    assert!(rt; style.text(0) == b"a".as_slice());
-    assert!(rt; style.text(1) == b"".as_slice());
+// What the calls that count answer: the functions, items, fields, integers and strings of entries, global integers and strings, and macros.
+fn counts(style: &Style<'_>) -> [usize; 8] {
+    [
+        style.functions(),
+        style.items().len(),
+        style.fields(),
+        style.entry_integers(),
+        style.entry_strings(),
+        style.global_integers(),
+        style.global_strings(),
+        style.macros().len(),
+    ]
+}
+
+// What a style holds: whether each is as it is to be.
+fn texts(style: &Style<'_>) -> [bool; 4] {
+    [
+        style.text(0) == b"a".as_slice(),
+        style.text(1) == b"".as_slice(),
+        style.file_name() == b"s.bst".as_slice(),
+        2 < style.functions() && style.body(2).first().copied() == Some(Token::Text(0)),
+    ]
+}
+
+// What the calls of the style above answer.
+type Answers = ([bool; 9], [usize; 8], [bool; 4]);
+
+fn answers(alloc: Global) -> Result<Answers, Fault> {
+    let style = read_style(alloc, b"s.bst", TEXT)?;
+    Ok((names(&style), counts(&style), texts(&style)))
 }
 
 #[test]
 fn a_style(rt: HostRuntime) -> Result<(), Fault> {
-    let style = read_style(rt.alloc(), b"s.bst", TEXT)?;
-    names(&rt, &style);
-    counts(&rt, &style);
-    assert!(rt; style.file_name() == b"s.bst".as_slice());
-    assert!(rt; 2 < style.functions());
-    assert!(rt; style.body(2).first().copied() == Some(Token::Text(0)));
-    Ok(())
-}
-
-#[test]
-fn a_message(rt: HostRuntime) -> Result<(), Fault> {
-    let style = read_style(rt.alloc(), b"s.bst", b"\nFUNCTION {f} {nosuch}")?;
-    if let Some(Item::Message(message)) = style.items().first() {
-        let line = message.log_line(rt.alloc(), style.file_name())?;
-        assert!(rt;
-            line.text() == b"Error--nosuch is an unknown function--line 2 of file s.bst".as_slice()
-        );
-    }
-    assert!(rt; style.items().len() == 2);
+    let (names, counts, texts) = answers(rt.alloc())?;
+    assert!(rt; names == [true; 9]);
+    assert!(rt; counts == [3, 11, 2, 1, 2, 3, 1, 1]);
+    assert!(rt; texts == [true; 4]);
     Ok(())
 }
 

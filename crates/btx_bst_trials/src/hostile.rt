@@ -72,32 +72,11 @@ fn every_cut(rt: HostRuntime) -> Result<(), Fault> {
     Ok(())
 }
 
+// An opening brace, a closing one, a quote, a comment, and zero.
 #[test]
-fn every_byte_an_opening_brace(rt: HostRuntime) -> Result<(), Fault> {
-    assert!(rt; replaced(rt.alloc(), b'{')? > 0);
-    Ok(())
-}
-
-#[test]
-fn every_byte_a_closing_brace(rt: HostRuntime) -> Result<(), Fault> {
-    assert!(rt; replaced(rt.alloc(), b'}')? > 0);
-    Ok(())
-}
-
-#[test]
-fn every_byte_a_quote(rt: HostRuntime) -> Result<(), Fault> {
-    assert!(rt; replaced(rt.alloc(), b'"')? > 0);
-    Ok(())
-}
-
-#[test]
-fn every_byte_a_comment(rt: HostRuntime) -> Result<(), Fault> {
-    assert!(rt; replaced(rt.alloc(), b'%')? > 0);
-    Ok(())
-}
-
-#[test]
-fn every_byte_zero(rt: HostRuntime) -> Result<(), Fault> {
-    assert!(rt; replaced(rt.alloc(), 0)? > 0);
+fn every_byte_replaced(rt: HostRuntime) -> Result<(), Fault> {
+    for byte in [b'{', b'}', b'"', b'%', 0] {
+        assert!(rt; replaced(rt.alloc(), byte)? > 0, "{byte}");
+    }
     Ok(())
 }

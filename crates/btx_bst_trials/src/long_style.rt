@@ -108,23 +108,32 @@ fn push_part(
     Ok(())
 }
 
+// A part for each of these words. They are handed to the loop: a loop over a constant has all of its text at each of its steps, and takes long
+// to prove.
+fn push_parts(text: &mut Vec<u8>, part: &[u8], words: &[&[u8]]) -> Result<(), AllocError> {
+    for word in words {
+        push_part(text, part, word, b"")?;
+    }
+    Ok(())
+}
+
+// A part for each type.
+fn push_types(text: &mut Vec<u8>, types: &[(&[u8], &[u8])]) -> Result<(), AllocError> {
+    for (kind, field) in types {
+        push_part(text, TYPE_PART, kind, field)?;
+    }
+    Ok(())
+}
+
 // The style.
 fn text(alloc: Global) -> Result<Vec<u8>, AllocError> {
     let mut text = Vec::from_slice(alloc, b"% a style of many parts\nENTRY\n{\n")?;
-    for field in FIELDS {
-        push_part(&mut text, b"  @\n", field, b"")?;
-    }
+    push_parts(&mut text, b"  @\n", &FIELDS)?;
     text.extend_from_slice(b"}\n{}\n{ label }\n\n")?;
-    for month in MONTHS {
-        push_part(&mut text, b"MACRO {@} {\"the month @\"}\n", month, b"")?;
-    }
+    push_parts(&mut text, b"MACRO {@} {\"the month @\"}\n", &MONTHS)?;
     text.extend_from_slice(HEAD)?;
-    for field in FIELDS {
-        push_part(&mut text, FIELD_PART, field, b"")?;
-    }
-    for (kind, field) in TYPES {
-        push_part(&mut text, TYPE_PART, kind, field)?;
-    }
+    push_parts(&mut text, FIELD_PART, &FIELDS)?;
+    push_types(&mut text, &TYPES)?;
     text.extend_from_slice(TAIL)?;
     Ok(text)
 }

@@ -1,9 +1,8 @@
 //! The items that texts come to: commands, and each message with its line, in the middle of a file and at its end.
-use crate::showing::{Row, Shown, wrong_rows};
-use btx_text::Fault;
+use crate::showing::Row;
 
 // Commands: what is no command, and what stands in a wrong place.
-const COMMANDS: [Row; 17] = [
+pub const COMMANDS: [Row; 17] = [
     (
         b"{x}",
         b"Error--I was expecting a command--line 1 of file s\n",
@@ -73,7 +72,7 @@ ENTRY\nError--Illegal, another ENTRY command--line 7 of file s\nREAD\n",
 ];
 
 // Arguments of commands.
-const ARGUMENTS: [Row; 33] = [
+pub const ARGUMENTS: [Row; 33] = [
     (
         b"FUNCTION f {}",
         b"Error--I was expecting a {--line 1 of file s\n",
@@ -206,7 +205,11 @@ const ARGUMENTS: [Row; 33] = [
 ];
 
 // Words of bodies.
-const WORDS: [Row; 23] = [
+pub const WORDS: [Row; 24] = [
+    (
+        b"\nFUNCTION {f} {nosuch}",
+        b"Error--nosuch is an unknown function--line 2 of file s\nFUNCTION f\n",
+    ),
     (
         b"FUNCTION {f} {f}",
         b"Error--f is an unknown function--line 1 of file s\nFUNCTION f\n",
@@ -301,24 +304,3 @@ Error--\x7f is an unknown function--line 1 of file s\nFUNCTION f\n",
         b"ENTRY\nFUNCTION misc\nREAD\nError--Illegal end of style file--line 1 of file s\n",
     ),
 ];
-
-#[test]
-fn commands(rt: HostRuntime) -> Result<(), Fault> {
-    let wrong = wrong_rows(rt.alloc(), &COMMANDS, Shown::Items)?;
-    assert!(rt; std::str::from_utf8(&wrong) == Ok(""));
-    Ok(())
-}
-
-#[test]
-fn arguments(rt: HostRuntime) -> Result<(), Fault> {
-    let wrong = wrong_rows(rt.alloc(), &ARGUMENTS, Shown::Items)?;
-    assert!(rt; std::str::from_utf8(&wrong) == Ok(""));
-    Ok(())
-}
-
-#[test]
-fn words(rt: HostRuntime) -> Result<(), Fault> {
-    let wrong = wrong_rows(rt.alloc(), &WORDS, Shown::Items)?;
-    assert!(rt; std::str::from_utf8(&wrong) == Ok(""));
-    Ok(())
-}

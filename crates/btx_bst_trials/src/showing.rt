@@ -47,18 +47,26 @@ pub enum Shown {
     Bodies,
 }
 
-/// Which of these rows are shown otherwise, each as it is shown.
-pub fn wrong_rows(alloc: Global, rows: &[Row], shown: Shown) -> Result<Vec<u8>, Fault> {
-    let mut wrong = Vec::new(alloc);
+/// Puts each of these rows that is shown otherwise behind the wrong ones, as it is shown.
+pub fn push_wrong_rows(
+    alloc: Global,
+    rows: &[Row],
+    shown: Shown,
+    wrong: &mut Vec<u8>,
+) -> Result<(), Fault> {
     for (text, wanted) in rows {
         let found = shown_of(alloc, text, shown)?;
         if found.as_slice() != *wanted {
-            wrong.extend_from_slice(text)?;
-            wrong.extend_from_slice(b"\n=>\n")?;
-            wrong.extend_from_slice(&found)?;
+            push_wrong_row(wrong, text, &found)?;
         }
     }
-    Ok(wrong)
+    Ok(())
+}
+
+fn push_wrong_row(wrong: &mut Vec<u8>, text: &[u8], found: &[u8]) -> Result<(), AllocError> {
+    wrong.extend_from_slice(text)?;
+    wrong.extend_from_slice(b"\n=>\n")?;
+    wrong.extend_from_slice(found)
 }
 
 fn push_item(

@@ -39,3 +39,4 @@ pub mod DirectBodies
 pub mod DirectLemmas
 pub mod DirectRuns
 pub mod MeaningRows
+pub mod ReportRows

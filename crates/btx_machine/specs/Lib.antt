@@ -10,6 +10,7 @@ pub mod Budgets
 pub mod Commands
 pub mod Items
 pub mod Reports
+pub mod WorkedReports
 pub mod Product
 pub mod ProductLaws
 pub mod StepsNeeded

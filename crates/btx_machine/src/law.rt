@@ -5,6 +5,7 @@ ghost use Rattle.btx_machine.specs.MeaningLaws.{ExistsLaw, LimitsLaw, UniqueLaw}
 ghost use Rattle.btx_machine.specs.ProductLaws.{DepthLaw, RunLaw};
 ghost use Rattle.btx_machine.specs.StepsNeeded.{NeedsLaw, StoppedLaw};
 ghost use Rattle.btx_machine.specs.WorkedBodies.{WorkedBodies};
+ghost use Rattle.btx_machine.specs.WorkedReports.{AreNamed, AreWritten, limits, reports};
 
 /// Each style has a meaning: the one that the contracts speak of meets the equations that a style writer knows.
 pub fn meaning_exists()
@@ -49,4 +50,10 @@ pub fn direct_law()
 /// What short bodies come to: how many steps they take, how many bodies are open at once, and which limits they meet.
 pub fn worked_bodies_come_to_this()
     ensures { WorkedBodies }
+{}
+
+/// The last line of the log, and the status, of each way in which a run ends, and the words for each limit of a step.
+pub fn worked_reports_are_written_so()
+    ensures written { AreWritten reports }
+    ensures named { AreNamed limits }
 {}

@@ -70,6 +70,10 @@ sorted_entries : IsSo jobs.sorted_entries
 unfolding computes
 sorted_entries = refl
 
+reversed_entries : IsSo jobs.reversed_entries
+unfolding computes
+reversed_entries = refl
+
 macros : IsSo jobs.macros
 unfolding computes
 macros = refl
@@ -102,6 +106,10 @@ error_of_a_database : IsSo jobs.error_of_a_database
 unfolding computes
 error_of_a_database = refl
 
+messages_in_order : IsSo jobs.messages_in_order
+unfolding computes
+messages_in_order = refl
+
 leftover : IsSo jobs.leftover
 unfolding computes
 leftover = refl
@@ -118,9 +126,13 @@ too_deep : IsSo jobs.too_deep
 unfolding computes
 too_deep = refl
 
+too_many_literals : IsSo jobs.too_many_literals
+unfolding computes
+too_many_literals = refl
+
 too_many_open : IsSo jobs.too_many_open
 unfolding computes
 too_many_open = refl
 
 pub holds : AreSo jobs.worked_jobs
-holds = (a_citation, (cross_references, (fewer_references, (all_entries, (sorted_entries, (macros, (broken_lines, (no_top_file, (no_style, (missing_database, (undefined_key, (error_of_a_style, (error_of_a_database, (leftover, (warned, (stopped, (too_deep, (too_many_open, tt))))))))))))))))))
+holds = (a_citation, (cross_references, (fewer_references, (all_entries, (sorted_entries, (reversed_entries, (macros, (broken_lines, (no_top_file, (no_style, (missing_database, (undefined_key, (error_of_a_style, (error_of_a_database, (messages_in_order, (leftover, (warned, (stopped, (too_deep, (too_many_literals, (too_many_open, tt)))))))))))))))))))))

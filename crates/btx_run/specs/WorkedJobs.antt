@@ -115,6 +115,15 @@ sorted_entries =
     usual
     (codes "a\nb\n") (found ++ codes "Ended: finished, warnings 0, errors 0, steps 16\n") 0
 
+-- REVERSE goes through the entries from the last to the first, and what follows it doesn't
+abbrev pub reversed_entries : WorkedJob
+reversed_entries =
+    worked
+    (cites (codes "a,b") (codes "d") ∷ style (codes "FUNCTION {f} {cite$ write$ newline$} REVERSE {f} ITERATE {f}")
+    ∷ database (codes "@misc{a}\n@misc{b}\n") ∷ [])
+    usual
+    (codes "b\na\na\nb\n") (found ++ codes "Ended: finished, warnings 0, errors 0, steps 16\n") 0
+
 -- the macros of a style and of a database stand for their texts
 abbrev pub macros : WorkedJob
 macros =
@@ -196,6 +205,20 @@ error_of_a_database =
     (found ++ codes "Error--Repeated entry--line 2 of file d.bib\nEnded: finished, warnings 0, errors 1, steps 4\n")
     2
 
+-- the log has the messages of the databases first, then those of cross-references, and then those of keys without an entry
+abbrev pub messages_in_order : WorkedJob
+messages_in_order =
+    worked
+    (cites (codes "gone,a") (codes "d,e") ∷ style (codes "FUNCTION {f} {cite$ write$ newline$} ITERATE {f}")
+    ∷ database (codes "@misc{a, crossref = {p}}\n") ∷ (codes "e.bib", codes "\n@other{a}\n") ∷ [])
+    usual
+    (codes "a\n")
+    (found ++ codes "Database file #2: e.bib\nError--Repeated entry--line 2 of file e.bib\n"
+    ++ codes "Error--A bad cross reference--entry \"a\" refers to entry \"p\", which doesn't exist\n"
+    ++ codes "Warning--I didn't find a database entry for \"gone\"\nWarning--I didn't find a database entry for \"p\"\n"
+    ++ codes "Ended: finished, warnings 2, errors 2, steps 4\n")
+    2
+
 -- what a function leaves on the stack is an error, with its values
 abbrev pub leftover : WorkedJob
 leftover =
@@ -237,6 +260,15 @@ too_deep =
     (options 100000 2 79)
     [] (found ++ codes "Ended: limit calls, warnings 0, errors 0, steps 24573\n") 3
 
+-- the literal stack holds 1,000 literals at most
+abbrev pub too_many_literals : WorkedJob
+too_many_literals =
+    worked
+    (cites (codes "k") (codes "d") ∷ style (codes "FUNCTION {f} {{#1} {#5} while$} EXECUTE {f}")
+    ∷ database (codes "@misc{k, title = {T}}\n") ∷ [])
+    (options 100000 2 79)
+    [] (found ++ codes "Ended: limit literals, warnings 0, errors 0, steps 4006\n") 3
+
 -- at most 20 `.aux` files are open at once
 abbrev pub too_many_open : WorkedJob
 too_many_open =
@@ -262,12 +294,12 @@ too_many_open =
 
 -- ---- all of them
 
--- the eighteen jobs
+-- all of these jobs
 abbrev pub worked_jobs : List WorkedJob
 worked_jobs =
-    a_citation ∷ cross_references ∷ fewer_references ∷ all_entries ∷ sorted_entries ∷ macros ∷ broken_lines
-    ∷ no_top_file ∷ no_style ∷ missing_database ∷ undefined_key ∷ error_of_a_style ∷ error_of_a_database ∷ leftover ∷ warned
-    ∷ stopped ∷ too_deep ∷ too_many_open ∷ []
+    a_citation ∷ cross_references ∷ fewer_references ∷ all_entries ∷ sorted_entries ∷ reversed_entries ∷ macros ∷ broken_lines
+    ∷ no_top_file ∷ no_style ∷ missing_database ∷ undefined_key ∷ error_of_a_style ∷ error_of_a_database ∷ messages_in_order ∷ leftover ∷ warned
+    ∷ stopped ∷ too_deep ∷ too_many_literals ∷ too_many_open ∷ []
 
 -- each of these jobs comes to what is said
 abbrev pub AreSo : List WorkedJob → Type 0

@@ -21,7 +21,7 @@ pub fn direct_law()
     ensures { DirectLaw }
 {}
 
-/// What eighteen short jobs come to, each from the bytes of its files to its list, its log and its status: as the rules say, worked without
+/// What short jobs come to, each from the bytes of its files to its list, its log and its status: as the rules say, worked without
 /// the definition.
 pub fn worked_jobs_come_to_this()
     ensures { AreSo worked_jobs }

@@ -7,3 +7,5 @@ pub mod Few
 pub mod LongStrings
 pub mod Depths
 pub mod LongDepths
+pub mod Alone
+pub mod PartlyLemmas

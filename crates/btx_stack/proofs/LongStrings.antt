@@ -26,7 +26,7 @@ plain_shown (content.Function f) large p = refl
 plain_shown content.Missing large p = refl
 plain_shown (content.Large i) large p = cc
 
-plain_before : (x : Content) (large : List (List ℕ)) → is_large x ≡ false → before x large ≡ large
+pub plain_before : (x : Content) (large : List (List ℕ)) → is_large x ≡ false → before x large ≡ large
 plain_before (content.Integer n) large p = refl
 plain_before (content.Text t) large p = refl
 plain_before (content.Function f) large p = refl
@@ -40,7 +40,7 @@ owns_put (content.Function f) xs n p o = o
 owns_put content.Missing xs n p o = o
 owns_put (content.Large i) xs n p o = cc
 
-owns_off : (x : Content) (xs : List Content) (n : ℕ) → is_large x ≡ false → Owns (x ∷ xs) n → Owns xs n
+pub owns_off : (x : Content) (xs : List Content) (n : ℕ) → is_large x ≡ false → Owns (x ∷ xs) n → Owns xs n
 owns_off (content.Integer m) xs n p o = o
 owns_off (content.Text t) xs n p o = o
 owns_off (content.Function f) xs n p o = o

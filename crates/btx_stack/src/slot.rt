@@ -1,5 +1,6 @@
 //! A literal as the stack keeps it.
 ghost use Rattle.std.specs.Prelude.{◌≡◌, ◌≤◌, length, IsTrue, drop, take};
+ghost use Rattle.std.specs.Str.{bytes_eq};
 ghost use Rattle.btx_text.specs.Limits.{greatest_string};
 ghost use Rattle.btx_code.specs.Ops.{callee_of, Runs};
 ghost use Rattle.btx_stack.specs.Slots.{IsPlain, IsMade, is_text_kind, is_large_kind, are_large_kinds, content_of, text_of};
@@ -47,6 +48,18 @@ pub fn are_large(a: Kind, b: Kind) -> bool
     ensures { result ≡ are_large_kinds a b }
 {
     a == Kind::Large && b == Kind::Large
+}
+
+/// Whether the two strings on top, of which `a` is the top one, are the same.
+#[inline(always)]
+pub fn are_same(pool: &[u8], a: &Slot<'_>, b: &Slot<'_>) -> bool
+    requires top { IsTrue (is_text_kind a.now.kind) }
+    requires below { IsTrue (is_text_kind b.now.kind) }
+    requires in_order { b.now.start ≤ a.now.start }
+    requires within { a.now.start ≤ length pool.now }
+    ensures { result ≡ bytes_eq (text_of b.now (drop b.now.start (take a.now.start pool.now))) (text_of a.now (drop a.now.start pool.now)) }
+{
+    b.text(pool, a.start as usize) == a.text(pool, pool.len())
 }
 
 /// A literal, but for the bytes of a string that was made. Each field but `kind` and `start` has a meaning for some kinds alone.

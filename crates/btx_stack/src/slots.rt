@@ -1,14 +1,14 @@
 //! The stack of slots over one pool of bytes, below the layer of long strings.
-ghost use Rattle.std.specs.Prelude.{◌≡◌, ◌≤◌, ◌<◌, ◌+◌, [], ◌∷◌, length, drop, IfOk, IfSome, OnErr, IsSome, is_some, IsTrue};
+ghost use Rattle.std.specs.Prelude.{◌≡◌, ◌≤◌, ◌<◌, ◌+◌, [], ◌∷◌, length, drop, IfOk, IfSome, IfNone, OnErr, IsSome, is_some, IsTrue};
 ghost use Rattle.btx_text.specs.Limits.{greatest_string};
 ghost use Rattle.btx_code.specs.Ops.{callee_of, Runs};
 ghost use Rattle.btx_stack.specs.Slots.{greatest_short};
-ghost use Rattle.btx_stack.specs.Steps.{Steps, Gives, large_on, integer_on, has_function, has_missing, plain_on, plain_off, pushed, below_top, has_text, joined, swapped, duplicated};
+ghost use Rattle.btx_stack.specs.Steps.{Steps, Partly, Gives, compared, put_for_integers, replaced, below_choice, one_if, large_on, integer_on, has_function, has_missing, plain_on, plain_off, pushed, below_top, has_text, joined, swapped, duplicated};
 ghost use Rattle.btx_stack.specs.Content as content;
 
 use crate::literal::Literal;
 use crate::pool::{again, append_two, exchange, put_before};
-use crate::slot::{Kind, Slot, are_large};
+use crate::slot::{Kind, Slot, are_large, are_same};
 use crate::variable::Variable;
 use btx_code::Op;
 use btx_code::op::Function;
@@ -137,6 +137,7 @@ impl<'a> Slots<'a> {
 
     /// Pushes a copy of `bytes` and answers true, or answers false where there is no room.
     #[tactic(auto, using(crate::proofs::Pushes::small, crate::proofs::Pushes::full, crate::proofs::Pushes::push_there))]
+    #[inline(always)]
     pub fn push_made(&mut self, bytes: &[u8]) -> Result<bool, AllocError>
         requires { length bytes.now ≤ greatest_short }
         ensures steps { IfOk result (λ done. Steps done self.old (pushed (content.Text bytes.now) self.old) self.new) }
@@ -230,6 +231,52 @@ impl<'a> Slots<'a> {
         self.top = at + 1;
     }
 
+    /// Pops the function on top and answers it, by its op and its number; or answers none where none stands there, and changes nothing.
+    #[tactic(auto, using(crate::proofs::Alone::function_off, crate::proofs::Alone::function_off_stands, crate::proofs::Alone::function_off_runs))]
+    #[inline(always)]
+    pub fn take_function(&mut self) -> Option<Function>
+        ensures some { IfSome result (λ f. self.old ≡ content.Function (callee_of f.op f.number) ∷ self.new) }
+        ensures runs { IfSome result (λ f. Runs f.op) }
+        ensures none { IfNone result (self.new ≡ self.old) }
+    {
+        let at = self.top;
+        if at == 1000 {
+            return None;
+        }
+        let a = self.all[at];
+        match a.kind {
+            Kind::Function => {
+                self.top = at + 1;
+                Some(Function {
+                    op: a.op,
+                    number: a.number,
+                })
+            }
+            _ => None,
+        }
+    }
+
+    /// Pops the integer on top and answers it; or answers none where none stands there, and changes nothing.
+    #[tactic(auto, using(crate::proofs::Alone::integer_off, crate::proofs::Alone::integer_off_stands))]
+    #[inline(always)]
+    pub fn take_integer(&mut self) -> Option<i32>
+        ensures some { IfSome result (λ n. self.old ≡ content.Integer n ∷ self.new) }
+        ensures none { IfNone result (self.new ≡ self.old) }
+    {
+        let at = self.top;
+        if at == 1000 {
+            return None;
+        }
+        let a = self.all[at];
+        match a.kind {
+            Kind::Integer => {
+                self.top = at + 1;
+                Some(a.integer)
+            }
+            _ => None,
+        }
+    }
+
     /// The bytes of the string `depth` below the top, if one stands there that isn't a long one.
     #[tactic(auto, using(crate::proofs::Depths::end_top, crate::proofs::Depths::end_above, crate::proofs::Depths::depth_within, crate::proofs::Depths::depth_low, crate::proofs::Depths::depth_text, crate::proofs::Depths::depth_kind, crate::proofs::Depths::no_text_there))]
     #[inline(always)]
@@ -317,6 +364,118 @@ impl<'a> Slots<'a> {
         match slot.kind {
             Kind::Large => Some(slot.number),
             _ => None,
+        }
+    }
+
+    /// Compares the two integers or the two strings on top, replaces them by 1 where they are equal and by 0 where not, and answers true; or answers false
+    /// where they are neither, or one is a long string.
+    #[tactic(auto, using(crate::proofs::Alone::integers_compared, crate::proofs::Alone::integers_stand, crate::proofs::Alone::texts_compared, crate::proofs::Alone::texts_stand, crate::proofs::Alone::first_within, crate::proofs::Alone::second_within))]
+    #[inline(always)]
+    pub fn equal(&mut self) -> bool
+        ensures { Partly result self.old (compared self.old) self.new }
+    {
+        let at = self.top;
+        if at >= 999 {
+            return false;
+        }
+        let a = self.all[at];
+        let b = self.all[at + 1];
+        if !b.kind.is_text() {
+            return self.equal_integers();
+        }
+        if !a.kind.is_text() {
+            return false;
+        }
+        let same = are_same(&self.pool, &a, &b);
+        self.pool.truncate(b.start as usize);
+        self.all[at + 1].set_integer(truth(same), b.start);
+        self.top = at + 1;
+        true
+    }
+
+    // The same of integers.
+    #[tactic(auto, using(crate::proofs::Alone::integers_compared, crate::proofs::Alone::integers_stand))]
+    #[inline(always)]
+    fn equal_integers(&mut self) -> bool
+        ensures { Partly result self.old (compared self.old) self.new }
+    {
+        let at = self.top;
+        if at >= 999 {
+            return false;
+        }
+        let a = self.all[at];
+        let b = self.all[at + 1];
+        match (b.kind, a.kind) {
+            (Kind::Integer, Kind::Integer) => {
+                self.all[at + 1].set_integer(truth(b.integer == a.integer), b.start);
+                self.top = at + 1;
+                true
+            }
+            _ => false,
+        }
+    }
+
+    /// Replaces the two integers on top by this one and answers true, or answers false where there are no two integers on top.
+    #[tactic(auto, using(crate::proofs::Alone::integers_replaced, crate::proofs::Alone::integers_stand))]
+    #[inline(always)]
+    pub fn put_for_integers(&mut self, integer: i32) -> bool
+        ensures { Partly result self.old (put_for_integers integer self.old) self.new }
+    {
+        let at = self.top;
+        if at >= 999 {
+            return false;
+        }
+        let a = self.all[at];
+        let b = self.all[at + 1];
+        match (b.kind, a.kind) {
+            (Kind::Integer, Kind::Integer) => {
+                self.all[at + 1].set_integer(integer, b.start);
+                self.top = at + 1;
+                true
+            }
+            _ => false,
+        }
+    }
+
+    /// Replaces what stands on top by an integer and answers true, or answers false where nothing does, or it is a long string.
+    #[tactic(auto, using(crate::proofs::Alone::replaced_here))]
+    #[inline(always)]
+    pub fn replace_integer(&mut self, integer: i32) -> bool
+        ensures { Partly result self.old (replaced (content.Integer integer) self.old) self.new }
+    {
+        let at = self.top;
+        if at == 1000 {
+            return false;
+        }
+        let a = self.all[at];
+        if a.kind.is_large() {
+            return false;
+        }
+        let start = a.start;
+        self.pool.truncate(start as usize);
+        self.all[at].set_integer(integer, start);
+        true
+    }
+
+    /// Pops the operands of `if$`, two functions and an integer below them, and answers true; or answers false where others stand on top.
+    #[tactic(auto, using(crate::proofs::Alone::choice_off, crate::proofs::Alone::choice_stands))]
+    #[inline(always)]
+    pub fn drop_choice(&mut self) -> bool
+        ensures { Partly result self.old (below_choice self.old) self.new }
+    {
+        let at = self.top;
+        if at >= 998 {
+            return false;
+        }
+        let a = self.all[at];
+        let b = self.all[at + 1];
+        let c = self.all[at + 2];
+        match (c.kind, b.kind, a.kind) {
+            (Kind::Integer, Kind::Function, Kind::Function) => {
+                self.top = at + 3;
+                true
+            }
+            _ => false,
         }
     }
 
@@ -459,4 +618,12 @@ impl<'a> Slots<'a> {
             _ => Ok(false),
         }
     }
+}
+
+// The truth as an integer.
+#[inline(always)]
+fn truth(is_true: bool) -> i32
+    ensures { result ≡ one_if is_true }
+{
+    if is_true { 1 } else { 0 }
 }

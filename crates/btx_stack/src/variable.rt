@@ -3,6 +3,7 @@ ghost use Rattle.std.specs.Prelude.{◌≡◌, ◌≤◌, [], length, IfOk, IfSo
 ghost use Rattle.btx_text.specs.Limits.{greatest_string};
 ghost use Rattle.btx_stack.specs.Slots.{greatest_short};
 
+use crate::slots::GREATEST_SHORT;
 use btx_text::Text;
 use std::alloc::{AllocError, Global};
 use std::marker::Model;
@@ -125,5 +126,15 @@ impl<'a> Variable<'a> {
         self.large = text.share()?;
         self.source = Source::Large;
         Ok(())
+    }
+
+    /// Sets the value to a string: a short one is copied, a long one is shared from now on.
+    pub fn set(&mut self, text: Text<'a>) -> Result<(), AllocError>
+        ensures { OnOk result (self.new ≡ text.entry) }
+    {
+        if text.len() > GREATEST_SHORT {
+            return self.share(text);
+        }
+        self.keep(text.as_bytes())
     }
 }

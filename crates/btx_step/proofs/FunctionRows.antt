@@ -38,7 +38,7 @@ integers-worked = (refl, (refl, (refl, (refl, (refl, (refl, (refl, (refl, (refl,
 
 pub strings-worked : AreSo (job Bytes) outside one_below row.strings
 unfolding named_lower built_in_of built_ins run_of built_in_run form_of not_ascii_text place_of text_of kind_of has_place line_of mark_of digits elements_of elements_from kind_at group_len class_of control_name glyphs_from glyphs_of letters_of without_white cased_parts cased_control take_characters control_width
-strings-worked = (refl, (refl, (refl, (refl, (refl, (refl, (refl, (refl, (refl, (refl, (refl, (refl, (refl, (refl, (refl, (refl, (refl, (refl, (refl, (refl, (refl, (refl, (refl, (refl, (refl, (refl, (refl, (refl, (refl, (refl, (refl, (refl, tt))))))))))))))))))))))))))))))))
+strings-worked = (refl, (refl, (refl, (refl, (refl, (refl, (refl, (refl, (refl, (refl, (refl, (refl, (refl, (refl, (refl, (refl, (refl, (refl, (refl, (refl, (refl, (refl, (refl, (refl, (refl, (refl, (refl, (refl, (refl, (refl, (refl, (refl, (refl, (refl, tt))))))))))))))))))))))))))))))))))
 
 pub names-worked : AreSo (job Bytes) outside one_below row.names
 unfolding named_lower built_in_of built_ins run_of built_in_run form_of not_ascii_text place_of text_of kind_of has_place line_of mark_of digits elements_of elements_from kind_at group_len is_separator pieces_from names_of run_len tokens_from tokens_of letters_of is_lower_special first_is_lower is_von split_at_comma sections_of ends_in_comma before_final up_to_last before_first part_named piece_item inside_item group_item items_from items_of initial_of between_text with_tokens finished piece_text names_before nth_name one_name_text one_name_complaints

@@ -4,8 +4,8 @@ use Rattle.btx_bst.specs.declared.built_in.BuiltIn.{BuiltIn}
 use Rattle.btx_bst.specs.declared.built_in.BuiltIn.TheVariants as built_in
 use Rattle.btx_step.specs.declared.calculation.Calculation.{Calculation}
 use Rattle.btx_step.specs.declared.calculation.Calculation.TheVariants.{Greater, Less, Plus, Minus}
-use Rattle.btx_step.specs.declared.literal.Literal.{Literal}
-use Rattle.btx_step.specs.declared.literal.Literal.TheVariants.{Integer, Text}
+use Rattle.btx_stack.specs.declared.literal.Literal.{Literal}
+use Rattle.btx_stack.specs.declared.literal.Literal.TheVariants.{Integer, Text}
 use Rattle.btx_step.specs.declared.next.Next.{Next}
 use Rattle.btx_step.specs.declared.next.Next.TheVariants as next
 use Rattle.btx_step.specs.declared.next.Limit.TheVariants as limit

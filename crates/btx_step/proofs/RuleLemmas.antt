@@ -1,7 +1,7 @@
 -- What holds of a function by the rule of operands, from what holds of it on operands that fit.
 use Rattle.std.proofs.Common.{List, [], ◌∷◌, length, drop, Option, Some, None}
-use Rattle.btx_step.specs.declared.literal.Literal.{Literal}
-use Rattle.btx_step.specs.declared.literal.Literal.TheVariants as literal
+use Rattle.btx_stack.specs.declared.literal.Literal.{Literal}
+use Rattle.btx_stack.specs.declared.literal.Literal.TheVariants as literal
 use Rattle.btx_step.specs.declared.literal.Wanted.TheVariants as wanted
 use Rattle.btx_step.specs.declared.said.Note.{Note}
 use Rattle.btx_step.specs.declared.stand_in.StandIn.{StandIn}

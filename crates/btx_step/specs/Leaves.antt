@@ -4,7 +4,7 @@ use Rattle.btx_bst.specs.declared.built_in.BuiltIn.TheVariants as built_in
 use Rattle.btx_bst.specs.declared.callee.Callee.TheVariants as callee
 use Rattle.btx_bst.specs.declared.token.Token.{Token}
 use Rattle.btx_bst.specs.declared.token.Token.TheVariants as token
-use Rattle.btx_step.specs.declared.literal.Literal.{Literal}
+use Rattle.btx_stack.specs.declared.literal.Literal.{Literal}
 use Rattle.btx_step.specs.Jobs.{Job}
 use Rattle.btx_step.specs.Stores.{Store}
 use Rattle.btx_step.specs.Answers.{with_literals}

@@ -7,8 +7,8 @@ use Rattle.btx_text.specs.declared.log_line.LineKind.TheVariants.{Plain, Warning
 use Rattle.btx_text.specs.LogLines.{Line, message}
 use Rattle.btx_bst.specs.Names.{name_of}
 use Rattle.btx_bst.specs.Style.{Style}
-use Rattle.btx_step.specs.declared.literal.Literal.{Literal}
-use Rattle.btx_step.specs.declared.literal.Literal.TheVariants as literal
+use Rattle.btx_stack.specs.declared.literal.Literal.{Literal}
+use Rattle.btx_stack.specs.declared.literal.Literal.TheVariants as literal
 use Rattle.btx_step.specs.declared.literal.Wanted.{Wanted}
 use Rattle.btx_step.specs.declared.literal.Wanted.TheVariants as wanted
 use Rattle.btx_step.specs.declared.said.Note.{Note}

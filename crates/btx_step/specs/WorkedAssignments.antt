@@ -4,7 +4,7 @@ use Rattle.btx_text.specs.declared.element_kind.TextMode.TheVariants.{Bytes}
 use Rattle.btx_bst.specs.declared.built_in.BuiltIn.TheVariants as built_in
 use Rattle.btx_bst.specs.declared.callee.Callee.{Callee}
 use Rattle.btx_bst.specs.declared.callee.Callee.TheVariants.{BuiltIn, Field, EntryInteger, EntryString, GlobalInteger, GlobalString}
-use Rattle.btx_step.specs.declared.literal.Literal.{Literal}
+use Rattle.btx_stack.specs.declared.literal.Literal.{Literal}
 use Rattle.btx_step.specs.declared.next.Next.TheVariants.{Nothing}
 use Rattle.btx_step.specs.Stores.{Values}
 use Rattle.btx_step.specs.Control.{Tested, tested}

@@ -3,8 +3,8 @@
 use Prim.Native.String.{String}
 use Rattle.std.specs.Prelude.{ℕ, ◌≡◌, List, [], ◌∷◌, ◌++◌, replicate, Option, codes}
 use Rattle.btx_bst.specs.Names.{named_lower}
-use Rattle.btx_step.specs.declared.literal.Literal.{Literal}
-use Rattle.btx_step.specs.declared.literal.Literal.TheVariants as literal
+use Rattle.btx_stack.specs.declared.literal.Literal.{Literal}
+use Rattle.btx_stack.specs.declared.literal.Literal.TheVariants as literal
 use Rattle.btx_step.specs.declared.next.Limit.TheVariants.{Literals}
 use Rattle.btx_step.specs.declared.next.Next.{Next}
 use Rattle.btx_step.specs.declared.next.Next.TheVariants.{Nothing, End, Run, Open, Loop}
@@ -115,6 +115,9 @@ strings =
     ∷ gives "change.case$" (string "l" ∷ string "The {TeX}book: A {\\AE}ON" ∷ []) (string "the {TeX}book: a {\\ae}on" ∷ [])
     ∷ gives "change.case$" (string "u" ∷ string "The {TeX}book: A {\\ae}on" ∷ []) (string "THE {TeX}BOOK: A {\\AE}ON" ∷ [])
     ∷ gives "change.case$" (string "U" ∷ string "a" ∷ []) (string "A" ∷ [])
+    -- foreign control sequences have a case, and no others
+    ∷ gives "change.case$" (string "l" ∷ string "{\\O\\OE\\AE\\AA\\L} {\\RELAX}" ∷ []) (string "{\\o\\oe\\ae\\aa\\l} {\\RELAX}" ∷ [])
+    ∷ gives "change.case$" (string "u" ∷ string "{\\o\\oe\\ae\\aa\\l} {\\i\\j\\ss} {\\relax}" ∷ []) (string "{\\O\\OE\\AE\\AA\\L} {IJSS} {\\relax}" ∷ [])
     ∷ errs "change.case$" (string "x" ∷ string "Ab" ∷ []) (string "Ab" ∷ []) "\"x\" is an illegal case-conversion string"
     ∷ gives "empty$" (missing ∷ []) (number 1 ∷ [])
     ∷ gives "empty$" (string "" ∷ []) (number 1 ∷ [])

@@ -1,16 +1,5 @@
-//! What stands on the literal stack.
-use btx_bst::Callee;
-use btx_text::Text;
-use std::alloc::{AllocError, Global};
-
-/// A literal: an integer, a string, a function, or what a field has that is missing in its entry.
-#[derive(Drop)]
-pub enum Literal<'a> {
-    Integer(i32),
-    Text(Text<'a>),
-    Function(Callee),
-    Missing,
-}
+//! What stands on the literal stack, and what functions take of it.
+pub use btx_stack::Literal;
 
 /// A kind of literal that a built-in function takes.
 #[derive(Clone, Copy, PartialEq, Eq, Debug)]
@@ -19,30 +8,4 @@ pub enum Wanted {
     Text,
     Function,
     TextOrMissing,
-}
-
-impl<'a> Literal<'a> {
-    ghost use Rattle.std.specs.Prelude.{◌≡◌, IfOk};
-
-    /// The same literal, of which copies take no more memory.
-    pub fn share(self) -> Result<Literal<'a>, AllocError>
-        ensures { IfOk result (λ value. value ≡ self.entry) }
-    {
-        match self {
-            Literal::Text(text) => Ok(Literal::Text(text.share()?)),
-            value => Ok(value),
-        }
-    }
-
-    /// The same literal once more.
-    pub fn copy(&self, alloc: Global) -> Result<Literal<'a>, AllocError>
-        ensures { IfOk result (λ value. value ≡ self.now) }
-    {
-        match self {
-            Literal::Integer(n) => Ok(Literal::Integer(*n)),
-            Literal::Text(text) => Ok(Literal::Text(text.copy(alloc)?)),
-            Literal::Function(function) => Ok(Literal::Function(*function)),
-            Literal::Missing => Ok(Literal::Missing),
-        }
-    }
 }

@@ -1,9 +1,11 @@
 //! The literals, the variables and the current entry, and what functions do to them.
 ghost use Rattle.std.specs.Prelude.{◌≡◌, ◌≤◌, ◌==◌, [], ◌∷◌, IfOk, IfSome, IfNone, length};
 ghost use Rattle.btx_step.specs.Answers.{answer, quiet, silence, pushes, pushed, pushed_text, complained, complains, lacks, refuses, outside, truth, with_literals};
+ghost use Rattle.btx_text.specs.Limits.{greatest_string};
 ghost use Rattle.btx_step.specs.Control.{tested, tested_as};
+ghost use Rattle.btx_step.specs.Quick.{next_of_push};
 ghost use Rattle.btx_step.specs.Steps.{built_in_run, run_of, step_of, with_current, with_depth};
-ghost use Rattle.btx_step.specs.declared.literal.Literal.TheVariants as literal;
+ghost use Rattle.btx_stack.specs.declared.literal.Literal.TheVariants as literal;
 ghost use Rattle.btx_step.specs.declared.said.Said.{Said as Words};
 ghost use Rattle.btx_step.specs.declared.said.Said.TheVariants as words;
 ghost use Rattle.btx_step.specs.declared.next.Next.TheVariants as following;
@@ -22,26 +24,23 @@ use crate::calculation::Calculation;
 use crate::job::Job;
 use crate::literal::{Literal, Wanted};
 use crate::next::{Limit, Next};
-use crate::reserved::Reserved;
 use crate::said::{Note, Notes, Said};
 use crate::stand_in::StandIn;
 use crate::values::Values;
 use btx_bst::{BuiltIn, Callee, Token};
 use btx_names::NameFormatter;
-use btx_text::{GREATEST_STRING, Text};
+use btx_stack::{Literals, Variable};
+use btx_text::GREATEST_STRING;
 use std::alloc::{AllocError, Global};
 use std::marker::Model;
-
-// The greatest number of literals.
-const GREATEST_STACK: usize = 1000;
 
 /// The literals, the variables, the current entry if there is one, and the greatest number of bodies that were open at once.
 #[derive(Drop)]
 pub struct Store<'a> {
     alloc: Global,
-    literals: Reserved<Literal<'a>, 1000>,
+    literals: Literals<'a>,
     integers: Vec<i32>,
-    strings: Vec<Text<'a>>,
+    strings: Vec<Variable<'a>>,
     entries: Vec<Values<'a>>,
     current: Option<usize>,
     deepest: usize,
@@ -78,8 +77,8 @@ impl<'a> Store<'a> {
     {
         match token {
             Token::Text(number) => Ok(self.push_text(job.style().text(number))),
-            Token::Integer(n) => Ok(self.push(Literal::Integer(n))),
-            Token::Quote(function) => Ok(self.push(Literal::Function(function))),
+            Token::Integer(n) => Ok(self.push_number(n)),
+            Token::Quote(function) => self.push(Literal::Function(function)),
             Token::Run(function) => self.run(job, function, said),
         }
     }
@@ -201,26 +200,49 @@ impl<'a> Store<'a> {
     }
 
     /// Takes the top literal off.
-    pub fn pop(&mut self) -> Option<Literal<'a>>
-        ensures some { IfSome result (λ value. self.old.literals ≡ value ∷ self.new.literals) }
-        ensures none { IfNone result (self.old.literals ≡ []) }
-        ensures below { IfNone result (self.new.literals ≡ []) }
+    pub fn pop(&mut self) -> Result<Option<Literal<'a>>, AllocError>
+        ensures some { IfOk result (λ top. IfSome top (λ value. self.old.literals ≡ value ∷ self.new.literals)) }
+        ensures none { IfOk result (λ top. IfNone top (self.old.literals ≡ [])) }
+        ensures below { IfOk result (λ top. IfNone top (self.new.literals ≡ [])) }
         ensures rest { with_literals [] self.new ≡ with_literals [] self.old }
     {
-        self.literals.pop()
+        self.literals.pop(self.alloc)
     }
 
     // One more literal, if there is room.
-    fn push(&mut self, value: Literal<'a>) -> Next
-        ensures quiet { quiet result self.new ≡ pushed value.entry self.old }
-        ensures aloud { (saying : Words) → answer result saying self.new ≡ pushes saying value.entry self.old }
+    #[tactic(auto, using(crate::proofs::QuickLemmas::push_answer))]
+    fn push(&mut self, value: Literal<'a>) -> Result<Next, AllocError>
+        ensures quiet { IfOk result (λ next. quiet next self.new ≡ pushed value.entry self.old) }
+        ensures aloud { IfOk result (λ next. (saying : Words) → answer next saying self.new ≡ pushes saying value.entry self.old) }
     {
-        if self.literals.len() < GREATEST_STACK {
-            self.literals.push(value);
-            Next::Nothing
-        } else {
-            Next::End(Limit::Literals)
-        }
+        Ok(pushed_if(self.literals.push(value)?))
+    }
+
+    // One more integer, if there is room.
+    #[tactic(auto, using(crate::proofs::QuickLemmas::push_answer))]
+    fn push_number(&mut self, n: i32) -> Next
+        ensures quiet { quiet result self.new ≡ pushed (literal.Integer n) self.old }
+        ensures aloud { (saying : Words) → answer result saying self.new ≡ pushes saying (literal.Integer n) self.old }
+    {
+        pushed_if(self.literals.push_integer(n))
+    }
+
+    // One more string that isn't copied, if there is room.
+    #[tactic(auto, using(crate::proofs::QuickLemmas::push_answer))]
+    fn push_lent(&mut self, text: &'a [u8]) -> Next
+        requires { length text.now ≤ greatest_string }
+        ensures quiet { quiet result self.new ≡ pushed (literal.Text text.now) self.old }
+        ensures aloud { (saying : Words) → answer result saying self.new ≡ pushes saying (literal.Text text.now) self.old }
+    {
+        pushed_if(self.literals.push_lent(text))
+    }
+
+    // One more value of a missing field, if there is room.
+    #[tactic(auto, using(crate::proofs::QuickLemmas::push_answer))]
+    fn push_missing(&mut self) -> Next
+        ensures { quiet result self.new ≡ pushed literal.Missing self.old }
+    {
+        pushed_if(self.literals.push_missing())
     }
 
     // One more string, if it isn't too long.
@@ -230,14 +252,14 @@ impl<'a> Store<'a> {
         if text.len() > GREATEST_STRING {
             return Next::End(Limit::String);
         }
-        self.push(Literal::Text(Text::borrowed(text)))
+        self.push_lent(text)
     }
 
     // The truth as an integer.
     fn push_truth(&mut self, is_true: bool) -> Next
         ensures { quiet result self.new ≡ pushed (truth is_true) self.old }
     {
-        self.push(Literal::Integer(if is_true { 1 } else { 0 }))
+        self.push_number(if is_true { 1 } else { 0 })
     }
 
     // Lines of the log, and what stands in for a result.
@@ -247,8 +269,8 @@ impl<'a> Store<'a> {
         *said = Said::Noted(notes);
         match instead {
             StandIn::Nothing => Next::Nothing,
-            StandIn::Zero => self.push(Literal::Integer(0)),
-            StandIn::Empty => self.push(Literal::Text(Text::empty())),
+            StandIn::Zero => self.push_number(0),
+            StandIn::Empty => self.push_lent(&[]),
         }
     }
 
@@ -358,4 +380,15 @@ fn end_line(said: &mut Said<'_>) -> Next
 {
     *said = Said::EndedLine;
     Next::Nothing
+}
+
+// What follows a push: nothing where it was done, and the end of the run where there was no room.
+fn pushed_if(done: bool) -> Next
+    ensures { result ≡ next_of_push done }
+{
+    if done {
+        Next::Nothing
+    } else {
+        Next::End(Limit::Literals)
+    }
 }

@@ -230,7 +230,7 @@ fn tell_top(
     store: &mut Store<'_>,
     told: &mut Vec<u8>,
 ) -> Result<(), AllocError> {
-    match store.pop() {
+    match store.pop()? {
         Some(value) => tell_note(alloc, job, b"", None, &Note::Shown(value), told),
         None => Ok(()),
     }

@@ -1,5 +1,5 @@
 -- Worked strings, by computation.
-use Rattle.std.proofs.Common.{◌≡◌, pos, negsuc, [], ◌∷◌, refl}
+use Rattle.std.proofs.Common.{◌≡◌, ◌+◌, pos, negsuc, [], ◌∷◌, refl}
 use Rattle.std.specs.Prelude.{codes}
 use Rattle.btx_text.specs.declared.element_kind.TextMode.TheVariants.{Bytes, Utf8}
 use Rattle.btx_text.specs.Class.{class_of}
@@ -96,7 +96,22 @@ pub purified_unknown : purify_of (codes "{\\'e}-{\\relax x}") ≡ codes "e x"
 unfolding elements_of elements_from kind_at group_len class_of control_name glyphs_from glyphs_of letters_of
 purified_unknown = refl
 
+-- a foreign control sequence becomes its two letters, if it is one of `oe OE ae AE ss`, and else its first
+pub purified_foreign : purify_of (codes "{\\i\\j\\o\\oe\\ae\\aa\\l\\ss\\O\\OE\\AE\\AA\\L}") ≡ codes "ijooeaealssOOEAEAL"
+unfolding elements_of elements_from kind_at group_len class_of control_name glyphs_from glyphs_of letters_of
+purified_foreign = refl
+
 -- ---- case
+
+-- the foreign control sequences that are lowered; all others stay
+pub lowered_foreign : change_case_of (codes "{\\O\\OE\\AE\\AA\\L} {\\i\\ss\\relax\\RELAX}") (codes "l") ≡ codes "{\\o\\oe\\ae\\aa\\l} {\\i\\ss\\relax\\RELAX}"
+unfolding elements_of elements_from kind_at group_len control_name glyphs_from glyphs_of without_white cased_parts cased_control
+lowered_foreign = refl
+
+-- those that are raised, and those that become letters; all others stay
+pub raised_foreign : change_case_of (codes "{\\o\\oe\\ae\\aa\\l} {\\i\\j\\ss} {\\O\\relax}") (codes "u") ≡ codes "{\\O\\OE\\AE\\AA\\L} {IJSS} {\\O\\relax}"
+unfolding elements_of elements_from kind_at group_len control_name glyphs_from glyphs_of without_white cased_parts cased_control
+raised_foreign = refl
 
 pub titled : change_case_of (codes "The {TeX}book: A {\\AE}ON") (codes "t") ≡ codes "The {TeX}book: A {\\ae}on"
 unfolding elements_of elements_from kind_at group_len control_name glyphs_from glyphs_of without_white cased_parts cased_control
@@ -140,6 +155,11 @@ braces_width = refl
 pub foreign_width : width_of (codes "{\\oe}") ≡ 778
 unfolding elements_of elements_from kind_at group_len control_name glyphs_from glyphs_of without_white control_width
 foreign_width = refl
+
+-- five foreign control sequences have widths of their own, and each other one has that of its first letter
+pub foreign_widths : width_of (codes "{\\i\\j\\o\\oe\\ae\\aa\\l\\ss\\O\\OE\\AE\\AA\\L}") ≡ 278 + 306 + 500 + 778 + 722 + 500 + 278 + 500 + 778 + 1014 + 903 + 750 + 625
+unfolding elements_of elements_from kind_at group_len control_name glyphs_from glyphs_of letters_of without_white control_width
+foreign_widths = refl
 
 pub accented_width : width_of (codes "{\\'e}") ≡ 444
 unfolding elements_of elements_from kind_at group_len control_name glyphs_from glyphs_of letters_of without_white control_width

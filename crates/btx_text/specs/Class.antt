@@ -40,6 +40,10 @@ is_sign b = b == 34 || b == 35 || b == 37 || b == 39 || b == 40 || b == 41 || b 
 abbrev pub is_name_byte : ℕ → Bool
 is_name_byte b = nat_le 33 b && not (is_sign b)
 
+-- a byte that a name begins with, in styles and in databases: no digit
+abbrev pub begins_name : ℕ → Bool
+begins_name b = is_name_byte b && not (is_digit b)
+
 -- the class of a byte
 unfoldable pub class_of : ℕ → Class
 class_of b = if is_white b then White else if is_alpha b then Alpha else if is_digit b then Digit else if is_sep b then Sep else Other

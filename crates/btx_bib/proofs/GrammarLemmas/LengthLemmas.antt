@@ -1,7 +1,7 @@
 -- What is read leaves a text that isn't longer.
 use Rattle.std.proofs.Common.{◌≡◌, ℕ, zero, suc, ◌+◌, ◌*◌, ◌<◌, ◌≤◌, Bool, true, false, cond, eqb, List, [], ◌∷◌, length, drop, refl, ◌∙◌, ap, arith, length-drop, Ok, Err, Some, None, Option}
 use Rattle.std.specs.Option.{option_map}
-use Rattle.btx_text.specs.Class.{is_digit}
+use Rattle.btx_text.specs.Class.{is_digit, begins_name}
 use Rattle.btx_bib.specs.declared.grammar.byte_sets.Delimiter.{Delimiter}
 use Rattle.btx_bib.specs.declared.grammar.byte_sets.ByteSet.TheVariants.{Gap, NameByte, Digit, KeyByte}
 use Rattle.btx_bib.specs.declared.grammar.byte_sets.Enclosure.{Enclosure}
@@ -12,7 +12,7 @@ use Rattle.btx_bib.specs.declared.grammar.commands.Wanted.{Wanted}
 use Rattle.btx_bib.specs.declared.grammar.commands.Wanted.TheVariants.{Item, Closing, Fields}
 use Rattle.btx_bib.specs.declared.grammar.slip.Slip.{Slip}
 use Rattle.btx_bib.specs.declared.grammar.slip.Slip.TheVariants.{NoEquals, NoClosing, Repeated}
-use Rattle.btx_bib.specs.Grammar.ByteSets.{begins, begins_name, past, enclosed_len}
+use Rattle.btx_bib.specs.Grammar.ByteSets.{begins, past, enclosed_len}
 use Rattle.btx_bib.specs.Grammar.Tokens.{Read, followed_by, name_in, name_at, open_in, open_at, sign_in, sign_at, key_in, key_at, closing}
 use Rattle.btx_bib.specs.Grammar.Values.{Part, closed, enclosed_in, part_in, part_at, next_part, joined, value_within, value_at}
 use Rattle.btx_bib.specs.Grammar.Fields.{Field, field_at, one_more, after_comma, more_in, more_at}

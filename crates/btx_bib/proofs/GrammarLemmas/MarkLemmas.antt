@@ -55,7 +55,7 @@ no-mark Quotes d b h =
     let parts = or_parts (eqb b 123) (eqb b 125) quote.0 in
     rw (parts.0, parts.1, quote.1) (refl, refl)
 
-and-false : (t : Bool) → (t && false) ≡ false
+pub and-false : (t : Bool) → (t && false) ≡ false
 and-false true = refl
 and-false false = refl
 

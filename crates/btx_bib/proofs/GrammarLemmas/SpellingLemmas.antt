@@ -2,7 +2,7 @@
 use Rattle.std.proofs.Common.{not, ◌≡◌, ℕ, zero, suc, ◌<◌, ◌≤◌, Bool, true, false, cond, eqb, ◌||◌, ◌&&◌, List, [], ◌∷◌, ◌++◌, length, take, drop, fold, ◌⊎◌, inl, inr, refl, sym, ◌∙◌, ap, subst, arith, append_assoc, Result, Ok, Err, Some, None, Option}
 use Rattle.std.proofs.lemmas.Bool.{and_parts, eqb-true, eq-eqb, true≢false}
 use Rattle.std.proofs.lemmas.List.{take-append-drop, take_at, drop_at}
-use Rattle.btx_text.specs.Class.{is_digit, is_name_byte}
+use Rattle.btx_text.specs.Class.{is_digit, is_name_byte, begins_name}
 use Rattle.btx_text.specs.Elements.{depth_after}
 use Rattle.btx_bib.specs.declared.grammar.byte_sets.ByteSet.{ByteSet}
 use Rattle.btx_bib.specs.declared.grammar.byte_sets.ByteSet.TheVariants.{Gap, NameByte, Digit}
@@ -10,7 +10,7 @@ use Rattle.btx_bib.specs.declared.grammar.byte_sets.Enclosure.{Enclosure}
 use Rattle.btx_bib.specs.declared.grammar.byte_sets.Enclosure.TheVariants.{Group, Quotes}
 use Rattle.btx_bib.specs.declared.grammar.slip.Slip.{Slip}
 use Rattle.btx_bib.specs.declared.grammar.slip.Slip.TheVariants.{NoName, NoDelimiter, NoComma, NoEquals, NoClosing, NoValue, Unbalanced, EndOfFile, Repeated}
-use Rattle.btx_bib.specs.Grammar.ByteSets.{is_in, begins, begins_name, ends_enclosed, run_len, run, past, enclosed_len}
+use Rattle.btx_bib.specs.Grammar.ByteSets.{is_in, begins, ends_enclosed, run_len, run, past, enclosed_len}
 use Rattle.btx_bib.specs.Grammar.Tokens.{Read, followed_by, wrong_at, name_in, name_at, sign_in, sign_at}
 use Rattle.btx_bib.specs.Grammar.Values.{Part, Braced, Quoted, Digits, Named, closed, enclosed_in, part_in, part_at, behind_hash, next_part, joined, value_at}
 use Rattle.btx_bib.specs.Grammar.Fields.{Field, field_at}

@@ -5,12 +5,12 @@ use Rattle.btx_bib.specs.declared.grammar.parts.Part.{Part as CodePart}
 use Rattle.btx_bib.specs.Grammar.PartViews.{part_view}
 use Rattle.std.specs.Borrow.{Bor}
 use Rattle.std.proofs.lemmas.Bool.{and_parts}
-use Rattle.btx_text.specs.Class.{is_digit, is_name_byte}
+use Rattle.btx_text.specs.Class.{is_digit, is_name_byte, begins_name}
 use Rattle.btx_bib.specs.declared.grammar.byte_sets.ByteSet.{ByteSet}
 use Rattle.btx_bib.specs.declared.grammar.byte_sets.ByteSet.TheVariants.{Gap, NameByte, Digit}
 use Rattle.btx_bib.specs.declared.grammar.byte_sets.Enclosure.{Enclosure}
 use Rattle.btx_bib.specs.declared.grammar.byte_sets.Enclosure.TheVariants.{Group, Quotes}
-use Rattle.btx_bib.specs.Grammar.ByteSets.{is_in, begins_name, run_len, run, past, enclosed_len}
+use Rattle.btx_bib.specs.Grammar.ByteSets.{is_in, run_len, run, past, enclosed_len}
 use Rattle.btx_bib.specs.declared.grammar.slip.Slip.{Slip}
 use Rattle.btx_bib.specs.declared.grammar.slip.Slip.TheVariants.{NoValue, Unbalanced}
 use Rattle.btx_bib.specs.Grammar.Tokens.{Read, seen, followed_by}

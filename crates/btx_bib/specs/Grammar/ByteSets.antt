@@ -14,10 +14,6 @@ use Rattle.btx_bib.specs.Grammar.Bytes.{comma, line_feed, quote}
 abbrev pub is_gap : ℕ → Bool
 is_gap b = is_white b || b == line_feed
 
--- a byte that a name begins with: no digit
-abbrev pub begins_name : ℕ → Bool
-begins_name b = is_name_byte b && not (is_digit b)
-
 -- a byte that a key in these delimiters is made of
 abbrev pub is_key_byte : Delimiter → ℕ → Bool
 is_key_byte Braces b = not (is_gap b || b == comma || b == close_brace)

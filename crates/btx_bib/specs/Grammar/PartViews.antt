@@ -1,9 +1,7 @@
 -- What clauses see of the parts of a value in the code.
-use Rattle.std.specs.Prelude.{◌≡◌, ℕ, Bool, true, List, [], ◌∷◌, Option, None, Some}
+use Rattle.std.specs.Prelude.{ℕ, List, [], ◌∷◌, Option, None, Some}
 use Rattle.std.specs.Borrow.{Bor}
 use Rattle.btx_bib.specs.Grammar.Values as spec
-use Rattle.btx_bib.specs.Grammar.Squeezing.{stands}
-use Rattle.btx_bib.specs.declared.grammar.value_ends.Ends.TheVariants.{Trimmed}
 use Rattle.btx_bib.specs.declared.grammar.parts.StringName.{StringName}
 use Rattle.btx_bib.specs.declared.grammar.parts.Part.{Part}
 use Rattle.btx_bib.specs.declared.grammar.parts.Part.TheVariants.{Braced, Quoted, Digits, Named}
@@ -33,14 +31,3 @@ AreWhole (Some text) = spec.IsWhole (spec.value_at text.now)
 abbrev pub parts_with : Option Part → Option (Bor (List ℕ)) → List spec.Part
 parts_with None others = parts_from others
 parts_with (Some part) others = part_view part ∷ parts_from others
-
--- the text of a part stands as a field's value, where it is enclosed; of digits and names nothing is said
-abbrev pub IsPlain : spec.Part → Type 0
-IsPlain (spec.Braced text) = stands Trimmed text ≡ true
-IsPlain (spec.Quoted text) = stands Trimmed text ≡ true
-IsPlain (spec.Digits text) = Unit {0}
-IsPlain (spec.Named string) = Unit {0}
-
--- a part that is known to be plain is
-abbrev pub IsPlainIf : Bool → spec.Part → Type 0
-IsPlainIf is_known part = is_known ≡ true → IsPlain part

@@ -1,7 +1,7 @@
 -- The grammar of a database, as relations between a front of a text and the rest: the front spells something, or something is wrong
 -- at its end.
 use Rattle.std.specs.Prelude.{◌≡◌, ℕ, zero, suc, ◌==◌, ◌||◌, Bool, true, false, List, [], ◌∷◌, ◌++◌, ◌⊎◌, Result, Ok, Err}
-use Rattle.btx_text.specs.Class.{is_digit}
+use Rattle.btx_text.specs.Class.{is_digit, begins_name}
 use Rattle.btx_text.specs.Elements.{depth_after, depth_of, open_brace, close_brace}
 use Rattle.btx_bib.specs.declared.grammar.byte_sets.ByteSet.{ByteSet}
 use Rattle.btx_bib.specs.declared.grammar.byte_sets.ByteSet.TheVariants.{Gap, NameByte, Digit}
@@ -10,7 +10,7 @@ use Rattle.btx_bib.specs.declared.grammar.byte_sets.Enclosure.TheVariants.{Group
 use Rattle.btx_bib.specs.declared.grammar.slip.Slip.{Slip}
 use Rattle.btx_bib.specs.declared.grammar.slip.Slip.TheVariants.{NoName, NoEquals, NoValue, Unbalanced, EndOfFile}
 use Rattle.btx_bib.specs.Grammar.Bytes.{equals, hash, quote}
-use Rattle.btx_bib.specs.Grammar.ByteSets.{is_in, begins, begins_name, ends_enclosed}
+use Rattle.btx_bib.specs.Grammar.ByteSets.{is_in, begins, ends_enclosed}
 use Rattle.btx_bib.specs.Grammar.Tokens.{Read, slip_at}
 use Rattle.btx_bib.specs.Grammar.Values.{Part, Braced, Quoted, Digits, Named}
 use Rattle.btx_bib.specs.Grammar.Fields.{Field}

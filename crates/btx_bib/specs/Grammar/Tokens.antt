@@ -1,6 +1,7 @@
 -- The words and signs of an item: what a text begins with after white, or what is wrong there.
 use Rattle.std.specs.Prelude.{ℕ, ◌==◌, List, [], ◌∷◌, drop, Result, Ok, Err, if◌then◌else◌}
 use Rattle.std.specs.Borrow.{Bor}
+use Rattle.btx_text.specs.Class.{begins_name}
 use Rattle.btx_text.specs.Elements.{open_brace, close_brace}
 use Rattle.btx_bib.specs.declared.grammar.byte_sets.Delimiter.{Delimiter}
 use Rattle.btx_bib.specs.declared.grammar.byte_sets.Delimiter.TheVariants.{Braces, Parens}
@@ -8,7 +9,7 @@ use Rattle.btx_bib.specs.declared.grammar.byte_sets.ByteSet.TheVariants.{Gap, Na
 use Rattle.btx_bib.specs.declared.grammar.slip.Slip.{Slip}
 use Rattle.btx_bib.specs.declared.grammar.slip.Slip.TheVariants.{NoName, NoDelimiter, EndOfFile}
 use Rattle.btx_bib.specs.Grammar.Bytes.{close_parenthesis, open_parenthesis}
-use Rattle.btx_bib.specs.Grammar.ByteSets.{begins, begins_name, run, past}
+use Rattle.btx_bib.specs.Grammar.ByteSets.{begins, run, past}
 
 -- what was read and the text after it, or what is wrong and the text from its place on
 abbrev pub Read : Type 0 → Type 0

@@ -1,13 +1,13 @@
 -- Values: parts joined by `#`.
 use Rattle.std.specs.Prelude.{ℕ, zero, suc, ◌==◌, List, [], ◌∷◌, length, take, drop, Option, None, Some, Ok, Err, if◌then◌else◌}
-use Rattle.btx_text.specs.Class.{is_digit}
+use Rattle.btx_text.specs.Class.{is_digit, begins_name}
 use Rattle.btx_text.specs.Elements.{open_brace}
 use Rattle.btx_bib.specs.declared.grammar.byte_sets.ByteSet.TheVariants.{Gap, NameByte, Digit}
 use Rattle.btx_bib.specs.declared.grammar.byte_sets.Enclosure.{Enclosure}
 use Rattle.btx_bib.specs.declared.grammar.byte_sets.Enclosure.TheVariants.{Group, Quotes}
 use Rattle.btx_bib.specs.declared.grammar.slip.Slip.TheVariants.{NoValue, Unbalanced, EndOfFile}
 use Rattle.btx_bib.specs.Grammar.Bytes.{hash, quote}
-use Rattle.btx_bib.specs.Grammar.ByteSets.{begins_name, run, past, enclosed_len}
+use Rattle.btx_bib.specs.Grammar.ByteSets.{run, past, enclosed_len}
 use Rattle.btx_bib.specs.Grammar.Tokens.{Read, followed_by}
 
 -- the name of a string in a value, and the text from its end on, which is its place

@@ -1,5 +1,6 @@
 //! The bytes that the words of a database are made of, and the runs of them.
 ghost use Rattle.std.specs.Prelude.{◌≡◌, ◌≤◌, ◌==◌, ◌&&◌, length};
+ghost use Rattle.btx_text.specs.Class.{begins_name};
 ghost use Rattle.btx_bib.specs.Grammar.ByteSets as spec;
 ghost use Rattle.btx_bib.specs.Grammar.Squeezing as squeezing;
 
@@ -67,7 +68,7 @@ pub fn is_word_byte(byte: u8) -> bool
 /// Whether a name can begin with a byte.
 #[inline(always)]
 pub fn begins_name(byte: u8) -> bool
-    ensures { result ≡ spec.begins_name byte }
+    ensures { result ≡ begins_name byte }
 {
     is_name_byte(byte) && !byte.is_ascii_digit()
 }

@@ -1,22 +1,12 @@
-//! Parts of values in their plainest form, each read in one pass.
-ghost use Rattle.std.specs.Prelude.{◌≡◌, ◌≤◌, length, Ok, IfSome};
-ghost use Rattle.btx_bib.specs.Grammar.PartViews.{IsPlain, part_view};
-ghost use Rattle.btx_bib.specs.Grammar.Squeezing.{IsSqueezedLen, stays_squeezed};
+//! What is enclosed in its plainest form, read in one pass.
+ghost use Rattle.std.specs.Prelude.{◌≡◌, ◌≤◌, true, length, Ok, IfSome};
+ghost use Rattle.btx_bib.specs.Grammar.PlainFields.{enclosed_part};
+ghost use Rattle.btx_bib.specs.Grammar.Squeezing.{IsSqueezedLen, stands};
 ghost use Rattle.btx_bib.specs.Grammar.Values as spec;
+ghost use Rattle.btx_bib.specs.declared.grammar.value_ends.Ends.TheVariants as ends;
 
-use crate::grammar::byte_sets::{
-    ByteSet, Enclosure, begins_name, ends_enclosed, ends_in_gap, is_gap, is_word_byte, run_len,
-};
-use crate::grammar::parts::{Part, StringName};
+use crate::grammar::byte_sets::{Enclosure, ends_enclosed, ends_in_gap, is_gap, is_word_byte};
 use btx_text::depths::depth_after;
-
-// Whether a byte leaves the text before it squeezed, whose last byte was white or not.
-#[inline(always)]
-fn stays_squeezed(was_white: bool, byte: u8) -> bool
-    ensures { result ≡ stays_squeezed was_white byte }
-{
-    !is_gap(byte) || (byte == b' ' && !was_white)
-}
 
 // How many bytes stand before the first that ends what is enclosed, if they are squeezed and don't begin with white.
 #[inline(never)]
@@ -25,29 +15,34 @@ fn squeezed_len(enclosure: Enclosure, text: &[u8]) -> Option<usize>
     ensures bound { IfSome result (λ len. len ≤ length text.now) }
 {
     let mut depth = 0;
-    let mut white = true;
+    let mut behind_white = 0;
     for (place, &byte) in text.iter().enumerate() {
         if is_word_byte(byte) {
-            white = false;
+            continue;
+        }
+        if byte == b' ' {
+            if place == behind_white {
+                return None;
+            }
+            behind_white = place + 1;
             continue;
         }
         if ends_enclosed(enclosure, depth, byte) {
             return Some(place);
         }
-        if !stays_squeezed(white, byte) {
+        if is_gap(byte) {
             return None;
         }
-        white = is_gap(byte);
         depth = depth_after(depth, byte);
     }
     None
 }
 
-// What is enclosed, if it stands as a field's value, and the text after it.
+/// What is enclosed, if it stands as a field's value, and the text behind what closes it.
 #[inline(always)]
-fn plain_enclosed(enclosure: Enclosure, text: &[u8]) -> Option<(Part<'_>, &[u8])>
-    ensures value { IfSome result (λ got. spec.enclosed_in enclosure text.now ≡ Ok (part_view got.0, got.1.now)) }
-    ensures plain { IfSome result (λ got. IsPlain (part_view got.0)) }
+pub fn plain_enclosed(enclosure: Enclosure, text: &[u8]) -> Option<(&[u8], &[u8])>
+    ensures value { IfSome result (λ got. spec.enclosed_in enclosure text.now ≡ Ok (enclosed_part enclosure got.0.now, got.1.now)) }
+    ensures plain { IfSome result (λ got. stands ends.Trimmed got.0.now ≡ true) }
 {
     let (inner, after) = text.split_at(squeezed_len(enclosure, text)?);
     if ends_in_gap(inner) {
@@ -55,38 +50,13 @@ fn plain_enclosed(enclosure: Enclosure, text: &[u8]) -> Option<(Part<'_>, &[u8])
     }
     let (&byte, behind) = after.split_first()?;
     match enclosure {
-        Enclosure::Group => Some((Part::Braced(inner), behind)),
+        Enclosure::Group => Some((inner, behind)),
         Enclosure::Quotes => {
             if byte == b'"' {
-                Some((Part::Quoted(inner), behind))
+                Some((inner, behind))
             } else {
                 None
             }
         }
     }
-}
-
-/// A part that is plain, if one stands here, and the text after it.
-#[inline(always)]
-#[tactic(auto, unfolding(crate::specs::Grammar::Values::part_in))]
-pub fn plain_part(rest: &[u8]) -> Option<(Part<'_>, &[u8])>
-    ensures value { IfSome result (λ got. spec.part_in rest.now ≡ Ok (part_view got.0, got.1.now)) }
-    ensures plain { IfSome result (λ got. IsPlain (part_view got.0)) }
-{
-    let (&byte, behind) = rest.split_first()?;
-    if byte == b'{' {
-        return plain_enclosed(Enclosure::Group, behind);
-    }
-    if byte == b'"' {
-        return plain_enclosed(Enclosure::Quotes, behind);
-    }
-    if byte.is_ascii_digit() {
-        let (digits, after) = rest.split_at(run_len(ByteSet::Digit, rest));
-        return Some((Part::Digits(digits), after));
-    }
-    if begins_name(byte) {
-        let (name, after) = rest.split_at(run_len(ByteSet::NameByte, rest));
-        return Some((Part::Named(StringName { name, rest: after }), after));
-    }
-    None
 }

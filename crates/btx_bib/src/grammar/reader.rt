@@ -1,13 +1,15 @@
 //! A database, read event by event.
-ghost use Rattle.std.specs.Prelude.{◌≡◌, IfOk, OnErr};
+ghost use Rattle.std.specs.Prelude.{◌≡◌, Some, IfOk, IfSome, OnErr};
 ghost use Rattle.std.specs.Option.{option_map};
 ghost use Rattle.btx_bib.specs.Grammar.EventViews.{event_view, head_view, step_view};
 ghost use Rattle.btx_bib.specs.Grammar.Items as spec;
+ghost use Rattle.btx_bib.specs.Grammar.PlainFields.{IsPlain, part_in_view, plain_step};
 ghost use Rattle.btx_bib.specs.Grammar.Reads.{IsRead};
 
 use crate::grammar::commands::Wanted;
 use crate::grammar::events::{Event, Placed};
 use crate::grammar::item_readers::{behind_at, read_end, read_field_or_end, read_head};
+use crate::grammar::plain_fields::{PlainField, plain_field};
 use crate::grammar::slip::Slip;
 use std::alloc::{AllocError, Global};
 use std::marker::Model;
@@ -67,6 +69,27 @@ impl<'a> Reader<'a> {
         self.wanted = wanted;
         self.rest = rest;
         Ok(Some(Placed { event, rest }))
+    }
+
+    /// The field in its plainest form that stands at the next place, if one does. The reader stays where it is.
+    #[inline(always)]
+    #[tactic(auto, unfolding(crate::specs::Grammar::Items::step_of))]
+    pub(crate) fn plain_field(&self) -> Option<PlainField<'a>>
+        ensures field { IfSome result (λ field. spec.step_of self.now.0 self.now.1 ≡ Some (plain_step self.now.0 field)) }
+        ensures plain { IfSome result (λ field. IsPlain (part_in_view field.value)) }
+    {
+        match self.wanted {
+            Wanted::Fields(_) => plain_field(self.rest),
+            Wanted::Item | Wanted::Closing(_) => None,
+        }
+    }
+
+    /// Goes on behind a field that stands at the next place, where this is the text from its end on.
+    #[inline(always)]
+    pub(crate) fn pass(&mut self, rest: &'a [u8])
+        ensures { self.new ≡ (self.old.0, rest.entry.now) }
+    {
+        self.rest = rest;
     }
 }
 

@@ -1,14 +1,16 @@
 //! The text that a value stands for.
-ghost use Rattle.std.specs.Prelude.{◌≡◌, ◌<◌, ◌≤◌, ◌∷◌, ◌++◌, [], true, false, length, IfOk, IfSome, OnOk};
+ghost use Rattle.std.specs.Prelude.{◌≡◌, ◌<◌, ◌≤◌, ◌∷◌, ◌++◌, [], true, false, length, is_some, IfOk, IfSome, OnOk};
 ghost use Rattle.std.specs.Option.{option_map};
 ghost use Rattle.btx_text.specs.Limits.{greatest_string};
 ghost use Rattle.btx_bib.specs.Grammar.ByteSets.{begins, is_gap};
 ghost use Rattle.btx_bib.specs.Grammar.PartViews.{part_view};
+ghost use Rattle.btx_bib.specs.Grammar.PlainFields.{HasString, IsPlain, part_in_view};
 ghost use Rattle.btx_bib.specs.Grammar.Squeezing as squeezing;
 ghost use Rattle.btx_bib.specs.Grammar.ValueTexts as spec;
 
 use crate::grammar::byte_sets::{ByteSet, ends_in_gap, is_gap};
 use crate::grammar::parts::Part;
+use crate::grammar::plain_fields::{PlainKind, PlainValue};
 use crate::grammar::tokens::past;
 use crate::grammar::value_ends::Ends;
 use crate::grammar::values::Value;
@@ -105,19 +107,6 @@ fn lent(ends: Ends, text: &[u8]) -> Option<&[u8]>
     }
 }
 
-// The value that a text gives, where it stands in the text, and is perhaps known to stand as a field's value.
-#[tactic(auto, using(crate::proofs::GrammarLemmas::SqueezeLemmas::standing))]
-fn lent_plain(ends: Ends, is_plain: bool, text: &[u8]) -> Option<&[u8]>
-    requires { is_plain ≡ true → squeezing.stands Ends.Trimmed text.now ≡ true }
-    ensures value { IfSome result (λ lent. lent.now ≡ spec.shaped ends text.now) }
-    ensures within { IfSome result (λ lent. length lent.now ≤ greatest_string) }
-{
-    match ends {
-        Ends::Trimmed if is_plain && text.len() <= GREATEST_STRING => Some(text),
-        _ => lent(ends, text),
-    }
-}
-
 // The value of a name where a value is this name alone, if it needn't be made.
 #[tactic(auto, using(crate::proofs::GrammarLemmas::SqueezeLemmas::standing))]
 fn lone_string<'a, S: Strings<'a>>(
@@ -145,19 +134,69 @@ fn lone_text<'a, S: Strings<'a>>(
 ) -> Result<Option<Text<'a>>, AllocError>
     ensures { IfOk result (λ found. IfSome found (λ text. text ≡ spec.value_text ends (S.values strings.now) value.now)) }
 {
-    let Some(lone) = value.lone_part() else {
+    let Some(part) = value.lone_part() else {
         return Ok(None);
     };
-    match lone.part {
+    match part {
         Part::Named(string) => lone_string(alloc, string.name, strings, ends),
-        Part::Braced(text) | Part::Quoted(text) => match lent_plain(ends, lone.is_plain, text) {
+        Part::Braced(text) | Part::Quoted(text) | Part::Digits(text) => match lent(ends, text) {
             Some(bytes) => Ok(Some(Text::borrowed(bytes))),
             None => Ok(None),
         },
-        Part::Digits(text) => match lent(ends, text) {
-            Some(bytes) => Ok(Some(Text::borrowed(bytes))),
-            None => Ok(None),
-        },
+    }
+}
+
+// The value of a name, if it has one that needn't be made.
+#[tactic(auto, using(crate::proofs::GrammarLemmas::SqueezeLemmas::standing))]
+fn known_string<'a, S: Strings<'a>>(
+    alloc: Global,
+    name: &[u8],
+    strings: &S,
+    ends: Ends,
+) -> Result<Option<Text<'a>>, AllocError>
+    ensures value { IfOk result (λ found. IfSome found (λ text. text ≡ spec.shaped ends (spec.or_nothing (S.values strings.now name.now)))) }
+    ensures known { IfOk result (λ found. IfSome found (λ text. is_some (S.values strings.now name.now) ≡ true)) }
+{
+    match strings.value_of(alloc, name)? {
+        Some(text) if stands_squeezed(ends, text.as_bytes()) => Ok(Some(text.copy(alloc)?)),
+        Some(_) | None => Ok(None),
+    }
+}
+
+// A text that stands as the value that it gives, if it is short enough.
+#[inline(always)]
+fn short(text: &[u8], ends: Ends) -> Option<&[u8]>
+    requires { squeezing.stands ends text.now ≡ true }
+    ensures value { IfSome result (λ short. short.now ≡ spec.shaped ends text.now) }
+    ensures within { IfSome result (λ short. length short.now ≤ greatest_string) }
+{
+    if text.len() <= GREATEST_STRING {
+        Some(text)
+    } else {
+        None
+    }
+}
+
+/// The text of a field's value in its plainest form, if it needn't be made, and if a name in it has a value.
+#[inline(always)]
+#[tactic(auto, using(crate::proofs::GrammarLemmas::SqueezeLemmas::lone))]
+pub fn plain_text<'a, S: Strings<'a>>(
+    alloc: Global,
+    value: &PlainValue<'a>,
+    strings: &S,
+) -> Result<Option<Text<'a>>, AllocError>
+    requires { IsPlain (part_in_view value.now) }
+    ensures value { IfOk result (λ found. IfSome found (λ text. text ≡ spec.value_text Ends.Trimmed (S.values strings.now) (part_in_view value.now ∷ []))) }
+    ensures known { IfOk result (λ found. IfSome found (λ text. HasString (S.values strings.now) (part_in_view value.now))) }
+{
+    let bytes = match value.kind {
+        PlainKind::Braced | PlainKind::Quoted => short(value.text, Ends::Trimmed),
+        PlainKind::Digits => lent(Ends::Trimmed, value.text),
+        PlainKind::Named => return known_string(alloc, value.text, strings, Ends::Trimmed),
+    };
+    match bytes {
+        Some(bytes) => Ok(Some(Text::borrowed(bytes))),
+        None => Ok(None),
     }
 }
 

@@ -1,33 +1,29 @@
 //! Values: parts joined by `#`.
-ghost use Rattle.std.specs.Prelude.{◌≡◌, ◌∷◌, [], Ok, IfSome};
+ghost use Rattle.std.specs.Prelude.{◌≡◌, ◌∷◌, [], IfSome};
 ghost use Rattle.btx_bib.specs.Grammar.Tokens.{seen};
 ghost use Rattle.btx_bib.specs.Grammar.Values as spec;
 
-use crate::grammar::byte_sets::ByteSet;
 use crate::grammar::parts::{Part, next_part, read_part};
-use crate::grammar::plain::plain_part;
-use crate::grammar::tokens::{Read, past};
+use crate::grammar::tokens::Read;
 use std::marker::Model;
 
-/// A value that was read whole: its first part, the text from its second part on if it has one, and whether the first is known to
-/// be plain.
+/// A value that was read whole: its first part, and the text from its second part on if it has one.
 #[derive(Drop)]
 pub struct Value<'a> {
     first: Part<'a>,
     others: Option<&'a [u8]>,
-    is_plain: bool,
 }
 
 impl<'a> Model for Value<'a> {
     ghost use Rattle.std.specs.Prelude.{List, ◌∷◌};
     ghost use Rattle.btx_bib.specs.Grammar.Values.{Part as SpecPart};
-    ghost use Rattle.btx_bib.specs.Grammar.PartViews.{part_view, parts_from, AreWhole, IsPlainIf};
+    ghost use Rattle.btx_bib.specs.Grammar.PartViews.{part_view, parts_from, AreWhole};
 
     ghost Value = { List SpecPart };
 
     ghost view = { λ value. part_view value.first ∷ parts_from value.others };
 
-    ghost invariant = { λ value. AreWhole value.others × IsPlainIf value.is_plain (part_view value.first) };
+    ghost invariant = { λ value. AreWhole value.others };
 }
 
 /// The parts of a value, first to last. It takes no memory.
@@ -49,28 +45,15 @@ impl<'a> Model for Parts<'a> {
     ghost invariant = { λ parts. AreWhole parts.others };
 }
 
-/// The part of a value that has one alone, and whether it is known to be plain.
-#[derive(Drop)]
-pub struct LonePart<'a> {
-    /// The part.
-    pub part: Part<'a>,
-    /// Whether it is known to be plain.
-    pub is_plain: bool,
-}
-
 impl<'a> Value<'a> {
-    ghost use Rattle.btx_bib.specs.Grammar.PartViews.{IsPlainIf, part_view};
+    ghost use Rattle.btx_bib.specs.Grammar.PartViews.{part_view};
 
     // Its part, if it has one alone.
-    pub(crate) fn lone_part(&self) -> Option<LonePart<'a>>
-        ensures value { IfSome result (λ lone. self.now ≡ part_view lone.part ∷ []) }
-        ensures plain { IfSome result (λ lone. IsPlainIf lone.is_plain (part_view lone.part)) }
+    pub(crate) fn lone_part(&self) -> Option<Part<'a>>
+        ensures { IfSome result (λ part. self.now ≡ part_view part ∷ []) }
     {
         match self.others {
-            None => Some(LonePart {
-                part: self.first,
-                is_plain: self.is_plain,
-            }),
+            None => Some(self.first),
             Some(_) => None,
         }
     }
@@ -134,40 +117,9 @@ fn end_of_value(text: &[u8]) -> Read<'_, ()>
     }
 }
 
-// A value in its plainest form, if one stands here: one part, which is plain.
-#[inline(always)]
-#[tactic(auto, using(crate::proofs::GrammarLemmas::ValueLemmas::value_parts))]
-fn plain_value(text: &[u8]) -> Option<(Value<'_>, &[u8])>
-    ensures { IfSome result (λ got. spec.value_at text.now ≡ Ok (got.0, got.1.now)) }
-{
-    let (first, rest) = plain_part(past(ByteSet::Gap, text))?;
-    if next_part(rest).is_some() {
-        return None;
-    }
-    Some((
-        Value {
-            first,
-            others: None,
-            is_plain: true,
-        },
-        rest,
-    ))
-}
-
 /// A value.
-#[inline(always)]
-pub fn read_value(text: &[u8]) -> Read<'_, Value<'_>>
-    ensures { seen (λ value. value) result ≡ spec.value_at text.now }
-{
-    if let Some(found) = plain_value(text) {
-        return Ok(found);
-    }
-    read_any_value(text)
-}
-
-// A value of any form.
 #[tactic(auto, using(crate::proofs::GrammarLemmas::ValueLemmas::value_parts))]
-fn read_any_value(text: &[u8]) -> Read<'_, Value<'_>>
+pub fn read_value(text: &[u8]) -> Read<'_, Value<'_>>
     ensures { seen (λ value. value) result ≡ spec.value_at text.now }
 {
     let (first, after) = read_part(text)?;
@@ -176,7 +128,6 @@ fn read_any_value(text: &[u8]) -> Read<'_, Value<'_>>
             Value {
                 first,
                 others: None,
-                is_plain: false,
             },
             after,
         ));
@@ -186,7 +137,6 @@ fn read_any_value(text: &[u8]) -> Read<'_, Value<'_>>
         Value {
             first,
             others: Some(others),
-            is_plain: false,
         },
         rest,
     ))

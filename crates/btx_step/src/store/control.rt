@@ -14,13 +14,14 @@ use std::alloc::AllocError;
 
 impl<'a> Store<'a> {
     // `if$`
+    #[tactic(auto, using(crate::proofs::QuickLemmas::choice_lacks))]
     pub(super) fn choose(&mut self, said: &mut Said<'a>) -> Result<Next, AllocError>
         requires { said.old ≡ silence }
         ensures { IfOk result (λ next. answer next said.new self.new ≡ runs built_in.If spec.chooses self.old) }
     {
-        let otherwise = self.literals.pop();
-        let then = self.literals.pop();
-        let number = self.literals.pop();
+        let otherwise = self.literals.pop(self.alloc)?;
+        let then = self.literals.pop(self.alloc)?;
+        let number = self.literals.pop(self.alloc)?;
         match (otherwise, then, number) {
             (Some(Literal::Function(f)), Some(Literal::Function(g)), Some(Literal::Integer(n))) => {
                 Ok(Next::Run(if n > 0 { g } else { f }))
@@ -37,7 +38,7 @@ impl<'a> Store<'a> {
                 StandIn::Nothing,
                 said,
             ),
-            (Some(_), Some(_), None) => self.lack(1, StandIn::Nothing, said),
+            (Some(_top), Some(_below), None) => self.lack(1, StandIn::Nothing, said),
             (Some(_), None, _) => self.lack(2, StandIn::Nothing, said),
             (None, _, _) => self.lack(3, StandIn::Nothing, said),
         }
@@ -48,7 +49,10 @@ impl<'a> Store<'a> {
         requires { said.old ≡ silence }
         ensures { IfOk result (λ next. answer next said.new self.new ≡ runs built_in.While spec.loops self.old) }
     {
-        match (self.literals.pop(), self.literals.pop()) {
+        match (
+            self.literals.pop(self.alloc)?,
+            self.literals.pop(self.alloc)?,
+        ) {
             (Some(Literal::Function(body)), Some(Literal::Function(test))) => Ok(Next::Loop(
                 test, body,
             )),
@@ -66,7 +70,7 @@ impl<'a> Store<'a> {
         requires { said.old ≡ silence }
         ensures { IfOk result (λ again. spec.tested_as again said.new self.new ≡ spec.tested self.old.literals self.old) }
     {
-        match self.literals.pop() {
+        match self.literals.pop(self.alloc)? {
             Some(Literal::Integer(n)) => Ok(n > 0),
             Some(other) => {
                 *said = Said::Noted(Notes::one(
@@ -81,4 +85,12 @@ impl<'a> Store<'a> {
             }
         }
     }
+}
+
+// Whether an integer is above 0.
+#[inline(always)]
+pub(super) fn is_positive(n: i32) -> bool
+    ensures { result ≡ spec.is_positive n }
+{
+    0 < n
 }

@@ -12,7 +12,6 @@ use crate::next::Next;
 use crate::said::{Note, Notes, Said};
 use crate::stand_in::StandIn;
 use btx_bst::Callee;
-use btx_text::Text;
 use std::alloc::AllocError;
 
 impl<'a> Store<'a> {
@@ -28,8 +27,8 @@ impl<'a> Store<'a> {
     {
         match self.current {
             Some(entry) => Ok(match job.library().value(entry, field) {
-                Some(text) => self.push(Literal::Text(Text::borrowed(text.as_bytes()))),
-                None => self.push(Literal::Missing),
+                Some(text) => self.push_lent(text.as_bytes()),
+                None => self.push_missing(),
             }),
             None => self.miss_entry(said),
         }
@@ -94,7 +93,7 @@ impl<'a> Store<'a> {
         requires { said.old ≡ silence }
         ensures { IfOk result (λ next. answer next said.new self.new ≡ runs built_in.Missing spec.finds_missing self.old) }
     {
-        match self.literals.pop() {
+        match self.literals.pop(self.alloc)? {
             Some(Literal::Missing) => Ok(self.push_truth(true)),
             Some(Literal::Text(_)) => Ok(self.push_truth(false)),
             Some(other) => self.refuse(other, Wanted::TextOrMissing, StandIn::Zero, said),
@@ -106,7 +105,7 @@ impl<'a> Store<'a> {
         requires { said.old ≡ silence }
         ensures { IfOk result (λ next. answer next said.new self.new ≡ misses_entry self.old.literals self.old) }
     {
-        match self.literals.pop() {
+        match self.literals.pop(self.alloc)? {
             Some(_) => self.miss_entry(said),
             None => {
                 let mut notes = Notes::one(self.alloc, Note::EmptyStack)?;
@@ -120,6 +119,6 @@ impl<'a> Store<'a> {
     pub(super) fn push_preamble(&mut self, job: &Job<'a>) -> Next
         ensures { quiet result self.new ≡ spec.gives_preamble job.now self.old }
     {
-        self.push(Literal::Text(Text::borrowed(job.library().preamble().as_bytes())))
+        self.push_lent(job.library().preamble().as_bytes())
     }
 }

@@ -21,10 +21,10 @@ impl<'a> Store<'a> {
         requires { said.old ≡ silence }
         ensures { IfOk result (λ next. answer next said.new self.new ≡ runs built_in.NumNames spec.counts_names self.old) }
     {
-        match self.literals.pop() {
+        match self.literals.pop(self.alloc)? {
             Some(Literal::Text(names)) => {
                 let count = btx_names::num_names(names.as_bytes());
-                Ok(self.push(Literal::Integer(count)))
+                Ok(self.push_number(count))
             }
             Some(other) => self.refuse(other, Wanted::Text, StandIn::Zero, said),
             None => self.lack(1, StandIn::Zero, said),
@@ -32,6 +32,7 @@ impl<'a> Store<'a> {
     }
 
     // `format.name$`
+    #[tactic(auto, using(crate::proofs::QuickLemmas::name_lacks))]
     pub(super) fn format_name(
         &mut self,
         job: &Job<'a>,
@@ -40,9 +41,9 @@ impl<'a> Store<'a> {
         requires { said.old ≡ silence }
         ensures { IfOk result (λ next. answer next said.new self.new ≡ runs built_in.FormatName (spec.formats_name job.now) self.old) }
     {
-        let format = self.literals.pop();
-        let number = self.literals.pop();
-        let names = self.literals.pop();
+        let format = self.literals.pop(self.alloc)?;
+        let number = self.literals.pop(self.alloc)?;
+        let names = self.literals.pop(self.alloc)?;
         match (format, number, names) {
             (
                 Some(Literal::Text(format)),
@@ -61,7 +62,7 @@ impl<'a> Store<'a> {
                 StandIn::Empty,
                 said,
             ),
-            (Some(_), Some(_), None) => self.lack(1, StandIn::Empty, said),
+            (Some(_top), Some(_below), None) => self.lack(1, StandIn::Empty, said),
             (Some(_), None, _) => self.lack(2, StandIn::Empty, said),
             (None, _, _) => self.lack(3, StandIn::Empty, said),
         }
@@ -85,7 +86,7 @@ impl<'a> Store<'a> {
         {
             Ok(answer) => {
                 *said = name_said(self.alloc, answer.complaints, names, number, format)?;
-                Ok(self.push(Literal::Text(Text::owned(answer.text))))
+                self.push(Literal::Text(Text::owned(answer.text)))
             }
             Err(Fault::StringLimit) => Ok(Next::End(Limit::String)),
             Err(Fault::Memory) => Err(AllocError),

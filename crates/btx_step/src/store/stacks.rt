@@ -9,9 +9,9 @@ ghost use Rattle.btx_step.specs.Table.{runs};
 use super::Store;
 use crate::literal::{Literal, Wanted};
 use crate::next::Next;
-use crate::reserved::Reserved;
 use crate::said::{Note, Notes, Said};
 use crate::stand_in::StandIn;
+use btx_stack::Literals;
 use std::alloc::{AllocError, Global};
 
 impl<'a> Store<'a> {
@@ -20,12 +20,12 @@ impl<'a> Store<'a> {
         requires { said.old ≡ silence }
         ensures { IfOk result (λ next. answer next said.new self.new ≡ runs built_in.Duplicate spec.duplicates self.old) }
     {
-        match self.literals.pop() {
+        match self.literals.pop(self.alloc)? {
             Some(value) => {
                 let value = value.share()?;
                 let copy = value.copy(self.alloc)?;
-                self.literals.push(value);
-                Ok(self.push(copy))
+                self.literals.put(value)?;
+                self.push(copy)
             }
             None => self.lack(1, StandIn::Nothing, said),
         }
@@ -36,14 +36,17 @@ impl<'a> Store<'a> {
         requires { said.old ≡ silence }
         ensures { IfOk result (λ next. answer next said.new self.new ≡ runs built_in.Swap spec.swaps self.old) }
     {
-        match (self.literals.pop(), self.literals.pop()) {
+        match (
+            self.literals.pop(self.alloc)?,
+            self.literals.pop(self.alloc)?,
+        ) {
             (Some(top), Some(below)) => {
-                self.literals.push(top);
-                self.literals.push(below);
+                self.literals.put(top)?;
+                self.literals.put(below)?;
                 Ok(Next::Nothing)
             }
             (Some(top), None) => {
-                self.literals.push(top);
+                self.literals.put(top)?;
                 self.complain(Note::EmptyStack, StandIn::Nothing, said)
             }
             (None, _) => self.lack(2, StandIn::Nothing, said),
@@ -55,7 +58,7 @@ impl<'a> Store<'a> {
         requires { said.old ≡ silence }
         ensures { IfOk result (λ next. answer next said.new self.new ≡ runs built_in.Pop (λ value. done) self.old) }
     {
-        match self.literals.pop() {
+        match self.literals.pop(self.alloc)? {
             Some(_) => Ok(Next::Nothing),
             None => self.lack(1, StandIn::Nothing, said),
         }
@@ -67,7 +70,7 @@ impl<'a> Store<'a> {
         requires { said.old ≡ silence }
         ensures { IfOk result (λ next. answer next said.new self.new ≡ runs built_in.Top spec.shows_top self.old) }
     {
-        match self.literals.pop() {
+        match self.literals.pop(self.alloc)? {
             Some(value) => self.complain(Note::Shown(value), StandIn::Nothing, said),
             None => self.lack(1, StandIn::Nothing, said),
         }
@@ -88,7 +91,7 @@ impl<'a> Store<'a> {
         requires { said.old ≡ silence }
         ensures { IfOk result (λ next. answer next said.new self.new ≡ runs built_in.Warning spec.warns self.old) }
     {
-        match self.literals.pop() {
+        match self.literals.pop(self.alloc)? {
             Some(Literal::Text(text)) => self.complain(Note::Warning(text), StandIn::Nothing, said),
             Some(other) => self.refuse(other, Wanted::Text, StandIn::Nothing, said),
             None => self.lack(1, StandIn::Nothing, said),
@@ -100,7 +103,7 @@ impl<'a> Store<'a> {
         requires { said.old ≡ silence }
         ensures { IfOk result (λ next. answer next said.new self.new ≡ runs built_in.Write spec.writes self.old) }
     {
-        match self.literals.pop() {
+        match self.literals.pop(self.alloc)? {
             Some(Literal::Text(text)) => {
                 *said = Said::Wrote(text);
                 Ok(Next::Nothing)
@@ -113,15 +116,12 @@ impl<'a> Store<'a> {
 
 // Takes all literals off the stack, as lines of the log.
 #[tactic(auto, using(std::proofs::Common::append_assoc))]
-fn take_shown<'a>(
-    alloc: Global,
-    literals: &mut Reserved<Literal<'a>, 1000>,
-) -> Result<Notes<'a>, AllocError>
+fn take_shown<'a>(alloc: Global, literals: &mut Literals<'a>) -> Result<Notes<'a>, AllocError>
     ensures notes { IfOk result (λ notes. notes ≡ map note.Shown literals.old) }
     ensures none { OnOk result (literals.new ≡ []) }
 {
     let mut notes = Notes::new(alloc);
-    while let Some(value) = literals.pop() {
+    while let Some(value) = literals.pop(alloc)? {
         notes.push(Note::Shown(value))?;
     }
     Ok(notes)

@@ -4,10 +4,10 @@ ghost use Rattle.btx_step.specs.Starts.{first_integers, first_store, first_value
 
 use super::Store;
 use crate::job::Job;
-use crate::reserved::Reserved;
 use crate::values::Values;
 use btx_bst::Style;
 use btx_names::NameFormatter;
+use btx_stack::{Literals, Variable};
 use btx_text::Text;
 use std::alloc::{AllocError, Global};
 
@@ -18,9 +18,9 @@ impl<'a> Store<'a> {
     {
         Ok(Store {
             alloc,
-            literals: Reserved::new(alloc)?,
+            literals: Literals::new(alloc)?,
             integers: first_integers(alloc, job)?,
-            strings: empty_strings(alloc, job.style().global_strings())?,
+            strings: empty_variables(alloc, job.style().global_strings())?,
             entries: first_entries(alloc, job.style(), job.library().len())?,
             current: None,
             deepest: 0,
@@ -63,6 +63,18 @@ fn empty_strings<'a>(alloc: Global, count: usize) -> Result<Vec<Text<'a>>, Alloc
     let mut strings = Vec::with_capacity(alloc, count)?;
     for _string in 0..count {
         strings.push(Text::empty())?;
+    }
+    Ok(strings)
+}
+
+// The variable without bytes, so many times.
+#[tactic(auto, using(crate::proofs::Replicas::one_more))]
+fn empty_variables<'a>(alloc: Global, count: usize) -> Result<Vec<Variable<'a>>, AllocError>
+    ensures { IfOk result (λ strings. strings.items ≡ replicate count []) }
+{
+    let mut strings = Vec::with_capacity(alloc, count)?;
+    for _string in 0..count {
+        strings.push(Variable::new(alloc))?;
     }
     Ok(strings)
 }

@@ -1,4 +1,4 @@
-use Rattle.std.proofs.Common.{◌∙◌, ◌++◌, List, ℕ, ap, sym, append-nil}
+use Rattle.std.proofs.Common.{◌∙◌, ◌++◌, List, ℕ, length, ap, sym, append-nil}
 use Rattle.btx_bib.specs.declared.grammar.commands.Wanted.{Wanted as Next}
 use Rattle.btx_bib.specs.declared.message.Message.{Message}
 use Rattle.btx_bib.specs.declared.site.Site.{Site}
@@ -9,7 +9,8 @@ use Rattle.btx_bib.specs.Known.{goes_on}
 use Rattle.btx_bib.specs.Requests.{wanted}
 use Rattle.btx_bib.specs.Sites.{database}
 use Rattle.btx_bib.proofs.GrammarLemmas.LengthLemmas.{events-less}
-use Rattle.btx_bib.proofs.GatheringLemmas.{ended-along, ended-told, ended-if, goes-if, none-along, none-told, turn-along, turn-messages}
+use Rattle.btx_bib.proofs.GrammarLemmas.PlainLemmas.{left-chain}
+use Rattle.btx_bib.proofs.GatheringLemmas.{ended-along, ended-told, ended-if, none-along, none-told, turn-along, turn-messages}
 use Rattle.btx_bib.proofs.gathering.Gathering.read_events.Goals as goal
 
 pub loop-placed-preserved : goal.loop-placed-preserved
@@ -19,17 +20,21 @@ loop-placed-preserved c =
     let read = rw c.in-Some.is at c.in_ok-placed.ensures.ok in
     let step : Step = record { event = event_view c.in-Some.placed.event; wanted = c.read.new.self.0; rest = c.read.new.self.1 } in
     let tells = c.in_ok-take.ensures.told ∙ ap (λ (s : Site). c.loop-placed.messages ++ told_of asked (database s) c.loop-placed.self step.event c.in-Some.placed.rest.now) inv.same in
+    let plain = c.in_ok-take_plain_fields-2.ensures in
+    let ms = c.take.new.messages in
     record {
-      whole = goes-if (goes_on c.take.new.self.ending) (sym c.has_ended.ensures ∙ c.if-has_ended.false);
-      state = turn-along asked c.loop-placed.self c.loop-placed.reader.0 c.loop-placed.reader.1 step c.take.new.self inv.whole read.0 c.in_ok-take.ensures.state ∙ inv.state;
-      told = turn-messages asked c.loop-placed.self c.loop-placed.reader.0 c.loop-placed.reader.1 step c.take.new.self inv.whole read.0 c.in_ok-take.ensures.state (database c.args.site.now) c.loop-placed.messages c.take.new.messages c.in-Some.placed.rest.now read.1 tells ∙ inv.told;
+      whole = plain.whole;
+      state = plain.state ∙ turn-along asked c.loop-placed.self c.loop-placed.reader.0 c.loop-placed.reader.1 step c.take.new.self inv.whole read.0 c.in_ok-take.ensures.state ∙ inv.state;
+      told = ap (λ (others : List Message). ms ++ others) (plain.told (database c.args.site.now)) ∙ turn-messages asked c.loop-placed.self c.loop-placed.reader.0 c.loop-placed.reader.1 step c.take.new.self inv.whole read.0 c.in_ok-take.ensures.state (database c.args.site.now) c.loop-placed.messages c.take.new.messages c.in-Some.placed.rest.now read.1 tells ∙ inv.told;
       same = c.in_ok-take.ensures.same ∙ inv.same;
     }
 
 pub loop-placed-smaller : goal.loop-placed-smaller
 loop-placed-smaller c =
     let read = rw c.in-Some.is at c.in_ok-placed.ensures.ok in
-    events-less (is_kept c.loop-placed.self) c.loop-placed.reader.0 c.loop-placed.reader.1 (record { event = event_view c.in-Some.placed.event; wanted = c.read.new.self.0; rest = c.read.new.self.1 }) read.0
+    let plain = c.in_ok-take_plain_fields-2.ensures in
+    left-chain _ c.read.new.self.0 _ (length c.read.new.self.1) _ plain.next plain.shorter
+    (events-less (is_kept c.loop-placed.self) c.loop-placed.reader.0 c.loop-placed.reader.1 (record { event = event_view c.in-Some.placed.event; wanted = c.read.new.self.0; rest = c.read.new.self.1 }) read.0)
 
 pub returns-then-has_ended-clause-state : goal.returns-then-has_ended-clause-state
 returns-then-has_ended-clause-state c =
@@ -41,6 +46,7 @@ returns-then-has_ended-clause-state c =
     sym (ended-along asked c.take.new.self (events_with asked c.take.new.self step.wanted step.rest) ended)
     ∙ turn-along asked c.loop-placed.self c.loop-placed.reader.0 c.loop-placed.reader.1 step c.take.new.self inv.whole read.0 c.in_ok-take.ensures.state
     ∙ inv.state
+    ∙ c.in_ok-take_plain_fields.ensures.state
     ∙ ap (λ (r : Next × List ℕ). kept_along asked c.args.self.now (events_with asked c.args.self.now r.0 r.1)) c.of-reader.ensures
 
 pub returns-then-has_ended-clause-told : goal.returns-then-has_ended-clause-told
@@ -55,6 +61,7 @@ returns-then-has_ended-clause-told c =
     ∙ ap (λ (ms : List Message). c.take.new.messages ++ ms) (sym (ended-told asked (database c.args.site.now) c.take.new.self (events_with asked c.take.new.self step.wanted step.rest) ended))
     ∙ turn-messages asked c.loop-placed.self c.loop-placed.reader.0 c.loop-placed.reader.1 step c.take.new.self inv.whole read.0 c.in_ok-take.ensures.state (database c.args.site.now) c.loop-placed.messages c.take.new.messages c.in-Some.placed.rest.now read.1 tells
     ∙ inv.told
+    ∙ ap (λ (ms : List Message). c.args.messages.now ++ ms) (c.in_ok-take_plain_fields.ensures.told (database c.args.site.now))
     ∙ ap (λ (r : Next × List ℕ). c.args.messages.now ++ kept_told asked (database c.args.site.now) c.args.self.now (events_with asked c.args.self.now r.0 r.1)) c.of-reader.ensures
 
 pub returns-clause-state : goal.returns-clause-state
@@ -64,6 +71,7 @@ returns-clause-state c =
     let read = rw c.in_default.is at c.in_ok-placed.ensures.ok in
     sym (none-along asked c.loop-placed.self c.loop-placed.reader.0 c.loop-placed.reader.1 read.0)
     ∙ inv.state
+    ∙ c.in_ok-take_plain_fields.ensures.state
     ∙ ap (λ (r : Next × List ℕ). kept_along asked c.args.self.now (events_with asked c.args.self.now r.0 r.1)) c.of-reader.ensures
 
 pub returns-clause-told : goal.returns-clause-told
@@ -74,4 +82,5 @@ returns-clause-told c =
     sym (append-nil c.loop-placed.messages)
     ∙ ap (λ (ms : List Message). c.loop-placed.messages ++ ms) (sym (none-told asked c.loop-placed.self c.loop-placed.reader.0 c.loop-placed.reader.1 (database c.args.site.now) read.0))
     ∙ inv.told
+    ∙ ap (λ (ms : List Message). c.args.messages.now ++ ms) (c.in_ok-take_plain_fields.ensures.told (database c.args.site.now))
     ∙ ap (λ (r : Next × List ℕ). c.args.messages.now ++ kept_told asked (database c.args.site.now) c.args.self.now (events_with asked c.args.self.now r.0 r.1)) c.of-reader.ensures

@@ -1,0 +1,40 @@
+use Rattle.std.proofs.Common.{◌∙◌, ◌++◌, List, ℕ, length, ap, sym, arith}
+use Rattle.btx_bib.specs.declared.grammar.commands.Wanted.{Wanted as Next}
+use Rattle.btx_bib.specs.declared.message.Message.{Message}
+use Rattle.btx_bib.specs.Gatherings.{all_kept, all_told, is_kept}
+use Rattle.btx_bib.specs.Grammar.PlainFields.{plain_step}
+use Rattle.btx_bib.specs.Known.{goes_on}
+use Rattle.btx_bib.specs.Requests.{wanted}
+use Rattle.btx_bib.proofs.GrammarLemmas.PlainLemmas.{left-shorter, plain-next, plain-shorter}
+use Rattle.btx_bib.proofs.GatheringLemmas.{turn-along, turn-told}
+use Rattle.btx_bib.proofs.gathering.Gathering.take_plain_fields.Goals as goal
+
+pub loop-field-preserved : goal.loop-field-preserved
+loop-field-preserved c =
+    let asked = wanted c.args.request.now in
+    let inv = c.loop-field.invariant in
+    let kept = c.loop-field.self in
+    let place = c.loop-field.reader in
+    let field = c.in-Some.field in
+    let after = c.take_plainly.new.self in
+    let stands = rw c.in-Some.is at c.plain_field.ensures.field in
+    let taken = rw c.if-not-taken.false at c.in_ok-taken.ensures.state in
+    let silent = c.in_ok-taken.ensures.told c.if-not-taken.false in
+    let next = plain-next (is_kept kept) place.0 place.1 field stands in
+    let le = left-shorter place.0 (length field.value.rest.now) (length place.1) (plain-shorter (is_kept kept) place.0 place.1 field stands) in
+    record {
+      whole = ap goes_on c.in_ok-taken.ensures.same ∙ inv.whole;
+      state = ap (all_kept asked after) c.pass.ensures ∙ turn-along asked kept place.0 place.1 (plain_step place.0 field) after inv.whole next taken ∙ inv.state;
+      told = λ database.
+          ap (all_told asked database after) c.pass.ensures
+          ∙ ap (λ (ms : List Message). ms ++ all_told asked database after (place.0, field.value.rest.now)) (sym (silent database field.value.rest.now))
+          ∙ turn-told asked kept place.0 place.1 (plain_step place.0 field) after inv.whole next taken database
+          ∙ inv.told database;
+      next = ap (λ (r : Next × List ℕ). r.0) c.pass.ensures ∙ inv.next;
+      shorter = omega (arith, ap (λ (r : Next × List ℕ). length r.1) c.pass.ensures, le, inv.shorter);
+    }
+
+pub loop-field-smaller : goal.loop-field-smaller
+loop-field-smaller c =
+    let stands = rw c.in-Some.is at c.plain_field.ensures.field in
+    rw c.pass.ensures (plain-shorter (is_kept c.loop-field.self) c.loop-field.reader.0 c.loop-field.reader.1 c.in-Some.field stands)

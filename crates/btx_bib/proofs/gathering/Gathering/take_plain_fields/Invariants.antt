@@ -1,0 +1,20 @@
+use Rattle.std.proofs.Common.{◌≡◌, ◌≤◌, true, length}
+use Rattle.btx_bib.specs.Gatherings.{all_kept, all_told}
+use Rattle.btx_bib.specs.Known.{goes_on}
+use Rattle.btx_bib.specs.Requests.{wanted}
+use Rattle.btx_bib.specs.Told.{Database}
+use Rattle.btx_bib.proofs.GrammarLemmas.LengthLemmas.{left}
+use Rattle.btx_bib.proofs.gathering.Gathering.take_plain_fields.Given as goal
+
+-- the events that are left do the rest
+abbrev pub invariant-loop-field : goal.invariant-loop-field
+invariant-loop-field l = record {
+  whole : goes_on l.self.ending ≡ true;
+  state : all_kept (wanted l.request) l.self l.reader ≡ all_kept (wanted l.request) l.initial.self l.initial.reader;
+  told : (database : Database) → all_told (wanted l.request) database l.self l.reader ≡ all_told (wanted l.request) database l.initial.self l.initial.reader;
+  next : l.reader.0 ≡ l.initial.reader.0;
+  shorter : length l.reader.1 ≤ length l.initial.reader.1;
+}
+
+abbrev pub decreases-loop-field : goal.decreases-loop-field
+decreases-loop-field l = left l.reader.0 (length l.reader.1)

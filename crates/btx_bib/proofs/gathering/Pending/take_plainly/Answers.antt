@@ -1,0 +1,13 @@
+use Rattle.std.proofs.Common.{◌∙◌, refl, sym}
+use Rattle.btx_bib.specs.Grammar.PlainFields.{part_in_view, plain_field_view}
+use Rattle.btx_bib.proofs.ToldLemmas.{silent-none, silent-some}
+use Rattle.btx_bib.proofs.gathering.Pending.take_plainly.Goals as goal
+
+pub returns-in_default-clause-told : goal.returns-in_default-clause-told
+returns-in_default-clause-told c taken database rest =
+    silent-none database c.args.strings.now c.args.self.now (plain_field_view c.args.field.now) rest _ (sym c.in_ok-number.ensures ∙ c.in_default.is)
+
+pub returns-in_ok-put-in-Some-2-clause-told : goal.returns-in_ok-put-in-Some-2-clause-told
+returns-in_ok-put-in-Some-2-clause-told c taken database rest =
+    silent-some database c.args.strings.now c.args.self.now (plain_field_view c.args.field.now) rest _ c.in-Some.number (part_in_view c.args.field.now.value) (sym c.in_ok-number.ensures ∙ c.in-Some.is)
+    (sym c.has.ensures ∙ c.if-has.false) refl (rw c.in-Some-2.is at c.in_ok-text.ensures.known)

@@ -1,0 +1,116 @@
+//! Fields in their plainest form, each read in one pass.
+ghost use Rattle.std.specs.Prelude.{◌≡◌, ◌==◌, ◌∷◌, [], drop, if◌then◌else◌, Ok, Some, None, IfSome};
+ghost use Rattle.btx_bib.specs.Grammar.ByteSets as bytes;
+ghost use Rattle.btx_bib.specs.Grammar.PlainFields.{IsPlain, StandsNext, part_in_view};
+ghost use Rattle.btx_bib.specs.Grammar.Values as spec;
+ghost use Rattle.btx_bib.specs.declared.grammar.byte_sets.ByteSet.TheVariants as set;
+
+use crate::grammar::byte_sets::{ByteSet, Enclosure, begins_name, run_len};
+use crate::grammar::parts::next_part;
+use crate::grammar::plain::plain_enclosed;
+use crate::grammar::tokens::past;
+
+/// What kind of part a value in its plainest form is.
+#[derive(Clone, Copy)]
+pub enum PlainKind {
+    /// A group in braces.
+    Braced,
+    /// A text in quotes.
+    Quoted,
+    /// Digits.
+    Digits,
+    /// The name of a string.
+    Named,
+}
+
+/// A value in its plainest form: one part, and the text from its end on.
+#[derive(Clone, Copy)]
+pub struct PlainValue<'a> {
+    /// What kind of part it is.
+    pub kind: PlainKind,
+    /// The part's text, without its delimiters.
+    pub text: &'a [u8],
+    /// The text from its end on.
+    pub rest: &'a [u8],
+}
+
+/// A field in its plainest form.
+#[derive(Clone, Copy)]
+pub struct PlainField<'a> {
+    /// Its name.
+    pub name: &'a [u8],
+    /// Its value.
+    pub value: PlainValue<'a>,
+}
+
+// A part of a value that is plain, if one stands here.
+#[inline(always)]
+#[tactic(auto, unfolding(crate::specs::Grammar::Values::part_in))]
+fn plain_part(rest: &[u8]) -> Option<PlainValue<'_>>
+    ensures value { IfSome result (λ got. spec.part_in rest.now ≡ Ok (part_in_view got, got.rest.now)) }
+    ensures plain { IfSome result (λ got. IsPlain (part_in_view got)) }
+{
+    let (&byte, behind) = rest.split_first()?;
+    let (kind, (text, rest)) = if byte == b'{' {
+        (PlainKind::Braced, plain_enclosed(Enclosure::Group, behind)?)
+    } else if byte == b'"' {
+        (
+            PlainKind::Quoted,
+            plain_enclosed(Enclosure::Quotes, behind)?,
+        )
+    } else if byte.is_ascii_digit() {
+        (
+            PlainKind::Digits,
+            rest.split_at(run_len(ByteSet::Digit, rest)),
+        )
+    } else if begins_name(byte) {
+        (
+            PlainKind::Named,
+            rest.split_at(run_len(ByteSet::NameByte, rest)),
+        )
+    } else {
+        return None;
+    };
+    Some(PlainValue { kind, text, rest })
+}
+
+// What follows the white and the sign that a text begins with.
+#[inline(always)]
+fn behind_sign(sign: u8, text: &[u8]) -> Option<&[u8]>
+    ensures { IfSome result (λ rest. bytes.past set.Gap text.now ≡ sign ∷ rest.now) }
+{
+    match past(ByteSet::Gap, text).split_first() {
+        Some((&byte, behind)) if byte == sign => Some(behind),
+        _ => None,
+    }
+}
+
+// A value in its plainest form, if one stands here.
+#[inline(always)]
+#[tactic(auto, using(crate::proofs::GrammarLemmas::ValueLemmas::value_parts))]
+fn plain_value(text: &[u8]) -> Option<PlainValue<'_>>
+    ensures value { IfSome result (λ got. spec.value_at text.now ≡ Ok (part_in_view got ∷ [], got.rest.now)) }
+    ensures plain { IfSome result (λ got. IsPlain (part_in_view got)) }
+{
+    let value = plain_part(past(ByteSet::Gap, text))?;
+    match next_part(value.rest) {
+        Some(_) => None,
+        None => Some(value),
+    }
+}
+
+/// A field in its plainest form and the comma before it, if they stand here.
+#[inline(always)]
+pub fn plain_field(text: &[u8]) -> Option<PlainField<'_>>
+    ensures field { IfSome result (λ field. StandsNext text.now field) }
+    ensures plain { IfSome result (λ field. IsPlain (part_in_view field.value)) }
+{
+    let rest = past(ByteSet::Gap, behind_sign(b',', text)?);
+    let (&byte, _) = rest.split_first()?;
+    if !begins_name(byte) {
+        return None;
+    }
+    let (name, behind) = rest.split_at(run_len(ByteSet::NameByte, rest));
+    let value = plain_value(behind_sign(b'=', behind)?)?;
+    Some(PlainField { name, value })
+}
