@@ -1,5 +1,5 @@
 /* A library to be preloaded: a file whose path ends with the name FAIL_OPEN can't be opened, for the reason FAIL_REASON, which is the name
- * of an error number. */
+ * of an error number; where FAIL_EMPTY is set, no file can be emptied, for that reason. */
 #define _GNU_SOURCE
 #include <dlfcn.h>
 #include <errno.h>
@@ -7,6 +7,7 @@
 #include <stdarg.h>
 #include <stdlib.h>
 #include <string.h>
+#include <unistd.h>
 
 static const struct {
     const char *name;
@@ -50,4 +51,16 @@ int open(const char *path, int flags, ...)
         va_end(rest);
     }
     return next(path, flags, mode);
+}
+
+int ftruncate(int file, off_t length)
+{
+    static int (*next)(int, off_t);
+    if (!next)
+        next = (int (*)(int, off_t))dlsym(RTLD_NEXT, "ftruncate");
+    if (getenv("FAIL_EMPTY")) {
+        errno = reason();
+        return -1;
+    }
+    return next(file, length);
 }

@@ -66,6 +66,81 @@ wants_text $'\xff.bbl' $'old list\n'
 [ ! -e $'\xff.blg' ] || complaints+=('there is a log')
 end
 
+# Another program than bibtex-proved may refuse the program's own words: that touches nothing either.
+begin confined_program_of_other_words
+printf '#!/bin/sh\necho "unrecognized option $1" >&2\nexit 1\n' >refuses
+chmod +x refuses
+echo 'old list' >job.bbl
+BIBTEX_PROGRAM=./refuses run_confined job
+wants_status 1
+wants_error_with 'unrecognized option --dir'
+wants_text job.bbl $'old list\n'
+[ ! -e job.blg ] || complaints+=('there is a log')
+wants_no_links
+end
+
+# Options stand behind the job.
+for words in '--line=30 job' --version; do
+    begin "confined_option_first_$((passed + failed))"
+    run_confined $words
+    wants_error_with 'the job is the first word, and options stand behind it'
+    wants_no_links
+    end
+done
+
+begin confined_by_a_shell
+cp "$confined" .
+confined=bibtex-confined
+status=0
+sh "$confined" job </dev/null >"$folder/stdout" 2>"$folder/stderr" || status=$?
+confined=$here/bibtex-confined
+wants_status 0
+wants_error ''
+wants_text job.bbl $'a\n'
+end
+
+# What the program is started with: the limits, the words, and a folder of the job's files alone.
+begin confined_limits
+: >other.bib
+cat >shows <<'END'
+#!/bin/sh
+case $2 in */nowhere) exit 6 ;; esac
+{
+    for limit in c v f n; do
+        echo "$limit $(ulimit -$limit)"
+    done
+    echo "t $(ulimit -S -t) $(ulimit -H -t)"
+    ls "$2"
+    shift 2
+    echo "$*"
+} >&2
+END
+chmod +x shows
+ulimit -S -c "$(ulimit -H -c)"
+BIBTEX_PROGRAM=./shows run_confined job --text=utf8
+wants_status 0
+wants_error 'c 0
+v 900000
+f 80000
+n 64
+t 10 11
+d.bib
+job.aux
+job.bbl
+job.blg
+s.bst
+--terse --budget 100000000 --text=utf8 -- job
+'
+wants_no_links
+end
+
+# No byte of a name acts on a terminal.
+begin confined_control_bytes
+printf '\\bibdata{\033[31m/\177d}\n' >job.aux
+run_confined job
+wants_refusal "the name '?[31m/?d.bib' isn't one of a file of this folder"
+end
+
 for name in 'two words' $'two\nlines' -job '*' '$HOME' 'a"b' "a'b" '`b`' j.aux 'ü'; do
     begin "confined_job_$((passed + failed))"
     mv -- job.aux "$name.aux"
@@ -77,6 +152,13 @@ for name in 'two words' $'two\nlines' -job '*' '$HOME' 'a"b' "a'b" '`b`' j.aux '
     end
 done
 
+# run_confined_as_other: runs the script as a user who owns nothing.
+run_confined_as_other() {
+    status=0
+    setpriv --reuid 65534 --regid 65534 --clear-groups env BIBTEX_PROGRAM="$room/program" "$confined" job \
+        </dev/null >"$folder/stdout" 2>"$folder/stderr" || status=$?
+}
+
 # An output that can't be written is a device error, with a reason, however the shell takes it.
 if [ "$(id -u)" -eq 0 ] && setpriv --reuid 65534 --regid 65534 --clear-groups test -r "$confined" 2>/dev/null; then
     chmod a+rx "$room"
@@ -87,15 +169,29 @@ if [ "$(id -u)" -eq 0 ] && setpriv --reuid 65534 --regid 65534 --clear-groups te
         chmod 777 .
         echo 'old' >"$output"
         chmod 644 "$output"
-        status=0
-        setpriv --reuid 65534 --regid 65534 --clear-groups env BIBTEX_PROGRAM="$room/program" "$confined" job \
-            </dev/null >"$folder/stdout" 2>"$folder/stderr" || status=$?
+        run_confined_as_other
         wants_status 6
         wants_error_with "bibtex-confined: $output can't be written"
         wants_text "$output" $'old\n'
         wants_no_links
         end
     done
+
+    # An input that may not be read isn't there, and the top file isn't either.
+    begin confined_style_of_another
+    chmod 777 .
+    chmod 600 s.bst
+    run_confined_as_other
+    wants_status 2
+    wants_error 'bibtex-confined: there are error messages in job.blg
+'
+    grep -qx "Error--I couldn't open style file s.bst" job.blg || complaints+=("the log is $(cat job.blg)")
+    wants_no_links
+    chmod 600 job.aux
+    run_confined_as_other
+    wants_status 3
+    wants_error_with "I couldn't open file name \`job.aux'"
+    end
 else
     echo 'left out: outputs of another user (needs root and setpriv)'
 fi
@@ -197,6 +293,29 @@ attack_zeros_as_aux() { truncate -s 3G job.aux; }
 attack_fewer_zeros() { truncate -s 90M d.bib; }
 attack_fewer_zeros_as_style() { truncate -s 90M s.bst; }
 attack_fewer_zeros_as_aux() { truncate -s 9M job.aux; }
+# An error names the entry, whose key is as long as a database may be.
+attack_errors_of_a_long_key() {
+    cite '*'
+    printf 'ENTRY {}{}{} FUNCTION {f}{{#1} {if$ if$ if$ if$} while$} READ ITERATE {f}\n' >s.bst
+    echo "@misc{$(long 5000000)}" >d.bib
+}
+attack_aux_errors() {
+    printf '\\citation{k%s}\n\\bibdata{d}\n\\bibstyle{s}\n' "$(head -c 9000000 < <(yes ,K | tr -d '\n'))" >job.aux
+}
+# Strings whose names fall on one place of the table, used again and again.
+attack_chosen_keys() {
+    local values
+    "$room/collide" 3000 >keys
+    values=$(paste -s -d '#' keys)
+    cite '*'
+    printf 'ENTRY {title}{}{} FUNCTION {misc}{} READ\n' >s.bst
+    {
+        sed 's/.*/@string{& = {}}/' keys
+        for number in {1..1500}; do
+            echo "@misc{k$number, title = $values}"
+        done
+    } >d.bib
+}
 attack_many_databases() {
     for number in {1..200}; do
         echo "@misc{k, note = {$(long 2000)" >"d$number.bib"
@@ -236,7 +355,7 @@ attack_style_of_tex_live() {
 }
 # A program that does nothing for too long.
 attack_waiting() {
-    printf '#!/bin/sh\nsleep 100\n' >waits
+    printf '#!/bin/sh\ncase $2 in */nowhere) exit 6 ;; esac\nsleep 100\n' >waits
     chmod +x waits
 }
 # Names as long as an .aux file may be, for a shell that reads them byte by byte.
@@ -338,6 +457,8 @@ literals 5 3
 recursion 3
 variables 5
 sorts 152 137
+errors_of_a_long_key 5 6
+aux_errors 5 6
 zeros 1
 zeros_as_style 1
 zeros_as_aux 1
@@ -354,6 +475,12 @@ long_names 2
 long_path 1
 empty_names 1 124
 '
+if command -v gcc >/dev/null && gcc -O2 -Wall -Werror -o "$room/collide" "$here/../tests/speed/collide.c"; then
+    attacks+='chosen_keys 152 137
+'
+else
+    echo 'left out: keys that are chosen to collide (without gcc)'
+fi
 if has kpsewhich && kpsewhich plain-letters.bst >/dev/null; then
     attacks+='style_of_tex_live 4 6 152 137'
 fi

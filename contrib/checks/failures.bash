@@ -85,6 +85,15 @@ run_search job
 ! grep -q '^The same for tools' job.blg || complaints+=("the log is $(cat job.blg)")
 end
 
+begin program_that_a_signal_ends
+printf '#!/bin/sh\nkill -SEGV $$\n' >ends
+chmod +x ends
+BIBTEX_PROGRAM=./ends run_search job
+wants_status 139
+wants_error_with 'bibtex-search: the program was ended by signal 11'
+wants_no_links
+end
+
 begin full_standard_output
 status=0
 PATH=$script_path "$search" job >/dev/full 2>"$folder/stderr" || status=$?

@@ -215,6 +215,30 @@ grep -qx 'Ended: finished, warnings 0, errors 2, steps 4' job.blg || complaints+
 wants_no_links
 end
 
+# A variable keeps as many bytes as TeX says, where no option says otherwise, and where the program can have that limit.
+source "$here/checks/fake_tex"
+
+# keeps_as_many ENTRY GLOBAL WORD..: a variable of an entry keeps ENTRY bytes and a global one GLOBAL, where the program is called with these WORDs.
+keeps_as_many() {
+    printf '%s\n' 'ENTRY {}{}{} FUNCTION {misc} {} READ' 'FUNCTION {f} {entry.max$ int.to.str$ write$ newline$ global.max$ int.to.str$ write$ newline$} EXECUTE {f}' \
+        >tree/s.bst
+    run_fake "${@:3}" job
+    wants_status 0
+    wants_text job.bbl "$1"$'\n'"$2"$'\n'
+}
+
+begin limits_of_a_tex
+fake_tex a a '$TEXMFOUTPUT' 7 9
+cp d.bib tree
+keeps_as_many 7 9
+keeps_as_many 3 9 -entry-max=3
+keeps_as_many 7 4 -global-max=4
+fake_tex a a '$TEXMFOUTPUT' 1000000 1000001
+keeps_as_many 1000000 20000
+fake_tex a a '$TEXMFOUTPUT' '\$ent_str_size' 0
+keeps_as_many 250 20000
+end
+
 if has kpsewhich; then
     begin search_paths
     mkdir -p refs styles/deep/deeper

@@ -65,20 +65,90 @@ done
 unset fake
 end
 
-if has kpsewhich; then
-    # The rules for names are kpsewhich's own.
-    begin openout_rules
-    grep -v '^main ' "$search" >functions
-    mkdir allowed
-    for name in job.bbl ./job.bbl ../job.bbl /tmp/job.bbl .job.bbl a/.job.bbl .a/job.bbl a/../job.bbl a/..job.bbl ..job.bbl j..b.bbl a/./job.bbl \
-        ./../job.bbl "$PWD/allowed/job.bbl" "$PWD/allowedto/job.bbl" "$PWD/allowed/../job.bbl" 'a b.bbl' '$HOME/x.bbl' ~/job.bbl ./.job.bbl .../job.bbl; do
-        for choice in a y 1 r n 0 p x; do
-            wanted=0 found=0
-            TEXMFOUTPUT=$PWD/allowed openout_any=$choice kpsewhich -progname=bibtex -safe-out-name="$name" >/dev/null 2>&1 || wanted=1
-            sh -c '. ./functions && output_folder=$1 && allowed "$2" "$3"' sh "$PWD/allowed" "$choice" "$name" || found=1
-            [ "$wanted" -eq "$found" ] || complaints+=("$name with $choice: $found, and by kpsewhich $wanted")
+begin openout_below_the_output_folder
+mkdir allowed
+cp job.aux allowed
+fake_tex p a "$PWD/allowed"
+cp d.bib s.bst tree
+run_fake "$PWD/allowed/job"
+wants_first allowed/job
+fake_tex p a "$PWD/allow"
+run_fake "$PWD/allowed/job"
+wants_status 1
+wants_error_with '(openout_any = p).'
+end
+
+# The rules for names: with which of openout_any's choices, any, restricted and paranoid, a name is allowed where TEXMFOUTPUT is the folder
+# ALLOWED. The same holds of openin_any.
+rules='
+arp job.bbl
+arp ./job.bbl
+arp a/./job.bbl
+arp a//job.bbl
+arp j..b.bbl
+arp a b.bbl
+arp $HOME/x.bbl
+arp ~/job.bbl
+arp ALLOWED/job.bbl
+ar ../job.bbl
+ar ./../job.bbl
+ar a/../job.bbl
+ar /tmp/job.bbl
+ar ALLOWEDto/job.bbl
+ar ALLOWED/../job.bbl
+a .job.bbl
+a ..job.bbl
+a ./.job.bbl
+a .../job.bbl
+a a/.job.bbl
+a a/..job.bbl
+a .a/job.bbl
+a ALLOWED/.job.bbl
+'
+
+# each_rule COMMAND: calls it with each choice that openout_any may have, each name, and whether it is allowed then: 0 or 1.
+each_rule() {
+    local letters name choice
+    while IFS=' ' read -r letters name; do
+        [ -n "$letters" ] || continue
+        for choice in any yes 1 restricted no 0 paranoid x; do
+            case $choice in
+            [ay1]*) letter=a ;;
+            [rn0]*) letter=r ;;
+            *) letter=p ;;
+            esac
+            case $letters in
+            *$letter*) "$1" "$choice" "${name/ALLOWED/$PWD/allowed}" 0 ;;
+            *) "$1" "$choice" "${name/ALLOWED/$PWD/allowed}" 1 ;;
+            esac
         done
+    done <<<"$rules"
+}
+
+# by_search CHOICE NAME STATUS, by_kpsewhich CHOICE NAME STATUS: what bibtex-search says of a name, and what kpsewhich does.
+by_search() {
+    local found=0
+    sh -c '. ./functions && output_folder=$1 && allowed "$2" "$3"' sh "$PWD/allowed" "$1" "$2" || found=1
+    [ "$3" -eq "$found" ] || complaints+=("$2 with $1: $found, and not $3")
+}
+
+by_kpsewhich() {
+    local way found
+    for way in in out; do
+        found=0
+        env TEXMFOUTPUT="$PWD/allowed" "open${way}_any=$1" kpsewhich -progname=bibtex "-safe-$way-name=$2" >/dev/null 2>&1 || found=1
+        [ "$3" -eq "$found" ] || complaints+=("$2 with open${way}_any = $1: by kpsewhich $found, and not $3")
     done
+}
+
+begin openout_rules
+grep -v '^main ' "$search" >functions
+each_rule by_search
+end
+
+if has kpsewhich; then
+    begin openout_rules_of_tex_live
+    each_rule by_kpsewhich
     end
 
     begin openout_of_tex_live

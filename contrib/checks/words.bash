@@ -128,3 +128,28 @@ run_search -version
 wants_status 0
 wants_output "$("$program" --version)"$'\n'
 end
+
+# The page of each script names each option that its help names, and has no fault.
+for name in bibtex-search bibtex-confined bibtex-explain; do
+    begin "man_page_of_$name"
+    page=$here/$name.1
+    "$here/$name" --help >help
+    for option in $(grep -oE -- '(^|[^A-Za-z0-9-])--?[a-z][a-z-]*' help | sed 's/^[^-]//' | sort -u); do
+        grep -qF -- "${option//-/\\-}" "$page" || complaints+=("the man page does not name $option")
+    done
+    if command -v groff >/dev/null; then
+        groff -ww -man -Tutf8 "$page" >shown 2>warnings || complaints+=('groff does not take the man page')
+        wants_text warnings ''
+    else
+        echo 'left out: warnings of the man page (there is no groff)'
+    fi
+    end
+done
+
+begin log_that_is_not_there
+status=0
+"$here/bibtex-explain" nosuch </dev/null >"$folder/stdout" 2>"$folder/stderr" || status=$?
+wants_status 1
+wants_error 'bibtex-explain: ./nosuch.blg: No such file or directory
+'
+end

@@ -89,12 +89,18 @@ def place(chapters, found):
         for section_number, section in enumerate(chapter.sections, 1):
             section.number = f"{chapter_number}.{section_number}"
             for module in section.modules:
-                own = sorted((it for it in by_module.get(module, []) if it.kind != "rust"), key=lambda it: it.line)
+                own = sorted((it for it in by_module.get(module, []) if it.kind != "rust"), key=place_in_module)
                 section.parts.append((module, with_types(own, placed)))
             for it in section.definitions:
                 count += 1
                 it.place = (chapter_number, count)
     return [it for it in found if it.place is None]
+
+
+def place_in_module(it):
+    """A module's definitions stand in the order of the folders, and in each as in its file."""
+    folder = definitions.folder_of(it.file)
+    return (definitions.FOLDERS.index(folder) if folder else 0, it.line)
 
 
 def with_types(own, placed):
@@ -128,10 +134,10 @@ def example(named, believed):
         return job_example(piece)
     module, _, name = where.rpartition(".")
     for folder in ("specs", "proofs"):
-        home = definitions.module(module, folder)
-        row = home.names.get(name) if home else None
-        if isinstance(row, Definition) and (row in believed if folder == "specs" else is_checked(module)):
-            return row_example(home, row, piece) if piece else whole_example(home, row, folder)
+        for home in definitions.modules_shown(module) if folder == "specs" else [definitions.module(module, folder)]:
+            row = home.names.get(name) if home else None
+            if isinstance(row, Definition) and (row in believed if folder == "specs" else is_checked(module)):
+                return row_example(home, row, piece) if piece else whole_example(home, row, folder)
     raise LookupError(f"there is no row `{where}` that a law speaks of or that is proved")
 
 
@@ -159,7 +165,7 @@ def whole_example(home, row, folder):
             raise LookupError(f"`{row.id}` is no statement that is proved")
     else:
         lines = [line for line in lines[1:]]
-    return Example(f"{row.module.replace('.', '/' + folder + '/', 1).replace('.', '/')}.antt, {row.name}", copy_of(home, row, lines), " ".join(row.comment))
+    return Example(f"{row.file.relative_to(CRATES)}, {row.name}", copy_of(home, row, lines), " ".join(row.comment))
 
 
 def row_example(home, row, piece):
@@ -169,7 +175,7 @@ def row_example(home, row, piece):
     if len(found) != 1:
         raise LookupError(f"{len(found)} rows of `{row.id}` have the text `{piece}`")
     comment, lines = found[0]
-    return Example(f"{row.module.replace('.', '/specs/', 1).replace('.', '/')}.antt, {row.name}", copy_of(home, row, lines), comment)
+    return Example(f"{row.file.relative_to(CRATES)}, {row.name}", copy_of(home, row, lines), comment)
 
 
 def rows_of(row):
@@ -244,11 +250,11 @@ def short(value):
     return text if len(text) <= 200 else f"{text[:120]} .. ({len(text):,} characters) .. {text[-40:]}"
 
 
-def crate_path(module):
-    """The file of a module, from the repository's top."""
-    crate, *rest = re.split(r"\.|::", module.partition("/")[0])
-    if "::" in module:
-        path = CRATES.joinpath(crate, "src", *rest).with_suffix(".rt")
-    else:
-        path = CRATES.joinpath(crate, "specs", *rest).with_suffix(".antt")
-    return path.relative_to(ROOT)
+def files_of(module, found):
+    """The files of a section's module that have these definitions, from the repository's top, each with what it says at its front."""
+    name = module.partition("/")[0]
+    if "::" in name:
+        crate, *rest = name.split("::")
+        return [(CRATES.joinpath(crate, "src", *rest).with_suffix(".rt").relative_to(ROOT), [])]
+    files = {it.file for it in found}
+    return [(home.file.relative_to(ROOT), home.intro) for home in definitions.modules_shown(name) if home.file in files]

@@ -9,6 +9,8 @@ import re
 
 ROOT = pathlib.Path(__file__).resolve().parents[2]
 CRATES = ROOT / "crates"
+# The folders of specs/: what has to be believed, what is promised about it, and what ties the code to it. A program has no such folders.
+FOLDERS = ("language", "laws", "refinement")
 IDENTIFIER = r"[A-Za-z_][\w']*(?:-[A-Za-z][\w']*)*"
 # A text in quotes, a name with what it is the path of, or the name of a field behind a value.
 TOKEN = re.compile(rf'"(?:[^"\\]|\\.)*"|(?<![\w.]){IDENTIFIER}(?:\.{IDENTIFIER})*|\.{IDENTIFIER}(?:\.{IDENTIFIER})*')
@@ -137,14 +139,38 @@ def source_of(name, folder):
 
 
 def module(name, folder="specs"):
-    """The module crate.A.B, or None where there is no such file."""
+    """The module of the file A/B in a folder of a crate, by the name crate.A.B, or None where there is no such file."""
     return read_once(name, folder)
+
+
+def module_of(file):
+    """The module of a file of definitions or proofs."""
+    crate, folder, *rest = file.relative_to(CRATES).with_suffix("").parts
+    return module(".".join([crate, *rest]), folder)
+
+
+def shown(name):
+    """The name of a module without the folder of specs/ that it stands in."""
+    crate, first, *rest = name.split(".")
+    return ".".join([crate, *rest] if first in FOLDERS else [crate, first, *rest])
+
+
+def modules_shown(name):
+    """The modules of specs/ that are shown by this name: one in each folder at most."""
+    crate, _, rest = name.partition(".")
+    return [found for path in (name, *(f"{crate}.{folder}.{rest}" for folder in FOLDERS)) if (found := module(path))]
+
+
+def folder_of(file):
+    """The folder of specs/ that a file stands in, or None."""
+    folder = file.relative_to(CRATES).parts[2]
+    return folder if folder in FOLDERS else None
 
 
 @functools.lru_cache(maxsize=None)
 def read_once(name, folder):
     path = source_of(name, folder)
-    return path and Reader(Module(name, path)).read(path.read_text(encoding="utf-8"))
+    return path and Reader(Module(shown(name), path)).read(path.read_text(encoding="utf-8"))
 
 
 def all_modules():

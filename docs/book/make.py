@@ -18,6 +18,7 @@ import re
 import sys
 
 import chapters
+import definitions
 import examples
 import glossary
 import links
@@ -77,11 +78,19 @@ class Book:
         self.check_few("definitions without a comment", silent, len(self.found))
         forward = [f"{where(it)}: `{it.name}` uses `{used.name}` of a later chapter" for it, used in chapters.forward_references(self.found)]
         self.check_few("forward references between chapters", forward, len(self.found))
+        self.check_folders()
         self.check_sections()
         self.check_words()
         self.check_notation()
         self.check_links()
         self.check_sizes()
+
+    def check_folders(self):
+        """Each folder of specs/ has what it is named after, definition by definition: `language` what the contract of `run` reaches and nothing else."""
+        for it in (it for module in definitions.all_modules() for it in module.definitions):
+            folder = definitions.folder_of(it.file)
+            if folder:
+                self.check(folder == it.reach, f"{where(it)}: `{it.name}` belongs into specs/{it.reach}")
 
     def check_sections(self):
         for section in self.sections:

@@ -2,7 +2,7 @@
 
 import re
 
-import definitions
+import chapters
 
 CITED = re.compile(r"\b(btxdoc|btxhak), section (\d+(?:\.\d+)?)")
 
@@ -11,8 +11,7 @@ def followed_by(section):
     """The sections of the manuals that a section of the book names, in order: `("btxhak", "5.3")`."""
     found = set()
     for module, own in section.parts:
-        home = definitions.module(module) if "::" not in module else None
-        for comment in [home.intro if home else [], *(it.comment for it in own)]:
+        for comment in [*(intro for _, intro in chapters.files_of(module, own)), *(it.comment for it in own)]:
             found.update(CITED.findall(" ".join(comment or [])))
     return sorted(found, key=lambda cited: (cited[0], [int(part) for part in cited[1].split(".")]))
 

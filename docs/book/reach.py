@@ -85,7 +85,7 @@ def nearest_carriers(it):
 
 def home_of(it):
     """The module of a definition of a specs file; a type of the program has none."""
-    return None if it.kind == "rust" else definitions.module(it.module)
+    return None if it.kind == "rust" else definitions.module_of(it.file)
 
 
 def lines_in(found):

@@ -5,7 +5,6 @@ import pathlib
 import re
 
 import chapters
-import definitions
 import glossary
 import layout
 import links
@@ -113,9 +112,8 @@ def section_html(section, examples, known):
         out.append(f'<p class="rule">The rule in words: {linked_rules}.{of_manuals}</p>')
     out += [example_html(examples[name], known) for name in section.examples if name in examples]
     for module, found in section.parts:
-        home = definitions.module(module) if "::" not in module else None
-        path = f'<span class="file">{chapters.crate_path(module)}</span>'
-        out.append(f'<p class="intro" id="m-{module.replace("::", ".").replace("/", ".")}">{text(layout.prose(home.intro)) if home else ""} {path}</p>')
+        intros = " ".join(f'{text(layout.prose(intro))} <span class="file">{file}</span>' for file, intro in chapters.files_of(module, found))
+        out.append(f'<p class="intro" id="m-{module.replace("::", ".").replace("/", ".")}">{intros}</p>')
         out += [definition_html(it) for it in found]
     return "\n".join(out)
 

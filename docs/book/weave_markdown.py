@@ -3,7 +3,6 @@
 import re
 
 import chapters
-import definitions
 import glossary
 import layout
 import links
@@ -60,8 +59,8 @@ def section_markdown(section, examples, known):
         words = "".join(f"- {word}\n" for word in layout.words_of(example, known))
         out.append(f"**Example**{caption}\n\n{code(example.row)}\n\n{words}\n*{example.shown}, which is checked*\n")
     for module, found in section.parts:
-        home = definitions.module(module) if "::" not in module else None
-        out.append(f"{layout.prose(home.intro) if home else ''} (`{chapters.crate_path(module)}`)\n")
+        intros = " ".join(f"{layout.prose(intro)} (`{file}`)" for file, intro in chapters.files_of(module, found))
+        out.append(f"{intros}\n")
         out += [definition_markdown(it) for it in found]
     return "\n".join(out)
 

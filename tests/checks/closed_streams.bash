@@ -32,10 +32,11 @@ wants_streams() {
     esac
 }
 
-# The database is the first stream that is closed, by its number. It is empty: it isn't the list, which is the first file that the job opens.
+# read_database_from_closed_stream STREAMS STREAM: the database is this one of them, by its number. It is empty: it isn't the list, which is the
+# first file that the job opens.
 read_database_from_closed_stream() {
     rm d.bib
-    ln -s "/dev/fd/${1:0:1}" d.bib
+    ln -s "/dev/fd/$2" d.bib
     printf '@misc{k, title = {T}}\n' >job.bbl
     use_style 'FUNCTION {f} {title write$ newline$} ITERATE {f}'
     run_without "$1" job
@@ -53,13 +54,15 @@ for streams in 0 1 2 01 02 12 012; do
     wants_files d.bib job.aux job.bbl job.blg s.bst
     end
 
-    begin "database_from_closed_streams_$streams"
-    cite k
-    read_database_from_closed_stream "$streams"
-    wants_streams "$streams" "$warned_log"
-    wants_text job.bbl ''
-    wants_text job.blg "$warned_log"
-    end
+    for stream in $(echo "$streams" | grep -o .); do
+        begin "database_from_stream_${stream}_of_closed_streams_$streams"
+        cite k
+        read_database_from_closed_stream "$streams" "$stream"
+        wants_streams "$streams" "$warned_log"
+        wants_text job.bbl ''
+        wants_text job.blg "$warned_log"
+        end
+    done
 
     # The list can't be created: the fault is the status, and nothing else is written.
     begin "fault_with_closed_streams_$streams"

@@ -73,22 +73,17 @@ refuses text_twice 'cannot be used multiple times' --text bytes --text utf8 job
 refuses folder_twice 'cannot be used multiple times' --dir . --dir . job
 refuses terse_twice 'cannot be used multiple times' --terse --terse job
 
-# Help says what the program does, names each word, and lists the statuses.
+# Help says what the program does, what each word means with its default, and the statuses: byte by byte.
 begin help
 run_program --help
 wants_status 0
 wants_error ''
 wants_files d.bib job.aux s.bst
-head -n 1 "$folder/stdout" | grep -q '^Writes the list of references of a LaTeX document' ||
-    complaints+=('the help does not begin with what the program does')
-grep -q '^Usage: bibtex ' "$folder/stdout" || complaints+=('standard output has no usage')
-for word in --min-crossrefs '--budget <N>' '--dir <D>' --terse --text '--line <N>' --entry-max --global-max --version '<JOB>'; do
-    grep -qF -- "$word" "$folder/stdout" || complaints+=("the help does not name $word")
-done
-for number in 0 1 2 3 4 5 6; do
-    grep -q "^  $number  ." "$folder/stdout" || complaints+=("the help does not list status $number")
-done
-! grep -q '^  7' "$folder/stdout" || complaints+=('the help lists a status 7')
+cmp -s "$here/checks/help.txt" "$folder/stdout" || complaints+=("the help is another: $(diff "$here/checks/help.txt" "$folder/stdout")")
+cp "$folder/stdout" "$folder/help"
+run_program -h
+wants_status 0
+cmp -s "$folder/help" "$folder/stdout" || complaints+=('-h prints something else than --help')
 end
 
 # The version is a line with the program's name and a number; a job beside it isn't run.

@@ -3,5 +3,5 @@
 begin costs_of_jobs
 python3 "$here/speed/costs.py" --without-times "$program" >"$folder/costs" || complaints+=("$(cat "$folder/costs")")
 ! grep '^NOT MET' "$folder/costs" || complaints+=('a bar is not met')
-[ "$(grep -c '^met ' "$folder/costs")" -ge 16 ] || complaints+=("too few bars were measured: $(tail -n 1 "$folder/costs")")
+[ "$(grep -c '^met ' "$folder/costs")" -ge 19 ] || complaints+=("too few bars were measured: $(tail -n 1 "$folder/costs")")
 end

@@ -26,6 +26,13 @@ if command -v make >/dev/null; then
     grep -q '^\.TH BIBTEX\\-PROVED ' "$folder/root/usr/share/man/man1/bibtex-proved.1" || complaints+=('the page has another name')
     end
 
+    begin install_without_a_program
+    make_there program=/nosuch/bibtex install
+    wants_status 2
+    wants_error_with 'there is no /nosuch/bibtex: run make first'
+    wants_installed
+    end
+
     begin installed_under_another_name
     make_there install NAME=bibtex
     wants_status 0

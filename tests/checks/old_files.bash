@@ -61,6 +61,51 @@ rm d.bib
 mkdir d.bib
 goes 6
 
+# The device doesn't empty the list's file: nothing is written over what an earlier run left, and that is a device error, also at the end of a
+# run that writes nothing.
+fail_open=$room/fail_open.so
+gcc -O2 -Wall -Werror -shared -fPIC -o "$fail_open" "$here/fail_open.c" -ldl
+
+# run_unemptied: runs the job where no file can be emptied.
+run_unemptied() {
+    status=0
+    timeout 60 env LD_PRELOAD="$fail_open" FAIL_REASON=EIO FAIL_EMPTY=yes "$program" job </dev/null >"$folder/stdout" 2>"$folder/stderr" || status=$?
+}
+
+begin old_list_that_cannot_be_emptied
+leave_old_files
+run_unemptied
+wants_status 6
+wants_error $'bibtex: device error\n'
+wants_output "$found_log"
+wants_text job.blg "$found_log"
+wants_text job.bbl "$old_list"
+end
+
+begin old_list_that_cannot_be_emptied_at_the_end
+leave_old_files
+use_style ''
+run_unemptied
+wants_status 6
+wants_error $'bibtex: device error\n'
+wants_output "${found_log}Ended: finished, warnings 0, errors 0, steps 0
+"
+wants_text job.bbl "$old_list"
+end
+
+# Who may read and write the outputs is what the system says of new files, and of old ones what it was.
+begin modes_of_the_outputs
+umask 027
+echo 'old list' >old.bbl
+cp job.aux old.aux
+chmod 606 old.bbl
+run_program job
+run_program old
+umask 022
+[ "$(stat -c %a job.bbl job.blg old.bbl | tr '\n' ' ')" = '640 640 606 ' ] || complaints+=("the modes are $(stat -c %a job.bbl job.blg old.bbl)")
+wants_text old.bbl $'a\n'
+end
+
 # An old list may be a pipe or a device: these have nothing to throw away.
 begin old_list_that_is_a_device
 ln -s /dev/null job.bbl

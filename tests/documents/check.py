@@ -10,6 +10,8 @@ Each crate has a README with the parts that one looks for. It names each wrong b
 says, in the file's order (a line `..` stands for what is left out). docs/PROOFS.md has an index of the promises of each crate with wrong bodies.
 The table at the end of docs/ARCHITECTURE.md, of what a change touches, has the files and numbers that places.py finds.
 
+The table of crates in .ci/README.md has each crate's numbers of functions and of wrong bodies, right within a tenth or two.
+
 Not checked: the counts in prose and the times of .ci/README.md, which are as they were measured."""
 
 import functools
@@ -38,6 +40,10 @@ OF_BODIES = re.compile(r"wrong bod")
 A_LIST_OF_BODIES = re.compile(r"\*{0,2}Wrong bodies")
 # An example of a crate's README: the file that its lines are from, which the paragraph before it names last, and the lines.
 EXAMPLE = re.compile(r"`((?:crates|src)/[\w/]+\.rt)`[^`]*\n```rust\n(.*?)```", re.S)
+# A function of Rattle, a module that is read for tests alone, and tests that stand behind a module's own code.
+FUNCTION = re.compile(r"(?m)^ *(?:pub(?:\([^)]*\))? )?(?:const |unsafe |extern )*fn \w+")
+TEST_MODULE = re.compile(r"(?m)^#\[cfg\(test\)\]\n(?:pub )?mod (\w+);$")
+TESTS_IN_PLACE = re.compile(r"(?m)^#\[cfg\(test\)\]\nmod \w+ \{")
 FENCED = re.compile(r"```.*?```", re.S)
 # What each crate's README has, by the name of the crate.
 PARTS = ["# `{}`: ", "**Contract in a sentence.** ", "**Read first.** ", "## A call"]
@@ -205,6 +211,30 @@ def changes():
             yield f"docs/ARCHITECTURE.md: {kind}: {number} {sort}, and there are {count}", abs(number - count) <= max(3, count // 10)
 
 
+def functions_of(crate):
+    """How many functions stand in a crate's code: without those of its tests, unless the whole crate is tests."""
+    texts = {path: path.read_text(encoding="utf-8") for path in (ROOT / "crates" / crate / "src").rglob("*.rt")}
+    if not crate.endswith("_trials"):
+        tests = {name for text in texts.values() for name in TEST_MODULE.findall(text)}
+        texts = {path: TESTS_IN_PLACE.split(text)[0] for path, text in texts.items() if path.stem not in tests}
+    return sum(len(FUNCTION.findall(text)) for text in texts.values())
+
+
+def gate_numbers():
+    """The numbers of functions and of wrong bodies in the gate's table of crates, each of which is right within a tenth or two."""
+    rows = [[it.strip() for it in line.strip("|").split(" |")] for line in (ROOT / ".ci/README.md").read_text(encoding="utf-8").split("\n") if line.startswith("| ")]
+    head = next(row for row in rows if row[0] == "crate")
+    said = {CODE.findall(row[0])[0]: dict(zip(head, row)) for row in rows if len(row) == len(head) and CODE.findall(row[0])[:1] and CODE.findall(row[0])[0] in crates()}
+    for crate in crates():
+        own = sum(crate in where for where in bodies().values())
+        if crate not in said:
+            yield f".ci/README.md: the table of crates has no `{crate}`", not own
+            continue
+        for what, count in ("functions", functions_of(crate)), ("wrong bodies", own):
+            number = int(said[crate][what] or 0)
+            yield f".ci/README.md: {crate}: {number} {what}, and there are {count}", abs(number - count) <= max(2, count // 10)
+
+
 def missing_words():
     """The words that people search for and that the reference doesn't have."""
     text = REFERENCE.read_text(encoding="utf-8").lower()
@@ -247,7 +277,7 @@ def main():
             passed, failed = passed + (wrong is None), failed + (wrong is not None)
             if wrong:
                 print(f"{path.relative_to(ROOT)}, line {number}: `{cited}`: {wrong}")
-    for message, is_right in (*unnamed_bodies(), *missing_parts(), *examples(), *changes()):
+    for message, is_right in (*unnamed_bodies(), *missing_parts(), *examples(), *changes(), *gate_numbers()):
         passed, failed = passed + is_right, failed + (not is_right)
         if not is_right:
             print(message)

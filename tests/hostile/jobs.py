@@ -3,6 +3,10 @@
 A job is made for a size: the full one for the program, a small one for the reference in Python, which is slow where a job is large. What is
 expected is a formula in that size, reckoned by hand from the rules and not by a program."""
 
+import functools
+import pathlib
+import subprocess
+import tempfile
 from typing import Callable, NamedTuple
 
 AUX = b"\\citation{k}\n\\bibdata{d}\n\\bibstyle{s}\n"
@@ -209,6 +213,25 @@ def fields_of_one_name_under_a_long_key(size):
             Expected(warnings=size - 1, log={line: size - 1}))
 
 
+@functools.lru_cache(maxsize=None)
+def keys_that_collide(count):
+    """Keys that fall on one place of the program's tables, by a program in C: it takes gcc, and some seconds."""
+    with tempfile.TemporaryDirectory() as folder:
+        maker = pathlib.Path(folder) / "collide"
+        source = pathlib.Path(__file__).resolve().parents[1] / "speed/collide.c"
+        subprocess.run(["gcc", "-O2", "-Wall", "-Werror", "-o", maker, source], check=True)
+        return subprocess.run([maker, str(count)], capture_output=True, check=True).stdout.split()
+
+
+@hostile(size=3_000, small=100)
+def keys_that_are_chosen_to_collide(size):
+    """Each key is cited, has an entry and names a string."""
+    keys = keys_that_collide(size)
+    entries = b"".join(b"@string{%s = {%s}}\n@misc{%s, title = %s}\n" % (key, key, key, key) for key in reversed(keys))
+    files = {"job.aux": AUX.replace(b"{k}", b"{%s}" % b",".join(keys)), "d.bib": entries, "s.bst": iterates(b"cite$ title * write$ newline$")}
+    return files, Expected(steps=6 * size, references=b"".join(key + key + b"\n" for key in keys))
+
+
 @hostile(size=100_000, small=200)
 def children_of_one_parent(size):
     files = {"job.aux": AUX.replace(b"{k}", b"{*}"), "s.bst": iterates(b"title write$ newline$"),
@@ -263,6 +286,14 @@ def one_long_string_used_again_and_again(size):
     return {"job.aux": AUX.replace(b"{k}", b"{*}"), "d.bib": b"@string{s = {" + text + b"}}\n" + entries}, Expected()
 
 
+@hostile(size=100_000, small=200)
+def one_long_string_whose_last_white_goes(size):
+    """The string is as long as may be and ends in white, which each entry's value loses."""
+    text = b"x" * (size * LONGEST_STRING // 100_000 - 1)
+    entries = b"".join(b"@misc{k%d, title = s}\n" % number for number in range(size))
+    return {"job.aux": AUX.replace(b"{k}", b"{*}"), "d.bib": b"@string{s = {" + text + b" }}\n" + entries}, Expected()
+
+
 @hostile(size=160_000, small=500)
 def a_field_of_names(size):
     names = b" and ".join([b"A"] * (size - 1) + [b"Ann Lee"])
@@ -272,6 +303,15 @@ def a_field_of_names(size):
 
 
 # ---- styles ----
+
+
+@hostile(size=100, small=10)
+def errors_that_name_a_long_key(size):
+    """The key has 1,000,000 bytes at the full size. Each function finds none of its three operands, which is an error for each."""
+    key = b"k" * (size * LONGEST_STRING // 100)
+    line = b"Error--You can't pop an empty literal stack while executing if$ for entry " + key
+    return ({"job.aux": AUX.replace(b"{k}", b"{*}"), "d.bib": b"@misc{" + key + b"}\n", "s.bst": iterates(b"if$ " * size)},
+            Expected(errors=3 * size, steps=size + 1, references=b"", log={line: 3 * size}))
 
 
 def loop(body):

@@ -104,6 +104,31 @@ def chain(number):
     return chained(number) + b"EXECUTE {f%d}" % number
 
 
+# Steps of which the machine takes several at once: a body's pieces, how many steps each takes, and the line that it writes.
+AT_ONCE = [
+    (b"#1 'i := i {\"a\" write$ newline$} {\"b\" write$ newline$} if$", 11, b"a\n"),
+    (b"\"t\" 's := s write$ newline$", 6, b"t\n"),
+    (b"i #1 > 'skip$ {\"c\" write$ newline$} if$", 10, b"c\n"),
+    (b"\"d\" #1 'write$ 'pop$ if$ newline$", 7, b"d\n"),
+    (b"\"k\" 'sort.key$ := \"e\" write$ newline$", 6, b"e\n"),
+    (b"{i #0 >} {i #1 - 'i := \"w\" write$ newline$} while$", 3 + 4 + 9 + 4, b"w\n"),
+]
+
+
+def stopped_at_once(budget):
+    """These pieces in one function for an entry, with a budget: a line is written where all steps of its piece are taken."""
+    text = (b"INTEGERS {i} STRINGS {s} FUNCTION {f} {" + b" ".join(piece for piece, steps, line in AT_ONCE)
+            + b"} ITERATE {f}")
+    taken, lines = 1, b""
+    for piece, steps, line in AT_ONCE:
+        taken += steps
+        # (the loop's line is written before its last test)
+        lines += line if taken - (4 if b"while$" in piece else 0) <= budget else b""
+    end = {} if budget >= taken else {"end": "stopped", "status": 4}
+    return Job("several steps at once, a budget of %d" % budget, text, options={"budget": budget}, bbl=lines,
+               steps=min(budget, taken), **end)
+
+
 def error(text, line, file=b"job.aux"):
     return b"Error--%s--line %d of file %s" % (text, line, file)
 
@@ -128,6 +153,7 @@ JOBS = [
     Job("a loop whose body is a loop's function",
         b"INTEGERS {i} FUNCTION {f} {{i #1 + 'i := {#0} 'skip$ i #3 <} 'while$ while$ pop$ pop$ \"x\" write$ newline$} "
         b"EXECUTE {f}", bbl=b"x\n", steps=48, deepest=2),
+    *(stopped_at_once(budget) for budget in range(64)),
     Job("the type's function by command", b"ITERATE {call.type$}", steps=2, deepest=1),
 
     # ---- lines ----

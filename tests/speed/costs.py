@@ -165,6 +165,12 @@ def database_errors(size):
     return Job({"d.bib": DATABASE + "@{" * size, "s.bst": style("")}, size)
 
 
+@cost("memory", "bytes a message", 100_000, 400_000)
+def aux_errors(size):
+    """Two bytes of an .aux file give a message: a key in another case."""
+    return Job({"job.aux": "\\citation{k%s}\n" % (",K" * size) + AUX, "s.bst": style("")}, size)
+
+
 # ---- the log and the list ----
 
 
@@ -189,8 +195,21 @@ def list_in_memory(size):
 
 @cost("log", "bytes a step", 100, 200)
 def log_of_a_step(size):
-    """Two steps for a line."""
-    return Job({"d.bib": LONG, "s.bst": style("title top$ " * size)}, 2 * size)
+    """A step for each literal, and one that shows them all."""
+    return Job({"d.bib": LONG, "s.bst": style("title " * size + "stack$")}, size)
+
+
+@cost("log", "bytes a step", 100_000, 500_000)
+def log_of_errors(size):
+    """A function of three operands, none of which is there, pushes nothing: so the next one finds none either."""
+    return Job({"s.bst": style("{#1} {%s} while$" % ("if$ " * 100), commands="EXECUTE {f}")}, size, ("--budget", str(size)))
+
+
+@cost("log", "bytes a step and byte of the key", 20, 40)
+def log_of_long_keys(size):
+    """The same errors, each of which names the entry."""
+    key = "k" * LONGEST_STRING
+    return Job({"job.aux": ALL, "d.bib": "@misc{%s}\n" % key, "s.bst": style("if$ " * size)}, size * LONGEST_STRING)
 
 
 @cost("list", "bytes a step", 100, 200)
@@ -221,8 +240,8 @@ def cheap_steps(size):
 
 @cost("seconds", "milliseconds a step", 20, 80, scale=1e-3)
 def dear_steps(size):
-    """A name of 333,000 tokens is put into a format, again and again; five steps for each time."""
-    name = ("Ab c " * (LONGEST_STRING // 5))[:LONGEST_STRING - 1]
+    """A name of 500,000 tokens is put into a format, again and again; five steps for each time."""
+    name = (". " * (LONGEST_STRING // 2))[:LONGEST_STRING - 1]
     body = 'title #1 "{ff~}{vv~}{ll}" format.name$ pop$ ' * size
     return Job({"d.bib": "@misc{k, title = {%s}}\n" % name, "s.bst": style(body)}, 5 * size)
 
@@ -237,9 +256,9 @@ def sorts(size):
 
 @cost("seconds", "seconds for 1,000,000,000 bytes", 200, 800, scale=1e-9)
 def uses_of_a_string(size):
-    """A string with white at its end, which each value that it gives loses."""
+    """A string that is joined from parts, with white at its end, which each value that it gives loses."""
     values = "".join(", f%03d = s" % number for number in range(size))
-    database = "@string{s = {%s}}\n@misc{k%s}\n" % ("x " * (LONGEST_STRING // 2 - 1), values)
+    database = "@string{s = {%s} # {}}\n@misc{k%s}\n" % ("x " * (LONGEST_STRING // 2 - 1), values)
     return Job({"d.bib": database, "s.bst": style("", fields=many(size))}, size * LONGEST_STRING)
 
 

@@ -6,7 +6,7 @@
 
 CALL is a call of the functions under "What a witness can call"; RIGHT and WRONG are Python's literals. The second form names a check or a test
 that sees the wrong body, for what no job shows: a device that fails, memory that is refused, a call that the program doesn't make. The third
-names the clause that the body breaks, where neither a job nor a test of bearable size shows it, as with a file of 2 GiB.
+names the clause that the body breaks, where neither a job nor a test shows it, as with text that is kept for a moment.
 
     python3 witnesses.py PROGRAM              the built program gives RIGHT, and so does the reference, where it knows the call
     python3 witnesses.py --wrong NAME PROGRAM    a program that was built with the wrong body NAME (or CRATE/NAME) gives WRONG

@@ -6,7 +6,7 @@ use Rattle.std.specs.Str.{is_utf8}
 use Rattle.std.specs.Io.Take.{take_inner, take_limit, take_remaining}
 use Rattle.std.specs.declared.io.traits.Take.{Take}
 use Rattle.std.proofs.lemmas.Str.{IsUtf8-from_is_utf8, is_utf8-from_IsUtf8}
-use Rattle.btx_aux.specs.Files.{Files}
+use Rattle.btx_aux.specs.language.Files.{Files}
 use Rattle.bibtex.specs.FolderFiles.{Holds, folder_files, most_read}
 use Rattle.bibtex.specs.Paths.{path_in}
 

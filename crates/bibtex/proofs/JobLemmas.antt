@@ -1,12 +1,12 @@
 -- What is done for a job, and the report that it answers.
 use Rattle.std.proofs.Common.{◌≡◌, ◌∙◌, ℕ, List, [], ◌∷◌, Bool, true, Option, Some, Result, Ok, Err, IfOk, IsErrAnd, OnOk, MatchBool, ap, subst, sym}
 use Rattle.std.specs.Io.KnownBytes.{Keeps}
-use Rattle.btx_aux.specs.Files.{Files}
-use Rattle.btx_machine.specs.Written.{Received}
+use Rattle.btx_aux.specs.language.Files.{Files}
+use Rattle.btx_machine.specs.language.Written.{Received}
 use Rattle.btx_machine.specs.declared.report.Report.{Report}
-use Rattle.btx_run.specs.Answered.{CompletesAsAnswered}
+use Rattle.btx_run.specs.language.Answered.{CompletesAsAnswered}
 use Rattle.btx_run.specs.declared.run_fault.RunFault.{RunFault}
-use Rattle.bibtex.specs.Acts.{ClosedList, Does, Done, EmptiedLog, OpenedList, Printed, StoredLog}
+use Rattle.bibtex.specs.Acts.{ClosedList, WereDone, Done, EmptiedLog, OpenedList, Printed, StoredLog}
 use Rattle.bibtex.specs.Jobs.{DoesWith, HandsLog, IsReportOfSome, ListsJob, both_done}
 use Rattle.bibtex.specs.ListFiles.{FinishesList, Held, keeps_old, received_by}
 use Rattle.bibtex.specs.Paths.{list_path, log_path}
@@ -36,19 +36,19 @@ lists_from content contents settings here there after before log answer is none 
 
 -- the file is closed, and the log handed on
 pub closes_and_hands : {W : Type 0} (settings : Settings) (path text log : List ℕ) (here file : W) (before mid after : Done W) (answer : Result (Unit {0}) RunFault)
-    (h : HandsLog settings path text mid after answer) → here ≡ file → text ≡ log → Does before mid (ClosedList here ∷ [])
-    → Does before after (ClosedList file ∷ StoredLog path log h.stored ∷ Printed (printed_log settings log) h.printed ∷ [])
+    (h : HandsLog settings path text mid after answer) → here ≡ file → text ≡ log → WereDone before mid (ClosedList here ∷ [])
+    → WereDone before after (ClosedList file ∷ StoredLog path log h.stored ∷ Printed (printed_log settings log) h.printed ∷ [])
 closes_and_hands settings path text log here file before mid after answer h is_file is_log closes =
-    subst (λ log. Does before after (ClosedList file ∷ StoredLog path log h.stored ∷ Printed (printed_log settings log) h.printed ∷ [])) is_log
-    (subst (λ file. Does before after (ClosedList file ∷ StoredLog path text h.stored ∷ Printed (printed_log settings text) h.printed ∷ [])) is_file
+    subst (λ log. WereDone before after (ClosedList file ∷ StoredLog path log h.stored ∷ Printed (printed_log settings log) h.printed ∷ [])) is_log
+    (subst (λ file. WereDone before after (ClosedList file ∷ StoredLog path text h.stored ∷ Printed (printed_log settings text) h.printed ∷ [])) is_file
     (one_after_another before mid after (ClosedList here ∷ []) (StoredLog path text h.stored ∷ Printed (printed_log settings text) h.printed ∷ []) closes h.does))
 
 -- the list's file is opened, or that fails
 pub opens : {W : Type 0} (settings : Settings) (path : List ℕ) (opened is : Result W RunFault) (before after : Done W)
-    → path ≡ list_path settings → opened ≡ is → Does before after (OpenedList path opened ∷ []) → Does before after (OpenedList (list_path settings) is ∷ [])
+    → path ≡ list_path settings → opened ≡ is → WereDone before after (OpenedList path opened ∷ []) → WereDone before after (OpenedList (list_path settings) is ∷ [])
 opens settings path opened is before after is_path is_opened h =
-    subst (λ opened. Does before after (OpenedList (list_path settings) opened ∷ [])) is_opened
-    (subst (λ path. Does before after (OpenedList path opened ∷ [])) is_path h)
+    subst (λ opened. WereDone before after (OpenedList (list_path settings) opened ∷ [])) is_opened
+    (subst (λ path. WereDone before after (OpenedList path opened ∷ [])) is_path h)
 
 -- a fault that is passed on unchanged
 pub passed_on : {T : Type 0} (answer : Result T RunFault) (fault : RunFault) → IsErrAnd answer (λ other. other ≡ fault) → answer ≡ Err fault
@@ -57,10 +57,10 @@ passed_on (Err other) fault h = ap Err h
 
 -- the list's file is opened, and the old log is emptied
 pub opens_and_empties : {W : Type 0} (settings : Settings) (path : List ℕ) (file : W) (before mid after : Done W)
-    → path ≡ log_path settings → Does before mid (OpenedList (list_path settings) (Ok file) ∷ []) → Does mid after (EmptiedLog path ∷ [])
-    → Does before after (OpenedList (list_path settings) (Ok file) ∷ EmptiedLog (log_path settings) ∷ [])
+    → path ≡ log_path settings → WereDone before mid (OpenedList (list_path settings) (Ok file) ∷ []) → WereDone mid after (EmptiedLog path ∷ [])
+    → WereDone before after (OpenedList (list_path settings) (Ok file) ∷ EmptiedLog (log_path settings) ∷ [])
 opens_and_empties settings path file before mid after is_path opened empties =
-    subst (λ path. Does before after (OpenedList (list_path settings) (Ok file) ∷ EmptiedLog path ∷ [])) is_path
+    subst (λ path. WereDone before after (OpenedList (list_path settings) (Ok file) ∷ EmptiedLog path ∷ [])) is_path
     (one_after_another before mid after (OpenedList (list_path settings) (Ok file) ∷ []) (EmptiedLog path ∷ []) opened empties)
 
 pub does_with : {W : Type 0} (here there : Option Files) (contents : W → Held) (settings : Settings) (path : List ℕ) (file : W) (before after : Done W) (answer : Result Report RunFault)

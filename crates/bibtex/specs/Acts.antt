@@ -25,10 +25,10 @@ abbrev pub Done : Type 0 → Type 0
 Done W = Option (List (Act W))
 
 -- these acts were done, in order, behind what was done before
-abbrev pub Does : {W : Type 0} → Done W → Done W → List (Act W) → Type 0
-Does before after acts = after ≡ option_map (λ done. done ++ acts) before
+abbrev pub WereDone : {W : Type 0} → Done W → Done W → List (Act W) → Type 0
+WereDone before after acts = after ≡ option_map (λ done. done ++ acts) before
 
 -- the fault of an answer is told
-abbrev pub telling : {W : Type 0} {T : Type 0} → Result T RunFault → List (Act W)
-telling (Ok value) = []
-telling (Err fault) = ToldFault fault ∷ []
+abbrev pub reporting : {W : Type 0} {T : Type 0} → Result T RunFault → List (Act W)
+reporting (Ok value) = []
+reporting (Err fault) = ToldFault fault ∷ []

@@ -176,8 +176,8 @@ refusal_exit (Mistake _) = exit.Refused
 refusal_exit Memory = exit.Failed run_fault.Memory
 
 -- the exit status of a refusal
-abbrev pub status_of : Refusal → ℕ
-status_of refusal = status_at (refusal_exit refusal)
+abbrev pub status_of_refusal : Refusal → ℕ
+status_of_refusal refusal = status_at (refusal_exit refusal)
 
 -- that of a fault of the words: help and the version are shown, all mistakes are refused, and memory may be refused
 abbrev pub refusal_status : ErrorKind → ℕ
@@ -189,7 +189,7 @@ refusal_status _ = status_at exit.Refused
 -- words with these faults: they are run only where they have none, and a refusal has the status of one of them, or of refused memory
 abbrev pub RefusesBy : Kinds → Result Settings Refusal → Type 0
 RefusesBy faults result = MatchResult result (λ _. faults ≡ [])
-    (λ refusal. (status_of refusal ≡ 5) ⊎ ((fault : ErrorKind) × IsAmong fault faults × (status_of refusal ≡ refusal_status fault)))
+    (λ refusal. (status_of_refusal refusal ≡ 5) ⊎ ((fault : ErrorKind) × IsAmong fault faults × (status_of_refusal refusal ≡ refusal_status fault)))
 
 abbrev pub Refuses : List Text → Result Settings Refusal → Type 0
 Refuses words result = (app : App) × IsBibtex app × RefusesBy (fault_of app words) result

@@ -3,8 +3,8 @@ use Rattle.std.specs.Prelude.{◌≡◌, ◌+◌, ℕ, false, List, Option, None
 use Rattle.std.specs.Option.{option_map}
 use Rattle.std.specs.Str.{is_utf8}
 use Rattle.std.specs.declared.io.ErrorKind.{ErrorKind}
-use Rattle.btx_aux.specs.Files.{Files}
-use Rattle.btx_text.specs.Limits.{greatest_file}
+use Rattle.btx_aux.specs.language.Files.{Files}
+use Rattle.btx_text.specs.language.Limits.{greatest_file}
 use Rattle.bibtex.specs.FileErrors.{unopened}
 use Rattle.bibtex.specs.Paths.{path_in}
 

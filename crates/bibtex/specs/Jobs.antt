@@ -2,16 +2,16 @@
 use Rattle.std.specs.Prelude.{◌≡◌, ◌≤◌, ℕ, true, List, [], ◌∷◌, Option, Some, Result, Ok, Err, IfOk, IfSome, OnOk, OnErr}
 use Rattle.std.specs.Io.KnownBytes.{Appends}
 use Rattle.std.specs.Option.{option_map}
-use Rattle.btx_aux.specs.Files.{Files}
-use Rattle.btx_machine.specs.KeepingStep.{AtFault}
-use Rattle.btx_machine.specs.Product.{log_of}
-use Rattle.btx_machine.specs.Written.{Received}
+use Rattle.btx_aux.specs.language.Files.{Files}
+use Rattle.btx_machine.specs.language.KeepingStep.{AtFault}
+use Rattle.btx_machine.specs.language.Product.{log_of}
+use Rattle.btx_machine.specs.language.Written.{Received}
 use Rattle.btx_machine.specs.declared.report.Report.{Report}
-use Rattle.btx_run.specs.Answered.{CompletesAsAnswered, FailsAsAnswered}
-use Rattle.btx_run.specs.Product.{product, product_with}
+use Rattle.btx_run.specs.language.Answered.{CompletesAsAnswered, FailsAsAnswered}
+use Rattle.btx_run.specs.language.Product.{product, product_with}
 use Rattle.btx_run.specs.declared.run_fault.RunFault.{RunFault}
 use Rattle.btx_run.specs.declared.run_fault.RunFault.TheVariants.{Memory}
-use Rattle.bibtex.specs.Acts.{ClosedList, Does, Done, EmptiedLog, OpenedList, Printed, StoredLog}
+use Rattle.bibtex.specs.Acts.{ClosedList, WereDone, Done, EmptiedLog, OpenedList, Printed, StoredLog}
 use Rattle.bibtex.specs.FolderFiles.{folder_files}
 use Rattle.bibtex.specs.ListFiles.{FinishesList, Held, keeps_old, received_by, unwritten}
 use Rattle.bibtex.specs.Paths.{list_path, log_path}
@@ -48,7 +48,7 @@ both_done (Err fault) second = Err fault
 pub record HandsLog {W : Type 0} (settings : Settings) (path log : List ℕ) (before after : Done W) (answer : Result (Unit {0}) RunFault) : Type 0 where
   pub stored : Result (Unit {0}) RunFault
   pub printed : Result (Unit {0}) RunFault
-  pub does : Does before after (StoredLog path log stored ∷ Printed (printed_log settings log) printed ∷ [])
+  pub does : WereDone before after (StoredLog path log stored ∷ Printed (printed_log settings log) printed ∷ [])
   pub first : answer ≡ both_done stored printed
 
 -- A job's list is written, over this change of its file: the job is run, and then the list's file is ended, also after a fault. The first
@@ -73,7 +73,7 @@ pub record DoesWith {W : Type 0} (content : Option Files) (contents : W → Held
   pub lists : ListsJob content contents settings (unwritten file) list (Some [], Some log) listed
   pub stored : Result (Unit {0}) RunFault
   pub printed : Result (Unit {0}) RunFault
-  pub does : Does before after (ClosedList list.file ∷ StoredLog path log stored ∷ Printed (printed_log settings log) printed ∷ [])
+  pub does : WereDone before after (ClosedList list.file ∷ StoredLog path log stored ∷ Printed (printed_log settings log) printed ∷ [])
   pub first : answer ≡ first_fault listed (both_done stored printed)
 
 -- A job is done, over a system of these files and lists' files of these contents. The file of its list is opened at the path of its list, an old log is
@@ -82,8 +82,8 @@ pub record DoesWith {W : Type 0} (content : Option Files) (contents : W → Held
 pub data DoesJob {W : Type 0} (files : Option Files) (contents : W → Held) (settings : Settings) (before after : Done W)
     (answer : Result Report RunFault) : Type 0 where
   HasNoMemory : after ≡ before → answer ≡ Err Memory → DoesJob files contents settings before after answer
-  HasNoList : (fault : RunFault) → Does before after (OpenedList (list_path settings) (Err fault) ∷ []) → answer ≡ Err fault
+  HasNoList : (fault : RunFault) → WereDone before after (OpenedList (list_path settings) (Err fault) ∷ []) → answer ≡ Err fault
       → DoesJob files contents settings before after answer
-  HasList : (file : W) (ready : Done W) → Does before ready (OpenedList (list_path settings) (Ok file) ∷ EmptiedLog (log_path settings) ∷ [])
+  HasList : (file : W) (ready : Done W) → WereDone before ready (OpenedList (list_path settings) (Ok file) ∷ EmptiedLog (log_path settings) ∷ [])
       → DoesWith (option_map (folder_files settings.directory.now) files) contents settings (log_path settings) file ready after answer
       → DoesJob files contents settings before after answer

@@ -2,7 +2,7 @@
 ghost use Rattle.std.specs.Prelude.{◌≡◌, ◌++◌, [], false, IfOk, IfSome, OnOk, take};
 ghost use Rattle.std.specs.IoError.{error_kind};
 ghost use Rattle.std.specs.Option.{option_map};
-ghost use Rattle.btx_aux.specs.Files.{file_of};
+ghost use Rattle.btx_aux.specs.language.Files.{file_of};
 ghost use Rattle.bibtex.specs.FileErrors.{read_fault, unopened};
 ghost use Rattle.bibtex.specs.FolderFiles.{folder_files, most_read};
 

@@ -1,6 +1,6 @@
 //! A job of a folder.
 ghost use Rattle.std.specs.Prelude.{◌≡◌, ◌≤◌, IfOk, true};
-ghost use Rattle.btx_run.specs.RunFaults.{CountsOfRun};
+ghost use Rattle.btx_run.specs.language.RunFaults.{CountsOfRun};
 ghost use Rattle.bibtex.specs.Jobs.{DoesJob, DoesWith, HandsLog, IsReportOfSome, ListsJob, RunsJob, both_done};
 ghost use Rattle.bibtex.specs.ListFiles.{keeps_old};
 ghost use Rattle.bibtex.specs.Printing.{printed_log};

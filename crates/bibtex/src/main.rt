@@ -2,8 +2,8 @@
 #![tactic(auto)]
 
 ghost use Rattle.std.specs.Prelude.{◌≡◌, [], ◌∷◌, map, string_bytes};
-ghost use Rattle.bibtex.specs.Acts.{Does, ToldFault, telling};
-ghost use Rattle.bibtex.specs.CommandLine.{status_of};
+ghost use Rattle.bibtex.specs.Acts.{WereDone, ToldFault, reporting};
+ghost use Rattle.bibtex.specs.CommandLine.{status_of_refusal};
 ghost use Rattle.bibtex.specs.Ends.{ComesTo, IsTold};
 ghost use Rattle.bibtex.specs.Spelling.{hint_of};
 ghost use Rattle.bibtex.specs.Status.{exit_of, status_at, told_by};
@@ -45,7 +45,7 @@ fn words(rt: &(impl Env + AllocGlobal)) -> io::Result<Vec<String>> {
 // Tells a fault, and gives the program's end.
 fn tell_fault<O: Outputs>(outputs: &mut O, fault: RunFault) -> Exit
     ensures exit { result ≡ Exit.Failed fault }
-    ensures acts { Does (O.acts outputs.old) (O.acts outputs.new) (ToldFault fault ∷ []) }
+    ensures acts { WereDone (O.acts outputs.old) (O.acts outputs.new) (ToldFault fault ∷ []) }
 {
     outputs.tell_fault(fault);
     Exit::Failed(fault)
@@ -53,7 +53,7 @@ fn tell_fault<O: Outputs>(outputs: &mut O, fault: RunFault) -> Exit
 
 // Prints or tells why words are not run, a mistake with a hint, and gives the program's end: the refusal's, unless its text can't be printed.
 fn tell_refusal<O: Outputs>(outputs: &mut O, refusal: &Refusal, hint: &str) -> Exit
-    ensures status { told_by (status_of refusal.now) (status_at result) }
+    ensures status { told_by (status_of_refusal refusal.now) (status_at result) }
     ensures told { IsTold hint.now refusal.now (O.acts outputs.old) (O.acts outputs.new) result }
 {
     match refusal {
@@ -72,7 +72,7 @@ fn tell_refusal<O: Outputs>(outputs: &mut O, refusal: &Refusal, hint: &str) -> E
 // Tells the fault of a job that failed, and gives the program's end.
 fn tell_answer<O: Outputs>(outputs: &mut O, answer: Result<Report, RunFault>) -> Exit
     ensures exit { result ≡ exit_of answer }
-    ensures acts { Does (O.acts outputs.old) (O.acts outputs.new) (telling answer) }
+    ensures acts { WereDone (O.acts outputs.old) (O.acts outputs.new) (reporting answer) }
 {
     if let Err(fault) = answer {
         outputs.tell_fault(fault);

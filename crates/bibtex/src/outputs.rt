@@ -1,6 +1,6 @@
 //! What the program writes: the files of a job, and the two standard streams.
 ghost use Rattle.std.specs.Prelude.{[], ◌∷◌, None};
-ghost use Rattle.bibtex.specs.Acts.{ClosedList, Does, Done, EmptiedLog, OpenedList, Printed, StoredLog, ToldFault, ToldText};
+ghost use Rattle.bibtex.specs.Acts.{ClosedList, WereDone, Done, EmptiedLog, OpenedList, Printed, StoredLog, ToldFault, ToldText};
 
 use crate::list_file::{EmptiedFile, SystemFile};
 use crate::outcome::output_fault;
@@ -20,32 +20,32 @@ pub trait Outputs {
 
     /// Opens the list's file of this path, and makes it where there is none. What it holds stays.
     fn open_list(&mut self, path: &str) -> Result<Self::List, RunFault>
-        ensures { Does (acts self.old) (acts self.new) (OpenedList path.now result ∷ []) };
+        ensures { WereDone (acts self.old) (acts self.new) (OpenedList path.now result ∷ []) };
 
     /// Closes a list's file.
     fn close_list(&mut self, file: Self::List)
-        ensures { Does (acts self.old) (acts self.new) (ClosedList file ∷ []) };
+        ensures { WereDone (acts self.old) (acts self.new) (ClosedList file ∷ []) };
 
     /// Empties the log that an earlier run left in the file of this path, so that no old log stands beside a new list. Where there is none, or
     /// that can't be done, nothing is said: the end of the run tells. A pipe or a device is left alone.
     fn empty_log(&mut self, path: &str)
-        ensures { Does (acts self.old) (acts self.new) (EmptiedLog path.now ∷ []) };
+        ensures { WereDone (acts self.old) (acts self.new) (EmptiedLog path.now ∷ []) };
 
     /// Stores a log in the file of this path.
     fn store_log(&mut self, path: &str, log: &[u8]) -> Result<(), RunFault>
-        ensures { Does (acts self.old) (acts self.new) (StoredLog path.now log.now result ∷ []) };
+        ensures { WereDone (acts self.old) (acts self.new) (StoredLog path.now log.now result ∷ []) };
 
     /// Prints a text to standard output.
     fn print(&mut self, text: &[u8]) -> Result<(), RunFault>
-        ensures { Does (acts self.old) (acts self.new) (Printed text.now result ∷ []) };
+        ensures { WereDone (acts self.old) (acts self.new) (Printed text.now result ∷ []) };
 
     /// Tells a text on standard error, and a hint behind it. Where that can't be done, nothing is said.
     fn tell(&mut self, text: &str, hint: &str)
-        ensures { Does (acts self.old) (acts self.new) (ToldText text.now hint.now ∷ []) };
+        ensures { WereDone (acts self.old) (acts self.new) (ToldText text.now hint.now ∷ []) };
 
     /// Tells a fault on standard error. Where that can't be done, nothing is said.
     fn tell_fault(&mut self, fault: RunFault)
-        ensures { Does (acts self.old) (acts self.new) (ToldFault fault ∷ []) };
+        ensures { WereDone (acts self.old) (acts self.new) (ToldFault fault ∷ []) };
 }
 
 /// Those of the real system.

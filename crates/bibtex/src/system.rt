@@ -1,7 +1,7 @@
 //! A system with files that are read.
 ghost use Rattle.std.specs.Prelude.{IfErr, IfOk, IfSome, None, Option};
 ghost use Rattle.std.specs.IoError.{error_kind};
-ghost use Rattle.btx_aux.specs.Files.{Files};
+ghost use Rattle.btx_aux.specs.language.Files.{Files};
 ghost use Rattle.bibtex.specs.FolderFiles.{Holds, IsMissedBy};
 
 use std::io::Read;

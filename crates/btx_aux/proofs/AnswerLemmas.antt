@@ -5,8 +5,8 @@ use Rattle.std.proofs.lemmas.Cmp.{nat_list_eq_equiv}
 use Rattle.std.proofs.lemmas.Map.Keys.{IsDistinct-head, IsDistinct-tail}
 use Rattle.std.specs.List.{AllByRecursion, IsDistinct}
 use Rattle.std.specs.Str.{bytes_eq}
-use Rattle.btx_aux.specs.Files.{Files}
-use Rattle.btx_aux.specs.Answers.{Agree, Answer, ByAnswers, names_asked}
+use Rattle.btx_aux.specs.language.Files.{Files}
+use Rattle.btx_aux.specs.refinement.Answers.{Agree, FinderAnswer, ByAnswers, names_asked}
 
 -- ---- lists
 
@@ -53,7 +53,7 @@ module _ {content : Option Files} {Asks : List (List ℕ) → Type 0} {Claim : F
   by_both same first second asks holds = record {
     answers = first.answers ++ second.answers;
     shown = shown_both content first.shown (subst (λ (content : Option Files). IfSome content (λ files. Agree files second.answers)) same second.shown);
-    asks = subst Asks (sym (map-append (λ (given : Answer). given.name) first.answers second.answers)) (asks _ _ first.asks second.asks);
+    asks = subst Asks (sym (map-append (λ (given : FinderAnswer). given.name) first.answers second.answers)) (asks _ _ first.asks second.asks);
     holds = λ files agree. holds files (first.holds files (all-front _ first.answers second.answers agree)) (second.holds files (all-back _ first.answers second.answers agree));
   } where
     shown_both : (content : Option Files) → IfSome content (λ files. Agree files first.answers) → IfSome content (λ files. Agree files second.answers) → IfSome content (λ files. Agree files (first.answers ++ second.answers))
@@ -82,18 +82,18 @@ by_fetch {content} name bytes shown = record {
 -- ---- files that answer so
 
 -- the files that were answered, and no other
-abbrev pub files_answered : List Answer → Files
+abbrev pub files_answered : List FinderAnswer → Files
 files_answered [] name = None
 files_answered (given ∷ answers) name = if bytes_eq given.name name then given.bytes else files_answered answers name
 
-others_agree : (given : Answer) (files : Files) (answers : List Answer) → AllByRecursion (λ name. bytes_eq given.name name ≡ false) (names_asked answers) → Agree files answers
+others_agree : (given : FinderAnswer) (files : Files) (answers : List FinderAnswer) → AllByRecursion (λ name. bytes_eq given.name name ≡ false) (names_asked answers) → Agree files answers
     → Agree (λ name. if bytes_eq given.name name then given.bytes else files name) answers
 others_agree given files [] apart agree = tt
 others_agree given files (other ∷ answers) apart agree =
     (ap (λ (b : Bool). if b then given.bytes else files other.name) apart.0 ∙ agree.0, others_agree given files answers apart.1 agree.1)
 
 -- answers for names of which none was asked for twice
-pub files_agree : (answers : List Answer) → IsDistinct bytes_eq (names_asked answers) → Agree (files_answered answers) answers
+pub files_agree : (answers : List FinderAnswer) → IsDistinct bytes_eq (names_asked answers) → Agree (files_answered answers) answers
 files_agree [] distinct = tt
 files_agree (given ∷ answers) distinct = (
   ap (λ (b : Bool). if b then given.bytes else files_answered answers given.name) (nat_list_eq_equiv.refl given.name),

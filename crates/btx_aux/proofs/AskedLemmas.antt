@@ -9,12 +9,12 @@ use Rattle.std.proofs.lemmas.Map.Keys.{IsDistinct-push}
 use Rattle.btx_aux.specs.declared.draft.Draft.{Draft}
 use Rattle.btx_aux.specs.declared.command.Command.{Command}
 use Rattle.btx_aux.specs.declared.command.Command.TheVariants.{Citation, Bibdata, Bibstyle, Input}
-use Rattle.btx_aux.specs.Answers.{AsksTop}
-use Rattle.btx_aux.specs.Names.{has_ending, is_among, with_name}
-use Rattle.btx_aux.specs.Grammar.{Piece, Taken, Cut, Cites, Includes, Opens, Absent, words_of, words_of_command, words_at, pieces_of, piece_of}
-use Rattle.btx_aux.specs.Events.{event_at, named_by, asked_of}
-use Rattle.btx_aux.specs.Drafts.{blank, learned, learned_words, asked_in}
-use Rattle.btx_aux.specs.Reads.{AddsNames, AsksFirst, names_opened}
+use Rattle.btx_aux.specs.refinement.Answers.{AsksTop}
+use Rattle.btx_aux.specs.language.Names.{has_ending, is_among, with_name_once}
+use Rattle.btx_aux.specs.language.Grammar.{Piece, Taken, Cut, Cites, Includes, Opens, Absent, words_of, words_of_command, words_at, pieces_of, piece_of}
+use Rattle.btx_aux.specs.language.Events.{event_at, named_by, asked_of}
+use Rattle.btx_aux.specs.refinement.Drafts.{blank, learned, learned_words, asked_in}
+use Rattle.btx_aux.specs.refinement.Reads.{AddsNames, AsksFirst, names_opened}
 use Rattle.btx_aux.proofs.AnswerLemmas.{all-both}
 use Rattle.btx_aux.proofs.DraftLemmas.{asked_in-Cites}
 
@@ -54,7 +54,7 @@ module _ (file : List ℕ) (line : ℕ) where
   unfolding learned
   input_grows draft (Taken name) = by_ending (has_ending (codes ".aux") name) (is_among draft.files name) refl refl where
     by_ending : (ends there : Bool) → has_ending (codes ".aux") name ≡ ends → is_among draft.files name ≡ there
-        → Grows draft.files (option_or (if ends && not there then Some name else None) None) (fold with_name draft.files (if ends then name ∷ [] else []))
+        → Grows draft.files (option_or (if ends && not there then Some name else None) None) (fold with_name_once draft.files (if ends then name ∷ [] else []))
     by_ending true true ending among = ap (λ (b : Bool). if b then draft.files else draft.files ++ name ∷ []) among
     by_ending true false ending among = (ap (λ (b : Bool). if b then draft.files else draft.files ++ name ∷ []) among, ending, among)
     by_ending false there ending among = refl
@@ -108,7 +108,7 @@ missing_asks draft after file line name is names asked = record { later = []; is
 
 inside_opens : (before : Names) (name : List ℕ) (room : ℕ) → room ≤ 19 → names_opened before name room ≡ before
 inside_opens before name room le = by (20 - room) (omega arith) where
-  by : (level : ℕ) → (level ≡ 0 → ⊥) → fold with_name before (named_by name (Opens level)) ≡ before
+  by : (level : ℕ) → (level ≡ 0 → ⊥) → fold with_name_once before (named_by name (Opens level)) ≡ before
   by zero some = absurd (some refl)
   by (suc level) some = refl
 

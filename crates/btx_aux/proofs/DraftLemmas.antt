@@ -4,17 +4,17 @@ use Rattle.std.specs.Prelude.{codes}
 use Rattle.std.specs.Str.{bytes_eq}
 use Rattle.std.specs.List.{find, list_any, flat_map}
 use Rattle.btx_aux.specs.declared.draft.Draft.{Draft}
-use Rattle.btx_aux.specs.Names.{listed_as, is_same_key, with_ending, is_among, with_name}
-use Rattle.btx_aux.specs.Grammar.{Piece, Taken, Cut, Cites, Databases, Opens}
-use Rattle.btx_aux.specs.Events.{event_at}
-use Rattle.btx_text.specs.LogLines.{Line}
-use Rattle.btx_aux.specs.Notes.{Complaint, TopFile, LevelFile, CaseMismatch, RepeatedDatabase, Slipped, Note, line_of, Wrong}
-use Rattle.btx_aux.specs.Job.{is_star, taken_with, database_complaints, complain_if}
-use Rattle.btx_aux.specs.Drafts.{learned, asked_in, with_notes, with_database, with_databases, complaining}
+use Rattle.btx_aux.specs.language.Names.{listed_as, is_same_key, with_ending, is_among, with_name_once}
+use Rattle.btx_aux.specs.language.Grammar.{Piece, Taken, Cut, Cites, Databases, Opens}
+use Rattle.btx_aux.specs.language.Events.{event_at}
+use Rattle.btx_text.specs.language.LogLines.{Line}
+use Rattle.btx_aux.specs.language.Notes.{AuxComplaint, TopFile, LevelFile, CaseMismatch, RepeatedDatabase, Slipped, AuxNote, aux_note_line, Wrong}
+use Rattle.btx_aux.specs.language.Job.{is_star, taken_with, database_complaints, complain_if}
+use Rattle.btx_aux.specs.refinement.Drafts.{learned, asked_in, with_notes, with_database, with_databases, complaining}
 
 -- a draft with a further line in its log
-abbrev pub complained : Draft → Complaint → ℕ → List ℕ → Draft
-complained draft complaint line file = record draft { log = draft.log ++ line_of (Wrong complaint line file) ∷ [] }
+abbrev pub complained : Draft → AuxComplaint → ℕ → List ℕ → Draft
+complained draft complaint line file = record draft { log = draft.log ++ aux_note_line (Wrong complaint line file) ∷ [] }
 
 -- ---- a `\citation`
 
@@ -57,41 +57,41 @@ pub ruleset line_steps = (asked_in-Cites)
 
 -- ---- a `\bibdata` line
 
-map_more : (file : List ℕ) (line : ℕ) (xs ys : List Complaint) → map (λ (c : Complaint). Wrong c line file) (xs ++ ys) ≡ map (λ (c : Complaint). Wrong c line file) xs ++ map (λ (c : Complaint). Wrong c line file) ys
+map_more : (file : List ℕ) (line : ℕ) (xs ys : List AuxComplaint) → map (λ (c : AuxComplaint). Wrong c line file) (xs ++ ys) ≡ map (λ (c : AuxComplaint). Wrong c line file) xs ++ map (λ (c : AuxComplaint). Wrong c line file) ys
 map_more file line [] ys = refl
-map_more file line (x ∷ xs) ys = ap (λ (notes : List Note). Wrong x line file ∷ notes) (map_more file line xs ys)
+map_more file line (x ∷ xs) ys = ap (λ (notes : List AuxNote). Wrong x line file ∷ notes) (map_more file line xs ys)
 
-pub lines_more : (xs ys : List Note) → map line_of (xs ++ ys) ≡ map line_of xs ++ map line_of ys
+pub lines_more : (xs ys : List AuxNote) → map aux_note_line (xs ++ ys) ≡ map aux_note_line xs ++ map aux_note_line ys
 lines_more [] ys = refl
-lines_more (x ∷ xs) ys = ap (λ (lines : List Line). line_of x ∷ lines) (lines_more xs ys)
+lines_more (x ∷ xs) ys = ap (λ (lines : List Line). aux_note_line x ∷ lines) (lines_more xs ys)
 
-pub with_notes-append : (log : List Line) (xs ys : List Note) → with_notes (with_notes log xs) ys ≡ with_notes log (xs ++ ys)
+pub with_notes-append : (log : List Line) (xs ys : List AuxNote) → with_notes (with_notes log xs) ys ≡ with_notes log (xs ++ ys)
 with_notes-append log [] ys = refl
 with_notes-append log (x ∷ xs) [] = ap (with_notes log) (sym (append-nil (x ∷ xs)))
 with_notes-append log (x ∷ xs) (y ∷ ys) =
-    append_assoc log (line_of x ∷ map line_of xs) (line_of y ∷ map line_of ys)
-    ∙ ap (λ (lines : List Line). log ++ line_of x ∷ lines) (sym (lines_more xs (y ∷ ys)))
+    append_assoc log (aux_note_line x ∷ map aux_note_line xs) (aux_note_line y ∷ map aux_note_line ys)
+    ∙ ap (λ (lines : List Line). log ++ aux_note_line x ∷ lines) (sym (lines_more xs (y ∷ ys)))
 
 -- the databases of some pieces at once
 abbrev all_at_once : List ℕ → ℕ → Draft → List Piece → Draft
 all_at_once file line draft pieces =
-    complaining file line (record draft { databases = fold with_name draft.databases (flat_map (taken_with (codes ".bib")) pieces) }) (database_complaints draft.databases pieces)
+    complaining file line (record draft { databases = fold with_name_once draft.databases (flat_map (taken_with (codes ".bib")) pieces) }) (database_complaints draft.databases pieces)
 
-complaining_twice : (file : List ℕ) (line : ℕ) (draft : Draft) (xs ys : List Complaint) → complaining file line (complaining file line draft xs) ys ≡ complaining file line draft (xs ++ ys)
+complaining_twice : (file : List ℕ) (line : ℕ) (draft : Draft) (xs ys : List AuxComplaint) → complaining file line (complaining file line draft xs) ys ≡ complaining file line draft (xs ++ ys)
 complaining_twice file line draft xs ys =
     ap (λ (log : List Line). record draft { log = log })
-    (with_notes-append draft.log (map (λ (c : Complaint). Wrong c line file) xs) (map (λ (c : Complaint). Wrong c line file) ys)
+    (with_notes-append draft.log (map (λ (c : AuxComplaint). Wrong c line file) xs) (map (λ (c : AuxComplaint). Wrong c line file) ys)
     ∙ ap (with_notes draft.log) (sym (map_more file line xs ys)))
 
 with_databases-once : (file : List ℕ) (line : ℕ) (draft : Draft) (pieces : List Piece) → with_databases file line draft pieces ≡ all_at_once file line draft pieces
 with_databases-once file line draft [] = refl
 with_databases-once file line draft (Taken name ∷ pieces) =
     let database = with_ending (codes ".bib") name in
-    let after = record draft { databases = fold with_name draft.databases (flat_map (taken_with (codes ".bib")) (Taken name ∷ pieces)) } in
+    let after = record draft { databases = fold with_name_once draft.databases (flat_map (taken_with (codes ".bib")) (Taken name ∷ pieces)) } in
     with_databases-once file line (with_database file line draft name) pieces
-    ∙ complaining_twice file line after (complain_if (is_among draft.databases database) (RepeatedDatabase database)) (database_complaints (with_name draft.databases database) pieces)
+    ∙ complaining_twice file line after (complain_if (is_among draft.databases database) (RepeatedDatabase database)) (database_complaints (with_name_once draft.databases database) pieces)
 with_databases-once file line draft (Cut slip ∷ pieces) =
-    let after = record draft { databases = fold with_name draft.databases (flat_map (taken_with (codes ".bib")) pieces) } in
+    let after = record draft { databases = fold with_name_once draft.databases (flat_map (taken_with (codes ".bib")) pieces) } in
     with_databases-once file line (complaining file line draft (Slipped slip ∷ [])) pieces
     ∙ complaining_twice file line after (Slipped slip ∷ []) (database_complaints draft.databases pieces)
 
@@ -103,12 +103,12 @@ learned-bibdata file line draft pieces none empty first =
 
 -- ---- a file that is opened
 
-pub learned-Opens_top : (draft : Draft) (name : List ℕ) (level : ℕ) → level ≡ 0 → learned draft (event_at name 0 (Opens level)) ≡ record draft { files = with_name draft.files name; log = draft.log ++ line_of (TopFile name) ∷ [] }
+pub learned-Opens_top : (draft : Draft) (name : List ℕ) (level : ℕ) → level ≡ 0 → learned draft (event_at name 0 (Opens level)) ≡ record draft { files = with_name_once draft.files name; log = draft.log ++ aux_note_line (TopFile name) ∷ [] }
 unfolding learned
 learned-Opens_top draft name zero is = refl
 learned-Opens_top draft name (suc level) is = absurd (omega arith)
 
-pub learned-Opens_level : (draft : Draft) (name : List ℕ) (level : ℕ) → (level ≡ 0 → ⊥) → learned draft (event_at name 0 (Opens level)) ≡ record draft { log = draft.log ++ line_of (LevelFile level name) ∷ [] }
+pub learned-Opens_level : (draft : Draft) (name : List ℕ) (level : ℕ) → (level ≡ 0 → ⊥) → learned draft (event_at name 0 (Opens level)) ≡ record draft { log = draft.log ++ aux_note_line (LevelFile level name) ∷ [] }
 unfolding learned
 learned-Opens_level draft name zero is = absurd (is refl)
 learned-Opens_level draft name (suc level) is = refl

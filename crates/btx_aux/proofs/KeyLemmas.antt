@@ -8,9 +8,9 @@ use Rattle.std.proofs.lemmas.List.{length-map}
 use Rattle.std.proofs.lemmas.List.Folds.{find_at}
 use Rattle.std.proofs.lemmas.Option.{slice_get_past, slice_get-map}
 use Rattle.std.proofs.lemmas.Bool.Decides.{nat_tests}
-use Rattle.btx_text.specs.Keys.{folded}
-use Rattle.btx_aux.specs.Entries.{Bytes, texts_of}
-use Rattle.btx_aux.specs.KeyTable.{IsTableOf, listed_by}
+use Rattle.btx_text.specs.language.Keys.{folded}
+use Rattle.btx_aux.specs.refinement.Entries.{Bytes, texts_of}
+use Rattle.btx_aux.specs.refinement.KeyTable.{IsTableOf, listed_by}
 use Rattle.btx_aux.proofs.NameLemmas.{is_among-texts_of, texts_of-push}
 
 -- ---- where something stands in a list

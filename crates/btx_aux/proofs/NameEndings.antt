@@ -7,11 +7,11 @@ use Rattle.std.proofs.lemmas.Bool.Decides.{Decides-eqb}
 use Rattle.std.proofs.lemmas.Cmp.{nat_list_eq_equiv}
 use Rattle.std.proofs.lemmas.Map.Keys.{IsDistinct-cons, IsDistinct-head, IsDistinct-push, IsDistinct-tail}
 use Rattle.std.proofs.lemmas.Slice.Eq.{bytes_eq-Decides, ends_is}
-use Rattle.btx_aux.specs.Files.{Files}
-use Rattle.btx_aux.specs.Names.{has_ending, is_among, with_ending, with_name}
-use Rattle.btx_aux.specs.Grammar.{Piece, Taken, Cut}
-use Rattle.btx_aux.specs.Events.{events_of}
-use Rattle.btx_aux.specs.Job.{bibdata_of, bibstyle_of, databases_in, job_of_files, style_in, taken_with}
+use Rattle.btx_aux.specs.language.Files.{Files}
+use Rattle.btx_aux.specs.language.Names.{has_ending, is_among, with_ending, with_name_once}
+use Rattle.btx_aux.specs.language.Grammar.{Piece, Taken, Cut}
+use Rattle.btx_aux.specs.language.Events.{job_events}
+use Rattle.btx_aux.specs.language.Job.{bibdata_of, bibstyle_of, databases_in, job_of_files, style_name_in, taken_with}
 use Rattle.btx_aux.proofs.AnswerLemmas.{all-both}
 
 -- ---- endings
@@ -48,29 +48,29 @@ distinct-both test (x ∷ xs) ys pass fail once once' =
 
 -- ---- a job's databases and style
 
-distinct-with_name : (names : List (List ℕ)) (name : List ℕ) → IsDistinct bytes_eq names → IsDistinct bytes_eq (with_name names name)
+distinct-with_name : (names : List (List ℕ)) (name : List ℕ) → IsDistinct bytes_eq names → IsDistinct bytes_eq (with_name_once names name)
 distinct-with_name names name once = by (is_among names name) refl where
   by : (b : Bool) → is_among names name ≡ b → IsDistinct bytes_eq (if b then names else names ++ name ∷ [])
   by true there = once
   by false absent = IsDistinct-push nat_list_eq_equiv names name once absent
 
-distinct-more : (more names : List (List ℕ)) → IsDistinct bytes_eq names → IsDistinct bytes_eq (fold with_name names more)
+distinct-more : (more names : List (List ℕ)) → IsDistinct bytes_eq names → IsDistinct bytes_eq (fold with_name_once names more)
 distinct-more [] names once = once
-distinct-more (name ∷ more) names once = distinct-more more (with_name names name) (distinct-with_name names name once)
+distinct-more (name ∷ more) names once = distinct-more more (with_name_once names name) (distinct-with_name names name once)
 
 distinct-none : IsDistinct bytes_eq []
 unfolding IsDistinct
 distinct-none = tt
 
-all-with_name : (P : List ℕ → Type 0) (names : List (List ℕ)) (name : List ℕ) → AllByRecursion P names → P name → AllByRecursion P (with_name names name)
+all-with_name : (P : List ℕ → Type 0) (names : List (List ℕ)) (name : List ℕ) → AllByRecursion P names → P name → AllByRecursion P (with_name_once names name)
 all-with_name P names name all one = by (is_among names name) where
   by : (b : Bool) → AllByRecursion P (if b then names else names ++ name ∷ [])
   by true = all
   by false = all-both P names (name ∷ []) all (one, tt)
 
-all-more : (P : List ℕ → Type 0) (more names : List (List ℕ)) → AllByRecursion P names → AllByRecursion P more → AllByRecursion P (fold with_name names more)
+all-more : (P : List ℕ → Type 0) (more names : List (List ℕ)) → AllByRecursion P names → AllByRecursion P more → AllByRecursion P (fold with_name_once names more)
 all-more P [] names all others = all
-all-more P (name ∷ more) names all others = all-more P more (with_name names name) (all-with_name P names name all others.0) others.1
+all-more P (name ∷ more) names all others = all-more P more (with_name_once names name) (all-with_name P names name all others.0) others.1
 
 abbrev EndIn : List ℕ → List (List ℕ) → Type 0
 EndIn ending names = AllByRecursion (λ name. has_ending ending name ≡ true) names
@@ -92,7 +92,7 @@ abbrev ends : Option (List ℕ) → Type 0
 ends None = Unit {0}
 ends (Some name) = has_ending (codes ".bst") name ≡ true
 
-style-ends : (piece : Option Piece) (name : List ℕ) → style_in piece ≡ Some name → has_ending (codes ".bst") name ≡ true
+style-ends : (piece : Option Piece) (name : List ℕ) → style_name_in piece ≡ Some name → has_ending (codes ".bst") name ≡ true
 style-ends None name is = cc
 style-ends (Some (Taken text)) name is = subst ends is (with_ending-ends (codes ".bst") text)
 style-ends (Some (Cut slip)) name is = cc
@@ -100,14 +100,14 @@ style-ends (Some (Cut slip)) name is = cc
 -- the databases end in `.bib`
 pub job_databases_end : (files : Files) (top : List ℕ) → EndIn (codes ".bib") (job_of_files files top).databases
 unfolding job_of_files
-job_databases_end files top = databases-end (bibdata_of (events_of files top))
+job_databases_end files top = databases-end (bibdata_of (job_events files top))
 
 -- none of them is named twice
 pub job_databases_once : (files : Files) (top : List ℕ) → IsDistinct bytes_eq (job_of_files files top).databases
 unfolding job_of_files
-job_databases_once files top = databases-once (bibdata_of (events_of files top))
+job_databases_once files top = databases-once (bibdata_of (job_events files top))
 
 -- the style ends in `.bst`
 pub job_style_ends : (files : Files) (top name : List ℕ) → (job_of_files files top).style ≡ Some name → has_ending (codes ".bst") name ≡ true
 unfolding job_of_files
-job_style_ends files top name is = style-ends (bibstyle_of (events_of files top)) name is
+job_style_ends files top name is = style-ends (bibstyle_of (job_events files top)) name is

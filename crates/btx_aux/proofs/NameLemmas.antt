@@ -3,8 +3,8 @@ use Rattle.std.proofs.Common.{◌≡◌, ℕ, Bool, true, false, ◌||◌, if◌
 use Rattle.std.specs.Str.{bytes_eq}
 use Rattle.std.specs.List.{list_any}
 use Rattle.indexmap.specs.IndexSet.{insert_key}
-use Rattle.btx_aux.specs.Entries.{Bytes, texts_of}
-use Rattle.btx_aux.specs.Names.{is_among, with_name}
+use Rattle.btx_aux.specs.refinement.Entries.{Bytes, texts_of}
+use Rattle.btx_aux.specs.language.Names.{is_among, with_name_once}
 use Rattle.btx_aux.proofs.TableLemmas.{same_key}
 
 pub is_among-texts_of : (names : List Bytes) (name : List ℕ) → list_any (λ (other : Bytes). bytes_eq name other.items) names ≡ is_among (texts_of names) name
@@ -19,7 +19,7 @@ texts_of-if : (b : Bool) (names : List Bytes) (name : Bytes) → texts_of (if b 
 texts_of-if true names name = refl
 texts_of-if false names name = texts_of-push names name
 
-pub with_name-texts_of : (names : List Bytes) (name : Bytes) → texts_of (insert_key same_key names name) ≡ with_name (texts_of names) name.items
+pub with_name-texts_of : (names : List Bytes) (name : Bytes) → texts_of (insert_key same_key names name) ≡ with_name_once (texts_of names) name.items
 with_name-texts_of names name =
     texts_of-if (list_any (same_key name) names) names name
     ∙ ap (λ (b : Bool). if b then texts_of names else texts_of names ++ name.items ∷ []) (is_among-texts_of names name.items)

@@ -14,17 +14,17 @@ use Rattle.std.proofs.lemmas.List.Folds.{list_any-append}
 use Rattle.std.proofs.lemmas.Map.Keys.{IsDistinct-cons, IsDistinct-head, IsDistinct-push, IsDistinct-tail}
 use Rattle.std.proofs.lemmas.Map.Made.{is_some-lookup}
 use Rattle.std.proofs.lemmas.Slice.Eq.{bytes_eq-Decides}
-use Rattle.btx_text.specs.Lines.{lines_of}
-use Rattle.btx_text.specs.Keys.{folded}
+use Rattle.btx_text.specs.language.Lines.{lines_of}
+use Rattle.btx_text.specs.language.Keys.{folded}
 use Rattle.btx_aux.specs.declared.command.Command.{Command}
 use Rattle.btx_aux.specs.declared.command.Command.TheVariants.{Citation, Bibdata, Bibstyle, Input}
-use Rattle.btx_aux.specs.Files.{Files}
-use Rattle.btx_aux.specs.Names.{has_ending, is_among, is_same_key, with_name, with_key}
-use Rattle.btx_aux.specs.Grammar.{Piece, Taken, Cut, Word, Cites, Databases, Styles, Includes, Opens, Absent, Full, TooLong, NoTop, command_named, end_by, is_whole, pieces_of, words_at, words_of, words_of_command}
-use Rattle.btx_aux.specs.Events.{Event, Reading, asked_of, event_at, events_of, expanded, files_named, followed, found, from_top, inside, is_too_long, named, named_by, opened, said, said_from, until_end}
-use Rattle.btx_aux.specs.Job.{cited, job_of_files}
+use Rattle.btx_aux.specs.language.Files.{Files}
+use Rattle.btx_aux.specs.language.Names.{has_ending, is_among, is_same_key, with_name_once, with_key}
+use Rattle.btx_aux.specs.language.Grammar.{Piece, Taken, Cut, EventKind, Cites, Databases, Styles, Includes, Opens, Absent, Full, TooLong, NoTop, aux_command_named, end_by, is_whole, pieces_of, words_at, words_of, words_of_command}
+use Rattle.btx_aux.specs.language.Events.{AuxEvent, FileEvents, asked_of, event_at, job_events, expanded, files_named, followed, input_events, from_top, inside, is_too_long, file_named, named_by, opened, said, said_from, until_end}
+use Rattle.btx_aux.specs.language.Job.{cited, job_of_files}
 use Rattle.btx_aux.proofs.AnswerLemmas.{all-front}
-use Rattle.btx_aux.specs.Openings.{NoFileTwice, NoKeyTwice, OpensByConditions, TopOpensFirst, files_opened, includes, levels_by, open_at, opened_first, opening_of, openings, opens}
+use Rattle.btx_aux.specs.laws.Openings.{NoFileTwice, NoKeyTwice, OpensByConditions, TopOpensFirst, files_opened, includes, levels_by, files_open_at, opened_first, opening_of, openings, opens}
 
 -- ---- keys
 
@@ -51,7 +51,7 @@ distinct-none same = tt
 
 pub no_key_twice : NoKeyTwice
 unfolding job_of_files
-no_key_twice files top = distinct-fold (flat_map cited (events_of files top)) [] (distinct-none is_same_key)
+no_key_twice files top = distinct-fold (flat_map cited (job_events files top)) [] (distinct-none is_same_key)
 
 -- ---- tests
 
@@ -83,18 +83,18 @@ bytes_eq-same name = (bytes_eq-Decides name name).1 refl
 is_among-push : (names : List (List ℕ)) (name other : List ℕ) → is_among (names ++ name ∷ []) other ≡ (is_among names other || (bytes_eq other name || false))
 is_among-push names name other = list_any-append (bytes_eq other) names (name ∷ [])
 
-is_among-less : (names : List (List ℕ)) (name other : List ℕ) → is_among (with_name names name) other ≡ false → is_among names other ≡ false
+is_among-less : (names : List (List ℕ)) (name other : List ℕ) → is_among (with_name_once names name) other ≡ false → is_among names other ≡ false
 is_among-less names name other none = by_test (is_among names name) none where
   by_test : (b : Bool) → is_among (if b then names else names ++ name ∷ []) other ≡ false → is_among names other ≡ false
   by_test true none = none
   by_test false none = or_first (is_among names other) (bytes_eq other name || false) (sym (is_among-push names name other) ∙ none)
 
-is_among-fold : (more names : List (List ℕ)) (other : List ℕ) → is_among (fold with_name names more) other ≡ false → is_among names other ≡ false
+is_among-fold : (more names : List (List ℕ)) (other : List ℕ) → is_among (fold with_name_once names more) other ≡ false → is_among names other ≡ false
 is_among-fold [] names other none = none
-is_among-fold (name ∷ more) names other none = is_among-less names name other (is_among-fold more (with_name names name) other none)
+is_among-fold (name ∷ more) names other none = is_among-less names name other (is_among-fold more (with_name_once names name) other none)
 
 -- a name is one of those that it is added to
-is_among-with_name : (names : List (List ℕ)) (name : List ℕ) → is_among (with_name names name) name ≡ true
+is_among-with_name : (names : List (List ℕ)) (name : List ℕ) → is_among (with_name_once names name) name ≡ true
 is_among-with_name names name = by_test (is_among names name) refl where
   by_test : (b : Bool) → is_among names name ≡ b → is_among (if b then names else names ++ name ∷ []) name ≡ true
   by_test true there = there
@@ -102,12 +102,12 @@ is_among-with_name names name = by_test (is_among names name) refl where
 
 -- ---- one more event
 
-module _ (events : List Event) (event : Event) where
-  names_more : files_named (events ++ event ∷ []) ≡ fold with_name (files_named events) (named event)
-  names_more = ap (fold with_name []) (flat_map-append named events (event ∷ []) ∙ ap (λ (names : List (List ℕ)). flat_map named events ++ names) (append-nil (named event))) ∙ fold-more [] (flat_map named events) (named event) where
-    fold-more : (names xs ys : List (List ℕ)) → fold with_name names (xs ++ ys) ≡ fold with_name (fold with_name names xs) ys
+module _ (events : List AuxEvent) (event : AuxEvent) where
+  names_more : files_named (events ++ event ∷ []) ≡ fold with_name_once (files_named events) (file_named event)
+  names_more = ap (fold with_name_once []) (flat_map-append file_named events (event ∷ []) ∙ ap (λ (names : List (List ℕ)). flat_map file_named events ++ names) (append-nil (file_named event))) ∙ fold-more [] (flat_map file_named events) (file_named event) where
+    fold-more : (names xs ys : List (List ℕ)) → fold with_name_once names (xs ++ ys) ≡ fold with_name_once (fold with_name_once names xs) ys
     fold-more names [] ys = refl
-    fold-more names (x ∷ xs) ys = fold-more (with_name names x) xs ys
+    fold-more names (x ∷ xs) ys = fold-more (with_name_once names x) xs ys
 
   openings_more : openings (events ++ event ∷ []) ≡ openings events ++ opening_of event
   openings_more = flat_map-append opening_of events (event ∷ []) ∙ ap (λ (more : List (List ℕ × ℕ)). openings events ++ more) (append-nil (opening_of event))
@@ -129,24 +129,24 @@ module _ (events : List Event) (event : Event) where
 
   -- what is named stays named
   named_before : (file : List ℕ) → is_among (files_named (events ++ event ∷ [])) file ≡ false → is_among (files_named events) file ≡ false
-  named_before file none = is_among-fold (named event) (files_named events) file (ap (λ (names : List (List ℕ)). is_among names file) (sym names_more) ∙ none)
+  named_before file none = is_among-fold (file_named event) (files_named events) file (ap (λ (names : List (List ℕ)). is_among names file) (sym names_more) ∙ none)
 
 -- ---- each opened file was named, and none was opened twice
 
-record Sound (events : List Event) : Type 0 where
+record Sound (events : List AuxEvent) : Type 0 where
   named : (file : List ℕ) → is_among (files_named events) file ≡ false → is_among (files_opened events) file ≡ false
   once : IsDistinct bytes_eq (files_opened events)
 
 sound-none : Sound []
 sound-none = record { named = λ file none. refl; once = distinct-none bytes_eq }
 
-sound-more : (events : List Event) (event : Event) → levels_by event.word ≡ [] → Sound events → Sound (events ++ event ∷ [])
+sound-more : (events : List AuxEvent) (event : AuxEvent) → levels_by event.word ≡ [] → Sound events → Sound (events ++ event ∷ [])
 sound-more events event none sound = record {
   named = λ file new. ap (λ (names : List (List ℕ)). is_among names file) (opened_same events event none) ∙ sound.named file (named_before events event file new);
   once = subst (λ (names : List (List ℕ)). IsDistinct bytes_eq names) (sym (opened_same events event none)) sound.once;
 }
 
-sound-opens : (events : List Event) (event : Event) (level : ℕ) → levels_by event.word ≡ level ∷ [] → is_among (files_opened events) event.file ≡ false
+sound-opens : (events : List AuxEvent) (event : AuxEvent) (level : ℕ) → levels_by event.word ≡ level ∷ [] → is_among (files_opened events) event.file ≡ false
     → is_among (files_named (events ++ event ∷ [])) event.file ≡ true → Sound events → Sound (events ++ event ∷ [])
 sound-opens events event level one absent there sound = record {
   named = λ file new. ap (λ (names : List (List ℕ)). is_among names file) (opened_once events event level one)
@@ -178,13 +178,13 @@ none_gives : (o p : Option ℕ) → is_some o ≡ false → option_or o p ≡ p
 none_gives None p is = refl
 none_gives (Some x) p is = cc
 
-level_stays : (events more : List Event) (file : List ℕ) (level : ℕ) → lookup (bytes_eq file) (openings events) ≡ Some level → lookup (bytes_eq file) (openings (events ++ more)) ≡ Some level
+level_stays : (events more : List AuxEvent) (file : List ℕ) (level : ℕ) → lookup (bytes_eq file) (openings events) ≡ Some level → lookup (bytes_eq file) (openings (events ++ more)) ≡ Some level
 level_stays events more file level at =
     ap (lookup (bytes_eq file)) (flat_map-append opening_of events more)
     ∙ lookup-append (bytes_eq file) (openings events) (openings more)
     ∙ some_stays (lookup (bytes_eq file) (openings events)) (lookup (bytes_eq file) (openings more)) level at
 
-level_is : (events : List Event) (file : List ℕ) (level : ℕ) → is_among (files_opened events) file ≡ false → lookup (bytes_eq file) (openings (events ++ event_at file 0 (Opens level) ∷ [])) ≡ Some level
+level_is : (events : List AuxEvent) (file : List ℕ) (level : ℕ) → is_among (files_opened events) file ≡ false → lookup (bytes_eq file) (openings (events ++ event_at file 0 (Opens level) ∷ [])) ≡ Some level
 level_is events file level absent =
     ap (lookup (bytes_eq file)) (openings_more events (event_at file 0 (Opens level)))
     ∙ lookup-append (bytes_eq file) (openings events) ((file, level) ∷ [])
@@ -193,11 +193,11 @@ level_is events file level absent =
 
 -- ---- a file's own lines open nothing by themselves
 
-abbrev Silently : List Word → Type 0
+abbrev Silently : List EventKind → Type 0
 Silently [] = Unit {0}
 Silently (word ∷ words) = (levels_by word ≡ []) × Silently words
 
-abbrev Said : List ℕ → List Event → Type 0
+abbrev Said : List ℕ → List AuxEvent → Type 0
 Said file [] = Unit {0}
 Said file (event ∷ events) = (event.file ≡ file) × (levels_by event.word ≡ []) × Said file events
 
@@ -214,17 +214,17 @@ silent-command (Some Input) argument = (refl, tt)
 
 silent-words_at : (brace : Option ℕ) (line : List ℕ) → Silently (words_at brace line)
 silent-words_at None line = tt
-silent-words_at (Some brace) line = silent-command (command_named (take brace line)) (drop (brace + 1) line)
+silent-words_at (Some brace) line = silent-command (aux_command_named (take brace line)) (drop (brace + 1) line)
 
 silent-line : (line : List ℕ) → Silently (words_of line)
 unfolding words_of
 silent-line line = silent-words_at _ line
 
-said-words : (file : List ℕ) (number : ℕ) (words : List Word) → Silently words → Said file (map (event_at file number) words)
+said-words : (file : List ℕ) (number : ℕ) (words : List EventKind) → Silently words → Said file (map (event_at file number) words)
 said-words file number [] silent = tt
 said-words file number (word ∷ words) silent = (refl, silent.0, said-words file number words silent.1)
 
-said-append : (file : List ℕ) (xs ys : List Event) → Said file xs → Said file ys → Said file (xs ++ ys)
+said-append : (file : List ℕ) (xs ys : List AuxEvent) → Said file xs → Said file ys → Said file (xs ++ ys)
 said-append file [] ys first second = second
 said-append file (x ∷ xs) ys first second = (first.0, first.1, said-append file xs ys first.2 second)
 
@@ -240,32 +240,32 @@ said-file file text = said-lines file 1 (lines_of text)
 -- ---- what follows each event
 
 -- the first of some events opens nothing
-abbrev Silent : List Event → Type 0
+abbrev Silent : List AuxEvent → Type 0
 Silent events = (name : List ℕ) → opened_first events name ≡ None
 
-silent-event : (event : Event) (events : List Event) → levels_by event.word ≡ [] → Silent (event ∷ events)
+silent-event : (event : AuxEvent) (events : List AuxEvent) → levels_by event.word ≡ [] → Silent (event ∷ events)
 silent-event event events none = λ name. ap (λ (levels : List ℕ). lookup (bytes_eq name) (map (λ (level : ℕ). (event.file, level)) levels)) none
 
 -- what follows an event, which stands behind the earlier ones and before the later ones
-abbrev Fate : Files → List Event → Event → List Event → Type 0
-Fate files earlier event later = (name : List ℕ) → opened_first later name ≡ (if opens files earlier event name then Some (open_at earlier event.file) else None)
+abbrev Fate : Files → List AuxEvent → AuxEvent → List AuxEvent → Type 0
+Fate files earlier event later = (name : List ℕ) → opened_first later name ≡ (if opens files earlier event name then Some (files_open_at earlier event.file) else None)
 
 -- what follows each of some events, with these behind all
-abbrev Each : Files → List Event → List Event → List Event → Type 0
+abbrev Each : Files → List AuxEvent → List AuxEvent → List AuxEvent → Type 0
 Each files earlier [] behind = Unit {0}
 Each files earlier (event ∷ events) behind = Fate files earlier event (events ++ behind) × Each files (earlier ++ event ∷ []) events behind
 
-each-append : (files : Files) (earlier xs ys behind : List Event) → Each files earlier xs (ys ++ behind) → Each files (earlier ++ xs) ys behind → Each files earlier (xs ++ ys) behind
-each-append files earlier [] ys behind first second = subst (λ (e : List Event). Each files e ys behind) (append-nil earlier) second
+each-append : (files : Files) (earlier xs ys behind : List AuxEvent) → Each files earlier xs (ys ++ behind) → Each files (earlier ++ xs) ys behind → Each files earlier (xs ++ ys) behind
+each-append files earlier [] ys behind first second = subst (λ (e : List AuxEvent). Each files e ys behind) (append-nil earlier) second
 each-append files earlier (x ∷ xs) ys behind first second = (
-  subst (λ (later : List Event). Fate files earlier x later) (sym (append_assoc xs ys behind)) first.0,
-  each-append files (earlier ++ x ∷ []) xs ys behind first.1 (subst (λ (e : List Event). Each files e ys behind) (sym (append_assoc earlier (x ∷ []) xs)) second),
+  subst (λ (later : List AuxEvent). Fate files earlier x later) (sym (append_assoc xs ys behind)) first.0,
+  each-append files (earlier ++ x ∷ []) xs ys behind first.1 (subst (λ (e : List AuxEvent). Each files e ys behind) (sym (append_assoc earlier (x ∷ []) xs)) second),
 )
 
 -- an event that is no `\@input` and is followed by nothing that opens a file
-fate_none : (files : Files) (earlier : List Event) (event : Event) (later : List Event) → ((name : List ℕ) → includes event.word name ≡ false) → Silent later → Fate files earlier event later
+fate_none : (files : Files) (earlier : List AuxEvent) (event : AuxEvent) (later : List AuxEvent) → ((name : List ℕ) → includes event.word name ≡ false) → Silent later → Fate files earlier event later
 fate_none files earlier event later off silent = λ name. silent name ∙ sym (
-    ap (λ (b : Bool). if b && has_ending (codes ".aux") name && not (is_among (files_named earlier) name) && is_some (files name) && nat_lt (open_at earlier event.file) 20 then Some (open_at earlier event.file) else None) (off name))
+    ap (λ (b : Bool). if b && has_ending (codes ".aux") name && not (is_among (files_named earlier) name) && is_some (files name) && nat_lt (files_open_at earlier event.file) 20 then Some (files_open_at earlier event.file) else None) (off name))
 
 -- ---- reading
 
@@ -274,18 +274,18 @@ abbrev open_with : ℕ → ℕ
 open_with room = 20 - room
 
 -- a file that is read: what follows each of its events, and by what it begins
-record IsRead (files : Files) (room : ℕ) (earlier : List Event) (name : List ℕ) (events behind : List Event) : Type 0 where
+record IsRead (files : Files) (room : ℕ) (earlier : List AuxEvent) (name : List ℕ) (events behind : List AuxEvent) : Type 0 where
   each : Each files earlier events behind
   sound : Sound (earlier ++ events)
   first : (other : List ℕ) → opened_first (events ++ behind) other ≡ (if nat_lt (open_with room) 20 && bytes_eq other name then Some (open_with room) else None)
 
-abbrev Reads : Files → ℕ → Reading → Type 0
-Reads files room reading = (earlier : List Event) (name text : List ℕ) (behind : List Event) → Sound earlier → is_among (files_opened earlier) name ≡ false
+abbrev Reads : Files → ℕ → FileEvents → Type 0
+Reads files room reading = (earlier : List AuxEvent) (name text : List ℕ) (behind : List AuxEvent) → Sound earlier → is_among (files_opened earlier) name ≡ false
     → ((level : ℕ) → level ≡ open_with room → is_among (files_named (earlier ++ event_at name 0 (Opens level) ∷ [])) name ≡ true) → Silent behind
     → IsRead files room earlier name (reading earlier name text) behind
 
 -- a line that asks for no file
-unasked : (names : List (List ℕ)) (word : Word) (name : List ℕ) → asked_of names word ≡ None → (includes word name && has_ending (codes ".aux") name && not (is_among names name)) ≡ false
+unasked : (names : List (List ℕ)) (word : EventKind) (name : List ℕ) → asked_of names word ≡ None → (includes word name && has_ending (codes ".aux") name && not (is_among names name)) ≡ false
 unasked names (Includes (Taken text)) name none = by_test (bytes_eq text name) refl where
   refused : (b c : Bool) → (if b && c then Some text else None) ≡ None → (b && c) ≡ false
   refused true true off = cc
@@ -306,7 +306,7 @@ unasked names TooLong name none = refl
 unasked names NoTop name none = refl
 
 -- a line that asks for a file
-record Asks (names : List (List ℕ)) (word : Word) (name : List ℕ) : Type 0 where
+record Asks (names : List (List ℕ)) (word : EventKind) (name : List ℕ) : Type 0 where
   word_is : word ≡ Includes (Taken name)
   ending : has_ending (codes ".aux") name ≡ true
   new : is_among names name ≡ false
@@ -314,7 +314,7 @@ record Asks (names : List (List ℕ)) (word : Word) (name : List ℕ) : Type 0 w
 none_some : (name : List ℕ) → None ≡ Some name → ⊥
 none_some name is = cc
 
-asks : (names : List (List ℕ)) (word : Word) (name : List ℕ) → asked_of names word ≡ Some name → Asks names word name
+asks : (names : List (List ℕ)) (word : EventKind) (name : List ℕ) → asked_of names word ≡ Some name → Asks names word name
 asks names (Includes (Taken text)) name some = by_tests (has_ending (codes ".aux") text) (is_among names text) refl refl some where
   by_tests : (b c : Bool) → has_ending (codes ".aux") text ≡ b → is_among names text ≡ c → (if b && not c then Some text else None) ≡ Some name → Asks names (Includes (Taken text)) name
   by_tests true false ending new is =
@@ -333,40 +333,40 @@ asks names TooLong name some = record { word_is = cc; ending = cc; new = cc }
 asks names NoTop name some = record { word_is = cc; ending = cc; new = cc }
 
 -- the name of a line that asks for its file is one of the names from there on
-is_among-kept : (names : List (List ℕ)) (name other : List ℕ) → is_among names other ≡ true → is_among (with_name names name) other ≡ true
+is_among-kept : (names : List (List ℕ)) (name other : List ℕ) → is_among names other ≡ true → is_among (with_name_once names name) other ≡ true
 is_among-kept names name other there = by_test (is_among names name) where
   by_test : (b : Bool) → is_among (if b then names else names ++ name ∷ []) other ≡ true
   by_test true = there
   by_test false = is_among-push names name other ∙ or_true (is_among names other) (bytes_eq other name || false) there
 
-is_among-all_kept : (more names : List (List ℕ)) (other : List ℕ) → is_among names other ≡ true → is_among (fold with_name names more) other ≡ true
+is_among-all_kept : (more names : List (List ℕ)) (other : List ℕ) → is_among names other ≡ true → is_among (fold with_name_once names more) other ≡ true
 is_among-all_kept [] names other there = there
-is_among-all_kept (name ∷ more) names other there = is_among-all_kept more (with_name names name) other (is_among-kept names name other there)
+is_among-all_kept (name ∷ more) names other there = is_among-all_kept more (with_name_once names name) other (is_among-kept names name other there)
 
-named_now : (earlier : List Event) (event : Event) (name : List ℕ) → Asks (files_named earlier) event.word name → (next : Event) → is_among (files_named ((earlier ++ event ∷ []) ++ next ∷ [])) name ≡ true
+named_now : (earlier : List AuxEvent) (event : AuxEvent) (name : List ℕ) → Asks (files_named earlier) event.word name → (next : AuxEvent) → is_among (files_named ((earlier ++ event ∷ []) ++ next ∷ [])) name ≡ true
 named_now earlier event name ask next =
     let front = earlier ++ event ∷ [] in
-    let names : files_named front ≡ with_name (files_named earlier) name = names_more earlier event
-    ∙ ap (λ (w : Word). fold with_name (files_named earlier) (named_by event.file w)) ask.word_is
-    ∙ ap (λ (b : Bool). fold with_name (files_named earlier) (if b then name ∷ [] else [])) ask.ending in
+    let names : files_named front ≡ with_name_once (files_named earlier) name = names_more earlier event
+    ∙ ap (λ (w : EventKind). fold with_name_once (files_named earlier) (named_by event.file w)) ask.word_is
+    ∙ ap (λ (b : Bool). fold with_name_once (files_named earlier) (if b then name ∷ [] else [])) ask.ending in
     let here : is_among (files_named front) name ≡ true = ap (λ (ns : List (List ℕ)). is_among ns name) names ∙ is_among-with_name (files_named earlier) name in
-    ap (λ (ns : List (List ℕ)). is_among ns name) (names_more front next) ∙ is_among-all_kept (named next) (files_named front) name here
+    ap (λ (ns : List (List ℕ)). is_among ns name) (names_more front next) ∙ is_among-all_kept (file_named next) (files_named front) name here
 
 -- which file such a line opens: the one that it asks for, if it is there and there is room
-module _ (files : Files) (earlier : List Event) (event : Event) (name : List ℕ) (ask : Asks (files_named earlier) event.word name) where
-  opens_asked : (other : List ℕ) → opens files earlier event other ≡ (bytes_eq name other && is_some (files name) && nat_lt (open_at earlier event.file) 20)
+module _ (files : Files) (earlier : List AuxEvent) (event : AuxEvent) (name : List ℕ) (ask : Asks (files_named earlier) event.word name) where
+  opens_asked : (other : List ℕ) → opens files earlier event other ≡ (bytes_eq name other && is_some (files name) && nat_lt (files_open_at earlier event.file) 20)
   opens_asked other =
-      ap (λ (w : Word). includes w other && has_ending (codes ".aux") other && not (is_among (files_named earlier) other) && is_some (files other) && nat_lt (open_at earlier event.file) 20) ask.word_is
+      ap (λ (w : EventKind). includes w other && has_ending (codes ".aux") other && not (is_among (files_named earlier) other) && is_some (files other) && nat_lt (files_open_at earlier event.file) 20) ask.word_is
       ∙ by_test (bytes_eq name other) refl where
         by_test : (b : Bool) → bytes_eq name other ≡ b
-            → (b && has_ending (codes ".aux") other && not (is_among (files_named earlier) other) && is_some (files other) && nat_lt (open_at earlier event.file) 20) ≡ (b && is_some (files name) && nat_lt (open_at earlier event.file) 20)
+            → (b && has_ending (codes ".aux") other && not (is_among (files_named earlier) other) && is_some (files other) && nat_lt (files_open_at earlier event.file) 20) ≡ (b && is_some (files name) && nat_lt (files_open_at earlier event.file) 20)
         by_test false differ = refl
         by_test true same =
-            subst (λ (n : List ℕ). (true && has_ending (codes ".aux") n && not (is_among (files_named earlier) n) && is_some (files n) && nat_lt (open_at earlier event.file) 20) ≡ (is_some (files name) && nat_lt (open_at earlier event.file) 20))
+            subst (λ (n : List ℕ). (true && has_ending (codes ".aux") n && not (is_among (files_named earlier) n) && is_some (files n) && nat_lt (files_open_at earlier event.file) 20) ≡ (is_some (files name) && nat_lt (files_open_at earlier event.file) 20))
             ((bytes_eq-Decides name other).0 same) (rw (ask.ending, ask.new) refl)
 
 -- what becomes of an event: what follows it, and what follows each event that it brings
-record IsFollowed (files : Files) (earlier : List Event) (event : Event) (more behind : List Event) : Type 0 where
+record IsFollowed (files : Files) (earlier : List AuxEvent) (event : AuxEvent) (more behind : List AuxEvent) : Type 0 where
   fate : Fate files earlier event (more ++ behind)
   each : Each files (earlier ++ event ∷ []) more behind
   sound : Sound ((earlier ++ event ∷ []) ++ more)
@@ -381,20 +381,20 @@ second_true true b false on = rw on refl
 second_true false b true on = refl
 second_true false b false on = refl
 
-module _ (files : Files) (room : ℕ) (reading : Reading) (reads : Reads files room reading) (small : room ≤ 19) where
-  open_is : (earlier : List Event) (file : List ℕ) → lookup (bytes_eq file) (openings earlier) ≡ Some (19 - room) → open_at earlier file ≡ open_with room
+module _ (files : Files) (room : ℕ) (reading : FileEvents) (reads : Reads files room reading) (small : room ≤ 19) where
+  open_is : (earlier : List AuxEvent) (file : List ℕ) → lookup (bytes_eq file) (openings earlier) ≡ Some (19 - room) → files_open_at earlier file ≡ open_with room
   open_is earlier file at =
       let is : (19 - room) + 1 ≡ open_with room = omega arith in
       ap (λ (o : Option ℕ). option_map_or (λ (level : ℕ). level + 1) o 0) at ∙ is
 
-  found-follows : (earlier : List Event) (event : Event) (name : List ℕ) (text : Option (List ℕ)) (behind : List Event) → files name ≡ text → levels_by event.word ≡ [] → Asks (files_named earlier) event.word name
-      → open_at earlier event.file ≡ open_with room → Sound earlier → Silent behind → IsFollowed files earlier event (found reading (earlier ++ event ∷ []) event name text) behind
+  found-follows : (earlier : List AuxEvent) (event : AuxEvent) (name : List ℕ) (text : Option (List ℕ)) (behind : List AuxEvent) → files name ≡ text → levels_by event.word ≡ [] → Asks (files_named earlier) event.word name
+      → files_open_at earlier event.file ≡ open_with room → Sound earlier → Silent behind → IsFollowed files earlier event (input_events reading (earlier ++ event ∷ []) event name text) behind
   found-follows earlier event name None behind there none ask count sound silent =
       let front = earlier ++ event ∷ [] in
-      let absent : Event = record event { word = Absent name } in
+      let absent : AuxEvent = record event { word = Absent name } in
       record {
-        fate = λ other. sym (ap (λ (b : Bool). if b then Some (open_at earlier event.file) else None)
-            (opens_asked files earlier event name ask other ∙ second_false (bytes_eq name other) (is_some (files name)) (nat_lt (open_at earlier event.file) 20) (ap (λ (o : Option (List ℕ)). is_some o) there)));
+        fate = λ other. sym (ap (λ (b : Bool). if b then Some (files_open_at earlier event.file) else None)
+            (opens_asked files earlier event name ask other ∙ second_false (bytes_eq name other) (is_some (files name)) (nat_lt (files_open_at earlier event.file) 20) (ap (λ (o : Option (List ℕ)). is_some o) there)));
         each = (fate_none files front absent behind (λ other. refl) silent, tt);
         sound = sound-more front absent refl (sound-more earlier event none sound);
       }
@@ -404,31 +404,31 @@ module _ (files : Files) (room : ℕ) (reading : Reading) (reads : Reads files r
       let read = reads front name text behind (sound-more earlier event none sound) unopened (λ level is. named_now earlier event name ask (event_at name 0 (Opens level))) silent in
       record {
         fate = λ other. read.first other ∙ sym (
-            ap (λ (b : Bool). if b then Some (open_at earlier event.file) else None) (opens_asked files earlier event name ask other ∙ second_true (bytes_eq name other) (is_some (files name)) (nat_lt (open_at earlier event.file) 20) (ap (λ (o : Option (List ℕ)). is_some o) there))
+            ap (λ (b : Bool). if b then Some (files_open_at earlier event.file) else None) (opens_asked files earlier event name ask other ∙ second_true (bytes_eq name other) (is_some (files name)) (nat_lt (files_open_at earlier event.file) 20) (ap (λ (o : Option (List ℕ)). is_some o) there))
             ∙ ap (λ (n : ℕ). if nat_lt n 20 && bytes_eq name other then Some n else None) count
             ∙ ap (λ (b : Bool). if nat_lt (open_with room) 20 && b then Some (open_with room) else None) (nat_list_eq_equiv.symm name other));
         each = read.each;
         sound = read.sound;
       }
 
-  followed-follows : (earlier : List Event) (event : Event) (asked : Option (List ℕ)) (behind : List Event) → asked_of (files_named earlier) event.word ≡ asked → levels_by event.word ≡ []
-      → open_at earlier event.file ≡ open_with room → Sound earlier → Silent behind → IsFollowed files earlier event (followed files reading (earlier ++ event ∷ []) event asked) behind
+  followed-follows : (earlier : List AuxEvent) (event : AuxEvent) (asked : Option (List ℕ)) (behind : List AuxEvent) → asked_of (files_named earlier) event.word ≡ asked → levels_by event.word ≡ []
+      → files_open_at earlier event.file ≡ open_with room → Sound earlier → Silent behind → IsFollowed files earlier event (followed files reading (earlier ++ event ∷ []) event asked) behind
   followed-follows earlier event None behind unask none count sound silent = record {
-    fate = λ name. silent name ∙ sym (ap (λ (b : Bool). if b && is_some (files name) && nat_lt (open_at earlier event.file) 20 then Some (open_at earlier event.file) else None) (unasked (files_named earlier) event.word name unask));
+    fate = λ name. silent name ∙ sym (ap (λ (b : Bool). if b && is_some (files name) && nat_lt (files_open_at earlier event.file) 20 then Some (files_open_at earlier event.file) else None) (unasked (files_named earlier) event.word name unask));
     each = tt;
     sound = subst Sound (sym (append-nil (earlier ++ event ∷ []))) (sound-more earlier event none sound);
   }
   followed-follows earlier event (Some name) behind is none count sound silent =
       found-follows earlier event name (files name) behind refl none (asks (files_named earlier) event.word name is) count sound silent
 
-  expanded-silent : (earlier : List Event) (file : List ℕ) (events behind : List Event) → Said file events → Silent behind → Silent (expanded files reading earlier events ++ behind)
+  expanded-silent : (earlier : List AuxEvent) (file : List ℕ) (events behind : List AuxEvent) → Said file events → Silent behind → Silent (expanded files reading earlier events ++ behind)
   expanded-silent earlier file [] behind said silent = silent
   expanded-silent earlier file (event ∷ events) behind said silent =
       let front = earlier ++ event ∷ [] in
       let more = followed files reading front event (asked_of (files_named earlier) event.word) in
       silent-event event ((more ++ expanded files reading (front ++ more) events) ++ behind) said.1
 
-  expanded-read : (earlier : List Event) (file : List ℕ) (events behind : List Event) → Said file events → Sound earlier → lookup (bytes_eq file) (openings earlier) ≡ Some (19 - room) → Silent behind
+  expanded-read : (earlier : List AuxEvent) (file : List ℕ) (events behind : List AuxEvent) → Said file events → Sound earlier → lookup (bytes_eq file) (openings earlier) ≡ Some (19 - room) → Silent behind
       → Each files earlier (expanded files reading earlier events) behind × Sound (earlier ++ expanded files reading earlier events)
   expanded-read earlier file [] behind said sound at silent = (tt, subst Sound (sym (append-nil earlier)) sound)
   expanded-read earlier file (event ∷ events) behind said sound at silent =
@@ -436,16 +436,16 @@ module _ (files : Files) (room : ℕ) (reading : Reading) (reads : Reads files r
       let asked = asked_of (files_named earlier) event.word in
       let more = followed files reading front event asked in
       let rest = expanded files reading (front ++ more) events in
-      let count : open_at earlier event.file ≡ open_with room = ap (open_at earlier) said.0 ∙ open_is earlier file at in
+      let count : files_open_at earlier event.file ≡ open_with room = ap (files_open_at earlier) said.0 ∙ open_is earlier file at in
       let follows = followed-follows earlier event asked (rest ++ behind) refl said.1 count sound (expanded-silent (front ++ more) file events behind said.2 silent) in
       let at' = level_stays front more file (19 - room) (level_stays earlier (event ∷ []) file (19 - room) at) in
       let onward = expanded-read (front ++ more) file events behind said.2 follows.sound at' silent in (
-        (subst (λ (later : List Event). Fate files earlier event later) (sym (append_assoc more rest behind)) follows.fate, each-append files front more rest behind follows.each onward.0),
-        subst Sound (ap (λ (es : List Event). es ++ rest) (append_assoc earlier (event ∷ []) more) ∙ append_assoc earlier (event ∷ more) rest) onward.1,
+        (subst (λ (later : List AuxEvent). Fate files earlier event later) (sym (append_assoc more rest behind)) follows.fate, each-append files front more rest behind follows.each onward.0),
+        subst Sound (ap (λ (es : List AuxEvent). es ++ rest) (append_assoc earlier (event ∷ []) more) ∙ append_assoc earlier (event ∷ more) rest) onward.1,
       )
 
 -- a file that is open, whether it is too long or is read
-inside-read : (files : Files) (room : ℕ) → Reads files room (opened files room) → room ≤ 19 → (long : Bool) (earlier : List Event) (name text : List ℕ) (behind : List Event) → Sound earlier → lookup (bytes_eq name) (openings earlier) ≡ Some (19 - room) → Silent behind
+inside-read : (files : Files) (room : ℕ) → Reads files room (opened files room) → room ≤ 19 → (long : Bool) (earlier : List AuxEvent) (name text : List ℕ) (behind : List AuxEvent) → Sound earlier → lookup (bytes_eq name) (openings earlier) ≡ Some (19 - room) → Silent behind
     → Each files earlier (inside long files (opened files room) earlier name text) behind × Sound (earlier ++ inside long files (opened files room) earlier name text) × Silent (inside long files (opened files room) earlier name text ++ behind)
 inside-read files room reads small true earlier name text behind sound at silent = (
   (fate_none files earlier (event_at name 0 TooLong) behind (λ other. refl) silent, tt),
@@ -485,7 +485,7 @@ and_true true = refl
 and_true false = refl
 
 -- the top file, there or not
-record TopIsRead (files : Files) (top : List ℕ) (text : Option (List ℕ)) (events : List Event) : Type 0 where
+record TopIsRead (files : Files) (top : List ℕ) (text : Option (List ℕ)) (events : List AuxEvent) : Type 0 where
   each : Each files [] events []
   sound : Sound events
   first : (name : List ℕ) → opened_first events name ≡ (if bytes_eq name top && is_some text then Some 0 else None)
@@ -502,13 +502,13 @@ top-read files top (Some text) =
     record {
       each = read.each;
       sound = read.sound;
-      first = λ name. ap (λ (es : List Event). opened_first es name) (sym (append-nil (opened files 20 [] top text))) ∙ read.first name
+      first = λ name. ap (λ (es : List AuxEvent). opened_first es name) (sym (append-nil (opened files 20 [] top text))) ∙ read.first name
           ∙ sym (ap (λ (b : Bool). if b then Some 0 else None) (and_true (bytes_eq name top)));
     }
 
 -- ---- up to the end
 
-first-until_end : (events : List Event) (name : List ℕ) → opened_first (until_end events) name ≡ opened_first events name
+first-until_end : (events : List AuxEvent) (name : List ℕ) → opened_first (until_end events) name ≡ opened_first events name
 first-until_end [] name = refl
 first-until_end (event ∷ events) name = by_test (is_whole (end_by event.word)) where
   by_test : (b : Bool) → opened_first (if b then event ∷ until_end events else event ∷ []) name ≡ opened_first (event ∷ events) name
@@ -516,7 +516,7 @@ first-until_end (event ∷ events) name = by_test (is_whole (end_by event.word))
   by_test false = refl
 
 -- an `\@input` line doesn't end the reading
-ends_elsewhere : (word : Word) (name : List ℕ) → is_whole (end_by word) ≡ false → includes word name ≡ false
+ends_elsewhere : (word : EventKind) (name : List ℕ) → is_whole (end_by word) ≡ false → includes word name ≡ false
 ends_elsewhere (Includes piece) name ends = cc
 ends_elsewhere (Cites piece) name ends = refl
 ends_elsewhere (Databases pieces) name ends = refl
@@ -527,40 +527,40 @@ ends_elsewhere Full name ends = refl
 ends_elsewhere TooLong name ends = refl
 ends_elsewhere NoTop name ends = refl
 
-each-until_end : (files : Files) (earlier events : List Event) → Each files earlier events [] → Each files earlier (until_end events) []
+each-until_end : (files : Files) (earlier events : List AuxEvent) → Each files earlier events [] → Each files earlier (until_end events) []
 each-until_end files earlier [] each = tt
 each-until_end files earlier (event ∷ events) each = by_test (is_whole (end_by event.word)) refl (each-until_end files (earlier ++ event ∷ []) events each.1) where
   by_test : (b : Bool) → is_whole (end_by event.word) ≡ b → Each files (earlier ++ event ∷ []) (until_end events) [] → Each files earlier (if b then event ∷ until_end events else event ∷ []) []
   by_test true goes rest = (
-    λ name. ap (λ (es : List Event). opened_first es name) (append-nil (until_end events)) ∙ first-until_end events name ∙ ap (λ (es : List Event). opened_first es name) (sym (append-nil events)) ∙ each.0 name,
+    λ name. ap (λ (es : List AuxEvent). opened_first es name) (append-nil (until_end events)) ∙ first-until_end events name ∙ ap (λ (es : List AuxEvent). opened_first es name) (sym (append-nil events)) ∙ each.0 name,
     rest,
   )
   by_test false ends rest = (fate_none files earlier event [] (λ name. ends_elsewhere event.word name ends) (λ name. refl), tt)
 
 -- what follows one of some events
-fate_of : (files : Files) (earlier front later : List Event) (event : Event) → Each files earlier (front ++ event ∷ later) [] → Fate files (earlier ++ front) event later
+fate_of : (files : Files) (earlier front later : List AuxEvent) (event : AuxEvent) → Each files earlier (front ++ event ∷ later) [] → Fate files (earlier ++ front) event later
 fate_of files earlier [] later event each =
-    subst (λ (es : List Event). Fate files es event later) (sym (append-nil earlier)) (subst (λ (es : List Event). Fate files earlier event es) (append-nil later) each.0)
+    subst (λ (es : List AuxEvent). Fate files es event later) (sym (append-nil earlier)) (subst (λ (es : List AuxEvent). Fate files earlier event es) (append-nil later) each.0)
 fate_of files earlier (x ∷ front) later event each =
-    subst (λ (es : List Event). Fate files es event later) (append_assoc earlier (x ∷ []) front) (fate_of files (earlier ++ x ∷ []) front later event each.1)
+    subst (λ (es : List AuxEvent). Fate files es event later) (append_assoc earlier (x ∷ []) front) (fate_of files (earlier ++ x ∷ []) front later event each.1)
 
 pub opens_by_conditions : OpensByConditions
-unfolding events_of
+unfolding job_events
 opens_by_conditions files top earlier later event name is =
     let each = each-until_end files [] (from_top files top (files top)) (top-read files top (files top)).each in
-    fate_of files [] earlier later event (subst (λ (es : List Event). Each files [] es []) is each) name
+    fate_of files [] earlier later event (subst (λ (es : List AuxEvent). Each files [] es []) is each) name
 
 pub top_opens_first : TopOpensFirst
-unfolding events_of
+unfolding job_events
 top_opens_first files top name = first-until_end (from_top files top (files top)) name ∙ (top-read files top (files top)).first name
 
 -- ---- no file twice
 
-until_end-front : (events : List Event) → (rest : List Event) × (until_end events ++ rest ≡ events)
+until_end-front : (events : List AuxEvent) → (rest : List AuxEvent) × (until_end events ++ rest ≡ events)
 until_end-front [] = ([], refl)
 until_end-front (event ∷ events) = by_test (is_whole (end_by event.word)) (until_end-front events) where
-  by_test : (b : Bool) → (rest : List Event) × (until_end events ++ rest ≡ events) → (rest : List Event) × ((if b then event ∷ until_end events else event ∷ []) ++ rest ≡ event ∷ events)
-  by_test true front = (front.0, ap (λ (es : List Event). event ∷ es) front.1)
+  by_test : (b : Bool) → (rest : List AuxEvent) × (until_end events ++ rest ≡ events) → (rest : List AuxEvent) × ((if b then event ∷ until_end events else event ∷ []) ++ rest ≡ event ∷ events)
+  by_test true front = (front.0, ap (λ (es : List AuxEvent). event ∷ es) front.1)
   by_test false front = (events, refl)
 
 distinct-front : {T : Type 0} (same : T → T → Bool) (xs ys : List T) → IsDistinct same (xs ++ ys) → IsDistinct same xs
@@ -568,11 +568,11 @@ distinct-front same [] ys distinct = distinct-none same
 distinct-front same (x ∷ xs) ys distinct =
     IsDistinct-cons same x xs (all-front (λ y. same x y ≡ false) xs ys (IsDistinct-head same x (xs ++ ys) distinct)) (distinct-front same xs ys (IsDistinct-tail same x (xs ++ ys) distinct))
 
-files_opened-append : (xs ys : List Event) → files_opened (xs ++ ys) ≡ files_opened xs ++ files_opened ys
+files_opened-append : (xs ys : List AuxEvent) → files_opened (xs ++ ys) ≡ files_opened xs ++ files_opened ys
 files_opened-append xs ys = ap (map (λ (opening : List ℕ × ℕ). opening.0)) (flat_map-append opening_of xs ys) ∙ map-append (λ (opening : List ℕ × ℕ). opening.0) (openings xs) (openings ys)
 
 pub no_file_twice : NoFileTwice
-unfolding events_of
+unfolding job_events
 no_file_twice files top =
     let events = from_top files top (files top) in
     let front = until_end-front events in

@@ -1,27 +1,27 @@
 -- The first piece of an argument, byte after byte.
 use Rattle.std.proofs.Common.{◌≡◌, ℕ, zero, suc, ◌+◌, ◌-◌, ◌<◌, ◌≤◌, ◌&&◌, Bool, true, false, eqb, List, [], ◌∷◌, ◌++◌, length, take, drop, get_or, refl, sym, ap, ◌∙◌, arith, drop-cons, add-one}
 use Rattle.std.proofs.lemmas.List.{take_more, take_rest}
-use Rattle.btx_text.specs.Class.{is_white}
+use Rattle.btx_text.specs.language.Class.{is_white}
 use Rattle.btx_aux.specs.declared.command.Slip.{Slip}
 use Rattle.btx_aux.specs.declared.command.Slip.TheVariants.{WhiteSpace, Unclosed, StuffAfter}
-use Rattle.btx_aux.specs.Grammar.{Piece, Taken, Cut, in_front, closed_before, pieces_of}
+use Rattle.btx_aux.specs.language.Grammar.{Piece, Taken, Cut, in_first_piece, closed_before, pieces_of}
 
 -- some bytes in front of the first piece
 abbrev pub all_in_front : List ℕ → List Piece → List Piece
 all_in_front [] pieces = pieces
-all_in_front (b ∷ bs) pieces = in_front b (all_in_front bs pieces)
+all_in_front (b ∷ bs) pieces = in_first_piece b (all_in_front bs pieces)
 
-all_in_front-push : (bs : List ℕ) (b : ℕ) (pieces : List Piece) → all_in_front (bs ++ b ∷ []) pieces ≡ all_in_front bs (in_front b pieces)
+all_in_front-push : (bs : List ℕ) (b : ℕ) (pieces : List Piece) → all_in_front (bs ++ b ∷ []) pieces ≡ all_in_front bs (in_first_piece b pieces)
 all_in_front-push [] b pieces = refl
-all_in_front-push (c ∷ cs) b pieces = ap (in_front c) (all_in_front-push cs b pieces)
+all_in_front-push (c ∷ cs) b pieces = ap (in_first_piece c) (all_in_front-push cs b pieces)
 
 all_in_front-cut : (bs : List ℕ) (slip : Slip) → all_in_front bs (Cut slip ∷ []) ≡ Cut slip ∷ []
 all_in_front-cut [] slip = refl
-all_in_front-cut (b ∷ bs) slip = ap (in_front b) (all_in_front-cut bs slip)
+all_in_front-cut (b ∷ bs) slip = ap (in_first_piece b) (all_in_front-cut bs slip)
 
 all_in_front-taken : (bs : List ℕ) (pieces : List Piece) → all_in_front bs (Taken [] ∷ pieces) ≡ Taken bs ∷ pieces
 all_in_front-taken [] pieces = refl
-all_in_front-taken (b ∷ bs) pieces = ap (in_front b) (all_in_front-taken bs pieces)
+all_in_front-taken (b ∷ bs) pieces = ap (in_first_piece b) (all_in_front-taken bs pieces)
 
 -- an argument whose first bytes, which end no piece, were passed
 abbrev pub Passed : Bool → List ℕ → ℕ → Type 0
@@ -38,7 +38,7 @@ at_byte is_list text at lt passed = passed ∙ ap (λ (s : List ℕ). all_in_fro
 pub Passed-more : (is_list : Bool) (text : List ℕ) (at : ℕ) → at < length text → Passed is_list text at → is_white (get_or text at 0) ≡ false → eqb (get_or text at 0) 125 ≡ false → (is_list && eqb (get_or text at 0) 44) ≡ false → Passed is_list text (at + 1)
 unfolding pieces_of
 Passed-more is_list text at lt passed ink unclosed no_comma =
-    let here : pieces_of is_list (get_or text at 0 ∷ drop (suc at) text) ≡ in_front (get_or text at 0) (pieces_of is_list (drop (suc at) text)) = rw (ink, unclosed, no_comma) refl in
+    let here : pieces_of is_list (get_or text at 0 ∷ drop (suc at) text) ≡ in_first_piece (get_or text at 0) (pieces_of is_list (drop (suc at) text)) = rw (ink, unclosed, no_comma) refl in
     let front = all_in_front-push (take at text) (get_or text at 0) (pieces_of is_list (drop (suc at) text)) in
     at_byte is_list text at lt passed ∙ ap (all_in_front (take at text)) here ∙ sym front ∙ rw (take_more text at 0 lt, add-one) refl
 

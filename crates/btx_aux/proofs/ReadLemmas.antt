@@ -5,21 +5,21 @@ use Rattle.btx_aux.specs.declared.draft.Draft.{Draft}
 use Rattle.btx_aux.specs.declared.command.Command.{Command}
 use Rattle.btx_aux.specs.declared.command.Command.TheVariants.{Citation, Bibdata, Bibstyle, Input}
 use Rattle.btx_aux.specs.declared.end.End.TheVariants as end
-use Rattle.btx_aux.specs.Files.{Files, file_of}
-use Rattle.btx_aux.specs.Grammar.{Piece, Cites, Databases, Styles, Includes, Opens, Absent, words_of, words_of_command, words_at, is_whole, pieces_of, piece_of}
-use Rattle.btx_aux.specs.Events.{Event, event_at, said, said_from, asked_of, is_too_long}
-use Rattle.btx_aux.specs.Drafts.{learned, learned_words, asked_in}
-use Rattle.btx_aux.specs.Reads.{after, Opening, included, asked_for, run, within, opened_by}
+use Rattle.btx_aux.specs.language.Files.{Files, file_of}
+use Rattle.btx_aux.specs.language.Grammar.{Piece, Cites, Databases, Styles, Includes, Opens, Absent, words_of, words_of_command, words_at, is_whole, pieces_of, piece_of}
+use Rattle.btx_aux.specs.language.Events.{AuxEvent, event_at, said, said_from, asked_of, is_too_long}
+use Rattle.btx_aux.specs.refinement.Drafts.{learned, learned_words, asked_in}
+use Rattle.btx_aux.specs.refinement.Reads.{after, Opening, included, asked_for, run, within, opened_by}
 use Rattle.btx_aux.proofs.DraftLemmas.{asked_in-Cites}
-use Rattle.btx_text.specs.Lines.{in_front as line_front, pieces_of as cut_of, trimmed, lines_of}
+use Rattle.btx_text.specs.language.Lines.{in_front, line_pieces, trimmed, lines_of}
 
 module _ (files : Files) (opening : Opening) where
-  pub run-append : (draft : Draft) (xs ys : List Event) → run files opening draft (xs ++ ys) ≡ run files opening (run files opening draft xs) ys
+  pub run-append : (draft : Draft) (xs ys : List AuxEvent) → run files opening draft (xs ++ ys) ≡ run files opening (run files opening draft xs) ys
   unfolding run
   run-append draft [] ys = refl
   run-append draft (x ∷ xs) ys = run-append (asked_for files opening (after draft x) x.file x.line (asked_of draft.files x.word)) xs ys
 
-  after-whole : (draft : Draft) (event : Event) → is_whole draft.ending ≡ true → after draft event ≡ learned draft event
+  after-whole : (draft : Draft) (event : AuxEvent) → is_whole draft.ending ≡ true → after draft event ≡ learned draft event
   after-whole draft event whole = rw whole refl
 
   -- the words of a `\citation`
@@ -111,7 +111,7 @@ include_whole file line draft piece = refl
 
 module _ (files : Files) where
   module _ (opening : Opening) (still : (draft : Draft) (name text : List ℕ) → is_whole draft.ending ≡ false → opening draft name text ≡ draft) where
-    after-ended : (draft : Draft) (event : Event) → is_whole draft.ending ≡ false → after draft event ≡ draft
+    after-ended : (draft : Draft) (event : AuxEvent) → is_whole draft.ending ≡ false → after draft event ≡ draft
     after-ended draft event ended = rw ended refl
 
     included-ended : (draft : Draft) (file : List ℕ) (line : ℕ) (name : List ℕ) (text : Option (List ℕ)) → is_whole draft.ending ≡ false → included opening draft file line name text ≡ draft
@@ -123,7 +123,7 @@ module _ (files : Files) where
     asked_for-ended draft file line None ended = refl
     asked_for-ended draft file line (Some name) ended = included-ended draft file line name (files name) ended
 
-    pub run-still : (draft : Draft) (events : List Event) → is_whole draft.ending ≡ false → run files opening draft events ≡ draft
+    pub run-still : (draft : Draft) (events : List AuxEvent) → is_whole draft.ending ≡ false → run files opening draft events ≡ draft
     unfolding run
     run-still draft [] ended = refl
     run-still draft (event ∷ events) ended =
@@ -143,7 +143,7 @@ module _ (files : Files) where
       rw ended (within-ended (is_too_long text) (opened_by files room) (opened_by-ended room) draft name text ended)
 
   -- nothing follows where the reading has ended
-  pub run-ended : (room : ℕ) (draft : Draft) (events : List Event) → is_whole draft.ending ≡ false → run files (opened_by files room) draft events ≡ draft
+  pub run-ended : (room : ℕ) (draft : Draft) (events : List AuxEvent) → is_whole draft.ending ≡ false → run files (opened_by files room) draft events ≡ draft
   run-ended room = run-still (opened_by files room) (opened_by-ended room)
 
 -- ---- files
@@ -205,17 +205,17 @@ module _ (files : Files) where
 
 -- ---- the number of lines
 
-in_front_one : (b : ℕ) (pieces : List (List ℕ)) → length (line_front b pieces) ≤ length pieces + 1
+in_front_one : (b : ℕ) (pieces : List (List ℕ)) → length (in_front b pieces) ≤ length pieces + 1
 in_front_one b [] = omega arith
 in_front_one b (piece ∷ pieces) = omega arith
 
-pieces_few : (text : List ℕ) → length (cut_of text) ≤ length text
-unfolding cut_of
+pieces_few : (text : List ℕ) → length (line_pieces text) ≤ length text
+unfolding line_pieces
 pieces_few [] = omega arith
 pieces_few (b ∷ bs) = by (eqb b 10) (pieces_few bs) where
-  by : (t : Bool) → length (cut_of bs) ≤ length bs → length (cond t ([] ∷ cut_of bs) (line_front b (cut_of bs))) ≤ length (b ∷ bs)
+  by : (t : Bool) → length (line_pieces bs) ≤ length bs → length (cond t ([] ∷ line_pieces bs) (in_front b (line_pieces bs))) ≤ length (b ∷ bs)
   by true few = omega arith
-  by false few = omega (arith, in_front_one b (cut_of bs))
+  by false few = omega (arith, in_front_one b (line_pieces bs))
 
 map_length : (pieces : List (List ℕ)) → length (map trimmed pieces) ≡ length pieces
 map_length [] = refl
@@ -223,7 +223,7 @@ map_length (piece ∷ pieces) = ap suc (map_length pieces)
 
 -- a text has no more lines than bytes
 pub lines_few : (text : List ℕ) → length (lines_of text) ≤ length text
-lines_few text = omega (arith, map_length (cut_of text), pieces_few text)
+lines_few text = omega (arith, map_length (line_pieces text), pieces_few text)
 
 -- ---- what a fetch found, and tests
 

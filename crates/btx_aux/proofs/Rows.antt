@@ -1,38 +1,44 @@
 -- Worked examples of the definitions, which compute.
 use Rattle.std.proofs.Common.{◌≡◌, ℕ, zero, suc, ◌+◌, List, [], ◌∷◌, ◌++◌, replicate, length, Option, None, Some, refl}
 use Rattle.std.specs.Prelude.{codes}
-use Rattle.btx_text.specs.Lines.{pieces_of as cut_of, trimmed}
+use Rattle.btx_text.specs.language.Lines.{line_pieces, trimmed}
 use Rattle.btx_aux.specs.declared.end.End.{End}
 use Rattle.btx_aux.specs.declared.end.End.TheVariants as end
 use Rattle.btx_aux.specs.declared.command.Slip.TheVariants.{WhiteSpace, Unclosed, StuffAfter}
-use Rattle.btx_aux.specs.Pairs.{files_of_pairs}
-use Rattle.btx_aux.specs.Grammar.{pieces_of, command_named, words_of}
-use Rattle.btx_aux.specs.Events.{Event, said, events_of}
-use Rattle.btx_aux.specs.Notes.{Complaint, Slipped, AnotherBibdata, AnotherBibstyle, CaseMismatch, SecondStar, WrongExtension, AlreadyMet, NotOpened, RepeatedDatabase, Note, TopFile, LevelFile, Wrong, NoCitations, NoBibdata, NoBibstyle}
-use Rattle.btx_aux.specs.Job.{keys_of, all_of, databases_of, style_of, notes_of, end_of}
+use Rattle.btx_aux.specs.laws.Pairs.{files_of_pairs}
+use Rattle.btx_aux.specs.language.Grammar.{pieces_of, aux_command_named, words_of}
+use Rattle.btx_aux.specs.language.Events.{AuxEvent, said, job_events}
+use Rattle.btx_aux.specs.language.Notes.{AuxComplaint, Slipped, AnotherBibdata, AnotherBibstyle, CaseMismatch, SecondStar, WrongExtension, AlreadyMet, NotOpened, RepeatedDatabase, AuxNote, TopFile, LevelFile, Wrong, NoCitations, NoBibdata, NoBibstyle}
+use Rattle.btx_aux.specs.language.Job.{cited_keys, all_of, databases_of, style_name_of, notes_of, end_of}
 
 -- what is compared: keys, the place of `*`, databases, style, the log's notes, the end
 abbrev Shown : Type 0
-Shown = (List (List ℕ)) × (Option ℕ) × (List (List ℕ)) × (Option (List ℕ)) × (List Note) × End
+Shown = (List (List ℕ)) × (Option ℕ) × (List (List ℕ)) × (Option (List ℕ)) × (List AuxNote) × End
 
-abbrev shown : List Event → Shown
-shown events = (keys_of events, all_of events, databases_of events, style_of events, notes_of events, end_of events)
+-- what the events of a job come to: the keys, the number of keys before `*`, the databases, the style, the lines of the log, and how the reading
+-- ends
+abbrev shown : List AuxEvent → Shown
+shown events = (cited_keys events, all_of events, databases_of events, style_name_of events, notes_of events, end_of events)
 
+-- the name of the top file, `job.aux`
 abbrev top : List ℕ
 top = codes "job.aux"
 
-abbrev found_top : Note
+-- the line of the log that says that the top file was found
+abbrev found_top : AuxNote
 found_top = TopFile (codes "job.aux")
 
 -- an error at a line of the top file
-abbrev error_at : ℕ → Complaint → Note
+abbrev error_at : ℕ → AuxComplaint → AuxNote
 error_at line complaint = Wrong complaint line (codes "job.aux")
 
 -- a top file with these first lines, and then one for a database and one for a style
 abbrev alone : List ℕ → Shown
-alone line = shown (events_of (files_of_pairs ((top, line ++ codes "\n\\bibdata{d}\n\\bibstyle{s}\n") ∷ [])) top)
+alone line = shown (job_events (files_of_pairs ((top, line ++ codes "\n\\bibdata{d}\n\\bibstyle{s}\n") ∷ [])) top)
 
-abbrev base_with : List (List ℕ) → Option ℕ → List Note → Shown
+-- what a job comes to whose database is `d` and whose style is `s`: these keys, this number of keys before `*`, and in the log these lines behind
+-- that of the top file
+abbrev base_with : List (List ℕ) → Option ℕ → List AuxNote → Shown
 base_with keys all notes = (keys, all, codes "d.bib" ∷ [], Some (codes "s.bst"), found_top ∷ notes, end.Whole)
 
 -- a chain of files: a name of n letters inputs one of n + 1
@@ -43,47 +49,47 @@ abbrev chain : ℕ → ℕ → List (List ℕ × List ℕ)
 chain zero n = []
 chain (suc more) n = (link n, codes "\\@input{" ++ link (n + 1) ++ codes "}\n") ∷ chain more (n + 1)
 
-abbrev count_and_end : List Event → ℕ × End
+abbrev count_and_end : List AuxEvent → ℕ × End
 count_and_end events = (length (notes_of events), end_of events)
 
 -- one key in two spellings: the second isn't taken
 case_mismatch : alone (codes "\\citation{k,K}") ≡ base_with (codes "k" ∷ []) None (error_at 1 (CaseMismatch (codes "k") (codes "K")) ∷ [])
-unfolding events_of said words_of command_named pieces_of cut_of trimmed
+unfolding job_events said words_of aux_command_named pieces_of line_pieces trimmed
 case_mismatch = refl
 
 -- white in the argument: what stands before it is taken
 white_space : alone (codes "\\citation{k, j}") ≡ base_with (codes "k" ∷ []) None (error_at 1 (Slipped WhiteSpace) ∷ [])
-unfolding events_of said words_of command_named pieces_of cut_of trimmed
+unfolding job_events said words_of aux_command_named pieces_of line_pieces trimmed
 white_space = refl
 
 -- no closing brace: nothing is taken, and no citation is left
 unclosed : alone (codes "\\citation{k") ≡ base_with [] None (error_at 1 (Slipped Unclosed) ∷ NoCitations ∷ [])
-unfolding events_of said words_of command_named pieces_of cut_of trimmed
+unfolding job_events said words_of aux_command_named pieces_of line_pieces trimmed
 unclosed = refl
 
 -- white at the end of a line is no part of it
 unclosed_before_white : alone (codes "\\citation{k ") ≡ alone (codes "\\citation{k")
-unfolding events_of said words_of command_named pieces_of cut_of trimmed
+unfolding job_events said words_of aux_command_named pieces_of line_pieces trimmed
 unclosed_before_white = refl
 
 -- a line without a brace is ignored; braces in a piece aren't matched; a second `*` is told
 no_brace : alone (codes "\\citation\n\\citation{k} x\n\\citation{*,a{b,*}") ≡ base_with (codes "a{b" ∷ []) (Some 0) (error_at 2 (Slipped StuffAfter) ∷ error_at 3 SecondStar ∷ [])
-unfolding events_of said words_of command_named pieces_of cut_of trimmed
+unfolding job_events said words_of aux_command_named pieces_of line_pieces trimmed
 no_brace = refl
 
 -- an empty piece is a key
 empty_pieces : alone (codes "\\citation{k,,*}") ≡ base_with (codes "k" ∷ [] ∷ []) (Some 2) []
-unfolding events_of said words_of command_named pieces_of cut_of trimmed
+unfolding job_events said words_of aux_command_named pieces_of line_pieces trimmed
 empty_pieces = refl
 
 -- each repetition of another spelling is told again
 repeated_spelling : alone (codes "\\citation{k,K,k,K}") ≡ base_with (codes "k" ∷ []) None (error_at 1 (CaseMismatch (codes "k") (codes "K")) ∷ error_at 1 (CaseMismatch (codes "k") (codes "K")) ∷ [])
-unfolding events_of said words_of command_named pieces_of cut_of trimmed
+unfolding job_events said words_of aux_command_named pieces_of line_pieces trimmed
 repeated_spelling = refl
 
 -- `*` stands though the line goes wrong later
 star_before_slip : alone (codes "\\citation{*, x") ≡ base_with [] (Some 0) (error_at 1 (Slipped WhiteSpace) ∷ [])
-unfolding events_of said words_of command_named pieces_of cut_of trimmed
+unfolding job_events said words_of aux_command_named pieces_of line_pieces trimmed
 star_before_slip = refl
 
 -- a faulty first line stands: the next ones are others
@@ -95,7 +101,7 @@ faulty_first : alone (codes "\\citation{*}\n\\bibdata{a b}\n\\bibstyle{s s}") �
   found_top ∷ error_at 2 (Slipped WhiteSpace) ∷ error_at 3 (Slipped WhiteSpace) ∷ error_at 4 AnotherBibdata ∷ error_at 5 AnotherBibstyle ∷ [],
   end.Whole,
 )
-unfolding events_of said words_of command_named pieces_of cut_of trimmed
+unfolding job_events said words_of aux_command_named pieces_of line_pieces trimmed
 faulty_first = refl
 
 -- a database is compared with its ending, which isn't put on twice
@@ -107,11 +113,11 @@ database_twice : alone (codes "\\citation{*}\n\\bibdata{e,e.bib,,f}") ≡ (
   found_top ∷ error_at 2 (RepeatedDatabase (codes "e.bib")) ∷ error_at 3 AnotherBibdata ∷ [],
   end.Whole,
 )
-unfolding events_of said words_of command_named pieces_of cut_of trimmed
+unfolding job_events said words_of aux_command_named pieces_of line_pieces trimmed
 database_twice = refl
 
 -- a comma is part of the one piece of a `\bibstyle` and of an `\@input`; of a second `\bibstyle` line nothing else is told
-one_piece : shown (events_of (files_of_pairs ((top, codes "\\citation{k}\n\\bibdata{d.bib}\n\\bibstyle{s,t.bst}\n\\@input{a,b.aux}\n\\bibstyle{u u}") ∷ [])) top) ≡ (
+one_piece : shown (job_events (files_of_pairs ((top, codes "\\citation{k}\n\\bibdata{d.bib}\n\\bibstyle{s,t.bst}\n\\@input{a,b.aux}\n\\bibstyle{u u}") ∷ [])) top) ≡ (
   codes "k" ∷ [],
   None,
   codes "d.bib" ∷ [],
@@ -119,47 +125,47 @@ one_piece : shown (events_of (files_of_pairs ((top, codes "\\citation{k}\n\\bibd
   found_top ∷ error_at 4 (NotOpened (codes "a,b.aux")) ∷ error_at 5 AnotherBibstyle ∷ [],
   end.Whole,
 )
-unfolding events_of said words_of command_named pieces_of cut_of trimmed
+unfolding job_events said words_of aux_command_named pieces_of line_pieces trimmed
 one_piece = refl
 
 -- an empty top file
-nothing : shown (events_of (files_of_pairs ((top, []) ∷ [])) top) ≡ ([], None, [], None, found_top ∷ NoCitations ∷ NoBibdata ∷ NoBibstyle ∷ [], end.Whole)
-unfolding events_of said words_of command_named pieces_of cut_of trimmed
+nothing : shown (job_events (files_of_pairs ((top, []) ∷ [])) top) ≡ ([], None, [], None, found_top ∷ NoCitations ∷ NoBibdata ∷ NoBibstyle ∷ [], end.Whole)
+unfolding job_events said words_of aux_command_named pieces_of line_pieces trimmed
 nothing = refl
 
 -- a file that inputs the top one again
-through_another : shown (events_of (files_of_pairs (
+through_another : shown (job_events (files_of_pairs (
     (top, codes "\\@input{a.aux}\n\\citation{k}\n\\bibdata{d}\n\\bibstyle{s}\n")
     ∷ (codes "a.aux", codes "\\citation{k}\n\\@input{job.aux}\n") ∷ [])) top) ≡ base_with (codes "k" ∷ []) None (LevelFile 1 (codes "a.aux") ∷ Wrong (AlreadyMet top) 2 (codes "a.aux") ∷ [])
-unfolding events_of said words_of command_named pieces_of cut_of trimmed
+unfolding job_events said words_of aux_command_named pieces_of line_pieces trimmed
 through_another = refl
 
 -- an included file is read in its line's place: its key, its `*` and its spelling come between those around it
-in_place : shown (events_of (files_of_pairs (
+in_place : shown (job_events (files_of_pairs (
     (top, codes "\\citation{a}\n\\@input{a.aux}\n\\citation{C,b,*}\n\\bibdata{d}\n\\bibstyle{s}\n")
     ∷ (codes "a.aux", codes "\\citation{c,*}") ∷ [])) top) ≡ base_with (codes "a" ∷ codes "c" ∷ codes "b" ∷ []) (Some 2) (
     LevelFile 1 (codes "a.aux") ∷ error_at 3 (CaseMismatch (codes "c") (codes "C")) ∷ error_at 3 SecondStar ∷ [])
-unfolding events_of said words_of command_named pieces_of cut_of trimmed
+unfolding job_events said words_of aux_command_named pieces_of line_pieces trimmed
 in_place = refl
 
 -- names that open no file: a wrong ending, an empty name, one that isn't there, the same again
 not_opened : alone (codes "\\citation{k}\n\\@input{x}\n\\@input{}\n\\@input{x.aux}\n\\@input{x.aux}") ≡ base_with (codes "k" ∷ []) None (
     error_at 2 (WrongExtension (codes "x")) ∷ error_at 3 (WrongExtension [])
     ∷ error_at 4 (NotOpened (codes "x.aux")) ∷ error_at 5 (AlreadyMet (codes "x.aux")) ∷ [])
-unfolding events_of said words_of command_named pieces_of cut_of trimmed
+unfolding job_events said words_of aux_command_named pieces_of line_pieces trimmed
 not_opened = refl
 
 -- 20 files are open and the 21st isn't there: the reading goes on
-twenty_open : count_and_end (events_of (files_of_pairs (chain 20 1)) (link 1)) ≡ (24, end.Whole)
-unfolding events_of said words_of command_named pieces_of cut_of trimmed
+twenty_open : count_and_end (job_events (files_of_pairs (chain 20 1)) (link 1)) ≡ (24, end.Whole)
+unfolding job_events said words_of aux_command_named pieces_of line_pieces trimmed
 twenty_open = refl
 
 -- the 21st is there: the reading ends
-twenty_first : count_and_end (events_of (files_of_pairs (chain 21 1)) (link 1)) ≡ (20, end.TooManyOpen)
-unfolding events_of said words_of command_named pieces_of cut_of trimmed
+twenty_first : count_and_end (job_events (files_of_pairs (chain 21 1)) (link 1)) ≡ (20, end.TooManyOpen)
+unfolding job_events said words_of aux_command_named pieces_of line_pieces trimmed
 twenty_first = refl
 
 -- no top file
-no_top : shown (events_of (files_of_pairs []) top) ≡ ([], None, [], None, [], end.TopMissing)
-unfolding events_of said words_of command_named pieces_of cut_of trimmed
+no_top : shown (job_events (files_of_pairs []) top) ≡ ([], None, [], None, [], end.TopMissing)
+unfolding job_events said words_of aux_command_named pieces_of line_pieces trimmed
 no_top = refl

@@ -5,8 +5,9 @@ use Rattle.std.specs.Str.{bytes_eq}
 use Rattle.std.specs.Option.{option_or, option_map}
 use Rattle.std.specs.Map.{lookup}
 use Rattle.indexmap.specs.IndexMap.{insert_entry}
-use Rattle.btx_aux.specs.Entries.{Bytes, pairs_in}
-use Rattle.btx_aux.specs.Pairs.{first_file, file_at}
+use Rattle.btx_aux.specs.refinement.Entries.{Bytes, pairs_in}
+use Rattle.btx_aux.specs.laws.Pairs.{file_of_pair}
+use Rattle.btx_aux.specs.refinement.Pairs.{first_file}
 
 -- two keys are the same where their bytes are
 abbrev pub same_key : Bytes → Bytes → Bool
@@ -29,11 +30,11 @@ alone : (b : Bool) (v : List ℕ) → cond b (Some v) None ≡ option_or (cond b
 alone true v = refl
 alone false v = refl
 
-pub first_file-insert_entry : (es : List (Bytes × Bytes)) (k v : Bytes) (other : List ℕ) → first_file (pairs_in (insert_entry same_key es k v)) other ≡ option_or (file_at (k.items, v.items) other) (first_file (pairs_in es) other)
+pub first_file-insert_entry : (es : List (Bytes × Bytes)) (k v : Bytes) (other : List ℕ) → first_file (pairs_in (insert_entry same_key es k v)) other ≡ option_or (file_of_pair (k.items, v.items) other) (first_file (pairs_in es) other)
 first_file-insert_entry [] k v other = alone (bytes_eq other k.items) v.items
 first_file-insert_entry (e ∷ es) k v other = by_test (same_key k e.0) refl (first_file-insert_entry es k v other) where
-  by_test : (b : Bool) → b ≡ same_key k e.0 → first_file (pairs_in (insert_entry same_key es k v)) other ≡ option_or (file_at (k.items, v.items) other) (first_file (pairs_in es) other)
-      → first_file (pairs_in (if b then (e.0, v) ∷ es else e ∷ insert_entry same_key es k v)) other ≡ option_or (file_at (k.items, v.items) other) (first_file (pairs_in (e ∷ es)) other)
+  by_test : (b : Bool) → b ≡ same_key k e.0 → first_file (pairs_in (insert_entry same_key es k v)) other ≡ option_or (file_of_pair (k.items, v.items) other) (first_file (pairs_in es) other)
+      → first_file (pairs_in (if b then (e.0, v) ∷ es else e ∷ insert_entry same_key es k v)) other ≡ option_or (file_of_pair (k.items, v.items) other) (first_file (pairs_in (e ∷ es)) other)
   by_test true same before = rw ((bytes_eq-Decides k.items e.0.items).0 (sym same)) (step_same (bytes_eq other e.0.items) v.items e.1.items _)
   by_test false same before = ap (cond (bytes_eq other e.0.items) (Some e.1.items)) before ∙ step_other (bytes_eq other e.0.items) (bytes_eq other k.items) v.items e.1.items _ (apart k.items e.0.items other (sym same))
 

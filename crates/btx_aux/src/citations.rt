@@ -1,12 +1,12 @@
 //! The `.aux` files of a job.
 ghost use Rattle.std.specs.Prelude.{◌≡◌, ◌∷◌, ◌++◌, map, not, IfOk, IfSome, OnOk};
-ghost use Rattle.btx_aux.specs.Answers.{AsksTop, ByAnswers};
-ghost use Rattle.btx_aux.specs.Faults.{CountsOfOne};
-ghost use Rattle.btx_aux.specs.Job.{job_of_files, missing_notes, note_if};
-ghost use Rattle.btx_aux.specs.Drafts.{blank};
-ghost use Rattle.btx_aux.specs.Reads.{closed, topped};
-ghost use Rattle.btx_aux.specs.Notes.{line_of};
-ghost use Rattle.btx_aux.specs.Told.{note_told};
+ghost use Rattle.btx_aux.specs.refinement.Answers.{AsksTop, ByAnswers};
+ghost use Rattle.btx_aux.specs.refinement.Faults.{CountsOfOne};
+ghost use Rattle.btx_aux.specs.language.Job.{job_of_files, missing_notes, aux_note_if};
+ghost use Rattle.btx_aux.specs.refinement.Drafts.{blank};
+ghost use Rattle.btx_aux.specs.refinement.Reads.{closed, topped};
+ghost use Rattle.btx_aux.specs.language.Notes.{aux_note_line};
+ghost use Rattle.btx_aux.specs.refinement.Told.{note_told};
 
 use crate::draft::Draft;
 use crate::end::End;
@@ -84,7 +84,7 @@ fn close(alloc: Global, draft: Draft) -> Result<AuxJob, AllocError>
 
 // Tells what is missing: keys and `*`, a `\bibdata` line, a `\bibstyle` line.
 fn tell_missing(alloc: Global, draft: &mut Draft) -> Result<(), AllocError>
-    ensures { OnOk result (draft.new ≡ record draft.old { log = draft.old.log ++ map line_of (missing_notes draft.old.keys draft.old.all draft.old.has_bibdata draft.old.has_bibstyle) }) }
+    ensures { OnOk result (draft.new ≡ record draft.old { log = draft.old.log ++ map aux_note_line (missing_notes draft.old.keys draft.old.all draft.old.has_bibdata draft.old.has_bibstyle) }) }
 {
     let has_citation = !draft.keys.is_empty() || draft.all.is_some();
     tell_unless(alloc, draft, has_citation, Note::NoCitations)?;
@@ -101,7 +101,7 @@ fn tell_unless(
     is_there: bool,
     note: Note<'_>,
 ) -> Result<(), AllocError>
-    ensures { OnOk result (draft.new ≡ record draft.old { log = draft.old.log ++ map line_of (note_if (not is_there) (note_told note.entry)) }) }
+    ensures { OnOk result (draft.new ≡ record draft.old { log = draft.old.log ++ map aux_note_line (aux_note_if (not is_there) (note_told note.entry)) }) }
 {
     if is_there {
         return Ok(());

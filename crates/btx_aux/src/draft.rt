@@ -43,13 +43,13 @@ pub struct Draft {
 
 impl Draft {
     ghost use Rattle.std.specs.Prelude.{◌≡◌, [], ◌∷◌, ◌++◌, OnOk, IfOk, option_copied, map, true, false, not};
-    ghost use Rattle.btx_aux.specs.Drafts.{blank, learned, learned_words, asked_in, with_databases, with_database};
-    ghost use Rattle.btx_aux.specs.Events.{event_at, asked_of};
-    ghost use Rattle.btx_aux.specs.Grammar.{Absent, Cites, Databases, Includes, Opens, Styles, Taken, is_whole, piece_of, pieces_of, words_of};
-    ghost use Rattle.btx_aux.specs.Notes.{line_of, Wrong};
-    ghost use Rattle.btx_aux.specs.Told.{complaint_told, note_told};
-    ghost use Rattle.btx_aux.specs.Pieces.{piece_from};
-    ghost use Rattle.btx_aux.specs.Job.{is_star, taken_with, database_complaints};
+    ghost use Rattle.btx_aux.specs.refinement.Drafts.{blank, learned, learned_words, asked_in, with_databases, with_database};
+    ghost use Rattle.btx_aux.specs.language.Events.{event_at, asked_of};
+    ghost use Rattle.btx_aux.specs.language.Grammar.{Absent, Cites, Databases, Includes, Opens, Styles, Taken, is_whole, piece_of, pieces_of, words_of};
+    ghost use Rattle.btx_aux.specs.language.Notes.{aux_note_line, Wrong};
+    ghost use Rattle.btx_aux.specs.refinement.Told.{complaint_told, note_told};
+    ghost use Rattle.btx_aux.specs.refinement.Pieces.{piece_from};
+    ghost use Rattle.btx_aux.specs.language.Job.{is_star, taken_with, database_complaints};
 
     /// Nothing is known.
     pub fn new(alloc: Global) -> Self
@@ -70,7 +70,7 @@ impl Draft {
 
     /// Adds a line to the log.
     pub fn tell(&mut self, alloc: Global, note: Note<'_>) -> Result<(), AllocError>
-        ensures { OnOk result (self.new ≡ record self.old { log = self.old.log ++ line_of (note_told note.entry) ∷ [] }) }
+        ensures { OnOk result (self.new ≡ record self.old { log = self.old.log ++ aux_note_line (note_told note.entry) ∷ [] }) }
     {
         let line = log_line(alloc, note)?;
         self.log.push(line)
@@ -83,13 +83,13 @@ impl Draft {
         complaint: Complaint<'_>,
         place: Place<'_>,
     ) -> Result<(), AllocError>
-        ensures { OnOk result (self.new ≡ record self.old { log = self.old.log ++ line_of (Wrong (complaint_told complaint.entry) place.entry.line place.entry.file.now) ∷ [] }) }
+        ensures { OnOk result (self.new ≡ record self.old { log = self.old.log ++ aux_note_line (Wrong (complaint_told complaint.entry) place.entry.line place.entry.file.now) ∷ [] }) }
     {
         self.tell(alloc, Note::Wrong(complaint, place))
     }
 
     // A piece of a `\citation`.
-    #[tactic(auto, unfolding(crate::specs::Drafts::learned))]
+    #[tactic(auto, unfolding(crate::specs::refinement::Drafts::learned))]
     fn cite(
         &mut self,
         alloc: Global,
@@ -111,7 +111,7 @@ impl Draft {
     }
 
     // A `*`.
-    #[tactic(auto, unfolding(crate::specs::Drafts::learned))]
+    #[tactic(auto, unfolding(crate::specs::refinement::Drafts::learned))]
     fn cite_all(&mut self, alloc: Global, key: &[u8], place: Place<'_>) -> Result<(), AllocError>
         requires { is_star key.now ≡ true }
         ensures { OnOk result (self.new ≡ learned self.old (event_at place.entry.file.now place.entry.line (Cites (Taken key.now)))) }
@@ -124,7 +124,7 @@ impl Draft {
     }
 
     // A key.
-    #[tactic(auto, unfolding(crate::specs::Drafts::learned))]
+    #[tactic(auto, unfolding(crate::specs::refinement::Drafts::learned))]
     fn cite_key(&mut self, alloc: Global, key: &[u8], place: Place<'_>) -> Result<(), AllocError>
         requires { is_star key.now ≡ false }
         ensures { OnOk result (self.new ≡ learned self.old (event_at place.entry.file.now place.entry.line (Cites (Taken key.now)))) }
@@ -159,7 +159,7 @@ impl Draft {
     }
 
     // A `\bibdata` line.
-    #[tactic(auto, unfolding(crate::specs::Drafts::learned))]
+    #[tactic(auto, unfolding(crate::specs::refinement::Drafts::learned))]
     fn take_bibdata(
         &mut self,
         alloc: Global,
@@ -212,7 +212,7 @@ impl Draft {
     }
 
     // A `\bibstyle` line.
-    #[tactic(auto, unfolding(crate::specs::Drafts::learned))]
+    #[tactic(auto, unfolding(crate::specs::refinement::Drafts::learned))]
     fn take_bibstyle(
         &mut self,
         alloc: Global,
@@ -235,7 +235,7 @@ impl Draft {
     }
 
     // An `\@input` line; gives the name of a file that is to be opened.
-    #[tactic(auto, unfolding(crate::specs::Drafts::learned))]
+    #[tactic(auto, unfolding(crate::specs::refinement::Drafts::learned))]
     fn include<'l>(
         &mut self,
         alloc: Global,
@@ -253,7 +253,7 @@ impl Draft {
     }
 
     // An include of a file; gives its name where it is to be opened.
-    #[tactic(auto, unfolding(crate::specs::Drafts::learned))]
+    #[tactic(auto, unfolding(crate::specs::refinement::Drafts::learned))]
     fn include_file<'l>(
         &mut self,
         alloc: Global,
@@ -325,7 +325,7 @@ impl Draft {
     }
 
     /// An include of a file that isn't there.
-    #[tactic(auto, unfolding(crate::specs::Drafts::learned))]
+    #[tactic(auto, unfolding(crate::specs::refinement::Drafts::learned))]
     pub fn miss_file(
         &mut self,
         alloc: Global,

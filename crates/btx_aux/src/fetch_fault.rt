@@ -1,6 +1,6 @@
 //! Why a file could not be fetched.
 ghost use Rattle.std.specs.Prelude.{◌≡◌};
-ghost use Rattle.btx_aux.specs.Fetches.{fault_of};
+ghost use Rattle.btx_aux.specs.refinement.Fetches.{fault_of};
 
 use btx_text::Fault;
 use thiserror::Error;

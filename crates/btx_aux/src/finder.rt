@@ -1,8 +1,8 @@
 //! A source of files by name.
 ghost use Rattle.std.specs.Prelude.{◌≡◌, ℕ, [], Option, IfSome, IfOk, OnErr, Ok, Err, false, List};
-ghost use Rattle.btx_aux.specs.Files.{Files, file_of};
-ghost use Rattle.btx_text.specs.Counts.{count_after};
-ghost use Rattle.btx_aux.specs.Fetches.{is_device_fetch};
+ghost use Rattle.btx_aux.specs.language.Files.{Files, file_of};
+ghost use Rattle.btx_text.specs.language.Counts.{count_after};
+ghost use Rattle.btx_aux.specs.language.Fetches.{is_device_fetch};
 
 use crate::fetch_fault::FetchFault;
 use std::alloc::Global;

@@ -1,9 +1,9 @@
 //! What the `.aux` files of a job say.
 ghost use Rattle.std.specs.Prelude.{◌≡◌, count_by, map, option_copied, position};
 ghost use Rattle.std.specs.Str.{bytes_eq};
-ghost use Rattle.btx_text.specs.Keys.{folded};
-ghost use Rattle.btx_aux.specs.Entries.{texts_of};
-ghost use Rattle.btx_text.specs.LogLines.{Line, is_error};
+ghost use Rattle.btx_text.specs.language.Keys.{folded};
+ghost use Rattle.btx_aux.specs.refinement.Entries.{texts_of};
+ghost use Rattle.btx_text.specs.language.LogLines.{Line, is_error};
 
 use crate::end::End;
 use crate::keys::Keys;
@@ -24,9 +24,9 @@ pub struct AuxJob {
 }
 
 impl Model for AuxJob {
-    ghost use Rattle.btx_aux.specs.Job.{Job};
+    ghost use Rattle.btx_aux.specs.language.Job.{AuxJob};
 
-    ghost Value = { Job };
+    ghost Value = { AuxJob };
 
     ghost view = { λ job. record {
       keys = job.keys;

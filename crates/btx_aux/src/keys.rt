@@ -1,10 +1,10 @@
 //! The keys that are listed, found without case by a table.
 ghost use Rattle.std.specs.Prelude.{◌≡◌, [], ◌∷◌, ◌++◌, None, IfOk, OnOk, length, map, option_copied, position};
 ghost use Rattle.std.specs.Str.{bytes_eq};
-ghost use Rattle.btx_text.specs.Keys.{folded};
-ghost use Rattle.btx_aux.specs.Entries.{texts_of};
-ghost use Rattle.btx_aux.specs.Job.{is_empty};
-ghost use Rattle.btx_aux.specs.KeyTable.{listed_by};
+ghost use Rattle.btx_text.specs.language.Keys.{folded};
+ghost use Rattle.btx_aux.specs.refinement.Entries.{texts_of};
+ghost use Rattle.btx_aux.specs.language.Job.{is_empty};
+ghost use Rattle.btx_aux.specs.refinement.KeyTable.{listed_by};
 
 use btx_text::fold_key;
 use indexmap::IndexSet;
@@ -21,8 +21,8 @@ pub struct Keys {
 
 impl Model for Keys {
     ghost use Rattle.std.specs.Prelude.{List, ℕ};
-    ghost use Rattle.btx_aux.specs.Entries.{texts_of};
-    ghost use Rattle.btx_aux.specs.KeyTable.{IsTableOf};
+    ghost use Rattle.btx_aux.specs.refinement.Entries.{texts_of};
+    ghost use Rattle.btx_aux.specs.refinement.KeyTable.{IsTableOf};
 
     ghost Value = { List (List ℕ) };
 

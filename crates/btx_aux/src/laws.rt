@@ -1,5 +1,5 @@
 //! Laws over what the `.aux` files of a job say, each the contract of a function that does nothing.
-ghost use Rattle.btx_aux.specs.Openings.{NoFileTwice, NoKeyTwice, OpensByConditions, TopOpensFirst};
+ghost use Rattle.btx_aux.specs.laws.Openings.{NoFileTwice, NoKeyTwice, OpensByConditions, TopOpensFirst};
 
 /// No two keys of a job are equal without case.
 pub fn no_key_twice()

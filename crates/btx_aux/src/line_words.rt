@@ -1,7 +1,7 @@
 //! What a line says.
 ghost use Rattle.std.specs.Prelude.{◌≡◌, ◌==◌, position};
-ghost use Rattle.btx_aux.specs.Grammar.{command_named, words_of};
-ghost use Rattle.btx_aux.specs.Commands.{words_from};
+ghost use Rattle.btx_aux.specs.language.Grammar.{aux_command_named, words_of};
+ghost use Rattle.btx_aux.specs.refinement.Commands.{words_from};
 
 use crate::command::Command;
 
@@ -14,9 +14,9 @@ const BIBSTYLE: &[u8] = b"\\bibstyle";
 const INPUT: &[u8] = b"\\@input";
 
 // The command of this name.
-#[tactic(auto, unfolding(crate::specs::Grammar::command_named))]
+#[tactic(auto, unfolding(crate::specs::language::Grammar::aux_command_named))]
 fn command(name: &[u8]) -> Option<Command>
-    ensures { result ≡ command_named name.now }
+    ensures { result ≡ aux_command_named name.now }
 {
     if name == CITATION {
         return Some(Command::Citation);
@@ -34,7 +34,7 @@ fn command(name: &[u8]) -> Option<Command>
 }
 
 /// The command of a line and its argument, if the line counts: its text up to its first `{` is exactly a command.
-#[tactic(auto, unfolding(crate::specs::Grammar::words_of))]
+#[tactic(auto, unfolding(crate::specs::language::Grammar::words_of))]
 pub fn command_line(line: &[u8]) -> Option<(Command, &[u8])>
     ensures { words_of line.now ≡ words_from result }
 {

@@ -1,10 +1,11 @@
 //! Files that are kept in memory.
 ghost use Rattle.std.specs.Prelude.{◌≡◌, ℕ, List, [], Some, IfOk, IfErr, OnOk, OnErr};
 ghost use Rattle.std.specs.Option.{option_or};
-ghost use Rattle.btx_aux.specs.Files.{Files};
-ghost use Rattle.btx_aux.specs.Pairs.{file_at, files_of_pairs, first_file};
-ghost use Rattle.btx_aux.specs.Entries.{pairs_in};
-ghost use Rattle.btx_aux.specs.Borrowed.{pairs_of};
+ghost use Rattle.btx_aux.specs.language.Files.{Files};
+ghost use Rattle.btx_aux.specs.laws.Pairs.{file_of_pair, files_of_pairs};
+ghost use Rattle.btx_aux.specs.refinement.Pairs.{first_file};
+ghost use Rattle.btx_aux.specs.refinement.Entries.{pairs_in};
+ghost use Rattle.btx_aux.specs.refinement.Borrowed.{pairs_of};
 
 use crate::fetch_fault::FetchFault;
 use crate::finder::Finder;
@@ -47,7 +48,7 @@ fn put(
     bytes: &[u8],
 ) -> Result<(), AllocError>
     ensures { OnOk result ((other : List ℕ) →
-        first_file (pairs_in files.new.entries) other ≡ option_or (file_at (name.now, bytes.now) other) (first_file (pairs_in files.old.entries) other)) }
+        first_file (pairs_in files.new.entries) other ≡ option_or (file_of_pair (name.now, bytes.now) other) (first_file (pairs_in files.old.entries) other)) }
 {
     let name = Vec::from_slice(alloc, name)?;
     let bytes = Vec::from_slice(alloc, bytes)?;

@@ -1,6 +1,6 @@
 //! Names of files.
 ghost use Rattle.std.specs.Prelude.{◌≡◌, IfOk, nat_eq};
-ghost use Rattle.btx_aux.specs.Names.{has_ending, with_ending};
+ghost use Rattle.btx_aux.specs.language.Names.{has_ending, with_ending};
 
 use std::alloc::{AllocError, Global};
 use std::marker::Model;

@@ -1,7 +1,7 @@
 //! Names, each once, found by a table.
 ghost use Rattle.std.specs.Prelude.{◌≡◌, [], OnOk};
-ghost use Rattle.btx_aux.specs.Entries.{texts_of};
-ghost use Rattle.btx_aux.specs.Names.{is_among, with_name};
+ghost use Rattle.btx_aux.specs.refinement.Entries.{texts_of};
+ghost use Rattle.btx_aux.specs.language.Names.{is_among, with_name_once};
 
 use indexmap::IndexSet;
 use std::alloc::{AllocError, Global};
@@ -15,7 +15,7 @@ pub struct NameSet {
 
 impl Model for NameSet {
     ghost use Rattle.std.specs.Prelude.{List, ℕ};
-    ghost use Rattle.btx_aux.specs.Entries.{texts_of};
+    ghost use Rattle.btx_aux.specs.refinement.Entries.{texts_of};
 
     ghost Value = { List (List ℕ) };
 
@@ -41,7 +41,7 @@ impl NameSet {
 
     /// Adds a name, if it isn't there.
     pub fn add(&mut self, name: Vec<u8>) -> Result<(), AllocError>
-        ensures { OnOk result (self.new ≡ with_name self.old name.items) }
+        ensures { OnOk result (self.new ≡ with_name_once self.old name.items) }
     {
         self.names.insert(name)?;
         Ok(())

@@ -1,8 +1,8 @@
 //! What the log says of the `.aux` files, and the text of each line.
 ghost use Rattle.std.specs.Prelude.{◌≡◌, ◌++◌, IfOk, OnOk, decimal, codes};
-ghost use Rattle.btx_text.specs.LogLines.{place_text};
-ghost use Rattle.btx_aux.specs.Notes.{complaint_text, kind_of, line_of, note_text, slip_text};
-ghost use Rattle.btx_aux.specs.Told.{complaint_told, note_told};
+ghost use Rattle.btx_text.specs.language.LogLines.{place_text};
+ghost use Rattle.btx_aux.specs.language.Notes.{aux_complaint_text, aux_note_kind, aux_note_line, aux_note_text, aux_slip_text};
+ghost use Rattle.btx_aux.specs.refinement.Told.{complaint_told, note_told};
 
 use crate::command::Slip;
 use btx_text::log_texts::{push_four, push_mark, push_number, push_place, push_two};
@@ -51,7 +51,7 @@ pub enum Note<'a> {
 
 /// The line of a note.
 pub fn log_line(alloc: Global, note: Note<'_>) -> Result<LogLine, AllocError>
-    ensures { IfOk result (λ line. line ≡ line_of (note_told note.entry)) }
+    ensures { IfOk result (λ line. line ≡ aux_note_line (note_told note.entry)) }
 {
     let kind = kind(note);
     let mut text = Vec::new(alloc);
@@ -61,9 +61,9 @@ pub fn log_line(alloc: Global, note: Note<'_>) -> Result<LogLine, AllocError>
 }
 
 // What a note is.
-#[tactic(auto, unfolding(crate::specs::Notes::kind_of))]
+#[tactic(auto, unfolding(crate::specs::language::Notes::aux_note_kind))]
 fn kind(note: Note<'_>) -> LineKind
-    ensures { result ≡ kind_of (note_told note.entry) }
+    ensures { result ≡ aux_note_kind (note_told note.entry) }
 {
     match note {
         Note::TopFile(_) | Note::LevelFile(_, _) => LineKind::Plain,
@@ -73,9 +73,9 @@ fn kind(note: Note<'_>) -> LineKind
 }
 
 // Appends the text of a note.
-#[tactic(auto, unfolding(crate::specs::Notes::note_text))]
+#[tactic(auto, unfolding(crate::specs::language::Notes::aux_note_text))]
 fn push_note(text: &mut Vec<u8>, note: Note<'_>) -> Result<(), AllocError>
-    ensures { OnOk result (text.new.items ≡ text.old.items ++ note_text (note_told note.entry)) }
+    ensures { OnOk result (text.new.items ≡ text.old.items ++ aux_note_text (note_told note.entry)) }
 {
     match note {
         Note::TopFile(name) => push_two(text, b"The top-level auxiliary file: ", name),
@@ -103,16 +103,16 @@ fn push_wrong(
     complaint: Complaint<'_>,
     place: Place<'_>,
 ) -> Result<(), AllocError>
-    ensures { OnOk result (text.new.items ≡ text.old.items ++ (complaint_text (complaint_told complaint.entry) ++ place_text place.entry.line place.entry.file.now)) }
+    ensures { OnOk result (text.new.items ≡ text.old.items ++ (aux_complaint_text (complaint_told complaint.entry) ++ place_text place.entry.line place.entry.file.now)) }
 {
     push_complaint(text, complaint)?;
     push_place(text, place)
 }
 
 // Appends the text of a complaint.
-#[tactic(auto, unfolding(crate::specs::Notes::complaint_text))]
+#[tactic(auto, unfolding(crate::specs::language::Notes::aux_complaint_text))]
 fn push_complaint(text: &mut Vec<u8>, complaint: Complaint<'_>) -> Result<(), AllocError>
-    ensures { OnOk result (text.new.items ≡ text.old.items ++ complaint_text (complaint_told complaint.entry)) }
+    ensures { OnOk result (text.new.items ≡ text.old.items ++ aux_complaint_text (complaint_told complaint.entry)) }
 {
     match complaint {
         Complaint::Slipped(slip) => text.extend_from_slice(slip_text(slip)),
@@ -141,7 +141,7 @@ fn push_complaint(text: &mut Vec<u8>, complaint: Complaint<'_>) -> Result<(), Al
 
 // The text of a slip.
 fn slip_text(slip: Slip) -> &'static [u8]
-    ensures { result.now ≡ slip_text slip }
+    ensures { result.now ≡ aux_slip_text slip }
 {
     match slip {
         Slip::WhiteSpace => b"White space in argument",

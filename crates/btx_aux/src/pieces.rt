@@ -1,7 +1,7 @@
 //! The pieces of an argument.
 ghost use Rattle.std.specs.Prelude.{◌≡◌, ◌∷◌, true};
-ghost use Rattle.btx_aux.specs.Grammar.{pieces_of};
-ghost use Rattle.btx_aux.specs.Pieces.{piece_from, pieces_behind};
+ghost use Rattle.btx_aux.specs.language.Grammar.{pieces_of};
+ghost use Rattle.btx_aux.specs.refinement.Pieces.{piece_from, pieces_behind};
 
 use crate::command::Slip;
 use btx_text::classify::is_white;
@@ -16,8 +16,8 @@ pub struct Pieces<'a> {
 
 impl<'a> Model for Pieces<'a> {
     ghost use Rattle.std.specs.Prelude.{List};
-    ghost use Rattle.btx_aux.specs.Grammar.{Piece};
-    ghost use Rattle.btx_aux.specs.Pieces.{pieces_behind};
+    ghost use Rattle.btx_aux.specs.language.Grammar.{Piece};
+    ghost use Rattle.btx_aux.specs.refinement.Pieces.{pieces_behind};
 
     ghost Value = { List Piece };
 
@@ -38,7 +38,7 @@ impl<'a> Pieces<'a> {
 
 impl<'a> Iterator for Pieces<'a> {
     ghost use Rattle.std.specs.Iterator.{YieldsFirstBy, item_count};
-    ghost use Rattle.btx_aux.specs.Pieces.{piece_from};
+    ghost use Rattle.btx_aux.specs.refinement.Pieces.{piece_from};
 
     type Item = Result<&'a [u8], Slip>;
 

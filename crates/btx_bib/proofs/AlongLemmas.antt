@@ -8,15 +8,16 @@ use Rattle.btx_bib.specs.declared.grammar.commands.Wanted.{Wanted as Next}
 use Rattle.btx_bib.specs.declared.grammar.commands.Wanted.TheVariants.{Item}
 use Rattle.btx_bib.specs.declared.grammar.slip.Slip.TheVariants.{Repeated}
 use Rattle.btx_bib.specs.declared.message.Message.{Message}
-use Rattle.btx_bib.specs.Grammar.Items.{Event, Comment, Preamble, Definition, Entry, FieldOf, End, Wrong, Placed, Step, events_from, is_repeated, known_step, next_step, step_of}
-use Rattle.btx_bib.specs.Known.{Known, after, after_all, after_event, closed as closing, goes_on, keeping, stored_in}
-use Rattle.btx_bib.specs.Databases.{is_too_long}
-use Rattle.btx_bib.specs.Stored.{entry_of}
-use Rattle.btx_bib.specs.Told.{Database, event_told}
-use Rattle.btx_bib.specs.Wanted.{Wanted}
-use Rattle.btx_bib.specs.Gatherings.{closed, events_with, is_kept, kept_after, kept_along, kept_told}
-use Rattle.btx_bib.specs.Sources.{database_of, databases_of}
-use Rattle.btx_bib.specs.Readings.{kept_by_all, kept_one, told_by_all, told_by_one}
+use Rattle.btx_bib.specs.language.Grammar.Items.{Event, Comment, Preamble, Definition, Entry, FieldOf, End, Wrong, Placed, Step, events_from, is_repeated, known_step, next_step, expected_step}
+use Rattle.btx_bib.specs.language.Known.{Known, known_after, after_event, with_current_stored, goes_on, keeping, stored_in}
+use Rattle.btx_bib.specs.laws.Known.{after_all}
+use Rattle.btx_bib.specs.language.Databases.{is_database_too_long}
+use Rattle.btx_bib.specs.language.Stored.{entry_with_key}
+use Rattle.btx_bib.specs.language.Told.{Database, event_messages}
+use Rattle.btx_bib.specs.language.Wanted.{Request}
+use Rattle.btx_bib.specs.refinement.Gatherings.{closed, events_with, is_kept, kept_after, kept_along, kept_told}
+use Rattle.btx_bib.specs.refinement.Sources.{source_database, source_databases}
+use Rattle.btx_bib.specs.refinement.Readings.{kept_by_all, kept_one, told_by_all, told_by_one}
 use Rattle.btx_bib.proofs.ApartLemmas.{known_all, known_one, told_all, told_along, told_one}
 use Rattle.btx_bib.proofs.GrammarLemmas.LengthLemmas.{events-none, events-some, events-less, left}
 use Rattle.btx_bib.proofs.GatheringLemmas.{ended-along, ended-told, none-along, none-told, turn-along, turn-told}
@@ -24,20 +25,20 @@ use Rattle.btx_bib.proofs.KeptLemmas.{IsFresh, Sound, closed-kept, closed-sound,
 
 -- ---- one source, and the others
 
-module _ (wanted : Wanted) (sources : List Source) (place : ℕ) (d : Source) (before now : Gathering) (within : place < length sources) (is : now ≡ kept_one wanted before (database_of (get_or sources place d))) where
-  pub all-next : kept_by_all wanted now (databases_of (drop (place + 1) sources)) ≡ kept_by_all wanted before (databases_of (drop place sources))
+module _ (wanted : Request) (sources : List Source) (place : ℕ) (d : Source) (before now : Gathering) (within : place < length sources) (is : now ≡ kept_one wanted before (source_database (get_or sources place d))) where
+  pub all-next : kept_by_all wanted now (source_databases (drop (place + 1) sources)) ≡ kept_by_all wanted before (source_databases (drop place sources))
   all-next =
-      ap (λ (k : Gathering). kept_by_all wanted k (databases_of (drop (place + 1) sources))) is
-      ∙ sym (at_drop_more (λ (ss : List Source). kept_by_all wanted before (databases_of ss)) sources place d within)
+      ap (λ (k : Gathering). kept_by_all wanted k (source_databases (drop (place + 1) sources))) is
+      ∙ sym (at_drop_more (λ (ss : List Source). kept_by_all wanted before (source_databases ss)) sources place d within)
 
-  pub all-told-next : (told telling : List Message) → telling ≡ told ++ told_by_one wanted before (database_of (get_or sources place d))
-      → telling ++ told_by_all wanted now (databases_of (drop (place + 1) sources)) ≡ told ++ told_by_all wanted before (databases_of (drop place sources))
+  pub all-told-next : (told telling : List Message) → telling ≡ told ++ told_by_one wanted before (source_database (get_or sources place d))
+      → telling ++ told_by_all wanted now (source_databases (drop (place + 1) sources)) ≡ told ++ told_by_all wanted before (source_databases (drop place sources))
   all-told-next told telling tells =
-      let one = told_by_one wanted before (database_of (get_or sources place d)) in
-      ap (λ (ms : List Message). ms ++ told_by_all wanted now (databases_of (drop (place + 1) sources))) tells
-      ∙ append_assoc told one (told_by_all wanted now (databases_of (drop (place + 1) sources)))
-      ∙ ap (λ (k : Gathering). told ++ (one ++ told_by_all wanted k (databases_of (drop (place + 1) sources)))) is
-      ∙ ap (λ (ms : List Message). told ++ ms) (sym (at_drop_more (λ (ss : List Source). told_by_all wanted before (databases_of ss)) sources place d within))
+      let one = told_by_one wanted before (source_database (get_or sources place d)) in
+      ap (λ (ms : List Message). ms ++ told_by_all wanted now (source_databases (drop (place + 1) sources))) tells
+      ∙ append_assoc told one (told_by_all wanted now (source_databases (drop (place + 1) sources)))
+      ∙ ap (λ (k : Gathering). told ++ (one ++ told_by_all wanted k (source_databases (drop (place + 1) sources)))) is
+      ∙ ap (λ (ms : List Message). told ++ ms) (sym (at_drop_more (λ (ss : List Source). told_by_all wanted before (source_databases ss)) sources place d within))
 
 -- ---- repeated entries
 
@@ -55,13 +56,13 @@ abbrev by_repeated : Step → Bool → Option Step
 by_repeated step b = let got : Event × Next = if b then (Wrong Repeated, Item) else (step.event, step.wanted) in Some (record { event = got.0; wanted = got.1; rest = step.rest })
 
 next-same : (f g : List ℕ → Bool) → ((key : List ℕ) → f key ≡ g key) → (w : Next) (s : List ℕ) → next_step f w s ≡ next_step g w s
-next-same f g same w s = at (step_of w s) where
+next-same f g same w s = at (expected_step w s) where
   at : (o : Option Step) → known_step f o ≡ known_step g o
   at None = refl
   at (Some step) = ap (by_repeated step) (repeated-same f g same step.event)
 
 next-fresh : (f : List ℕ → Bool) (w : Next) (s : List ℕ) (step : Step) → next_step f w s ≡ Some step → is_repeated f step.event ≡ false
-next-fresh f w s step e = by_step (step_of w s) e where
+next-fresh f w s step e = by_step (expected_step w s) e where
   by_step : (o : Option Step) → known_step f o ≡ Some step → is_repeated f step.event ≡ false
   by_step None e = cc
   by_step (Some read) e = at (is_repeated f read.event) refl e where
@@ -69,10 +70,10 @@ next-fresh f w s step e = by_step (step_of w s) e where
     at true is h = let same : step ≡ record { event = Wrong Repeated; wanted = Item; rest = read.rest } = cc in ap (λ (x : Step). is_repeated f x.event) same
     at false is h = let same : step ≡ record { event = read.event; wanted = read.wanted; rest = read.rest } = cc in ap (λ (x : Step). is_repeated f x.event) same ∙ is
 
-module _ (wanted : Wanted) where
+module _ (wanted : Request) where
   -- ---- at a limit nothing more is known or told
 
-  next-ended : (known : Known) (event : Event) → goes_on known.ending ≡ false → after wanted known event ≡ known
+  next-ended : (known : Known) (event : Event) → goes_on known.ending ≡ false → known_after wanted known event ≡ known
   next-ended known event ended = ap (λ (b : Bool). if b then after_event wanted known event else known) ended
 
   all-ended : (known : Known) (events : List Placed) → goes_on known.ending ≡ false → after_all wanted known events ≡ known
@@ -82,7 +83,7 @@ module _ (wanted : Wanted) where
   told-ended : (database : Database) (known : Known) (events : List Placed) → goes_on known.ending ≡ false → told_along wanted database known events ≡ []
   told-ended database known [] ended = refl
   told-ended database known (p ∷ ps) ended =
-      ap (λ (b : Bool). (if b then event_told wanted database known p.event p.rest else []) ++ told_along wanted database (after wanted known p.event) ps) ended
+      ap (λ (b : Bool). (if b then event_messages wanted database known p.event p.rest else []) ++ told_along wanted database (known_after wanted known p.event) ps) ended
       ∙ ap (λ (k : Known). told_along wanted database k ps) (next-ended known p.event ended)
       ∙ told-ended database known ps ended
 
@@ -107,7 +108,7 @@ module _ (wanted : Wanted) where
     )
 
     abbrev stored : Known → List ℕ → Bool
-    stored known key = is_some (entry_of (stored_in known) key)
+    stored known key = is_some (entry_with_key (stored_in known) key)
 
     step-agrees : (known : Known) (w : Next) (s : List ℕ) (o : Option Step) → next_step (stored known) w s ≡ o → Sound wanted known → goes_on known.ending ≡ true
         → ((q : Known) (v : Next) (t : List ℕ) → left v (length t) < left w (length s) → Sound wanted q → Agrees q v t) → Agrees known w s
@@ -124,17 +125,17 @@ module _ (wanted : Wanted) where
         let next : Known = after_event wanted known step.event in
         let same : kept_of wanted next ≡ kept_after wanted (kept_of wanted known) step.event = sym (event-kept wanted known step.event sound fresh) in
         let rest : Agrees next step.wanted step.rest = others next step.wanted step.rest (events-less (stored known) w s step e) (event-sound wanted known step.event sound fresh) in
-        let goes : next ≡ after wanted known step.event = ap (λ (b : Bool). if b then after_event wanted known step.event else known) (sym whole) in
+        let goes : next ≡ known_after wanted known step.event = ap (λ (b : Bool). if b then after_event wanted known step.event else known) (sym whole) in
         let some = sym (events-some (keeping wanted) known w s step e) in
         let all : after_all wanted next (known_events next step.wanted step.rest) ≡ after_all wanted known (known_events known w s) =
         ap (λ (k : Known). after_all wanted k (known_events k step.wanted step.rest)) goes ∙ ap (after_all wanted known) some in
-        let said = event_told wanted database known step.event step.rest in (
+        let said = event_messages wanted database known step.event step.rest in (
           sym (turn-along wanted (kept_of wanted known) w s step (kept_of wanted next) whole kept same) ∙ rest.0 ∙ ap (kept_of wanted) all,
           sym (turn-told wanted (kept_of wanted known) w s step (kept_of wanted next) whole kept same database)
               ∙ ap (λ (ms : List Message). ms ++ kept_told wanted database (kept_of wanted next) (events_with wanted (kept_of wanted next) step.wanted step.rest)) (event-said wanted database known step.event step.rest sound fresh)
               ∙ ap (λ (ms : List Message). said ++ ms) rest.1
               ∙ ap (λ (k : Known). said ++ told_along wanted database k (known_events k step.wanted step.rest)) goes
-              ∙ ap (λ (b : Bool). (if b then said else []) ++ told_along wanted database (after wanted known step.event) (known_events (after wanted known step.event) step.wanted step.rest)) (sym whole)
+              ∙ ap (λ (b : Bool). (if b then said else []) ++ told_along wanted database (known_after wanted known step.event) (known_events (known_after wanted known step.event) step.wanted step.rest)) (sym whole)
               ∙ ap (told_along wanted database known) some,
           subst (Sound wanted) all rest.2,
         )
@@ -152,22 +153,22 @@ module _ (wanted : Wanted) where
     -- ---- a whole database
 
     pub one-kept : (known : Known) → Sound wanted known → kept_one wanted (kept_of wanted known) database ≡ kept_of wanted (known_one wanted known database)
-    one-kept known sound = at (goes_on known.ending) (is_too_long database) where
+    one-kept known sound = at (goes_on known.ending) (is_database_too_long database) where
       along : Agrees known Item database.text
       along = agrees known Item database.text sound
 
       at : (b long : Bool) → (if b then (if long then record (kept_of wanted known) { ending = FileLimit } else closed wanted (kept_along wanted (kept_of wanted known) (events_with wanted (kept_of wanted known) Item database.text))) else kept_of wanted known)
-          ≡ kept_of wanted (if b then (if long then record known { ending = FileLimit } else closing (after_all wanted known (known_events known Item database.text))) else known)
+          ≡ kept_of wanted (if b then (if long then record known { ending = FileLimit } else with_current_stored (after_all wanted known (known_events known Item database.text))) else known)
       at false long = refl
       at true true = refl
       at true false = ap (closed wanted) along.0 ∙ closed-kept wanted (after_all wanted known (known_events known Item database.text)) along.2
 
     pub one-told : (known : Known) → Sound wanted known → told_by_one wanted (kept_of wanted known) database ≡ told_one wanted known database
-    one-told known sound = ap (λ (ms : List Message). if goes_on known.ending then (if is_too_long database then [] else ms) else []) (agrees known Item database.text sound).1
+    one-told known sound = ap (λ (ms : List Message). if goes_on known.ending then (if is_database_too_long database then [] else ms) else []) (agrees known Item database.text sound).1
 
     pub one-sound : (known : Known) → Sound wanted known → Sound wanted (known_one wanted known database)
-    one-sound known sound = at (goes_on known.ending) (is_too_long database) where
-      at : (b long : Bool) → Sound wanted (if b then (if long then record known { ending = FileLimit } else closing (after_all wanted known (known_events known Item database.text))) else known)
+    one-sound known sound = at (goes_on known.ending) (is_database_too_long database) where
+      at : (b long : Bool) → Sound wanted (if b then (if long then record known { ending = FileLimit } else with_current_stored (after_all wanted known (known_events known Item database.text))) else known)
       at false long = sound
       at true true = sound
       at true false = closed-sound wanted (after_all wanted known (known_events known Item database.text)) (agrees known Item database.text sound).2

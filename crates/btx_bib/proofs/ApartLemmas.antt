@@ -2,39 +2,40 @@
 use Rattle.std.proofs.Common.{◌≡◌, ℕ, Bool, true, false, if◌then◌else◌, List, [], ◌∷◌, ◌++◌, fold, sym, ap, ◌∙◌, append_assoc, append-nil}
 use Rattle.btx_bib.specs.declared.end.End.TheVariants as end
 use Rattle.btx_bib.specs.declared.message.Message.{Message}
-use Rattle.btx_bib.specs.Databases.{events_of, is_too_long, read_all, read_one, read_whole, with_macros}
-use Rattle.btx_bib.specs.Grammar.Items.{Placed}
-use Rattle.btx_bib.specs.Known.{Known, after, after_all, closed, goes_on}
-use Rattle.btx_bib.specs.Told.{Database, Reading, read_next, told_at}
-use Rattle.btx_bib.specs.Wanted.{Wanted}
+use Rattle.btx_bib.specs.language.Databases.{database_events, is_database_too_long, read_all, read_one, read_whole, with_macros}
+use Rattle.btx_bib.specs.language.Grammar.Items.{Placed}
+use Rattle.btx_bib.specs.language.Known.{Known, known_after, with_current_stored, goes_on}
+use Rattle.btx_bib.specs.laws.Known.{after_all}
+use Rattle.btx_bib.specs.language.Told.{Database, Reading, read_next, messages_at}
+use Rattle.btx_bib.specs.language.Wanted.{Request}
 
 -- ---- each by itself
 
 -- the messages along some events of a database
-abbrev pub told_along : Wanted → Database → Known → List Placed → List Message
+abbrev pub told_along : Request → Database → Known → List Placed → List Message
 told_along wanted database known [] = []
-told_along wanted database known (placed ∷ events) = told_at wanted database known placed ++ told_along wanted database (after wanted known placed.event) events
+told_along wanted database known (placed ∷ events) = messages_at wanted database known placed ++ told_along wanted database (known_after wanted known placed.event) events
 
 -- what is known after a database, and its messages
-abbrev pub known_one : Wanted → Known → Database → Known
+abbrev pub known_one : Request → Known → Database → Known
 known_one wanted known database =
-    if goes_on known.ending then (if is_too_long database then record known { ending = end.FileLimit } else closed (after_all wanted known (events_of wanted known database))) else known
+    if goes_on known.ending then (if is_database_too_long database then record known { ending = end.FileLimit } else with_current_stored (after_all wanted known (database_events wanted known database))) else known
 
-abbrev pub told_one : Wanted → Known → Database → List Message
+abbrev pub told_one : Request → Known → Database → List Message
 told_one wanted known database =
-    if goes_on known.ending then (if is_too_long database then [] else told_along wanted database known (events_of wanted known database)) else []
+    if goes_on known.ending then (if is_database_too_long database then [] else told_along wanted database known (database_events wanted known database)) else []
 
 -- what is known after all databases, and their messages
-abbrev pub known_all : Wanted → Known → List Database → Known
+abbrev pub known_all : Request → Known → List Database → Known
 known_all wanted known databases = fold (known_one wanted) known databases
 
-abbrev pub told_all : Wanted → Known → List Database → List Message
+abbrev pub told_all : Request → Known → List Database → List Message
 told_all wanted known [] = []
 told_all wanted known (database ∷ databases) = told_one wanted known database ++ told_all wanted (known_one wanted known database) databases
 
 -- ---- both at once
 
-module _ (wanted : Wanted) where
+module _ (wanted : Request) where
   -- a reading with further messages
   abbrev going_on : Reading → Known → List Message → Reading
   going_on reading known messages = record { known = known; messages = reading.messages ++ messages }
@@ -49,26 +50,26 @@ module _ (wanted : Wanted) where
       let next = read_next wanted database reading placed in
       along-apart database events next
       ∙ ap (λ (ms : List Message). record { known = after_all wanted next.known events; messages = ms })
-      (append_assoc reading.messages (told_at wanted database reading.known placed) (told_along wanted database next.known events))
+      (append_assoc reading.messages (messages_at wanted database reading.known placed) (told_along wanted database next.known events))
 
   module _ (database : Database) (reading : Reading) where
     abbrev limited : Known
     limited = record reading.known { ending = end.FileLimit }
 
     abbrev along : Known
-    along = after_all wanted reading.known (events_of wanted reading.known database)
+    along = after_all wanted reading.known (database_events wanted reading.known database)
 
     abbrev told : List Message
-    told = told_along wanted database reading.known (events_of wanted reading.known database)
+    told = told_along wanted database reading.known (database_events wanted reading.known database)
 
     one-by : (b long : Bool) → (if b then (if long then record reading { known = limited } else read_whole wanted reading database) else reading)
-        ≡ going_on reading (if b then (if long then limited else closed along) else reading.known) (if b then (if long then [] else told) else [])
+        ≡ going_on reading (if b then (if long then limited else with_current_stored along) else reading.known) (if b then (if long then [] else told) else [])
     one-by false long = none-further reading reading.known
     one-by true true = none-further reading limited
-    one-by true false = ap (λ (last : Reading). record last { known = closed last.known }) (along-apart database (events_of wanted reading.known database) reading)
+    one-by true false = ap (λ (last : Reading). record last { known = with_current_stored last.known }) (along-apart database (database_events wanted reading.known database) reading)
 
     one-apart : read_one wanted reading database ≡ going_on reading (known_one wanted reading.known database) (told_one wanted reading.known database)
-    one-apart = one-by (goes_on reading.known.ending) (is_too_long database)
+    one-apart = one-by (goes_on reading.known.ending) (is_database_too_long database)
 
   all-apart : (databases : List Database) (reading : Reading) → fold (read_one wanted) reading databases ≡ going_on reading (known_all wanted reading.known databases) (told_all wanted reading.known databases)
   all-apart [] reading = none-further reading reading.known

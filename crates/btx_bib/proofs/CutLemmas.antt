@@ -4,7 +4,7 @@ use Rattle.std.specs.Option.{option_map}
 use Rattle.std.proofs.lemmas.Bool.Decides.{nat_tests}
 use Rattle.std.proofs.lemmas.Grind.{fold-append}
 use Rattle.std.proofs.lemmas.List.{length-append}
-use Rattle.btx_text.specs.Limits.{greatest_file, greatest_string}
+use Rattle.btx_text.specs.language.Limits.{greatest_file, greatest_string}
 use Rattle.btx_bib.specs.declared.end.End.{End}
 use Rattle.btx_bib.specs.declared.end.End.TheVariants as end
 use Rattle.btx_bib.specs.declared.grammar.commands.Command.{Command}
@@ -15,19 +15,20 @@ use Rattle.btx_bib.specs.declared.grammar.slip.Slip.TheVariants.{NoEquals, Repea
 use Rattle.btx_bib.specs.declared.grammar.value_ends.Ends.{Ends}
 use Rattle.btx_bib.specs.declared.grammar.value_ends.Ends.TheVariants.{Kept, Trimmed}
 use Rattle.btx_bib.specs.declared.message.Message.{Message}
-use Rattle.btx_bib.specs.Grammar.Tokens.{Read, followed_by, name_at, open_at, sign_at, key_at}
-use Rattle.btx_bib.specs.Grammar.Fields.{Field as ReadField}
-use Rattle.btx_bib.specs.Grammar.Items.{Event, Comment, Preamble, Definition, Entry, FieldOf, End as Close, Wrong, Placed, Step, Keeping, head_of, head_at, command_of, ended, step_by, behind_at, step_of, is_repeated, known_step, next_step, events_by, events_within, events_from}
-use Rattle.btx_bib.specs.Grammar.Values.{Part, Braced, Quoted, Digits, Named, value_at}
-use Rattle.btx_bib.specs.Grammar.ValueTexts.{Strings as Named_values, text_of_part, joined_text, shaped, value_text}
-use Rattle.btx_bib.specs.Wanted.{Wanted}
-use Rattle.btx_bib.specs.Strings.{string_value, other_value, defined}
-use Rattle.btx_bib.specs.Entries.{Given}
-use Rattle.btx_bib.specs.Stored.{entry_of}
-use Rattle.btx_bib.specs.Known.{Known, goes_on, stored_in, closed, if_fits, after_field, after_key, after_event, after, after_all, keeping, takes, with_field}
-use Rattle.btx_bib.specs.Told.{Database}
-use Rattle.btx_bib.specs.Databases.{library_of, library_by, is_too_long, events_of, read_all, with_macros}
-use Rattle.btx_bib.specs.Cuts.{IsCutBetweenItems, GivesTheSame, CutGivesTheSame}
+use Rattle.btx_bib.specs.language.Grammar.Tokens.{Parsed, followed_by, name_at, open_at, sign_at, key_at}
+use Rattle.btx_bib.specs.language.Grammar.Fields.{Field}
+use Rattle.btx_bib.specs.language.Grammar.Items.{Event, Comment, Preamble, Definition, Entry, FieldOf, End as Close, Wrong, Placed, Step, Keeping, head_of, head_at, command_of, item_end, step_by, behind_at, expected_step, is_repeated, known_step, next_step, events_by, events_within, events_from}
+use Rattle.btx_bib.specs.language.Grammar.Values.{Part, Braced, Quoted, Digits, Named, value_at}
+use Rattle.btx_bib.specs.language.Grammar.ValueTexts.{StringValues, text_of_part, joined_text, shaped, value_text}
+use Rattle.btx_bib.specs.language.Wanted.{Request}
+use Rattle.btx_bib.specs.language.Strings.{string_value, other_value, defined}
+use Rattle.btx_bib.specs.language.Entries.{Given}
+use Rattle.btx_bib.specs.language.Stored.{entry_with_key}
+use Rattle.btx_bib.specs.language.Known.{Known, goes_on, stored_in, with_current_stored, if_fits, after_field, after_key, after_event, known_after, keeping, keeps_field, with_field}
+use Rattle.btx_bib.specs.laws.Known.{after_all}
+use Rattle.btx_bib.specs.language.Told.{Database}
+use Rattle.btx_bib.specs.language.Databases.{library_of, library_by, is_database_too_long, database_events, read_all, with_macros}
+use Rattle.btx_bib.specs.laws.Cuts.{IsCutBetweenItems, GivesTheSame, CutGivesTheSame}
 use Rattle.btx_bib.proofs.ApartLemmas.{known_one, known_all, known-apart}
 use Rattle.btx_bib.proofs.GrammarLemmas.LongerLemmas.{part_on, event_on, placed_on, reading-on}
 use Rattle.btx_bib.proofs.GrammarLemmas.ReadingLemmas.{is_reading, one_reading}
@@ -52,34 +53,34 @@ event_alone Close = Close
 event_alone (Wrong slip) = Wrong slip
 
 -- what is read in a database, without places
-abbrev pub read_in : Wanted → Known → Database → List Event
-read_in wanted known database = map (λ (placed : Placed). event_alone placed.event) (events_of wanted known database)
+abbrev pub read_in : Request → Known → Database → List Event
+read_in wanted known database = map (λ (placed : Placed). event_alone placed.event) (database_events wanted known database)
 
 -- ---- places don't matter to what is known
 
-alone-text : (strings : Named_values) (part : Part) → text_of_part strings (part_alone part) ≡ text_of_part strings part
+alone-text : (strings : StringValues) (part : Part) → text_of_part strings (part_alone part) ≡ text_of_part strings part
 alone-text strings (Braced text) = refl
 alone-text strings (Quoted text) = refl
 alone-text strings (Digits text) = refl
 alone-text strings (Named string) = refl
 
-alone-joined : (strings : Named_values) (value : List Part) → joined_text strings (map part_alone value) ≡ joined_text strings value
+alone-joined : (strings : StringValues) (value : List Part) → joined_text strings (map part_alone value) ≡ joined_text strings value
 alone-joined strings [] = refl
 alone-joined strings (part ∷ value) =
     ap (λ (text : List ℕ). text ++ joined_text strings (map part_alone value)) (alone-text strings part)
     ∙ ap (λ (rest : List ℕ). text_of_part strings part ++ rest) (alone-joined strings value)
 
-alone-value : (ends : Ends) (strings : Named_values) (value : List Part) → value_text ends strings (map part_alone value) ≡ value_text ends strings value
+alone-value : (ends : Ends) (strings : StringValues) (value : List Part) → value_text ends strings (map part_alone value) ≡ value_text ends strings value
 alone-value ends strings value = ap (shaped ends) (alone-joined strings value)
 
-alone-field : (wanted : Wanted) (known : Known) (o : Option Given) (field : ReadField)
+alone-field : (wanted : Request) (known : Known) (o : Option Given) (field : Field)
     → after_field wanted known o (record { name = field.name; value = map part_alone field.value }) ≡ after_field wanted known o field
 alone-field wanted known None field = refl
 alone-field wanted known (Some given) field =
-    ap (λ (text : List ℕ). if takes wanted given field.name then if_fits text known (record known { current = Some (with_field given field.name text) }) else known)
+    ap (λ (text : List ℕ). if keeps_field wanted given field.name then if_fits text known (record known { current = Some (with_field given field.name text) }) else known)
     (alone-value Trimmed (string_value known.strings) field.value)
 
-alone-event : (wanted : Wanted) (known : Known) (event : Event) → after_event wanted known (event_alone event) ≡ after_event wanted known event
+alone-event : (wanted : Request) (known : Known) (event : Event) → after_event wanted known (event_alone event) ≡ after_event wanted known event
 alone-event wanted known Comment = refl
 alone-event wanted known (Preamble value) =
     ap (λ (text : List ℕ). if_fits (known.preamble ++ text) known (record known { preamble = known.preamble ++ text })) (alone-value Kept (string_value known.strings) value)
@@ -90,17 +91,17 @@ alone-event wanted known (FieldOf field) = alone-field wanted known known.curren
 alone-event wanted known Close = refl
 alone-event wanted known (Wrong slip) = refl
 
-alone-after : (wanted : Wanted) (known : Known) (event : Event) → after wanted known (event_alone event) ≡ after wanted known event
+alone-after : (wanted : Request) (known : Known) (event : Event) → known_after wanted known (event_alone event) ≡ known_after wanted known event
 alone-after wanted known event = ap (λ (next : Known). if goes_on known.ending then next else known) (alone-event wanted known event)
 
 -- the events without their places
 abbrev alone : List Placed → List Event
 alone events = map (λ (placed : Placed). event_alone placed.event) events
 
-alone-all : (wanted : Wanted) (known : Known) (events : List Placed) → fold (after wanted) known (alone events) ≡ after_all wanted known events
+alone-all : (wanted : Request) (known : Known) (events : List Placed) → fold (known_after wanted) known (alone events) ≡ after_all wanted known events
 alone-all wanted known [] = refl
 alone-all wanted known (placed ∷ events) =
-    ap (λ (next : Known). fold (after wanted) next (alone events)) (alone-after wanted known placed.event) ∙ alone-all wanted (after wanted known placed.event) events
+    ap (λ (next : Known). fold (known_after wanted) next (alone events)) (alone-after wanted known placed.event) ∙ alone-all wanted (known_after wanted known placed.event) events
 
 -- ---- an item's events begin with no field
 
@@ -131,11 +132,11 @@ BeginsNone (FieldOf field) next = ⊥
 BeginsNone Close next = WantsNone next
 BeginsNone (Wrong slip) next = WantsNone next
 
-abbrev ReadNone : Read (Event × Next) → Type 0
+abbrev ReadNone : Parsed (Event × Next) → Type 0
 ReadNone (Ok got) = BeginsNone got.0.0 got.0.1
 ReadNone (Err wrong) = Unit {0}
 
-followed-none : {A : Type 0} (read : Read A) (next : A → List ℕ → Read (Event × Next)) → ((a : A) (rest : List ℕ) → ReadNone (next a rest)) → ReadNone (followed_by read next)
+followed-none : {A : Type 0} (read : Parsed A) (next : A → List ℕ → Parsed (Event × Next)) → ((a : A) (rest : List ℕ) → ReadNone (next a rest)) → ReadNone (followed_by read next)
 followed-none (Ok got) next h = h got.0 got.1
 followed-none (Err wrong) next h = tt
 
@@ -151,7 +152,7 @@ head-at-none : (text : List ℕ) → ReadNone (head_at text)
 unfolding head_at
 head-at-none text = followed-none (name_at text) (λ name rest. head_of (command_of name) name rest) (λ name rest. head-none (command_of name) name rest)
 
-ended-none : (read : Read (Unit {0})) → ReadNone (ended read)
+ended-none : (read : Parsed (Unit {0})) → ReadNone (item_end read)
 ended-none (Ok got) = tt
 ended-none (Err wrong) = tt
 
@@ -159,17 +160,17 @@ abbrev StepNone : Option Step → Type 0
 StepNone None = Unit {0}
 StepNone (Some step) = BeginsNone step.event step.wanted
 
-step-by-none : (read : Read (Event × Next)) → ReadNone read → StepNone (Some (step_by read))
+step-by-none : (read : Parsed (Event × Next)) → ReadNone read → StepNone (Some (step_by read))
 step-by-none (Ok got) h = h
 step-by-none (Err wrong) h = tt
 
-step-none : (next : Next) (text : List ℕ) → WantsNone next → StepNone (step_of next text)
-unfolding step_of
+step-none : (next : Next) (text : List ℕ) → WantsNone next → StepNone (expected_step next text)
+unfolding expected_step
 step-none Item text none = by_place (behind_at text) where
   by_place : (o : Option (List ℕ)) → StepNone (option_map (λ (rest : List ℕ). step_by (head_at rest)) o)
   by_place None = tt
   by_place (Some rest) = step-by-none (head_at rest) (head-at-none rest)
-step-none (Closing delimiter) text none = step-by-none (ended _) (ended-none _)
+step-none (Closing delimiter) text none = step-by-none (item_end _) (ended-none _)
 step-none (Fields delimiter) text none = absurd none
 
 known-none : (is_stored : List ℕ → Bool) (o : Option Step) → StepNone o → StepNone (known_step is_stored o)
@@ -193,56 +194,56 @@ within-none : {S : Type 0} (kept : Keeping S) (turns : ℕ) (state : S) (next : 
 unfolding events_within
 within-none kept zero state next text none = tt
 within-none {S} kept (suc turns) state next text none =
-    by_step (next_step (kept.is_stored state) next text) (known-none (kept.is_stored state) (step_of next text) (step-none next text none)) (within-none kept turns) where
+    by_step (next_step (kept.is_stored state) next text) (known-none (kept.is_stored state) (expected_step next text) (step-none next text none)) (within-none kept turns) where
       by_step : (o : Option Step) → StepNone o → ((state : S) (next : Next) (text : List ℕ) → WantsNone next → NoFieldFirst (alone (events_within kept turns state next text)))
           → NoFieldFirst (alone (events_by kept (events_within kept turns) state o))
       by_step None h later = tt
       by_step (Some step) h later = alone-first step.event step.wanted _ h (λ none. later (kept.after state step.event) step.wanted step.rest none)
 
-read-none : (wanted : Wanted) (known : Known) (database : Database) → NoFieldFirst (read_in wanted known database)
+read-none : (wanted : Request) (known : Known) (database : Database) → NoFieldFirst (read_in wanted known database)
 unfolding events_from
 read-none wanted known database = within-none (keeping wanted) _ known Item database.text tt
 
 -- ---- an entry that is at its end
 
-closed-closed : (known : Known) → closed (closed known) ≡ closed known
+closed-closed : (known : Known) → with_current_stored (with_current_stored known) ≡ with_current_stored known
 closed-closed known = ap (λ (stored : List Given). record known { stored = stored; current = None }) (append-nil (stored_in known))
 
 -- after the end of the reading nothing changes
-stuck : (wanted : Wanted) (known : Known) (events : List Event) → goes_on known.ending ≡ false → fold (after wanted) known events ≡ known
+stuck : (wanted : Request) (known : Known) (events : List Event) → goes_on known.ending ≡ false → fold (known_after wanted) known events ≡ known
 stuck wanted known [] ended = refl
 stuck wanted known (event ∷ events) ended =
-    ap (λ (b : Bool). fold (after wanted) (if b then after_event wanted known event else known) events) ended ∙ stuck wanted known events ended
+    ap (λ (b : Bool). fold (known_after wanted) (if b then after_event wanted known event else known) events) ended ∙ stuck wanted known events ended
 
-closed-fits : (text : List ℕ) (known next : Known) → if_fits text (closed known) (closed next) ≡ closed (if_fits text known next)
+closed-fits : (text : List ℕ) (known next : Known) → if_fits text (with_current_stored known) (with_current_stored next) ≡ with_current_stored (if_fits text known next)
 closed-fits text known next = by_test (nat_lt greatest_string (length text)) where
-  by_test : (b : Bool) → (if b then record (closed known) { ending = end.StringLimit } else closed next) ≡ closed (if b then record known { ending = end.StringLimit } else next)
+  by_test : (b : Bool) → (if b then record (with_current_stored known) { ending = end.StringLimit } else with_current_stored next) ≡ with_current_stored (if b then record known { ending = end.StringLimit } else next)
   by_test true = refl
   by_test false = refl
 
-abbrev Alike : Wanted → Known → List Event → Type 0
-Alike wanted known events = closed (fold (after wanted) (closed known) events) ≡ closed (fold (after wanted) known events)
+abbrev Alike : Request → Known → List Event → Type 0
+Alike wanted known events = with_current_stored (fold (known_after wanted) (with_current_stored known) events) ≡ with_current_stored (fold (known_after wanted) known events)
 
 -- a known state, its reading's going on told apart
-alike-stuck : (wanted : Wanted) (known : Known) (events : List Event) → goes_on known.ending ≡ false → Alike wanted known events
-alike-stuck wanted known events ended = ap closed (stuck wanted (closed known) events ended) ∙ closed-closed known ∙ sym (ap closed (stuck wanted known events ended))
+alike-stuck : (wanted : Request) (known : Known) (events : List Event) → goes_on known.ending ≡ false → Alike wanted known events
+alike-stuck wanted known events ended = ap with_current_stored (stuck wanted (with_current_stored known) events ended) ∙ closed-closed known ∙ sym (ap with_current_stored (stuck wanted known events ended))
 
 -- an event that does the same before and after the end of an entry
-alike-next : (wanted : Wanted) (known : Known) (event : Event) (events : List Event) → goes_on known.ending ≡ true → after_event wanted (closed known) event ≡ closed (after_event wanted known event)
+alike-next : (wanted : Request) (known : Known) (event : Event) (events : List Event) → goes_on known.ending ≡ true → after_event wanted (with_current_stored known) event ≡ with_current_stored (after_event wanted known event)
     → Alike wanted (after_event wanted known event) events → Alike wanted known (event ∷ events)
 alike-next wanted known event events on same rest =
-    ap (λ (b : Bool). closed (fold (after wanted) (if b then after_event wanted (closed known) event else closed known) events)) on
-    ∙ ap (λ (next : Known). closed (fold (after wanted) next events)) same
+    ap (λ (b : Bool). with_current_stored (fold (known_after wanted) (if b then after_event wanted (with_current_stored known) event else with_current_stored known) events)) on
+    ∙ ap (λ (next : Known). with_current_stored (fold (known_after wanted) next events)) same
     ∙ rest
-    ∙ sym (ap (λ (b : Bool). closed (fold (after wanted) (if b then after_event wanted known event else known) events)) on)
+    ∙ sym (ap (λ (b : Bool). with_current_stored (fold (known_after wanted) (if b then after_event wanted known event else known) events)) on)
 
-alike-entry : (wanted : Wanted) (known : Known) (kind key : List ℕ) (events : List Event) → goes_on known.ending ≡ true → Alike wanted known (Entry kind key ∷ events)
+alike-entry : (wanted : Request) (known : Known) (kind key : List ℕ) (events : List Event) → goes_on known.ending ≡ true → Alike wanted known (Entry kind key ∷ events)
 alike-entry wanted known kind key events on =
-    ap (λ (b : Bool). closed (fold (after wanted) (if b then after_key wanted (closed (closed known)) kind key else closed known) events)) on
-    ∙ ap (λ (next : Known). closed (fold (after wanted) (after_key wanted next kind key) events)) (closed-closed known)
-    ∙ sym (ap (λ (b : Bool). closed (fold (after wanted) (if b then after_key wanted (closed known) kind key else known) events)) on)
+    ap (λ (b : Bool). with_current_stored (fold (known_after wanted) (if b then after_key wanted (with_current_stored (with_current_stored known)) kind key else with_current_stored known) events)) on
+    ∙ ap (λ (next : Known). with_current_stored (fold (known_after wanted) (after_key wanted next kind key) events)) (closed-closed known)
+    ∙ sym (ap (λ (b : Bool). with_current_stored (fold (known_after wanted) (if b then after_key wanted (with_current_stored known) kind key else known) events)) on)
 
-alike-first : (wanted : Wanted) (event : Event) (events : List Event) → NoFieldFirst (event ∷ events) → (NoFieldFirst events → (known : Known) → Alike wanted known events)
+alike-first : (wanted : Request) (event : Event) (events : List Event) → NoFieldFirst (event ∷ events) → (NoFieldFirst events → (known : Known) → Alike wanted known events)
     → (known : Known) → goes_on known.ending ≡ true → Alike wanted known (event ∷ events)
 alike-first wanted Comment events none rest known on = alike-next wanted known Comment events on refl (rest none known)
 alike-first wanted (Preamble value) events none rest known on =
@@ -256,7 +257,7 @@ alike-first wanted (FieldOf field) events none rest known on = absurd none
 alike-first wanted Close events none rest known on = alike-next wanted known Close events on refl (rest none known)
 alike-first wanted (Wrong slip) events none rest known on = alike-next wanted known (Wrong slip) events on refl (rest none known)
 
-alike : (wanted : Wanted) (events : List Event) → NoFieldFirst events → (known : Known) → Alike wanted known events
+alike : (wanted : Request) (events : List Event) → NoFieldFirst events → (known : Known) → Alike wanted known events
 alike wanted [] none known = closed-closed known
 alike wanted (event ∷ events) none known = by_end (goes_on known.ending) refl (λ none known. alike wanted events none known) where
   by_end : (b : Bool) → goes_on known.ending ≡ b → (NoFieldFirst events → (known : Known) → Alike wanted known events) → Alike wanted known (event ∷ events)
@@ -285,8 +286,8 @@ alone-on more (FieldOf field) = ap (λ (v : List Part). FieldOf (record { name =
 alone-on more Close = refl
 alone-on more (Wrong slip) = refl
 
-after-on : (wanted : Wanted) (more : List ℕ) (known : Known) (event : Event) → after wanted known (event_on more event) ≡ after wanted known event
-after-on wanted more known event = sym (alone-after wanted known (event_on more event)) ∙ ap (after wanted known) (alone-on more event) ∙ alone-after wanted known event
+after-on : (wanted : Request) (more : List ℕ) (known : Known) (event : Event) → known_after wanted known (event_on more event) ≡ known_after wanted known event
+after-on wanted more known event = sym (alone-after wanted known (event_on more event)) ∙ ap (known_after wanted known) (alone-on more event) ∙ alone-after wanted known event
 
 alone-behind : (more : List ℕ) (events behind : List Placed) → alone (map (placed_on more) events ++ behind) ≡ alone events ++ alone behind
 alone-behind more [] behind = refl
@@ -296,100 +297,100 @@ alone-behind more (placed ∷ events) behind =
 
 -- ---- the end of an entry changes nothing of what is read
 
-after-ended : (wanted : Wanted) (known : Known) (event : Event) → goes_on known.ending ≡ false → after wanted known event ≡ known
+after-ended : (wanted : Request) (known : Known) (event : Event) → goes_on known.ending ≡ false → known_after wanted known event ≡ known
 after-ended wanted known event over = ap (λ (b : Bool). if b then after_event wanted known event else known) over
 
 -- after what is neither an entry nor a field
-closed-after : (wanted : Wanted) (known : Known) (event : Event) → goes_on known.ending ≡ true → after_event wanted (closed known) event ≡ closed (after_event wanted known event) → after wanted (closed known) event ≡ closed (after wanted known event)
+closed-after : (wanted : Request) (known : Known) (event : Event) → goes_on known.ending ≡ true → after_event wanted (with_current_stored known) event ≡ with_current_stored (after_event wanted known event) → known_after wanted (with_current_stored known) event ≡ with_current_stored (known_after wanted known event)
 closed-after wanted known event on same =
-    ap (λ (b : Bool). if b then after_event wanted (closed known) event else closed known) on
+    ap (λ (b : Bool). if b then after_event wanted (with_current_stored known) event else with_current_stored known) on
     ∙ same
-    ∙ sym (ap (λ (b : Bool). closed (if b then after_event wanted known event else known)) on)
+    ∙ sym (ap (λ (b : Bool). with_current_stored (if b then after_event wanted known event else known)) on)
 
-closed-entry : (wanted : Wanted) (known : Known) (kind key : List ℕ) → goes_on known.ending ≡ true → after wanted (closed known) (Entry kind key) ≡ after wanted known (Entry kind key)
+closed-entry : (wanted : Request) (known : Known) (kind key : List ℕ) → goes_on known.ending ≡ true → known_after wanted (with_current_stored known) (Entry kind key) ≡ known_after wanted known (Entry kind key)
 closed-entry wanted known kind key on =
-    ap (λ (b : Bool). if b then after_key wanted (closed (closed known)) kind key else closed known) on
+    ap (λ (b : Bool). if b then after_key wanted (with_current_stored (with_current_stored known)) kind key else with_current_stored known) on
     ∙ ap (λ (k : Known). after_key wanted k kind key) (closed-closed known)
-    ∙ sym (ap (λ (b : Bool). if b then after_key wanted (closed known) kind key else known) on)
+    ∙ sym (ap (λ (b : Bool). if b then after_key wanted (with_current_stored known) kind key else known) on)
 
 -- so many events
-abbrev SameEvents : Wanted → ℕ → Type 0
+abbrev SameEvents : Request → ℕ → Type 0
 SameEvents wanted turns = (known : Known) (next : Next) (text : List ℕ) → WantsNone next ⊎ (goes_on known.ending ≡ false)
-    → events_within (keeping wanted) turns (closed known) next text ≡ events_within (keeping wanted) turns known next text
+    → events_within (keeping wanted) turns (with_current_stored known) next text ≡ events_within (keeping wanted) turns known next text
 
-events-after : (wanted : Wanted) (turns : ℕ) (known : Known) (event : Event) (next : Next) (text : List ℕ) → SameEvents wanted turns → goes_on known.ending ≡ true → BeginsNone event next
-    → events_within (keeping wanted) turns (after wanted (closed known) event) next text ≡ events_within (keeping wanted) turns (after wanted known event) next text
+events-after : (wanted : Request) (turns : ℕ) (known : Known) (event : Event) (next : Next) (text : List ℕ) → SameEvents wanted turns → goes_on known.ending ≡ true → BeginsNone event next
+    → events_within (keeping wanted) turns (known_after wanted (with_current_stored known) event) next text ≡ events_within (keeping wanted) turns (known_after wanted known event) next text
 events-after wanted turns known (Entry kind key) next text later on none = ap (λ (k : Known). events_within (keeping wanted) turns k next text) (closed-entry wanted known kind key on)
 events-after wanted turns known (FieldOf field) next text later on none = absurd none
 events-after wanted turns known Comment next text later on none =
-    ap (λ (k : Known). events_within (keeping wanted) turns k next text) (closed-after wanted known Comment on refl) ∙ later (after wanted known Comment) next text (inl none)
+    ap (λ (k : Known). events_within (keeping wanted) turns k next text) (closed-after wanted known Comment on refl) ∙ later (known_after wanted known Comment) next text (inl none)
 events-after wanted turns known (Preamble value) next text later on none =
     let whole = known.preamble ++ value_text Kept (string_value known.strings) value in
     ap (λ (k : Known). events_within (keeping wanted) turns k next text) (closed-after wanted known (Preamble value) on (closed-fits whole known (record known { preamble = whole })))
-    ∙ later (after wanted known (Preamble value)) next text (inl none)
+    ∙ later (known_after wanted known (Preamble value)) next text (inl none)
 events-after wanted turns known (Definition name value) next text later on none =
     let string = value_text Kept (other_value known.strings name) value in
     ap (λ (k : Known). events_within (keeping wanted) turns k next text) (closed-after wanted known (Definition name value) on (closed-fits string known (record known { strings = defined known.strings name string })))
-    ∙ later (after wanted known (Definition name value)) next text (inl none)
+    ∙ later (known_after wanted known (Definition name value)) next text (inl none)
 events-after wanted turns known Close next text later on none =
-    ap (λ (k : Known). events_within (keeping wanted) turns k next text) (closed-after wanted known Close on refl) ∙ later (after wanted known Close) next text (inl none)
+    ap (λ (k : Known). events_within (keeping wanted) turns k next text) (closed-after wanted known Close on refl) ∙ later (known_after wanted known Close) next text (inl none)
 events-after wanted turns known (Wrong slip) next text later on none =
-    ap (λ (k : Known). events_within (keeping wanted) turns k next text) (closed-after wanted known (Wrong slip) on refl) ∙ later (after wanted known (Wrong slip)) next text (inl none)
+    ap (λ (k : Known). events_within (keeping wanted) turns k next text) (closed-after wanted known (Wrong slip) on refl) ∙ later (known_after wanted known (Wrong slip)) next text (inl none)
 
-events-ended : (wanted : Wanted) (turns : ℕ) (known : Known) (event : Event) (next : Next) (text : List ℕ) → SameEvents wanted turns → goes_on known.ending ≡ false
-    → events_within (keeping wanted) turns (after wanted (closed known) event) next text ≡ events_within (keeping wanted) turns (after wanted known event) next text
+events-ended : (wanted : Request) (turns : ℕ) (known : Known) (event : Event) (next : Next) (text : List ℕ) → SameEvents wanted turns → goes_on known.ending ≡ false
+    → events_within (keeping wanted) turns (known_after wanted (with_current_stored known) event) next text ≡ events_within (keeping wanted) turns (known_after wanted known event) next text
 events-ended wanted turns known event next text later over =
-    ap (λ (k : Known). events_within (keeping wanted) turns k next text) (after-ended wanted (closed known) event over)
+    ap (λ (k : Known). events_within (keeping wanted) turns k next text) (after-ended wanted (with_current_stored known) event over)
     ∙ later known next text (inr over)
     ∙ sym (ap (λ (k : Known). events_within (keeping wanted) turns k next text) (after-ended wanted known event over))
 
-events-behind : (wanted : Wanted) (turns : ℕ) (known : Known) (event : Event) (next : Next) (text : List ℕ) → SameEvents wanted turns → BeginsNone event next ⊎ (goes_on known.ending ≡ false)
-    → events_within (keeping wanted) turns (after wanted (closed known) event) next text ≡ events_within (keeping wanted) turns (after wanted known event) next text
+events-behind : (wanted : Request) (turns : ℕ) (known : Known) (event : Event) (next : Next) (text : List ℕ) → SameEvents wanted turns → BeginsNone event next ⊎ (goes_on known.ending ≡ false)
+    → events_within (keeping wanted) turns (known_after wanted (with_current_stored known) event) next text ≡ events_within (keeping wanted) turns (known_after wanted known event) next text
 events-behind wanted turns known event next text later (inr over) = events-ended wanted turns known event next text later over
 events-behind wanted turns known event next text later (inl none) = by_end (goes_on known.ending) refl where
-  by_end : (b : Bool) → goes_on known.ending ≡ b → events_within (keeping wanted) turns (after wanted (closed known) event) next text ≡ events_within (keeping wanted) turns (after wanted known event) next text
+  by_end : (b : Bool) → goes_on known.ending ≡ b → events_within (keeping wanted) turns (known_after wanted (with_current_stored known) event) next text ≡ events_within (keeping wanted) turns (known_after wanted known event) next text
   by_end true on = events-after wanted turns known event next text later on none
   by_end false over = events-ended wanted turns known event next text later over
 
-events-closed : (wanted : Wanted) (turns : ℕ) → SameEvents wanted turns
+events-closed : (wanted : Request) (turns : ℕ) → SameEvents wanted turns
 unfolding events_within
 events-closed wanted zero known next text h = refl
 events-closed wanted (suc turns) known next text h =
-    ap (λ (entries : List Given). events_by (keeping wanted) (events_within (keeping wanted) turns) (closed known) (next_step (λ key. is_some (entry_of entries key)) next text)) (append-nil (stored_in known))
+    ap (λ (entries : List Given). events_by (keeping wanted) (events_within (keeping wanted) turns) (with_current_stored known) (next_step (λ key. is_some (entry_with_key entries key)) next text)) (append-nil (stored_in known))
     ∙ by_step (next_step ((keeping wanted).is_stored known) next text) (steps h) (events-closed wanted turns) where
       steps : WantsNone next ⊎ (goes_on known.ending ≡ false) → StepNone (next_step ((keeping wanted).is_stored known) next text) ⊎ (goes_on known.ending ≡ false)
-      steps (inl none) = inl (known-none ((keeping wanted).is_stored known) (step_of next text) (step-none next text none))
+      steps (inl none) = inl (known-none ((keeping wanted).is_stored known) (expected_step next text) (step-none next text none))
       steps (inr over) = inr over
 
       by_step : (o : Option Step) → StepNone o ⊎ (goes_on known.ending ≡ false) → SameEvents wanted turns
-          → events_by (keeping wanted) (events_within (keeping wanted) turns) (closed known) o ≡ events_by (keeping wanted) (events_within (keeping wanted) turns) known o
+          → events_by (keeping wanted) (events_within (keeping wanted) turns) (with_current_stored known) o ≡ events_by (keeping wanted) (events_within (keeping wanted) turns) known o
       by_step None none later = refl
       by_step (Some step) none later =
           ap (λ (events : List Placed). record { event = step.event; rest = step.rest } ∷ events) (events-behind wanted turns known step.event step.wanted step.rest later none)
 
-events_from-closed : (wanted : Wanted) (known : Known) (text : List ℕ) → events_from (keeping wanted) (closed known) Item text ≡ events_from (keeping wanted) known Item text
+events_from-closed : (wanted : Request) (known : Known) (text : List ℕ) → events_from (keeping wanted) (with_current_stored known) Item text ≡ events_from (keeping wanted) known Item text
 unfolding events_from
 events_from-closed wanted known text = events-closed wanted _ known Item text (inl tt)
 
 -- ---- one database or two
 
-is-read : (wanted : Wanted) (known : Known) (database : Database) → goes_on known.ending ≡ true → is_too_long database ≡ false → known_one wanted known database ≡ closed (fold (after wanted) known (read_in wanted known database))
+is-read : (wanted : Request) (known : Known) (database : Database) → goes_on known.ending ≡ true → is_database_too_long database ≡ false → known_one wanted known database ≡ with_current_stored (fold (known_after wanted) known (read_in wanted known database))
 is-read wanted known database on short =
-    ap (λ (b : Bool). if b then (if is_too_long database then record known { ending = end.FileLimit } else closed (after_all wanted known (events_of wanted known database))) else known) on
-    ∙ ap (λ (b : Bool). if b then record known { ending = end.FileLimit } else closed (after_all wanted known (events_of wanted known database))) short
-    ∙ ap closed (sym (alone-all wanted known (events_of wanted known database)))
+    ap (λ (b : Bool). if b then (if is_database_too_long database then record known { ending = end.FileLimit } else with_current_stored (after_all wanted known (database_events wanted known database))) else known) on
+    ∙ ap (λ (b : Bool). if b then record known { ending = end.FileLimit } else with_current_stored (after_all wanted known (database_events wanted known database))) short
+    ∙ ap with_current_stored (sym (alone-all wanted known (database_events wanted known database)))
 
-is-ended : (wanted : Wanted) (known : Known) (database : Database) → goes_on known.ending ≡ false → known_one wanted known database ≡ known
+is-ended : (wanted : Request) (known : Known) (database : Database) → goes_on known.ending ≡ false → known_one wanted known database ≡ known
 is-ended wanted known database ended =
-    ap (λ (b : Bool). if b then (if is_too_long database then record known { ending = end.FileLimit } else closed (after_all wanted known (events_of wanted known database))) else known) ended
+    ap (λ (b : Bool). if b then (if is_database_too_long database then record known { ending = end.FileLimit } else with_current_stored (after_all wanted known (database_events wanted known database))) else known) ended
 
 -- a second database, after what a first one left
-then-read : (wanted : Wanted) (before : Known) (second : Database) → is_too_long second ≡ false
-    → known_one wanted (closed before) second ≡ closed (fold (after wanted) before (read_in wanted (closed before) second))
+then-read : (wanted : Request) (before : Known) (second : Database) → is_database_too_long second ≡ false
+    → known_one wanted (with_current_stored before) second ≡ with_current_stored (fold (known_after wanted) before (read_in wanted (with_current_stored before) second))
 then-read wanted before second short = by_end (goes_on before.ending) refl where
-  by_end : (b : Bool) → goes_on before.ending ≡ b → known_one wanted (closed before) second ≡ closed (fold (after wanted) before (read_in wanted (closed before) second))
-  by_end true on = is-read wanted (closed before) second on short ∙ alike wanted (read_in wanted (closed before) second) (read-none wanted (closed before) second) before
-  by_end false over = is-ended wanted (closed before) second over ∙ sym (ap closed (stuck wanted before (read_in wanted (closed before) second) over))
+  by_end : (b : Bool) → goes_on before.ending ≡ b → known_one wanted (with_current_stored before) second ≡ with_current_stored (fold (known_after wanted) before (read_in wanted (with_current_stored before) second))
+  by_end true on = is-read wanted (with_current_stored before) second on short ∙ alike wanted (read_in wanted (with_current_stored before) second) (read-none wanted (with_current_stored before) second) before
+  by_end false over = is-ended wanted (with_current_stored before) second over ∙ sym (ap with_current_stored (stuck wanted before (read_in wanted (with_current_stored before) second) over))
 
 shorter : (part whole : ℕ) → part ≤ whole → nat_lt greatest_file whole ≡ false → nat_lt greatest_file part ≡ false
 shorter part whole le short = by_test (nat_lt greatest_file part) refl where
@@ -398,53 +399,53 @@ shorter part whole le short = by_test (nat_lt greatest_file part) refl where
   by_test true h = absurd (grind (arith, nat_tests))
 
 -- what is read in the whole is what is read in the first and then what is read in the second
-cut-is-read : (wanted : Wanted) (known : Known) (whole first second : Database) → IsCutBetweenItems wanted known whole first second → goes_on known.ending ≡ true → is_too_long first ≡ false
+cut-is-read : (wanted : Request) (known : Known) (whole first second : Database) → IsCutBetweenItems wanted known whole first second → goes_on known.ending ≡ true → is_database_too_long first ≡ false
     → read_in wanted known whole ≡ read_in wanted known first ++ read_in wanted (known_one wanted known first) second
 cut-is-read wanted known whole first second cut on short =
-    let events = events_of wanted known first in
+    let events = database_events wanted known first in
     let middle = after_all wanted known events in
     let behind = events_from (keeping wanted) middle Item second.text in
     let reading = reading-on second.text (keeping wanted) (after-on wanted second.text) events behind known Item first.text cut.1 (is_reading (keeping wanted) known Item first.text) (is_reading (keeping wanted) middle Item second.text) in
     let is = one_reading (keeping wanted) (map (placed_on second.text) events ++ behind) known Item (first.text ++ second.text) reading in
-    let left : known_one wanted known first ≡ closed middle = is-read wanted known first on short ∙ ap closed (alone-all wanted known events) in
+    let left : known_one wanted known first ≡ with_current_stored middle = is-read wanted known first on short ∙ ap with_current_stored (alone-all wanted known events) in
     ap (λ (text : List ℕ). alone (events_from (keeping wanted) known Item text)) cut.0
     ∙ ap alone (sym is)
     ∙ alone-behind second.text events behind
     ∙ ap (λ (others : List Placed). alone events ++ alone others) (sym (events_from-closed wanted middle second.text))
     ∙ ap (λ (k : Known). alone events ++ read_in wanted k second) (sym left)
 
-cut-reads : (wanted : Wanted) (known : Known) (whole first second : Database) → IsCutBetweenItems wanted known whole first second → is_too_long whole ≡ false
+cut-reads : (wanted : Request) (known : Known) (whole first second : Database) → IsCutBetweenItems wanted known whole first second → is_database_too_long whole ≡ false
     → known_one wanted (known_one wanted known first) second ≡ known_one wanted known whole
 cut-reads wanted known whole first second cut short = by_end (goes_on known.ending) refl where
   long : length whole.text ≡ length first.text + length second.text
   long = ap (λ (text : List ℕ). length text) cut.0 ∙ length-append first.text second.text
 
-  first-short : is_too_long first ≡ false
+  first-short : is_database_too_long first ≡ false
   first-short = shorter (length first.text) (length whole.text) (omega (arith, long)) short
 
-  second-short : is_too_long second ≡ false
+  second-short : is_database_too_long second ≡ false
   second-short = shorter (length second.text) (length whole.text) (omega (arith, long)) short
 
   by_end : (b : Bool) → goes_on known.ending ≡ b → known_one wanted (known_one wanted known first) second ≡ known_one wanted known whole
   by_end false over = ap (λ (k : Known). known_one wanted k second) (is-ended wanted known first over) ∙ is-ended wanted known second over ∙ sym (is-ended wanted known whole over)
   by_end true on =
-      let before = fold (after wanted) known (read_in wanted known first) in
-      let left : known_one wanted known first ≡ closed before = is-read wanted known first on first-short in
+      let before = fold (known_after wanted) known (read_in wanted known first) in
+      let left : known_one wanted known first ≡ with_current_stored before = is-read wanted known first on first-short in
       ap (λ (k : Known). known_one wanted k second) left
       ∙ then-read wanted before second second-short
-      ∙ ap (λ (k : Known). closed (fold (after wanted) before (read_in wanted k second))) (sym left)
-      ∙ ap closed (sym (fold-append (after wanted) known (read_in wanted known first) (read_in wanted (known_one wanted known first) second)))
-      ∙ ap (λ (events : List Event). closed (fold (after wanted) known events)) (sym (cut-is-read wanted known whole first second cut on first-short))
+      ∙ ap (λ (k : Known). with_current_stored (fold (known_after wanted) before (read_in wanted k second))) (sym left)
+      ∙ ap with_current_stored (sym (fold-append (known_after wanted) known (read_in wanted known first) (read_in wanted (known_one wanted known first) second)))
+      ∙ ap (λ (events : List Event). with_current_stored (fold (known_after wanted) known events)) (sym (cut-is-read wanted known whole first second cut on first-short))
       ∙ sym (is-read wanted known whole on short)
 
 -- ---- the library
 
-same-by : (ending : End) (wanted : Wanted) (known : Known) (one other : List Message) → GivesTheSame (library_by ending wanted known one) (library_by ending wanted known other)
+same-by : (ending : End) (wanted : Request) (known : Known) (one other : List Message) → GivesTheSame (library_by ending wanted known one) (library_by ending wanted known other)
 same-by end.Whole wanted known one other = (refl, refl, refl)
 same-by end.FileLimit wanted known one other = (refl, refl, refl)
 same-by end.StringLimit wanted known one other = (refl, refl, refl)
 
-all-append : (wanted : Wanted) (known : Known) (xs ys : List Database) → known_all wanted known (xs ++ ys) ≡ known_all wanted (known_all wanted known xs) ys
+all-append : (wanted : Request) (known : Known) (xs ys : List Database) → known_all wanted known (xs ++ ys) ≡ known_all wanted (known_all wanted known xs) ys
 all-append wanted known [] ys = refl
 all-append wanted known (x ∷ xs) ys = all-append wanted (known_one wanted known x) xs ys
 

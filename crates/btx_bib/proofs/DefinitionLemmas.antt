@@ -6,20 +6,21 @@ use Rattle.std.proofs.lemmas.Cmp.{nat_list_eq_equiv}
 use Rattle.std.proofs.lemmas.Slice.Eq.{bytes_eq-Decides}
 use Rattle.std.proofs.lemmas.Grind.{fold-append}
 use Rattle.indexmap.specs.IndexMap.{insert_entry}
-use Rattle.btx_text.specs.Limits.{greatest_string}
-use Rattle.btx_aux.specs.Names.{is_same_key}
+use Rattle.btx_text.specs.language.Limits.{greatest_string}
+use Rattle.btx_aux.specs.language.Names.{is_same_key}
 use Rattle.btx_bib.specs.declared.end.End.TheVariants as end
 use Rattle.btx_bib.specs.declared.grammar.value_ends.Ends.TheVariants.{Kept, Trimmed}
-use Rattle.btx_bib.specs.Grammar.Fields.{Field as Read}
-use Rattle.btx_bib.specs.Grammar.Items.{Event, Comment, Preamble, Definition, Entry, FieldOf, End as Close, Wrong, Placed}
-use Rattle.btx_bib.specs.Grammar.ValueTexts.{squeezed, value_text}
-use Rattle.btx_bib.specs.Wanted.{Wanted}
-use Rattle.btx_bib.specs.Strings.{Strings, string_value, other_value, defined}
-use Rattle.btx_bib.specs.Entries.{Given}
-use Rattle.btx_bib.specs.Stored.{is_wanted}
-use Rattle.btx_bib.specs.Known.{Known, goes_on, if_fits, after_field, after_event, after, after_all, closed, takes, with_field}
-use Rattle.btx_bib.specs.Databases.{nothing, with_macro, with_macros}
-use Rattle.btx_bib.specs.Storing.{defines, is_defined_in, LastDefinitionCounts, OthersKeepTheirs, is_macro_in, LastMacroCounts}
+use Rattle.btx_bib.specs.language.Grammar.Fields.{Field}
+use Rattle.btx_bib.specs.language.Grammar.Items.{Event, Comment, Preamble, Definition, Entry, FieldOf, End as Close, Wrong, Placed}
+use Rattle.btx_bib.specs.language.Grammar.ValueTexts.{squeezed, value_text}
+use Rattle.btx_bib.specs.language.Wanted.{Request}
+use Rattle.btx_bib.specs.language.Strings.{Strings, string_value, other_value, defined}
+use Rattle.btx_bib.specs.language.Entries.{Given}
+use Rattle.btx_bib.specs.language.Stored.{is_wanted}
+use Rattle.btx_bib.specs.language.Known.{Known, goes_on, if_fits, after_field, after_event, known_after, with_current_stored, keeps_field, with_field}
+use Rattle.btx_bib.specs.laws.Known.{after_all}
+use Rattle.btx_bib.specs.language.Databases.{nothing, with_macro, with_macros}
+use Rattle.btx_bib.specs.laws.Storing.{defines, is_defined_in, LastDefinitionCounts, OthersKeepTheirs, is_macro_in, LastMacroCounts}
 
 -- ---- a table with one more definition
 
@@ -67,9 +68,9 @@ module _ (gives : GivesOwn) (leaves : LeavesOthers) where
     by_test true = refl
     by_test false = same
 
-  field-value : (wanted : Wanted) (known : Known) (current : Option Given) (field : Read) (name : List ℕ) → value_of (after_field wanted known current field) name ≡ value_of known name
+  field-value : (wanted : Request) (known : Known) (current : Option Given) (field : Field) (name : List ℕ) → value_of (after_field wanted known current field) name ≡ value_of known name
   field-value wanted known None field name = refl
-  field-value wanted known (Some given) field name = by_test (takes wanted given field.name) where
+  field-value wanted known (Some given) field name = by_test (keeps_field wanted given field.name) where
     text : List ℕ
     text = value_text Trimmed (string_value known.strings) field.value
 
@@ -81,19 +82,19 @@ module _ (gives : GivesOwn) (leaves : LeavesOthers) where
   key-value known kind key name true = refl
   key-value known kind key name false = refl
 
-  event-value : (wanted : Wanted) (known : Known) (event : Event) (name : List ℕ) → defines name event ≡ false → value_of (after_event wanted known event) name ≡ value_of known name
+  event-value : (wanted : Request) (known : Known) (event : Event) (name : List ℕ) → defines name event ≡ false → value_of (after_event wanted known event) name ≡ value_of known name
   event-value wanted known Comment name other = refl
   event-value wanted known (Preamble value) name other =
       let whole = known.preamble ++ value_text Kept (string_value known.strings) value in fits-value whole known (record known { preamble = whole }) name refl
   event-value wanted known (Definition own value) name other =
       let text = value_text Kept (other_value known.strings own) value in
       fits-value text known (record known { strings = defined known.strings own text }) name (leaves known.strings name own text other)
-  event-value wanted known (Entry kind key) name other = key-value (closed known) kind key name (is_wanted wanted (closed known).stored key)
+  event-value wanted known (Entry kind key) name other = key-value (with_current_stored known) kind key name (is_wanted wanted (with_current_stored known).stored key)
   event-value wanted known (FieldOf field) name other = field-value wanted known known.current field name
   event-value wanted known Close name other = refl
   event-value wanted known (Wrong slip) name other = refl
 
-  next-value : (wanted : Wanted) (known : Known) (event : Event) (name : List ℕ) → defines name event ≡ false → value_of (after wanted known event) name ≡ value_of known name
+  next-value : (wanted : Request) (known : Known) (event : Event) (name : List ℕ) → defines name event ≡ false → value_of (known_after wanted known event) name ≡ value_of known name
   next-value wanted known event name other = by_end (goes_on known.ending) where
     by_end : (b : Bool) → value_of (if b then after_event wanted known event else known) name ≡ value_of known name
     by_end true = event-value wanted known event name other
@@ -105,15 +106,15 @@ module _ (gives : GivesOwn) (leaves : LeavesOthers) where
   others-keep-theirs wanted known [] name none = refl
   others-keep-theirs wanted known (placed ∷ events) name none =
       let neither = or-none (defines name placed.event) (is_defined_in name events) none in
-      others-keep-theirs wanted (after wanted known placed.event) events name neither.1 ∙ next-value wanted known placed.event name neither.0
+      others-keep-theirs wanted (known_after wanted known placed.event) events name neither.1 ∙ next-value wanted known placed.event name neither.0
 
   -- a reading that goes on went on before
-  stuck : (wanted : Wanted) (known : Known) (events : List Placed) → goes_on known.ending ≡ false → after_all wanted known events ≡ known
+  stuck : (wanted : Request) (known : Known) (events : List Placed) → goes_on known.ending ≡ false → after_all wanted known events ≡ known
   stuck wanted known [] ended = refl
   stuck wanted known (placed ∷ events) ended =
       ap (λ (b : Bool). after_all wanted (if b then after_event wanted known placed.event else known) events) ended ∙ stuck wanted known events ended
 
-  went-on : (wanted : Wanted) (known : Known) (events : List Placed) → goes_on (after_all wanted known events).ending ≡ true → goes_on known.ending ≡ true
+  went-on : (wanted : Request) (known : Known) (events : List Placed) → goes_on (after_all wanted known events).ending ≡ true → goes_on known.ending ≡ true
   went-on wanted known events on = by_end (goes_on known.ending) refl where
     by_end : (b : Bool) → goes_on known.ending ≡ b → goes_on known.ending ≡ true
     by_end true here = here
@@ -133,8 +134,8 @@ module _ (gives : GivesOwn) (leaves : LeavesOthers) where
       let middle = after_all wanted known before in
       let placed : Placed = record { event = Definition own value; rest = rest } in
       let text = value_text Kept (other_value middle.strings own) value in
-      let next = after wanted middle placed.event in
-      let split : after_all wanted known (before ++ placed ∷ behind) ≡ after_all wanted next behind = fold-append (λ (k : Known) (p : Placed). after wanted k p.event) known before (placed ∷ behind) in
+      let next = known_after wanted middle placed.event in
+      let split : after_all wanted known (before ++ placed ∷ behind) ≡ after_all wanted next behind = fold-append (λ (k : Known) (p : Placed). known_after wanted k p.event) known before (placed ∷ behind) in
       let on_next : goes_on next.ending ≡ true = went-on wanted next behind (sym (ap (λ (k : Known). goes_on k.ending) split) ∙ on) in
       let on_middle : goes_on middle.ending ≡ true = went-on wanted middle (placed ∷ []) on_next in
       let fitted : next ≡ if_fits text middle (record middle { strings = defined middle.strings own text }) = ap (λ (b : Bool). if b then after_event wanted middle placed.event else middle) on_middle in

@@ -3,16 +3,16 @@ use Rattle.std.proofs.Common.{◌≡◌, ℕ, Bool, true, false, not, if◌then�
 use Rattle.btx_bib.specs.declared.gathering.Gathering.{Gathering}
 use Rattle.btx_bib.specs.declared.grammar.commands.Wanted.{Wanted as Next}
 use Rattle.btx_bib.specs.declared.message.Message.{Message}
-use Rattle.btx_bib.specs.Grammar.Items.{Event, Placed, Step, next_step}
-use Rattle.btx_bib.specs.Known.{goes_on}
-use Rattle.btx_bib.specs.Told.{Database}
-use Rattle.btx_bib.specs.Wanted.{Wanted}
-use Rattle.btx_bib.specs.Gatherings.{events_with, is_kept, kept_after, kept_along, kept_next, kept_told, keeping_kept, told_of}
+use Rattle.btx_bib.specs.language.Grammar.Items.{Event, Placed, Step, next_step}
+use Rattle.btx_bib.specs.language.Known.{goes_on}
+use Rattle.btx_bib.specs.language.Told.{Database}
+use Rattle.btx_bib.specs.language.Wanted.{Request}
+use Rattle.btx_bib.specs.refinement.Gatherings.{events_with, is_kept, kept_after, kept_along, kept_next, kept_told, keeping_kept, told_of}
 use Rattle.btx_bib.proofs.GrammarLemmas.LengthLemmas.{events-none, events-some}
 
 -- ---- at a limit nothing more is kept or told
 
-module _ (wanted : Wanted) where
+module _ (wanted : Request) where
   ended-next : (kept : Gathering) (event : Event) → goes_on kept.ending ≡ false → kept_next wanted kept event ≡ kept
   ended-next kept event ended = ap (λ (b : Bool). if b then kept_after wanted kept event else kept) ended
 

@@ -6,6 +6,7 @@ pub mod LengthLemmas
 pub mod PlainLemmas
 pub mod SpellingLemmas
 pub mod SqueezeLemmas
+pub mod TrimLemmas
 pub mod ReadingLemmas
 pub mod PlaceLemmas
 pub mod WholeItemLemmas

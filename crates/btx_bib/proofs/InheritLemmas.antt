@@ -6,24 +6,24 @@ use Rattle.std.specs.Option.{option_map}
 use Rattle.std.specs.List.{find, flat_map, AllByRecursion, IsDistinct}
 use Rattle.std.proofs.lemmas.List.Elements.{Contains-append_cases}
 use Rattle.std.proofs.lemmas.Map.Keys.{IsDistinct-head, IsDistinct-tail}
-use Rattle.btx_text.specs.Keys.{folded}
-use Rattle.btx_aux.specs.Names.{is_same_key}
+use Rattle.btx_text.specs.language.Keys.{folded}
+use Rattle.btx_aux.specs.language.Names.{is_same_key}
 use Rattle.btx_bib.specs.declared.end.End.{End}
 use Rattle.btx_bib.specs.declared.end.End.TheVariants as end
 use Rattle.btx_bib.specs.declared.entry.Entry.{Entry}
 use Rattle.btx_bib.specs.declared.message.Message.{Message}
 use Rattle.btx_bib.specs.declared.slots.Body.{Body}
 use Rattle.btx_bib.specs.declared.slots.Slot.{Slot}
-use Rattle.btx_bib.specs.Values.{value_at}
-use Rattle.btx_bib.specs.Wanted.{Wanted}
-use Rattle.btx_bib.specs.Entries.{Given, Field, values_from, body_of, parent_in}
-use Rattle.btx_bib.specs.Stored.{entry_of}
-use Rattle.btx_bib.specs.Listing.{keys_of, slot_of, slots_of}
-use Rattle.btx_bib.specs.Passes.{checked, checked_by, cut, is_parent, slot_at, parent_at, values_in, with_values, without_parent, after_first, after_second, entries_of, entry_at, entry_by}
-use Rattle.btx_bib.specs.Steps.{names_of}
-use Rattle.btx_bib.specs.Known.{Known}
-use Rattle.btx_bib.specs.Databases.{library_of, library_by, read_all}
-use Rattle.btx_bib.specs.Parents.{values_by, field_at, parent_by_key, OwnStands, IsParentsOwn, IsParents, InheritsFromParent}
+use Rattle.btx_bib.specs.language.Values.{field_value}
+use Rattle.btx_bib.specs.language.Wanted.{Request}
+use Rattle.btx_bib.specs.language.Entries.{Given, KeptField, values_from, body_of, parent_in}
+use Rattle.btx_bib.specs.language.Stored.{entry_with_key}
+use Rattle.btx_bib.specs.language.Listing.{list_keys, slot_of, slots_of}
+use Rattle.btx_bib.specs.language.Passes.{checked, checked_by, without_crossref, is_parent, slot_at, parent_at, body_values, with_field_values, without_parent, after_first, after_second, entries_of, entry_at, entry_by}
+use Rattle.btx_bib.specs.refinement.Steps.{lower_keys}
+use Rattle.btx_bib.specs.language.Known.{Known}
+use Rattle.btx_bib.specs.language.Databases.{library_of, library_by, read_all}
+use Rattle.btx_bib.specs.laws.Parents.{values_by, declared_value, parent_by_key, OwnStands, IsParentsOwn, IsParents, InheritsFromParent}
 use Rattle.btx_bib.proofs.ListedKeyLemmas.{same_key_equiv}
 use Rattle.btx_bib.proofs.StayingLemmas.{view-passed}
 use Rattle.btx_bib.proofs.ListLemmas.{distinct-names}
@@ -36,22 +36,22 @@ abbrev shown_as : List ℕ → Option (List ℕ) → List ℕ × Option (List �
 shown_as key value = (key, value)
 
 abbrev shows : ℕ → Slot → List ℕ × Option (List ℕ)
-shows field slot = shown_as slot.key (value_at (suc field) (values_in slot.body))
+shows field slot = shown_as slot.key (field_value (suc field) (body_values slot.body))
 
-cut-shows : (field : ℕ) (slot : Slot) → shows field (cut slot) ≡ shows field slot
+cut-shows : (field : ℕ) (slot : Slot) → shows field (without_crossref slot) ≡ shows field slot
 cut-shows field slot = by_body slot.body where
-  by_values : (values : List (Option (List ℕ))) → value_at (suc field) (without_parent values) ≡ value_at (suc field) values
+  by_values : (values : List (Option (List ℕ))) → field_value (suc field) (without_parent values) ≡ field_value (suc field) values
   by_values [] = refl
   by_values (value ∷ values) = refl
 
-  by_body : (body : Option Body) → shown_as slot.key (value_at (suc field) (values_in (with_values body (without_parent (values_in body))))) ≡ shown_as slot.key (value_at (suc field) (values_in body))
+  by_body : (body : Option Body) → shown_as slot.key (field_value (suc field) (body_values (with_field_values body (without_parent (body_values body))))) ≡ shown_as slot.key (field_value (suc field) (body_values body))
   by_body None = refl
   by_body (Some body) = ap (shown_as slot.key) (by_values body.values)
 
 checked-by-shows : (field : ℕ) (parent : Option (List ℕ)) (slots : List Slot) (slot : Slot) → shows field (checked_by parent slots slot) ≡ shows field slot
 checked-by-shows field None slots slot = refl
 checked-by-shows field (Some key) slots slot = by_test (is_parent (slot_at slots key)) where
-  by_test : (b : Bool) → shows field (if b then slot else cut slot) ≡ shows field slot
+  by_test : (b : Bool) → shows field (if b then slot else without_crossref slot) ≡ shows field slot
   by_test true = refl
   by_test false = cut-shows field slot
 
@@ -67,17 +67,17 @@ shown_by (Some shown) = shown.1
 abbrev shown_for : List (List ℕ × Option (List ℕ)) → List ℕ → Option (List ℕ)
 shown_for shown key = shown_by (find (λ (s : List ℕ × Option (List ℕ)). is_same_key key s.0) shown)
 
-shown-field : (field : ℕ) (slots : List Slot) (key : List ℕ) → field_at slots key field ≡ shown_for (map (shows field) slots) key
+shown-field : (field : ℕ) (slots : List Slot) (key : List ℕ) → declared_value slots key field ≡ shown_for (map (shows field) slots) key
 shown-field field [] key = refl
 shown-field field (slot ∷ slots) key = by_test (is_same_key key slot.key) (shown-field field slots key) where
   others : Option (List ℕ × Option (List ℕ))
   others = find (λ (s : List ℕ × Option (List ℕ)). is_same_key key s.0) (map (shows field) slots)
 
-  by_test : (b : Bool) → value_at (suc field) (values_by (slot_at slots key)) ≡ shown_by others → value_at (suc field) (values_by (cond b (Some slot) (slot_at slots key))) ≡ shown_by (cond b (Some (shows field slot)) others)
+  by_test : (b : Bool) → field_value (suc field) (values_by (slot_at slots key)) ≡ shown_by others → field_value (suc field) (values_by (cond b (Some slot) (slot_at slots key))) ≡ shown_by (cond b (Some (shows field slot)) others)
   by_test true rest = refl
   by_test false rest = rest
 
-second-field : (slots : List Slot) (key : List ℕ) (field : ℕ) → field_at (after_second slots) key field ≡ field_at slots key field
+second-field : (slots : List Slot) (key : List ℕ) (field : ℕ) → declared_value (after_second slots) key field ≡ declared_value slots key field
 second-field slots key field =
     shown-field field (after_second slots) key
     ∙ ap (λ (shown : List (List ℕ × Option (List ℕ))). shown_for shown key) (view-passed (shows field) checked (checked-shows field) slots [])
@@ -85,7 +85,7 @@ second-field slots key field =
 
 -- ---- the value of an entry that stays
 
-apart-entry : (key : List ℕ) (slots : List Slot) (entry : Entry) → AllByRecursion (λ (other : List ℕ). bytes_eq (folded key) other ≡ false) (names_of slots) → Contains (flat_map entry_at slots) entry → is_same_key key entry.key ≡ false
+apart-entry : (key : List ℕ) (slots : List Slot) (entry : Entry) → AllByRecursion (λ (other : List ℕ). bytes_eq (folded key) other ≡ false) (lower_keys slots) → Contains (flat_map entry_at slots) entry → is_same_key key entry.key ≡ false
 apart-entry key [] entry apart there = absurd (none-contained entry there)
 apart-entry key (slot ∷ slots) entry apart there =
     ⊎_elim (λ (first : Contains (entry_at slot) entry). of_slot slot.stays slot.body first) (λ (later : Contains (flat_map entry_at slots) entry). apart-entry key slots entry apart.1 later)
@@ -95,48 +95,48 @@ apart-entry key (slot ∷ slots) entry apart there =
       of_slot false (Some body) first = absurd (none-contained entry first)
       of_slot true (Some body) first = subst (λ (e : Entry). is_same_key key e.key ≡ false) (one-contained (record { key = slot.key; kind = body.kind; values = body.values }) entry first) apart.0
 
-entry-field : (slots : List Slot) (entry : Entry) (field : ℕ) → IsDistinct bytes_eq (names_of slots) → Contains (flat_map entry_at slots) entry → field_at slots entry.key field ≡ value_at (suc field) entry.values
+entry-field : (slots : List Slot) (entry : Entry) (field : ℕ) → IsDistinct bytes_eq (lower_keys slots) → Contains (flat_map entry_at slots) entry → declared_value slots entry.key field ≡ field_value (suc field) entry.values
 entry-field [] entry field distinct there = absurd (none-contained entry there)
 entry-field (slot ∷ slots) entry field distinct there =
     ⊎_elim (λ (first : Contains (entry_at slot) entry). of_slot slot.stays slot.body refl first)
     (λ (later : Contains (flat_map entry_at slots) entry).
     let apart : is_same_key entry.key slot.key ≡ false =
-    same_key_equiv.symm entry.key slot.key ∙ apart-entry slot.key slots entry (IsDistinct-head bytes_eq (folded slot.key) (names_of slots) distinct) later in
-    ap (λ (b : Bool). value_at (suc field) (values_by (cond b (Some slot) (slot_at slots entry.key)))) apart
-    ∙ entry-field slots entry field (IsDistinct-tail bytes_eq (folded slot.key) (names_of slots) distinct) later)
+    same_key_equiv.symm entry.key slot.key ∙ apart-entry slot.key slots entry (IsDistinct-head bytes_eq (folded slot.key) (lower_keys slots) distinct) later in
+    ap (λ (b : Bool). field_value (suc field) (values_by (cond b (Some slot) (slot_at slots entry.key)))) apart
+    ∙ entry-field slots entry field (IsDistinct-tail bytes_eq (folded slot.key) (lower_keys slots) distinct) later)
     (Contains-append_cases (entry_at slot) (flat_map entry_at slots) entry there) where
       found : List ℕ → Option (List ℕ)
-      found key = value_at (suc field) (values_by (cond (is_same_key key slot.key) (Some slot) (slot_at slots key)))
+      found key = field_value (suc field) (values_by (cond (is_same_key key slot.key) (Some slot) (slot_at slots key)))
 
-      of_entry : (values : List (Option (List ℕ))) (made : Entry) → values_in slot.body ≡ values → made.key ≡ slot.key → made.values ≡ values → made ≡ entry → found entry.key ≡ value_at (suc field) entry.values
+      of_entry : (values : List (Option (List ℕ))) (made : Entry) → body_values slot.body ≡ values → made.key ≡ slot.key → made.values ≡ values → made ≡ entry → found entry.key ≡ field_value (suc field) entry.values
       of_entry values made has key is same =
-          subst (λ (e : Entry). found e.key ≡ value_at (suc field) e.values) same
-          (ap found key ∙ ap (λ (b : Bool). value_at (suc field) (values_by (cond b (Some slot) (slot_at slots slot.key)))) (same_key_equiv.refl slot.key) ∙ ap (value_at (suc field)) (has ∙ sym is))
+          subst (λ (e : Entry). found e.key ≡ field_value (suc field) e.values) same
+          (ap found key ∙ ap (λ (b : Bool). field_value (suc field) (values_by (cond b (Some slot) (slot_at slots slot.key)))) (same_key_equiv.refl slot.key) ∙ ap (field_value (suc field)) (has ∙ sym is))
 
-      of_slot : (enough : Bool) (body : Option Body) → slot.body ≡ body → Contains (entry_by slot.key enough body) entry → found entry.key ≡ value_at (suc field) entry.values
+      of_slot : (enough : Bool) (body : Option Body) → slot.body ≡ body → Contains (entry_by slot.key enough body) entry → found entry.key ≡ field_value (suc field) entry.values
       of_slot enough None is first = absurd (none-contained entry first)
       of_slot false (Some body) is first = absurd (none-contained entry first)
       of_slot true (Some body) is first =
           let made : Entry = record { key = slot.key; kind = body.kind; values = body.values } in
-          of_entry body.values made (ap values_in is) refl refl (one-contained made entry first)
+          of_entry body.values made (ap body_values is) refl refl (one-contained made entry first)
 
 -- ---- how many values an entry of the list has
 
-length-from : (wanted : Wanted) (fields : List Field) (first count : ℕ) → length (values_from wanted fields first count) ≡ count
+length-from : (wanted : Request) (fields : List KeptField) (first count : ℕ) → length (values_from wanted fields first count) ≡ count
 length-from wanted fields first zero = refl
 length-from wanted fields first (suc count) = ap suc (length-from wanted fields (suc first) count)
 
-abbrev HasAll : Wanted → Slot → Type 0
-HasAll wanted slot = (parent : List ℕ) → parent_at slot ≡ Some parent → length (values_in slot.body) ≡ wanted.count
+abbrev HasAll : Request → Slot → Type 0
+HasAll wanted slot = (parent : List ℕ) → parent_at slot ≡ Some parent → length (body_values slot.body) ≡ wanted.count
 
-has-all : (wanted : Wanted) (stored : List Given) (key : List ℕ) → HasAll wanted (slot_of wanted stored key)
+has-all : (wanted : Request) (stored : List Given) (key : List ℕ) → HasAll wanted (slot_of wanted stored key)
 unfolding slot_of body_of
-has-all wanted stored key = by_entry (entry_of stored key) where
-  by_entry : (o : Option Given) (parent : List ℕ) → parent_in (values_in (option_map (body_of wanted) o)) ≡ Some parent → length (values_in (option_map (body_of wanted) o)) ≡ wanted.count
+has-all wanted stored key = by_entry (entry_with_key stored key) where
+  by_entry : (o : Option Given) (parent : List ℕ) → parent_in (body_values (option_map (body_of wanted) o)) ≡ Some parent → length (body_values (option_map (body_of wanted) o)) ≡ wanted.count
   by_entry None parent some = cc
   by_entry (Some given) parent some = length-from wanted given.fields 0 wanted.count
 
-found-has-all : (wanted : Wanted) (stored : List Given) (keys : List (List ℕ)) (key : List ℕ) (slot : Slot) → slot_at (map (slot_of wanted stored) keys) key ≡ Some slot → HasAll wanted slot
+found-has-all : (wanted : Request) (stored : List Given) (keys : List (List ℕ)) (key : List ℕ) (slot : Slot) → slot_at (map (slot_of wanted stored) keys) key ≡ Some slot → HasAll wanted slot
 found-has-all wanted stored [] key slot at = cc
 found-has-all wanted stored (k ∷ keys) key slot at = by_test (is_same_key key (slot_of wanted stored k).key) at (found-has-all wanted stored keys key slot) where
   by_test : (b : Bool) → cond b (Some (slot_of wanted stored k)) (slot_at (map (slot_of wanted stored) keys) key) ≡ Some slot → (slot_at (map (slot_of wanted stored) keys) key ≡ Some slot → HasAll wanted slot) → HasAll wanted slot
@@ -145,7 +145,7 @@ found-has-all wanted stored (k ∷ keys) key slot at = by_test (is_same_key key 
 
 -- ---- the library
 
-abbrev Inherits : Wanted → List Slot → List ℕ → ℕ → Option (List ℕ) → Type 0
+abbrev Inherits : Request → List Slot → List ℕ → ℕ → Option (List ℕ) → Type 0
 Inherits wanted given key field found = OwnStands given key field found × IsParentsOwn wanted.count given key field found × IsParents given key field found
 
 parent-there : (slots : List Slot) (key parent : List ℕ) → parent_by_key slots key ≡ Some parent → (slot : Slot) × (slot_at slots key ≡ Some slot) × (parent_at slot ≡ Some parent)
@@ -154,25 +154,25 @@ parent-there slots key parent some = by_slot (slot_at slots key) refl some where
   by_slot None at some = cc
   by_slot (Some slot) at some = (slot, at, some)
 
-first-inherited : (wanted : Wanted) (stored : List Given) (key : List ℕ) (field : ℕ) → Inherits wanted (slots_of wanted stored) key field (field_at (after_first (slots_of wanted stored)) key field)
+first-inherited : (wanted : Request) (stored : List Given) (key : List ℕ) (field : ℕ) → Inherits wanted (slots_of wanted stored) key field (declared_value (after_first (slots_of wanted stored)) key field)
 first-inherited wanted stored key field = let given = slots_of wanted stored in (
   first-grows given key field,
   λ parent value within lacks some has.
       (let there = parent-there given key parent some in
-      first-takes given key parent there.0 field value there.1 there.2 (subst (λ (n : ℕ). suc field < n) (sym (found-has-all wanted stored (keys_of wanted stored) key there.0 there.1 parent there.2)) within)
-      (ap (λ (o : Option Slot). value_at (suc field) (values_by o)) (sym there.1) ∙ lacks) has),
+      first-takes given key parent there.0 field value there.1 there.2 (subst (λ (n : ℕ). suc field < n) (sym (found-has-all wanted stored (list_keys wanted stored) key there.0 there.1 parent there.2)) within)
+      (ap (λ (o : Option Slot). field_value (suc field) (values_by o)) (sym there.1) ∙ lacks) has),
   first-inherits given key field,
 )
 
-entries-inherit : (wanted : Wanted) (stored : List Given) (entry : Entry) (field : ℕ) → Contains (entries_of (slots_of wanted stored)) entry → Inherits wanted (slots_of wanted stored) entry.key field (value_at (suc field) entry.values)
+entries-inherit : (wanted : Request) (stored : List Given) (entry : Entry) (field : ℕ) → Contains (entries_of (slots_of wanted stored)) entry → Inherits wanted (slots_of wanted stored) entry.key field (field_value (suc field) entry.values)
 unfolding entries_of
 entries-inherit wanted stored entry field there =
     let list = after_second (after_first (slots_of wanted stored)) in
     subst (Inherits wanted (slots_of wanted stored) entry.key field) (sym (second-field (after_first (slots_of wanted stored)) entry.key field) ∙ entry-field list entry field (distinct-names wanted stored) there)
     (first-inherited wanted stored entry.key field)
 
-library-inherits : (ending : End) (wanted : Wanted) (known : Known) (messages : List Message) (entry : Entry) (field : ℕ) → Contains (library_by ending wanted known messages).entries entry
-    → Inherits wanted (slots_of wanted known.stored) entry.key field (value_at (suc field) entry.values)
+library-inherits : (ending : End) (wanted : Request) (known : Known) (messages : List Message) (entry : Entry) (field : ℕ) → Contains (library_by ending wanted known messages).entries entry
+    → Inherits wanted (slots_of wanted known.stored) entry.key field (field_value (suc field) entry.values)
 library-inherits end.Whole wanted known messages entry field there = entries-inherit wanted known.stored entry field there
 library-inherits end.FileLimit wanted known messages entry field there = absurd (none-contained entry there)
 library-inherits end.StringLimit wanted known messages entry field there = absurd (none-contained entry there)

@@ -7,12 +7,12 @@ use Rattle.std.specs.Cmp.{IsEquivalence}
 use Rattle.std.proofs.lemmas.Cmp.{nat_list_eq_equiv}
 use Rattle.std.proofs.lemmas.Slice.Eq.{bytes_eq-Decides}
 use Rattle.std.proofs.lemmas.Map.Keys.{IsDistinct-head, IsDistinct-tail, IsDistinct-push}
-use Rattle.btx_text.specs.Keys.{folded}
-use Rattle.btx_aux.specs.Names.{is_same_key, with_key}
+use Rattle.btx_text.specs.language.Keys.{folded}
+use Rattle.btx_aux.specs.language.Names.{is_same_key, with_key}
 use Rattle.btx_bib.specs.declared.draft_slots.DraftSlot.{DraftSlot}
-use Rattle.btx_bib.specs.Entries.{Given}
-use Rattle.btx_bib.specs.Finding.{place_of, changed_at}
-use Rattle.btx_bib.specs.Stored.{is_any_key, entry_of}
+use Rattle.btx_bib.specs.language.Entries.{Given}
+use Rattle.btx_bib.specs.refinement.Finding.{first_place, changed_at}
+use Rattle.btx_bib.specs.language.Stored.{is_any_key, entry_with_key}
 
 -- ---- the same key
 
@@ -29,7 +29,7 @@ folded-same key other same = (bytes_eq-Decides (folded key) (folded other)).0 sa
 pub is_any_key-same : (keys : List (List ℕ)) (key other : List ℕ) → is_same_key key other ≡ true → is_any_key keys key ≡ is_any_key keys other
 is_any_key-same keys key other same = ap (λ (f : List ℕ). list_any (λ (k : List ℕ). bytes_eq f (folded k)) keys) (folded-same key other same)
 
-pub entry_of-same : (entries : List Given) (key other : List ℕ) → is_same_key key other ≡ true → entry_of entries key ≡ entry_of entries other
+pub entry_of-same : (entries : List Given) (key other : List ℕ) → is_same_key key other ≡ true → entry_with_key entries key ≡ entry_with_key entries other
 entry_of-same entries key other same = ap (λ (f : List ℕ). find (λ (e : Given). bytes_eq f (folded e.key)) entries) (folded-same key other same)
 
 -- ---- one of some keys
@@ -114,15 +114,15 @@ zero_some : (b : Bool) (o : Option ℕ) (place : ℕ) → (if b then Some 0 else
 zero_some true o place h t = cc
 zero_some false o place h t = cc
 
-pub changed_at-key : (f : List ℕ → DraftSlot) (change : DraftSlot → DraftSlot) (key : List ℕ) (keys : List (List ℕ)) (place : ℕ) → IsDistinct is_same_key keys → place_of (bytes_eq (folded key)) (map folded keys) ≡ Some place
+pub changed_at-key : (f : List ℕ → DraftSlot) (change : DraftSlot → DraftSlot) (key : List ℕ) (keys : List (List ℕ)) (place : ℕ) → IsDistinct is_same_key keys → first_place (bytes_eq (folded key)) (map folded keys) ≡ Some place
     → changed_at place change (map f keys) ≡ map (changed_key f change key) keys
 changed_at-key f change key [] place distinct at = refl
 changed_at-key f change key (k ∷ keys) place distinct at = by_test (is_same_key key k) refl (λ before there. changed_at-key f change key keys before (IsDistinct-tail is_same_key k keys distinct) there) where
-  by_test : (b : Bool) → is_same_key key k ≡ b → ((before : ℕ) → place_of (bytes_eq (folded key)) (map folded keys) ≡ Some before → changed_at before change (map f keys) ≡ map (changed_key f change key) keys)
+  by_test : (b : Bool) → is_same_key key k ≡ b → ((before : ℕ) → first_place (bytes_eq (folded key)) (map folded keys) ≡ Some before → changed_at before change (map f keys) ≡ map (changed_key f change key) keys)
       → changed_at place change (f k ∷ map f keys) ≡ (if b then change (f k) else f k) ∷ map (changed_key f change key) keys
   by_test true same rest =
-      let first = zero_some (is_same_key key k) (place_of (bytes_eq (folded key)) (map folded keys)) place at same in
+      let first = zero_some (is_same_key key k) (first_place (bytes_eq (folded key)) (map folded keys)) place at same in
       rw first (ap (λ (slots : List DraftSlot). change (f k) ∷ slots) (unchanged f change key keys (others key k keys same (IsDistinct-head is_same_key k keys distinct))))
   by_test false other rest =
-      let later = suc_some (is_same_key key k) (place_of (bytes_eq (folded key)) (map folded keys)) place at other in
+      let later = suc_some (is_same_key key k) (first_place (bytes_eq (folded key)) (map folded keys)) place at other in
       rw later.1.1 (ap (λ (slots : List DraftSlot). f k ∷ slots) (rest later.0 later.1.0))

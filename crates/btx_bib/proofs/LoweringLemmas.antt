@@ -3,7 +3,7 @@ use Rattle.std.proofs.Common.{◌≡◌, ℕ, ◌<◌, ◌+◌, List, ◌∷◌,
 use Rattle.std.specs.Char.{to_ascii_lowercase, IsNotAsciiUppercase}
 use Rattle.std.proofs.lemmas.List.{at_drop_more}
 use Rattle.std.proofs.lemmas.Bool.Decides.{nat_tests}
-use Rattle.btx_text.specs.Keys.{folded}
+use Rattle.btx_text.specs.language.Keys.{folded}
 
 pub lower-same : (b : ℕ) → IsNotAsciiUppercase b → to_ascii_lowercase b ≡ b
 lower-same b h = grind (arith, nat_tests)

@@ -5,22 +5,22 @@ use Rattle.std.specs.Str.{bytes_eq}
 use Rattle.std.specs.Option.{option_map}
 use Rattle.std.specs.List.{find, flat_map, AllByRecursion}
 use Rattle.std.proofs.lemmas.List.Elements.{Contains-append_left, Contains-append_right, Contains-append_cases, Contains-push, Contains-push_cases}
-use Rattle.btx_text.specs.Keys.{folded}
-use Rattle.btx_aux.specs.Names.{is_same_key}
+use Rattle.btx_text.specs.language.Keys.{folded}
+use Rattle.btx_aux.specs.language.Names.{is_same_key}
 use Rattle.btx_bib.specs.declared.end.End.{End}
 use Rattle.btx_bib.specs.declared.end.End.TheVariants as end
 use Rattle.btx_bib.specs.declared.entry.Entry.{Entry}
 use Rattle.btx_bib.specs.declared.message.Message.{Message}
 use Rattle.btx_bib.specs.declared.slots.Body.{Body}
 use Rattle.btx_bib.specs.declared.slots.Slot.{Slot}
-use Rattle.btx_bib.specs.Wanted.{Wanted}
-use Rattle.btx_bib.specs.Entries.{parent_in}
-use Rattle.btx_bib.specs.Listing.{slots_of}
-use Rattle.btx_bib.specs.Passes.{passed, inherited, inherited_from, inherited_values, checked, cut, is_parent, slot_at, parent_at, values_in, with_values, without_parent, after_first, after_second, entries_of, entry_at, entry_by}
-use Rattle.btx_bib.specs.Known.{Known}
-use Rattle.btx_bib.specs.Databases.{library_of, library_by, read_all}
-use Rattle.btx_bib.specs.Laws.{list_of}
-use Rattle.btx_bib.specs.Parents.{NoReferenceDangles}
+use Rattle.btx_bib.specs.language.Wanted.{Request}
+use Rattle.btx_bib.specs.language.Entries.{parent_in}
+use Rattle.btx_bib.specs.language.Listing.{slots_of}
+use Rattle.btx_bib.specs.language.Passes.{passed, inherited, inherited_from, inherited_values, checked, without_crossref, is_parent, slot_at, parent_at, body_values, with_field_values, without_parent, after_first, after_second, entries_of, entry_at, entry_by}
+use Rattle.btx_bib.specs.language.Known.{Known}
+use Rattle.btx_bib.specs.language.Databases.{library_of, library_by, read_all}
+use Rattle.btx_bib.specs.laws.Laws.{list_of}
+use Rattle.btx_bib.specs.laws.Parents.{NoReferenceDangles}
 use Rattle.btx_bib.proofs.ListedKeyLemmas.{folded-same}
 use Rattle.btx_bib.proofs.PassLemmas.{inherited-alone, inherited-by, checked-alone, checked-is, slot_at-same}
 use Rattle.btx_bib.proofs.StayingLemmas.{view-next, view-passed, view, view-inherited, view-checked, views-after, chosen, chosen_by, kept, kept-chosen}
@@ -67,7 +67,7 @@ shown-by slots views key o shows at = ap (λ (vs : List (List ℕ × Bool)). sho
 abbrev IsSpelled : List (List ℕ × Bool) → Slot → Type 0
 IsSpelled views slot = (key : List ℕ) (seen : List ℕ × Bool) → parent_at slot ≡ Some key → shown_at views key ≡ Some seen → seen.0 ≡ key
 
-parent-given : (key parent : List ℕ) (body : Option Body) (parents : List (Option (List ℕ))) → parent_in (values_in body) ≡ Some key → parent_in (values_in (with_values body (inherited_values parent (values_in body) parents))) ≡ Some parent
+parent-given : (key parent : List ℕ) (body : Option Body) (parents : List (Option (List ℕ))) → parent_in (body_values body) ≡ Some key → parent_in (body_values (with_field_values body (inherited_values parent (body_values body) parents))) ≡ Some parent
 parent-given key parent None parents has = cc
 parent-given key parent (Some body) parents has = by_values body.values parents has where
   by_values : (values parents : List (Option (List ℕ))) → parent_in values ≡ Some key → parent_in (inherited_values parent values parents) ≡ Some parent
@@ -81,7 +81,7 @@ spelled-found slots slot views key None shows has at other seen some found =
     let nothing : shown_at views other ≡ None = subst (λ (k : List ℕ). shown_at views k ≡ None) same (shown-by slots views key None shows at) in
     absurd (let both : Some seen ≡ None = sym found ∙ nothing in cc)
 spelled-found slots slot views key (Some parent) shows has at other seen some found =
-    let same : parent.key ≡ other = let both : Some parent.key ≡ Some other = sym (parent-given key parent.key slot.body (values_in parent.body) has) ∙ some in cc in
+    let same : parent.key ≡ other = let both : Some parent.key ≡ Some other = sym (parent-given key parent.key slot.body (body_values parent.body) has) ∙ some in cc in
     let there : shown_at views other ≡ Some (view parent) = subst (λ (k : List ℕ). shown_at views k ≡ Some (view parent)) same (shown-by slots views parent.key (Some parent) shows (slot_at-own slots key parent at)) in
     let both : Some (view parent) ≡ Some seen = sym there ∙ found in
     let is : view parent ≡ seen = cc in
@@ -98,13 +98,13 @@ spelled-first views slots slot shows = by_parent (parent_at slot) refl where
   by_parent None none = subst (IsSpelled views) (sym (inherited-alone slots slot none)) (λ key seen some found. absurd (let both : None ≡ Some key = sym none ∙ some in cc))
   by_parent (Some key) some = subst (IsSpelled views) (sym (inherited-by slots slot key (slot_at slots key) some refl)) (spelled-found slots slot views key (slot_at slots key) shows some refl)
 
-cut-none : (slot : Slot) → parent_at (cut slot) ≡ None
+cut-none : (slot : Slot) → parent_at (without_crossref slot) ≡ None
 cut-none slot = by_body slot.body where
   by_values : (values : List (Option (List ℕ))) → parent_in (without_parent values) ≡ None
   by_values [] = refl
   by_values (value ∷ values) = refl
 
-  by_body : (body : Option Body) → parent_in (values_in (with_values body (without_parent (values_in body)))) ≡ None
+  by_body : (body : Option Body) → parent_in (body_values (with_field_values body (without_parent (body_values body)))) ≡ None
   by_body None = refl
   by_body (Some body) = by_values body.values
 
@@ -113,7 +113,7 @@ shown-parent views key None parent found spelled = cc
 shown-parent views key (Some slot) parent found spelled =
     found ∙ ap (λ (b : Bool). Some (slot.key, b)) parent ∙ ap (λ (k : List ℕ). Some (k, true)) (spelled (view slot) found)
 
-stands-by : (views : List (List ℕ × Bool)) (slot : Slot) (key : List ℕ) (b : Bool) → parent_at slot ≡ Some key → (b ≡ true → shown_at views key ≡ Some (key, true)) → Stands views (if b then slot else cut slot)
+stands-by : (views : List (List ℕ × Bool)) (slot : Slot) (key : List ℕ) (b : Bool) → parent_at slot ≡ Some key → (b ≡ true → shown_at views key ≡ Some (key, true)) → Stands views (if b then slot else without_crossref slot)
 stands-by views slot key true has there other some =
     let both : Some key ≡ Some other = sym has ∙ some in
     let same : key ≡ other = cc in
@@ -154,7 +154,7 @@ parent-of-entry [] Q all entry there key has = absurd (none-contained entry ther
 parent-of-entry (slot ∷ slots) Q all entry there key has =
     ⊎_elim (λ (first : Contains (entry_at slot) entry). of_slot slot.stays slot.body first all.0) (λ (later : Contains (flat_map entry_at slots) entry). parent-of-entry slots Q all.1 entry later key has)
     (Contains-append_cases (entry_at slot) (flat_map entry_at slots) entry there) where
-      of_slot : (enough : Bool) (body : Option Body) → Contains (entry_by slot.key enough body) entry → ((key : List ℕ) → parent_in (values_in body) ≡ Some key → Q key) → Q key
+      of_slot : (enough : Bool) (body : Option Body) → Contains (entry_by slot.key enough body) entry → ((key : List ℕ) → parent_in (body_values body) ≡ Some key → Q key) → Q key
       of_slot enough None first q = absurd (none-contained entry first)
       of_slot false (Some body) first q = absurd (none-contained entry first)
       of_slot true (Some body) first q = q key (ap (λ (e : Entry). parent_in e.values) (one-contained (record { key = slot.key; kind = body.kind; values = body.values }) entry first) ∙ has)
@@ -179,7 +179,7 @@ unfolding entries_of
 entries-stand slots entry parent there has =
     stand-kept slots parent (parent-of-entry (after_second (after_first slots)) (λ key. shown_at (map view slots) key ≡ Some (key, true)) (all-stand slots) entry there parent has)
 
-library-stands : (ending : End) (wanted : Wanted) (known : Known) (messages : List Message) (entry : Entry) (parent : List ℕ)
+library-stands : (ending : End) (wanted : Request) (known : Known) (messages : List Message) (entry : Entry) (parent : List ℕ)
     → Contains (library_by ending wanted known messages).entries entry → parent_in entry.values ≡ Some parent → Contains (list_of (library_by ending wanted known messages)) parent
 library-stands end.Whole wanted known messages entry parent there has = entries-stand (slots_of wanted known.stored) entry parent there has
 library-stands end.FileLimit wanted known messages entry parent there has = absurd (none-contained entry there)

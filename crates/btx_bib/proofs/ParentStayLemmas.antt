@@ -4,13 +4,13 @@ use Rattle.std.specs.Prelude.{count_by}
 use Rattle.std.specs.Option.{option_map, option_or, unwrap_or}
 use Rattle.std.specs.List.{filter, find}
 use Rattle.std.proofs.lemmas.Bool.Decides.{nat_tests}
-use Rattle.btx_aux.specs.Names.{is_same_key, listed_as}
-use Rattle.btx_bib.specs.Wanted.{Wanted}
-use Rattle.btx_bib.specs.Entries.{Given}
-use Rattle.btx_bib.specs.Stored.{entry_of, is_any_key, keys_in, parents_in, references}
-use Rattle.btx_bib.specs.Listing.{first_cited, added, last_cited, first_keys, keys_of, spelled, stays}
-use Rattle.btx_bib.specs.Laws.{keeps_entry, stored_by}
-use Rattle.btx_bib.specs.Parents.{NoParentLeaves}
+use Rattle.btx_aux.specs.language.Names.{is_same_key, listed_as}
+use Rattle.btx_bib.specs.language.Wanted.{Request}
+use Rattle.btx_bib.specs.language.Entries.{Given}
+use Rattle.btx_bib.specs.language.Stored.{entry_with_key, is_any_key, keys_in, parents_in, references}
+use Rattle.btx_bib.specs.language.Listing.{first_cited, added, last_cited, first_keys, list_keys, spelled, stays}
+use Rattle.btx_bib.specs.laws.Laws.{keeps_entry, stored_by}
+use Rattle.btx_bib.specs.laws.Parents.{NoParentLeaves}
 use Rattle.btx_bib.proofs.ListedKeyLemmas.{same_key_equiv, entry_of-same, is_any_key-append, is_any_key-fold}
 use Rattle.btx_bib.proofs.StayingLemmas.{list-is-kept}
 
@@ -24,18 +24,18 @@ or-left false b h = cc
 
 -- ---- a parent that has an entry is on the list
 
-stored-key : (stored : List Given) (key : List ℕ) → is_some (entry_of stored key) ≡ true → is_any_key (keys_in stored) key ≡ true
+stored-key : (stored : List Given) (key : List ℕ) → is_some (entry_with_key stored key) ≡ true → is_any_key (keys_in stored) key ≡ true
 stored-key [] key h = cc
 stored-key (given ∷ stored) key h = by_test (is_same_key key given.key) h (stored-key stored key) where
-  by_test : (b : Bool) → is_some (cond b (Some given) (entry_of stored key)) ≡ true → (is_some (entry_of stored key) ≡ true → is_any_key (keys_in stored) key ≡ true) → (b || is_any_key (keys_in stored) key) ≡ true
+  by_test : (b : Bool) → is_some (cond b (Some given) (entry_with_key stored key)) ≡ true → (is_some (entry_with_key stored key) ≡ true → is_any_key (keys_in stored) key ≡ true) → (b || is_any_key (keys_in stored) key) ≡ true
   by_test true h later = refl
   by_test false h later = later h
 
-added-parent : (all : Option ℕ) (wanted : Wanted) (stored : List Given) (parent : List ℕ) → is_any_key (parents_in wanted stored) parent ≡ true → is_some (entry_of stored parent) ≡ true → is_any_key (added all wanted stored) parent ≡ true
+added-parent : (all : Option ℕ) (wanted : Request) (stored : List Given) (parent : List ℕ) → is_any_key (parents_in wanted stored) parent ≡ true → is_some (entry_with_key stored parent) ≡ true → is_any_key (added all wanted stored) parent ≡ true
 added-parent None wanted stored parent named has = named
 added-parent (Some place) wanted stored parent named has = stored-key stored parent has
 
-on-list : (wanted : Wanted) (stored : List Given) (parent : List ℕ) → is_any_key (parents_in wanted stored) parent ≡ true → is_some (entry_of stored parent) ≡ true → is_any_key (keys_of wanted stored) parent ≡ true
+on-list : (wanted : Request) (stored : List Given) (parent : List ℕ) → is_any_key (parents_in wanted stored) parent ≡ true → is_some (entry_with_key stored parent) ≡ true → is_any_key (list_keys wanted stored) parent ≡ true
 on-list wanted stored parent named has =
     let cited = first_cited wanted.all wanted.cited in
     let more = added wanted.all wanted stored in
@@ -54,14 +54,14 @@ found-same {T} key_in (y ∷ xs) key x h = by_test (is_same_key key (key_in y)) 
   by_test true same h later = let is : y ≡ x = cc in subst (λ (z : T). is_same_key key (key_in z) ≡ true) is same
   by_test false differs h later = later h
 
-spelled-same : (wanted : Wanted) (stored : List Given) (key : List ℕ) → is_same_key key (spelled wanted stored key) ≡ true
+spelled-same : (wanted : Request) (stored : List Given) (key : List ℕ) → is_same_key key (spelled wanted stored key) ≡ true
 spelled-same wanted stored key = by_cited (listed_as wanted.cited key) refl where
-  by_entry : (o : Option Given) → entry_of stored key ≡ o → is_same_key key (unwrap_or (option_map (λ (given : Given). given.key) o) key) ≡ true
+  by_entry : (o : Option Given) → entry_with_key stored key ≡ o → is_same_key key (unwrap_or (option_map (λ (given : Given). given.key) o) key) ≡ true
   by_entry None h = same_key_equiv.refl key
   by_entry (Some given) h = found-same (λ (g : Given). g.key) stored key given h
 
-  by_cited : (o : Option (List ℕ)) → listed_as wanted.cited key ≡ o → is_same_key key (unwrap_or (option_or o (option_map (λ (given : Given). given.key) (entry_of stored key))) key) ≡ true
-  by_cited None h = by_entry (entry_of stored key) refl
+  by_cited : (o : Option (List ℕ)) → listed_as wanted.cited key ≡ o → is_same_key key (unwrap_or (option_or o (option_map (λ (given : Given). given.key) (entry_with_key stored key))) key) ≡ true
+  by_cited None h = by_entry (entry_with_key stored key) refl
   by_cited (Some cited) h = found-same (λ (k : List ℕ). k) wanted.cited key cited h
 
 zero-least : (n : ℕ) → nat_le 0 n ≡ true
@@ -70,7 +70,7 @@ zero-least n = by_test (nat_le 0 n) refl where
   by_test true h = refl
   by_test false h = absurd (grind (arith, nat_tests))
 
-due-always : (wanted : Wanted) (stored : List Given) (key : List ℕ) → wanted.fewest ≡ 0 → stays wanted stored key ≡ true
+due-always : (wanted : Request) (stored : List Given) (key : List ℕ) → wanted.fewest ≡ 0 → stays wanted stored key ≡ true
 due-always wanted stored key none = or-right (is_some (listed_as wanted.cited key)) (nat_le wanted.fewest (count_by (is_same_key key) (references wanted stored))) (ap (λ (n : ℕ). nat_le n (count_by (is_same_key key) (references wanted stored))) none ∙ zero-least (count_by (is_same_key key) (references wanted stored)))
 
 both-true : (a b : Bool) → a ≡ true → b ≡ true → (a && b) ≡ true
@@ -78,7 +78,7 @@ both-true true true g h = refl
 both-true true false g h = cc
 both-true false b g h = cc
 
-stays-there : (wanted : Wanted) (stored : List Given) (parent : List ℕ) → wanted.fewest ≡ 0 → is_some (entry_of stored parent) ≡ true → (keys : List (List ℕ)) → is_any_key keys parent ≡ true
+stays-there : (wanted : Request) (stored : List Given) (parent : List ℕ) → wanted.fewest ≡ 0 → is_some (entry_with_key stored parent) ≡ true → (keys : List (List ℕ)) → is_any_key keys parent ≡ true
     → is_any_key (map (spelled wanted stored) (filter (keeps_entry wanted stored) keys)) parent ≡ true
 stays-there wanted stored parent none has [] there = cc
 stays-there wanted stored parent none has (key ∷ keys) there = by_same (is_same_key parent key) refl there (stays-there wanted stored parent none has keys) where
@@ -86,7 +86,7 @@ stays-there wanted stored parent none has (key ∷ keys) there = by_same (is_sam
   others = map (spelled wanted stored) (filter (keeps_entry wanted stored) keys)
 
   first : is_same_key parent key ≡ true → keeps_entry wanted stored key ≡ true
-  first same = both-true (is_some (entry_of stored key)) (stays wanted stored key) (ap (λ (o : Option Given). is_some o) (sym (entry_of-same stored parent key same)) ∙ has) (due-always wanted stored key none)
+  first same = both-true (is_some (entry_with_key stored key)) (stays wanted stored key) (ap (λ (o : Option Given). is_some o) (sym (entry_of-same stored parent key same)) ∙ has) (due-always wanted stored key none)
 
   shown : Bool → List (List ℕ)
   shown b = map (spelled wanted stored) (cond b (key ∷ filter (keeps_entry wanted stored) keys) (filter (keeps_entry wanted stored) keys))
@@ -104,4 +104,4 @@ stays-there wanted stored parent none has (key ∷ keys) there = by_same (is_sam
 pub no-parent-leaves : NoParentLeaves
 no-parent-leaves wanted macros databases parent whole none named has =
     let stored = stored_by wanted macros databases in
-    ap (λ (keys : List (List ℕ)). is_any_key keys parent) (list-is-kept wanted macros databases whole) ∙ stays-there wanted stored parent none has (keys_of wanted stored) (on-list wanted stored parent named has)
+    ap (λ (keys : List (List ℕ)). is_any_key keys parent) (list-is-kept wanted macros databases whole) ∙ stays-there wanted stored parent none has (list_keys wanted stored) (on-list wanted stored parent named has)

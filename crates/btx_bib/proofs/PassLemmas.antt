@@ -3,13 +3,13 @@ use Rattle.std.proofs.Common.{◌≡◌, ℕ, zero, suc, arith, ◌+◌, ◌<◌
 use Rattle.std.specs.Prelude.{slice_get}
 use Rattle.std.specs.Str.{bytes_eq}
 use Rattle.std.specs.Option.{option_map}
-use Rattle.btx_text.specs.Keys.{folded}
-use Rattle.btx_aux.specs.Names.{is_same_key}
+use Rattle.btx_text.specs.language.Keys.{folded}
+use Rattle.btx_aux.specs.language.Names.{is_same_key}
 use Rattle.btx_bib.specs.declared.message.Message.{Message}
 use Rattle.btx_bib.specs.declared.slots.Slot.{Slot}
-use Rattle.btx_bib.specs.Finding.{place_of, changed_at}
-use Rattle.btx_bib.specs.Passes.{passed, told_in, parent_at, parent_slot, slot_at, inherited, inherited_from, checked, checked_by, is_parent, cut, check_told, check_told_by, parent_told}
-use Rattle.btx_bib.specs.Steps.{names_of, slot_by, told_by}
+use Rattle.btx_bib.specs.refinement.Finding.{first_place, changed_at}
+use Rattle.btx_bib.specs.language.Passes.{passed, pass_messages, parent_at, parent_slot, slot_at, inherited, inherited_from, checked, checked_by, is_parent, without_crossref, check_messages, check_messages_by, parent_messages}
+use Rattle.btx_bib.specs.refinement.Steps.{lower_keys, slot_by, told_by}
 use Rattle.btx_bib.proofs.ListedKeyLemmas.{folded-same}
 
 pub changed_at-agree : (xs : List Slot) (p : ℕ) (x : Slot) (f g : Slot → Slot) → slice_get xs p ≡ Some x → f x ≡ g x → changed_at p f xs ≡ changed_at p g xs
@@ -27,9 +27,9 @@ changed_at-none [] p f at = refl
 changed_at-none (y ∷ xs) zero f at = cc
 changed_at-none (y ∷ xs) (suc p) f at = ap (λ (rest : List Slot). y ∷ rest) (changed_at-none xs p f at)
 
-pub names_of-changed : (xs : List Slot) (p : ℕ) (f : Slot → Slot) → ((x : Slot) → (f x).key ≡ x.key) → names_of (changed_at p f xs) ≡ names_of xs
+pub names_of-changed : (xs : List Slot) (p : ℕ) (f : Slot → Slot) → ((x : Slot) → (f x).key ≡ x.key) → lower_keys (changed_at p f xs) ≡ lower_keys xs
 names_of-changed [] p f keeps = refl
-names_of-changed (x ∷ xs) zero f keeps = ap (λ (key : List ℕ). folded key ∷ names_of xs) (keeps x)
+names_of-changed (x ∷ xs) zero f keeps = ap (λ (key : List ℕ). folded key ∷ lower_keys xs) (keeps x)
 names_of-changed (x ∷ xs) (suc p) f keeps = ap (λ (rest : List (List ℕ)). folded x.key ∷ rest) (names_of-changed xs p f keeps)
 
 -- ---- the place of a key
@@ -38,16 +38,16 @@ later : (slot : Slot) (slots : List Slot) (o : Option ℕ) → slot_by (slot ∷
 later slot slots None = refl
 later slot slots (Some place) = refl
 
-pub slot_at-place : (slots : List Slot) (key : List ℕ) → slot_at slots key ≡ slot_by slots (place_of (bytes_eq (folded key)) (names_of slots))
+pub slot_at-place : (slots : List Slot) (key : List ℕ) → slot_at slots key ≡ slot_by slots (first_place (bytes_eq (folded key)) (lower_keys slots))
 slot_at-place [] key = refl
 slot_at-place (slot ∷ slots) key = by_test (is_same_key key slot.key) (slot_at-place slots key) where
-  by_test : (b : Bool) → slot_at slots key ≡ slot_by slots (place_of (bytes_eq (folded key)) (names_of slots))
-      → cond b (Some slot) (slot_at slots key) ≡ slot_by (slot ∷ slots) (if b then Some 0 else option_map suc (place_of (bytes_eq (folded key)) (names_of slots)))
+  by_test : (b : Bool) → slot_at slots key ≡ slot_by slots (first_place (bytes_eq (folded key)) (lower_keys slots))
+      → cond b (Some slot) (slot_at slots key) ≡ slot_by (slot ∷ slots) (if b then Some 0 else option_map suc (first_place (bytes_eq (folded key)) (lower_keys slots)))
   by_test true rest = refl
-  by_test false rest = rest ∙ sym (later slot slots (place_of (bytes_eq (folded key)) (names_of slots)))
+  by_test false rest = rest ∙ sym (later slot slots (first_place (bytes_eq (folded key)) (lower_keys slots)))
 
-pub slot_at-by : (slots : List Slot) (names : List (List ℕ)) (key : List ℕ) (o : Option Slot) → names ≡ names_of slots → o ≡ slot_by slots (place_of (bytes_eq (folded key)) names) → slot_at slots key ≡ o
-slot_at-by slots names key o are is = slot_at-place slots key ∙ ap (λ (ns : List (List ℕ)). slot_by slots (place_of (bytes_eq (folded key)) ns)) (sym are) ∙ sym is
+pub slot_at-by : (slots : List Slot) (names : List (List ℕ)) (key : List ℕ) (o : Option Slot) → names ≡ lower_keys slots → o ≡ slot_by slots (first_place (bytes_eq (folded key)) names) → slot_at slots key ≡ o
+slot_at-by slots names key o are is = slot_at-place slots key ∙ ap (λ (ns : List (List ℕ)). slot_by slots (first_place (bytes_eq (folded key)) ns)) (sym are) ∙ sym is
 
 -- ---- what a pass makes of a place
 
@@ -71,22 +71,22 @@ pub checked-alone : (slots : List Slot) (slot : Slot) → parent_at slot ≡ Non
 unfolding checked
 checked-alone slots slot none = ap (λ (o : Option (List ℕ)). checked_by o slots slot) none
 
-pub told-alone : (slots : List Slot) (slot : Slot) → parent_at slot ≡ None → check_told slots slot ≡ []
-unfolding check_told
-told-alone slots slot none = ap (λ (o : Option (List ℕ)). check_told_by o slots slot) none
+pub told-alone : (slots : List Slot) (slot : Slot) → parent_at slot ≡ None → check_messages slots slot ≡ []
+unfolding check_messages
+told-alone slots slot none = ap (λ (o : Option (List ℕ)). check_messages_by o slots slot) none
 
-pub checked-is : (slots : List Slot) (slot : Slot) (key : List ℕ) (o : Option Slot) → parent_at slot ≡ Some key → slot_at slots key ≡ o → checked slots slot ≡ (if is_parent o then slot else cut slot)
+pub checked-is : (slots : List Slot) (slot : Slot) (key : List ℕ) (o : Option Slot) → parent_at slot ≡ Some key → slot_at slots key ≡ o → checked slots slot ≡ (if is_parent o then slot else without_crossref slot)
 unfolding checked
-checked-is slots slot key o some is = ap (λ (o : Option (List ℕ)). checked_by o slots slot) some ∙ ap (λ (o : Option Slot). if is_parent o then slot else cut slot) is
+checked-is slots slot key o some is = ap (λ (o : Option (List ℕ)). checked_by o slots slot) some ∙ ap (λ (o : Option Slot). if is_parent o then slot else without_crossref slot) is
 
-pub told-is : (slots : List Slot) (slot : Slot) (key : List ℕ) (o : Option Slot) → parent_at slot ≡ Some key → slot_at slots key ≡ o → check_told slots slot ≡ parent_told slot.key key o
-unfolding check_told
-told-is slots slot key o some is = ap (λ (o : Option (List ℕ)). check_told_by o slots slot) some ∙ ap (λ (o : Option Slot). parent_told slot.key key o) is
+pub told-is : (slots : List Slot) (slot : Slot) (key : List ℕ) (o : Option Slot) → parent_at slot ≡ Some key → slot_at slots key ≡ o → check_messages slots slot ≡ parent_messages slot.key key o
+unfolding check_messages
+told-is slots slot key o some is = ap (λ (o : Option (List ℕ)). check_messages_by o slots slot) some ∙ ap (λ (o : Option Slot). parent_messages slot.key key o) is
 
 key-checked_by : (o : Option (List ℕ)) (slots : List Slot) (slot : Slot) → (checked_by o slots slot).key ≡ slot.key
 key-checked_by None slots slot = refl
 key-checked_by (Some key) slots slot = by_test (is_parent (slot_at slots key)) where
-  by_test : (b : Bool) → (if b then slot else cut slot).key ≡ slot.key
+  by_test : (b : Bool) → (if b then slot else without_crossref slot).key ≡ slot.key
   by_test true = refl
   by_test false = refl
 
@@ -135,22 +135,22 @@ module _ (judge : List Slot → Slot → Slot) where
   told_here tell slots (Some slot) = tell slots slot
 
   pub told-next : (tell : List Slot → Slot → List Message) (slots after : List Slot) (p : ℕ) (told told' whole : List Message) → p < length slots → after ≡ changed_at p (judge slots) slots
-      → told' ≡ told ++ told_here tell slots (slice_get slots p) → told ++ told_in judge tell (take p slots) (drop p slots) ≡ whole → told' ++ told_in judge tell (take (p + 1) after) (drop (p + 1) after) ≡ whole
+      → told' ≡ told ++ told_here tell slots (slice_get slots p) → told ++ pass_messages judge tell (take p slots) (drop p slots) ≡ whole → told' ++ pass_messages judge tell (take (p + 1) after) (drop (p + 1) after) ≡ whole
   told-next tell slots after p told told' whole within is tells total =
       let s = split slots p within in
-      let rest = told_in judge tell (take p slots ++ judge slots s.0 ∷ []) (drop (suc p) slots) in
-      ap (λ (n : ℕ). told' ++ told_in judge tell (take n after) (drop n after)) (add-one p)
-      ∙ ap (λ (xs : List Slot). told' ++ told_in judge tell (take (suc p) xs) (drop (suc p) xs)) is
-      ∙ ap (λ (xs : List Slot). told' ++ told_in judge tell xs (drop (suc p) (changed_at p (judge slots) slots))) (take-changed slots p s.0 (judge slots) s.1.0)
-      ∙ ap (λ (xs : List Slot). told' ++ told_in judge tell (take p slots ++ judge slots s.0 ∷ []) xs) (drop-changed slots p (judge slots))
+      let rest = pass_messages judge tell (take p slots ++ judge slots s.0 ∷ []) (drop (suc p) slots) in
+      ap (λ (n : ℕ). told' ++ pass_messages judge tell (take n after) (drop n after)) (add-one p)
+      ∙ ap (λ (xs : List Slot). told' ++ pass_messages judge tell (take (suc p) xs) (drop (suc p) xs)) is
+      ∙ ap (λ (xs : List Slot). told' ++ pass_messages judge tell xs (drop (suc p) (changed_at p (judge slots) slots))) (take-changed slots p s.0 (judge slots) s.1.0)
+      ∙ ap (λ (xs : List Slot). told' ++ pass_messages judge tell (take p slots ++ judge slots s.0 ∷ []) xs) (drop-changed slots p (judge slots))
       ∙ ap (λ (ms : List Message). ms ++ rest) tells
       ∙ ap (λ (o : Option Slot). (told ++ told_here tell slots o) ++ rest) s.1.0
       ∙ append_assoc told (tell slots s.0) rest
-      ∙ ap (λ (xs : List Slot). told ++ (tell xs s.0 ++ told_in judge tell (take p slots ++ judge xs s.0 ∷ []) (drop (suc p) slots))) (sym s.1.1.1)
-      ∙ ap (λ (xs : List Slot). told ++ told_in judge tell (take p slots) xs) (sym s.1.1.0)
+      ∙ ap (λ (xs : List Slot). told ++ (tell xs s.0 ++ pass_messages judge tell (take p slots ++ judge xs s.0 ∷ []) (drop (suc p) slots))) (sym s.1.1.1)
+      ∙ ap (λ (xs : List Slot). told ++ pass_messages judge tell (take p slots) xs) (sym s.1.1.0)
       ∙ total
 
-pub told_by-here : (slots : List Slot) (o : Option Slot) → told_by slots o ≡ told_here checked check_told slots o
+pub told_by-here : (slots : List Slot) (o : Option Slot) → told_by slots o ≡ told_here checked check_messages slots o
 told_by-here slots None = refl
 told_by-here slots (Some slot) = refl
 

@@ -3,7 +3,7 @@ use Rattle.std.proofs.Common.{◌≡◌, ℕ, zero, suc, arith, ◌<◌, Bool, t
 use Rattle.std.specs.Prelude.{slice_set}
 use Rattle.std.specs.Option.{option_map}
 use Rattle.std.specs.List.{list_any}
-use Rattle.btx_bib.specs.Finding.{place_of, changed_at}
+use Rattle.btx_bib.specs.refinement.Finding.{first_place, changed_at}
 
 pub changed_at-set : {T : Type 0} (xs : List T) (i : ℕ) (d y : T) (change : T → T) → y ≡ change d → d ≡ get_or xs i d → i < length xs → slice_set xs i y ≡ changed_at i change xs
 changed_at-set [] i d y change is at h = absurd (omega arith)
@@ -15,8 +15,8 @@ unmapped true o h = cc
 unmapped false None h = (refl, refl)
 unmapped false (Some i) h = cc
 
-pub place_of-none : {T : Type 0} (test : T → Bool) (xs : List T) → place_of test xs ≡ None → list_any test xs ≡ false
+pub place_of-none : {T : Type 0} (test : T → Bool) (xs : List T) → first_place test xs ≡ None → list_any test xs ≡ false
 place_of-none test [] h = refl
 place_of-none test (x ∷ xs) h =
-    let both = unmapped (test x) (place_of test xs) h in
+    let both = unmapped (test x) (first_place test xs) h in
     ap (λ (b : Bool). b || list_any test xs) both.0 ∙ place_of-none test xs both.1

@@ -4,7 +4,7 @@ use Rattle.std.specs.Prelude.{slice_get}
 use Rattle.std.specs.Option.{option_map}
 use Rattle.std.proofs.lemmas.Option.{slice_get-map, slice_get-get_or}
 use Rattle.std.proofs.lemmas.Bool.Decides.{nat_tests}
-use Rattle.btx_aux.specs.Entries.{Bytes, texts_of}
+use Rattle.btx_aux.specs.refinement.Entries.{Bytes, texts_of}
 
 pub take_texts : (keys : List Bytes) (n : ℕ) → texts_of (take n keys) ≡ take n (texts_of keys)
 take_texts keys zero = refl

@@ -4,22 +4,22 @@ use Rattle.std.specs.Prelude.{count_by}
 use Rattle.std.specs.Option.{option_map}
 use Rattle.std.specs.List.{filter, flat_map}
 use Rattle.std.proofs.lemmas.Bool.Decides.{nat_tests}
-use Rattle.btx_aux.specs.Names.{is_same_key, listed_as}
+use Rattle.btx_aux.specs.language.Names.{is_same_key, listed_as}
 use Rattle.btx_bib.specs.declared.end.End.{End}
 use Rattle.btx_bib.specs.declared.end.End.TheVariants as end
 use Rattle.btx_bib.specs.declared.entry.Entry.{Entry}
 use Rattle.btx_bib.specs.declared.message.Message.{Message}
 use Rattle.btx_bib.specs.declared.slots.Body.{Body}
 use Rattle.btx_bib.specs.declared.slots.Slot.{Slot}
-use Rattle.btx_bib.specs.Wanted.{Wanted}
-use Rattle.btx_bib.specs.Entries.{Given, body_of}
-use Rattle.btx_bib.specs.Stored.{entry_of, parents_in, references_by}
-use Rattle.btx_bib.specs.Requests.{asked, fewest_of}
-use Rattle.btx_bib.specs.Listing.{keys_of, slot_of, slots_of, spelled, stays}
-use Rattle.btx_bib.specs.Passes.{passed, inherited, inherited_from, checked, checked_by, cut, is_parent, slot_at, parent_at, parent_slot, with_values, after_first, after_second, entries_of, entry_at, entry_by}
-use Rattle.btx_bib.specs.Known.{Known}
-use Rattle.btx_bib.specs.Databases.{library_of, library_by, read_all}
-use Rattle.btx_bib.specs.Laws.{ListIsKept, StarredCitedOrReferred, keeps_entry, list_of}
+use Rattle.btx_bib.specs.language.Wanted.{Request}
+use Rattle.btx_bib.specs.language.Entries.{Given, body_of}
+use Rattle.btx_bib.specs.language.Stored.{entry_with_key, parents_in, references_by}
+use Rattle.btx_bib.specs.language.Requests.{asked, fewest_of}
+use Rattle.btx_bib.specs.language.Listing.{list_keys, slot_of, slots_of, spelled, stays}
+use Rattle.btx_bib.specs.language.Passes.{passed, inherited, inherited_from, checked, checked_by, without_crossref, is_parent, slot_at, parent_at, parent_slot, with_field_values, after_first, after_second, entries_of, entry_at, entry_by}
+use Rattle.btx_bib.specs.language.Known.{Known}
+use Rattle.btx_bib.specs.language.Databases.{library_of, library_by, read_all}
+use Rattle.btx_bib.specs.laws.Laws.{ListIsKept, StarredCitedOrReferred, keeps_entry, list_of}
 
 -- ---- what the passes leave alone
 
@@ -50,7 +50,7 @@ seen_as key has_entry enough = (key, has_entry && enough)
 abbrev pub view : Slot → List ℕ × Bool
 view slot = seen_as slot.key (is_some slot.body) slot.stays
 
-same-body : (key : List ℕ) (enough : Bool) (body : Option Body) (values : List (Option (List ℕ))) → seen_as key (is_some (with_values body values)) enough ≡ seen_as key (is_some body) enough
+same-body : (key : List ℕ) (enough : Bool) (body : Option Body) (values : List (Option (List ℕ))) → seen_as key (is_some (with_field_values body values)) enough ≡ seen_as key (is_some body) enough
 same-body key enough None values = refl
 same-body key enough (Some body) values = refl
 
@@ -65,7 +65,7 @@ view-inherited slots slot = view-from (parent_slot slots (parent_at slot)) slot
 view-checked_by : (parent : Option (List ℕ)) (slots : List Slot) (slot : Slot) → view (checked_by parent slots slot) ≡ view slot
 view-checked_by None slots slot = refl
 view-checked_by (Some key) slots slot = by_test (is_parent (slot_at slots key)) where
-  by_test : (b : Bool) → view (if b then slot else cut slot) ≡ view slot
+  by_test : (b : Bool) → view (if b then slot else without_crossref slot) ≡ view slot
   by_test true = refl
   by_test false = same-body slot.key slot.stays slot.body _
 
@@ -99,15 +99,15 @@ kept-chosen (slot ∷ slots) = by_body slot.stays slot.body (kept-chosen slots) 
 
 -- ---- the list's keys
 
-has-body : (wanted : Wanted) (entry : Option Given) → is_some (option_map (body_of wanted) entry) ≡ is_some entry
+has-body : (wanted : Request) (entry : Option Given) → is_some (option_map (body_of wanted) entry) ≡ is_some entry
 has-body wanted None = refl
 has-body wanted (Some given) = refl
 
-stays-is : (wanted : Wanted) (stored : List Given) (key : List ℕ) → view (slot_of wanted stored key) ≡ seen_as (spelled wanted stored key) (is_some (entry_of stored key)) (stays wanted stored key)
+stays-is : (wanted : Request) (stored : List Given) (key : List ℕ) → view (slot_of wanted stored key) ≡ seen_as (spelled wanted stored key) (is_some (entry_with_key stored key)) (stays wanted stored key)
 unfolding slot_of
-stays-is wanted stored key = ap (λ (b : Bool). seen_as (spelled wanted stored key) b (stays wanted stored key)) (has-body wanted (entry_of stored key))
+stays-is wanted stored key = ap (λ (b : Bool). seen_as (spelled wanted stored key) b (stays wanted stored key)) (has-body wanted (entry_with_key stored key))
 
-slots-chosen : (wanted : Wanted) (stored : List Given) (keys : List (List ℕ)) → chosen (map view (map (slot_of wanted stored) keys)) ≡ map (spelled wanted stored) (filter (keeps_entry wanted stored) keys)
+slots-chosen : (wanted : Request) (stored : List Given) (keys : List (List ℕ)) → chosen (map view (map (slot_of wanted stored) keys)) ≡ map (spelled wanted stored) (filter (keeps_entry wanted stored) keys)
 slots-chosen wanted stored [] = refl
 slots-chosen wanted stored (key ∷ keys) =
     let others = map view (map (slot_of wanted stored) keys) in
@@ -119,15 +119,15 @@ slots-chosen wanted stored (key ∷ keys) =
 
 -- ---- the library
 
-kept-entries : (wanted : Wanted) (stored : List Given) → map (λ (entry : Entry). entry.key) (entries_of (slots_of wanted stored)) ≡ map (spelled wanted stored) (filter (keeps_entry wanted stored) (keys_of wanted stored))
+kept-entries : (wanted : Request) (stored : List Given) → map (λ (entry : Entry). entry.key) (entries_of (slots_of wanted stored)) ≡ map (spelled wanted stored) (filter (keeps_entry wanted stored) (list_keys wanted stored))
 unfolding entries_of
 kept-entries wanted stored =
     kept-chosen (after_second (after_first (slots_of wanted stored)))
     ∙ ap chosen (views-after (slots_of wanted stored))
-    ∙ slots-chosen wanted stored (keys_of wanted stored)
+    ∙ slots-chosen wanted stored (list_keys wanted stored)
 
-kept-library : (ending : End) (wanted : Wanted) (known : Known) (messages : List Message) → ending ≡ end.Whole
-    → list_of (library_by ending wanted known messages) ≡ map (spelled wanted known.stored) (filter (keeps_entry wanted known.stored) (keys_of wanted known.stored))
+kept-library : (ending : End) (wanted : Request) (known : Known) (messages : List Message) → ending ≡ end.Whole
+    → list_of (library_by ending wanted known messages) ≡ map (spelled wanted known.stored) (filter (keeps_entry wanted known.stored) (list_keys wanted known.stored))
 kept-library end.Whole wanted known messages whole = kept-entries wanted known.stored
 kept-library end.FileLimit wanted known messages whole = cc
 kept-library end.StringLimit wanted known messages whole = cc

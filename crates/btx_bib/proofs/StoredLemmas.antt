@@ -1,33 +1,33 @@
 -- What an entry that is read adds to the stored ones.
 use Rattle.std.proofs.Common.{◌≡◌, ℕ, nat_lt, Bool, true, false, not, ◌||◌, ◌&&◌, if◌then◌else◌, List, [], ◌∷◌, ◌++◌, length, Option, None, Some, is_some, refl, sym, ap, ◌∙◌, append-nil}
-use Rattle.btx_text.specs.Limits.{greatest_string}
-use Rattle.btx_aux.specs.Names.{is_same_key}
+use Rattle.btx_text.specs.language.Limits.{greatest_string}
+use Rattle.btx_aux.specs.language.Names.{is_same_key}
 use Rattle.btx_bib.specs.declared.end.End.TheVariants as end
 use Rattle.btx_bib.specs.declared.grammar.commands.Wanted.{Wanted as Next}
 use Rattle.btx_bib.specs.declared.grammar.commands.Wanted.TheVariants.{Item}
 use Rattle.btx_bib.specs.declared.grammar.slip.Slip.TheVariants.{Repeated}
 use Rattle.btx_bib.specs.declared.grammar.value_ends.Ends.TheVariants.{Kept, Trimmed}
-use Rattle.btx_bib.specs.Grammar.Fields.{Field as Read}
-use Rattle.btx_bib.specs.Grammar.Items.{Event, Comment, Preamble, Definition, Entry, FieldOf, End as Close, Wrong}
-use Rattle.btx_bib.specs.Grammar.ValueTexts.{value_text}
-use Rattle.btx_bib.specs.Wanted.{Wanted}
-use Rattle.btx_bib.specs.Strings.{string_value, other_value, defined}
-use Rattle.btx_bib.specs.Entries.{Given, listed}
-use Rattle.btx_bib.specs.Stored.{entry_of, is_any_key, is_wanted, keys_in, parents_in, references_by}
-use Rattle.btx_bib.specs.Known.{Known, goes_on, stored_in, closed, if_fits, after_field, after_key, after_event, after, keeping, takes, with_field}
-use Rattle.btx_bib.specs.Storing.{is_asked_for, is_entry, WantedNewAreStored, OthersStoreNone}
+use Rattle.btx_bib.specs.language.Grammar.Fields.{Field}
+use Rattle.btx_bib.specs.language.Grammar.Items.{Event, Comment, Preamble, Definition, Entry, FieldOf, End as Close, Wrong}
+use Rattle.btx_bib.specs.language.Grammar.ValueTexts.{value_text}
+use Rattle.btx_bib.specs.language.Wanted.{Request}
+use Rattle.btx_bib.specs.language.Strings.{string_value, other_value, defined}
+use Rattle.btx_bib.specs.language.Entries.{Given, list_of_option}
+use Rattle.btx_bib.specs.language.Stored.{entry_with_key, is_any_key, is_wanted, keys_in, parents_in, references_by}
+use Rattle.btx_bib.specs.language.Known.{Known, goes_on, stored_in, with_current_stored, if_fits, after_field, after_key, after_event, known_after, keeping, keeps_field, with_field}
+use Rattle.btx_bib.specs.laws.Storing.{is_asked_for, is_entry, WantedNewAreStored, OthersStoreNone}
 use Rattle.btx_bib.proofs.ListedKeyLemmas.{is_any_key-append}
 
 -- ---- an entry
 
-pub is_stored-any : (stored : List Given) (key : List ℕ) → is_some (entry_of stored key) ≡ is_any_key (keys_in stored) key
+pub is_stored-any : (stored : List Given) (key : List ℕ) → is_some (entry_with_key stored key) ≡ is_any_key (keys_in stored) key
 is_stored-any [] key = refl
 is_stored-any (given ∷ stored) key = by_test (is_same_key key given.key) (is_stored-any stored key) where
-  by_test : (b : Bool) → is_some (entry_of stored key) ≡ is_any_key (keys_in stored) key → is_some (if b then Some given else entry_of stored key) ≡ (b || is_any_key (keys_in stored) key)
+  by_test : (b : Bool) → is_some (entry_with_key stored key) ≡ is_any_key (keys_in stored) key → is_some (if b then Some given else entry_with_key stored key) ≡ (b || is_any_key (keys_in stored) key)
   by_test true rest = refl
   by_test false rest = rest
 
-wanted-asked : (wanted : Wanted) (stored : List Given) (key : List ℕ) → is_wanted wanted stored key ≡ is_asked_for wanted stored key
+wanted-asked : (wanted : Request) (stored : List Given) (key : List ℕ) → is_wanted wanted stored key ≡ is_asked_for wanted stored key
 wanted-asked wanted stored key = by_all wanted.all where
   by_all : (all : Option ℕ) → (is_some all || is_any_key (wanted.cited ++ references_by all wanted stored) key) ≡ (is_some all || (is_any_key wanted.cited key || is_any_key (parents_in wanted stored) key))
   by_all (Some place) = refl
@@ -43,7 +43,7 @@ and-true false = refl
 
 -- the keys that are stored are those of the entries, with the one that is being read
 abbrev pub KnowsStored : Type 0
-KnowsStored = (wanted : Wanted) (known : Known) (key : List ℕ) → (keeping wanted).is_stored known key ≡ is_any_key (keys_in (stored_in known)) key
+KnowsStored = (wanted : Request) (known : Known) (key : List ℕ) → (keeping wanted).is_stored known key ≡ is_any_key (keys_in (stored_in known)) key
 
 pub wanted-new-are-stored : KnowsStored → WantedNewAreStored
 wanted-new-are-stored knows wanted known kind key next on = by_stored ((keeping wanted).is_stored known key) (knows wanted known key) where
@@ -56,21 +56,21 @@ wanted-new-are-stored knows wanted known kind key next on = by_stored ((keeping 
   asked : Bool
   asked = is_asked_for wanted stored key
 
-  wrong-stored : stored_in (after wanted known (Wrong Repeated)) ≡ stored
+  wrong-stored : stored_in (known_after wanted known (Wrong Repeated)) ≡ stored
   wrong-stored = ap (λ (b : Bool). stored_in (if b then known else known)) on
 
-  by_wanted : (b : Bool) → stored_in (if b then record (closed known) { current = Some given } else closed known) ≡ (if b then stored ++ given ∷ [] else stored)
+  by_wanted : (b : Bool) → stored_in (if b then record (with_current_stored known) { current = Some given } else with_current_stored known) ≡ (if b then stored ++ given ∷ [] else stored)
   by_wanted true = refl
   by_wanted false = append-nil stored
 
-  entry-stored : stored_in (after wanted known (Entry kind key)) ≡ (if asked then stored ++ given ∷ [] else stored)
+  entry-stored : stored_in (known_after wanted known (Entry kind key)) ≡ (if asked then stored ++ given ∷ [] else stored)
   entry-stored =
-      ap (λ (b : Bool). stored_in (if b then after_key wanted (closed known) kind key else known)) on
+      ap (λ (b : Bool). stored_in (if b then after_key wanted (with_current_stored known) kind key else known)) on
       ∙ by_wanted (is_wanted wanted stored key)
       ∙ ap (λ (b : Bool). if b then stored ++ given ∷ [] else stored) (wanted-asked wanted stored key)
 
   by_stored : (there : Bool) → there ≡ is_any_key (keys_in stored) key
-      → (let read : Event × Next = if there then (Wrong Repeated, Item) else (Entry kind key, next) in stored_in (after wanted known read.0)) ≡ (if asked && not (is_any_key (keys_in stored) key) then stored ++ given ∷ [] else stored)
+      → (let read : Event × Next = if there then (Wrong Repeated, Item) else (Entry kind key, next) in stored_in (known_after wanted known read.0)) ≡ (if asked && not (is_any_key (keys_in stored) key) then stored ++ given ∷ [] else stored)
   by_stored true is = wrong-stored ∙ ap (λ (b : Bool). if b then stored ++ given ∷ [] else stored) (sym (ap (λ (b : Bool). asked && not b) (sym is) ∙ and-false asked))
   by_stored false is = entry-stored ∙ ap (λ (b : Bool). if b then stored ++ given ∷ [] else stored) (sym (ap (λ (b : Bool). asked && not b) (sym is) ∙ and-true asked))
 
@@ -89,22 +89,22 @@ keys-behind : (stored : List Given) (one other : Given) → one.key ≡ other.ke
 keys-behind [] one other same = ap (λ (key : List ℕ). key ∷ []) same
 keys-behind (given ∷ stored) one other same = ap (λ (keys : List (List ℕ)). given.key ∷ keys) (keys-behind stored one other same)
 
-field-keys : (wanted : Wanted) (known : Known) (current : Option Given) (field : Read) → current ≡ known.current → keys_of (after_field wanted known current field) ≡ keys_of known
+field-keys : (wanted : Request) (known : Known) (current : Option Given) (field : Field) → current ≡ known.current → keys_of (after_field wanted known current field) ≡ keys_of known
 field-keys wanted known None field is = refl
-field-keys wanted known (Some given) field is = by_test (takes wanted given field.name) where
+field-keys wanted known (Some given) field is = by_test (keeps_field wanted given field.name) where
   text : List ℕ
   text = value_text Trimmed (string_value known.strings) field.value
 
   taken : keys_of (record known { current = Some (with_field given field.name text) }) ≡ keys_of known
   taken =
       keys-behind known.stored (with_field given field.name text) given refl
-      ∙ ap (λ (current : Option Given). keys_in (known.stored ++ listed current)) is
+      ∙ ap (λ (current : Option Given). keys_in (known.stored ++ list_of_option current)) is
 
   by_test : (b : Bool) → keys_of (if b then if_fits text known (record known { current = Some (with_field given field.name text) }) else known) ≡ keys_of known
   by_test true = fits-keys text known (record known { current = Some (with_field given field.name text) }) taken
   by_test false = refl
 
-event-keys : (wanted : Wanted) (known : Known) (event : Event) → is_entry event ≡ false → keys_of (after_event wanted known event) ≡ keys_of known
+event-keys : (wanted : Request) (known : Known) (event : Event) → is_entry event ≡ false → keys_of (after_event wanted known event) ≡ keys_of known
 event-keys wanted known Comment none = refl
 event-keys wanted known (Preamble value) none =
     let whole = known.preamble ++ value_text Kept (string_value known.strings) value in fits-keys whole known (record known { preamble = whole }) refl

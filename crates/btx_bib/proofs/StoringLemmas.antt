@@ -5,20 +5,20 @@ use Rattle.std.specs.Str.{bytes_eq}
 use Rattle.std.specs.Option.{option_map}
 use Rattle.std.specs.List.{find, list_any, flat_map, IsDistinct}
 use Rattle.std.proofs.lemmas.Grind.{fold-append}
-use Rattle.btx_text.specs.Keys.{folded}
-use Rattle.btx_aux.specs.Names.{is_same_key, listed_as, with_key}
+use Rattle.btx_text.specs.language.Keys.{folded}
+use Rattle.btx_aux.specs.language.Names.{is_same_key, listed_as, with_key}
 use Rattle.btx_bib.specs.declared.draft.Draft.{Draft}
 use Rattle.btx_bib.specs.declared.draft.Standing.{Standing}
 use Rattle.btx_bib.specs.declared.draft.Standing.TheVariants as standing
 use Rattle.btx_bib.specs.declared.draft_slots.DraftSlot.{DraftSlot}
 use Rattle.btx_bib.specs.declared.slots.Slot.{Slot}
-use Rattle.btx_bib.specs.Wanted.{Wanted}
-use Rattle.btx_bib.specs.Finding.{place_of, changed_at}
-use Rattle.btx_bib.specs.Entries.{Given, body_of, listed, parent_of}
-use Rattle.btx_bib.specs.Stored.{is_any_key, entry_of, references, references_by, is_wanted}
-use Rattle.btx_bib.specs.Listing.{added, first_cited, keys_of, last_cited, slot_of, slots_of}
-use Rattle.btx_bib.specs.Drafts.{cited_all, cited_at, empty, place_in, open_slot, with_entry, once_more, has_body, settled_all, late_slot, new_standing, put_at, referred_at, referred_by, standing_at, stored_at}
-use Rattle.btx_bib.specs.Steps.{names_of}
+use Rattle.btx_bib.specs.language.Wanted.{Request}
+use Rattle.btx_bib.specs.refinement.Finding.{first_place, changed_at}
+use Rattle.btx_bib.specs.language.Entries.{Given, body_of, list_of_option, parent_of}
+use Rattle.btx_bib.specs.language.Stored.{is_any_key, entry_with_key, references, references_by, is_wanted}
+use Rattle.btx_bib.specs.language.Listing.{added, first_cited, list_keys, last_cited, slot_of, slots_of}
+use Rattle.btx_bib.specs.refinement.Drafts.{cited_all, cited_at, empty, place_in, open_slot, with_entry, once_more, has_body, settled_all, late_slot, new_standing, put_at, referred_at, referred_by, standing_at, stored_at}
+use Rattle.btx_bib.specs.refinement.Steps.{lower_keys}
 use Rattle.btx_bib.proofs.PlaceLemmas.{place_of-none}
 use Rattle.btx_bib.proofs.ListedKeyLemmas.{same_key_equiv, folded-same, is_any_key-same, entry_of-same, is_any_key-append, is_any_key-fold, distinct-fold, distinct-none, changed_key, unchanged, none_same, changed_at-key}
 use Rattle.btx_bib.proofs.SlotLemmas.{slot_by, with_entry-slot, once_more-slot, settled-slot, entry_of-new, count_by-push}
@@ -41,12 +41,12 @@ any-folded (k ∷ keys) key = ap (λ (b : Bool). is_same_key key k || b) (any-fo
 
 -- what stands at the place of a key
 
-at_place : (f : List ℕ → DraftSlot) (keys : List (List ℕ)) (key : List ℕ) (place : ℕ) → place_of (bytes_eq (folded key)) (map folded keys) ≡ Some place
+at_place : (f : List ℕ → DraftSlot) (keys : List (List ℕ)) (key : List ℕ) (place : ℕ) → first_place (bytes_eq (folded key)) (map folded keys) ≡ Some place
     → (other : List ℕ) × ((is_same_key key other ≡ true) × (slice_get (map f keys) place ≡ Some (f other)))
 at_place f [] key place at = cc
-at_place f (k ∷ keys) key place at = by_test (is_same_key key k) refl (place_of (bytes_eq (folded key)) (map folded keys)) refl at (λ before there. at_place f keys key before there) where
-  by_test : (b : Bool) → is_same_key key k ≡ b → (o : Option ℕ) → o ≡ place_of (bytes_eq (folded key)) (map folded keys) → (if b then Some 0 else option_map suc o) ≡ Some place
-      → ((before : ℕ) → place_of (bytes_eq (folded key)) (map folded keys) ≡ Some before → (other : List ℕ) × ((is_same_key key other ≡ true) × (slice_get (map f keys) before ≡ Some (f other))))
+at_place f (k ∷ keys) key place at = by_test (is_same_key key k) refl (first_place (bytes_eq (folded key)) (map folded keys)) refl at (λ before there. at_place f keys key before there) where
+  by_test : (b : Bool) → is_same_key key k ≡ b → (o : Option ℕ) → o ≡ first_place (bytes_eq (folded key)) (map folded keys) → (if b then Some 0 else option_map suc o) ≡ Some place
+      → ((before : ℕ) → first_place (bytes_eq (folded key)) (map folded keys) ≡ Some before → (other : List ℕ) × ((is_same_key key other ≡ true) × (slice_get (map f keys) before ≡ Some (f other))))
       → (other : List ℕ) × ((is_same_key key other ≡ true) × (slice_get (f k ∷ map f keys) place ≡ Some (f other)))
   by_test true same o is h rest = let first : place ≡ 0 = cc in (k, (same, rw first refl))
   by_test false other None is h rest = cc
@@ -55,11 +55,11 @@ at_place f (k ∷ keys) key place at = by_test (is_same_key key k) refl (place_o
       let found = rest before (sym is) in
       (found.0, (found.1.0, rw later found.1.1))
 
-place_of-some : (keys : List (List ℕ)) (key : List ℕ) (place : ℕ) → place_of (bytes_eq (folded key)) (map folded keys) ≡ Some place → is_any_key keys key ≡ true
+place_of-some : (keys : List (List ℕ)) (key : List ℕ) (place : ℕ) → first_place (bytes_eq (folded key)) (map folded keys) ≡ Some place → is_any_key keys key ≡ true
 place_of-some [] key place at = cc
-place_of-some (k ∷ keys) key place at = by_test (is_same_key key k) (place_of (bytes_eq (folded key)) (map folded keys)) refl at (λ before there. place_of-some keys key before there) where
-  by_test : (b : Bool) (o : Option ℕ) → o ≡ place_of (bytes_eq (folded key)) (map folded keys) → (if b then Some 0 else option_map suc o) ≡ Some place
-      → ((before : ℕ) → place_of (bytes_eq (folded key)) (map folded keys) ≡ Some before → is_any_key keys key ≡ true) → (b || is_any_key keys key) ≡ true
+place_of-some (k ∷ keys) key place at = by_test (is_same_key key k) (first_place (bytes_eq (folded key)) (map folded keys)) refl at (λ before there. place_of-some keys key before there) where
+  by_test : (b : Bool) (o : Option ℕ) → o ≡ first_place (bytes_eq (folded key)) (map folded keys) → (if b then Some 0 else option_map suc o) ≡ Some place
+      → ((before : ℕ) → first_place (bytes_eq (folded key)) (map folded keys) ≡ Some before → is_any_key keys key ≡ true) → (b || is_any_key keys key) ≡ true
   by_test true o is h rest = refl
   by_test false None is h rest = cc
   by_test false (Some before) is h rest = rest before (sym is)
@@ -106,7 +106,7 @@ count-none ks key h = none ks 0 h where
       ∙ ap (λ (m : ℕ). fold (λ (m : ℕ) (k : List ℕ). m + cond (is_same_key key k) 1 0) m xs) (omega arith)
       ∙ none xs n (or_right (is_same_key key x) (is_any_key xs key) h)
 
-module _ (wanted : Wanted) where
+module _ (wanted : Request) where
   -- ---- the keys of the list
 
   -- the keys that were asked for, the keys of the list and the place for a key, after these stored entries
@@ -119,14 +119,14 @@ module _ (wanted : Wanted) where
   abbrev pub slot : List Given → List ℕ → DraftSlot
   slot stored key =
       let cited = listed_as wanted.cited key in
-      slot_by wanted (is_some cited) key cited (entry_of stored key) (count_by (is_same_key key) (references wanted stored))
+      slot_by wanted (is_some cited) key cited (entry_with_key stored key) (count_by (is_same_key key) (references wanted stored))
 
   abbrev pub draft : List Given → Draft
   draft stored = record { names = map folded (keys stored); slots = map (slot stored) (keys stored) }
 
   -- the key of each stored entry was asked for
   abbrev pub Covered : List Given → Type 0
-  Covered stored = (key : List ℕ) → is_some (entry_of stored key) ≡ true → is_any_key (asked stored) key ≡ true
+  Covered stored = (key : List ℕ) → is_some (entry_with_key stored key) ≡ true → is_any_key (asked stored) key ≡ true
 
   distinct : (stored : List Given) → IsDistinct is_same_key (keys stored)
   distinct stored = distinct-fold (asked stored) [] distinct-none
@@ -136,19 +136,19 @@ module _ (wanted : Wanted) where
 
   -- what a stored entry adds to the list and to the references
   abbrev more_by : Option ℕ → Given → List (List ℕ)
-  more_by None entry = listed (parent_of wanted entry)
+  more_by None entry = list_of_option (parent_of wanted entry)
   more_by (Some place) entry = entry.key ∷ []
 
   abbrev counted_by : Option ℕ → Given → List (List ℕ)
-  counted_by None entry = listed (parent_of wanted entry)
+  counted_by None entry = list_of_option (parent_of wanted entry)
   counted_by (Some place) entry = []
 
   added-push : (all : Option ℕ) (stored : List Given) (entry : Given) → added all wanted (stored ++ entry ∷ []) ≡ added all wanted stored ++ more_by all entry
-  added-push None stored entry = flat_map-push (λ (e : Given). listed (parent_of wanted e)) stored entry
+  added-push None stored entry = flat_map-push (λ (e : Given). list_of_option (parent_of wanted e)) stored entry
   added-push (Some place) stored entry = map-push (λ (e : Given). e.key) stored entry
 
   references-push : (all : Option ℕ) (stored : List Given) (entry : Given) → references_by all wanted (stored ++ entry ∷ []) ≡ references_by all wanted stored ++ counted_by all entry
-  references-push None stored entry = flat_map-push (λ (e : Given). listed (parent_of wanted e)) stored entry
+  references-push None stored entry = flat_map-push (λ (e : Given). list_of_option (parent_of wanted e)) stored entry
   references-push (Some place) stored entry = refl
 
   asked-push : (stored : List Given) (entry : Given) → asked (stored ++ entry ∷ []) ≡ asked stored ++ more_by wanted.all entry
@@ -159,10 +159,10 @@ module _ (wanted : Wanted) where
   keys-push : (stored : List Given) (entry : Given) → keys (stored ++ entry ∷ []) ≡ fold with_key (keys stored) (more_by wanted.all entry)
   keys-push stored entry = ap (fold with_key []) (asked-push stored entry) ∙ fold-append with_key [] (asked stored) (more_by wanted.all entry)
 
-  Covered-push : (stored : List Given) (entry : Given) → Covered stored → is_any_key (asked (stored ++ entry ∷ [])) entry.key ≡ true → entry_of stored entry.key ≡ None → Covered (stored ++ entry ∷ [])
+  Covered-push : (stored : List Given) (entry : Given) → Covered stored → is_any_key (asked (stored ++ entry ∷ [])) entry.key ≡ true → entry_with_key stored entry.key ≡ None → Covered (stored ++ entry ∷ [])
   Covered-push stored entry covered there absent key some =
       by_test (is_same_key entry.key key) refl (sym (ap (λ (o : Option Given). is_some o) (entry_of-new stored entry key absent)) ∙ some) where
-        by_test : (b : Bool) → is_same_key entry.key key ≡ b → is_some (if b then Some entry else entry_of stored key) ≡ true → is_any_key (asked (stored ++ entry ∷ [])) key ≡ true
+        by_test : (b : Bool) → is_same_key entry.key key ≡ b → is_some (if b then Some entry else entry_with_key stored key) ≡ true → is_any_key (asked (stored ++ entry ∷ [])) key ≡ true
         by_test true same h = sym (is_any_key-same (asked (stored ++ entry ∷ [])) entry.key key same) ∙ there
         by_test false other h =
             ap (λ (ks : List (List ℕ)). is_any_key ks key) (asked-push stored entry)
@@ -186,7 +186,7 @@ module _ (wanted : Wanted) where
         or_true true = refl
         or_true false = refl
 
-  pub Covered-stored : (stored : List Given) (entry : Given) → Covered stored → is_wanted wanted stored entry.key ≡ true → entry_of stored entry.key ≡ None → Covered (stored ++ entry ∷ [])
+  pub Covered-stored : (stored : List Given) (entry : Given) → Covered stored → is_wanted wanted stored entry.key ≡ true → entry_with_key stored entry.key ≡ None → Covered (stored ++ entry ∷ [])
   Covered-stored stored entry covered asks absent = Covered-push stored entry covered (asked-wanted stored entry wanted.all refl asks) absent
 
   -- the place for a key, with this entry and these references
@@ -202,13 +202,13 @@ module _ (wanted : Wanted) where
 
   -- ---- a key that gets its entry
 
-  module _ (stored : List Given) (entry : Given) (absent : entry_of stored entry.key ≡ None) where
+  module _ (stored : List Given) (entry : Given) (absent : entry_with_key stored entry.key ≡ None) where
     abbrev longer : List Given
     longer = stored ++ entry ∷ []
 
     -- the place for a key with the new entry and these references
     abbrev by_parents : List (List ℕ) → List ℕ → DraftSlot
-    by_parents parents key = slot_with (entry_of longer key) parents key
+    by_parents parents key = slot_with (entry_with_key longer key) parents key
 
     -- where its reference doesn't count yet
     abbrev between : List ℕ → DraftSlot
@@ -219,14 +219,14 @@ module _ (wanted : Wanted) where
 
     filled-key : (key : List ℕ) → changed_key (slot stored) change entry.key key ≡ between key
     filled-key key = by_test (is_same_key entry.key key) refl ∙ ap (λ (o : Option Given). slot_with o (references wanted stored) key) (sym (entry_of-new stored entry key absent)) where
-      by_test : (b : Bool) → is_same_key entry.key key ≡ b → (if b then change (slot stored key) else slot stored key) ≡ slot_with (if b then Some entry else entry_of stored key) (references wanted stored) key
+      by_test : (b : Bool) → is_same_key entry.key key ≡ b → (if b then change (slot stored key) else slot stored key) ≡ slot_with (if b then Some entry else entry_with_key stored key) (references wanted stored) key
       by_test true same =
-          let none : entry_of stored key ≡ None = sym (entry_of-same stored entry.key key same) ∙ absent in
+          let none : entry_with_key stored key ≡ None = sym (entry_of-same stored entry.key key same) ∙ absent in
           ap (λ (o : Option Given). change (slot_with o (references wanted stored) key)) none
           ∙ with_entry-slot wanted key (listed_as wanted.cited key) entry (count_by (is_same_key key) (references wanted stored))
       by_test false other = refl
 
-    filled-at : (place : ℕ) → place_of (bytes_eq (folded entry.key)) (map folded (keys stored)) ≡ Some place → changed_at place change (map (slot stored) (keys stored)) ≡ map between (keys stored)
+    filled-at : (place : ℕ) → first_place (bytes_eq (folded entry.key)) (map folded (keys stored)) ≡ Some place → changed_at place change (map (slot stored) (keys stored)) ≡ map between (keys stored)
     filled-at place at =
         changed_at-key (slot stored) change entry.key (keys stored) place (distinct stored) at
         ∙ map-same (changed_key (slot stored) change entry.key) between filled-key (keys stored)
@@ -242,9 +242,9 @@ module _ (wanted : Wanted) where
       more = references wanted stored ++ parent ∷ []
 
       referred-key : (key : List ℕ) → changed_key between once_more parent key ≡ by_parents more key
-      referred-key key = by_test (is_same_key parent key) ∙ ap (λ (n : ℕ). slot_counting (entry_of longer key) n key) (sym (count_by-push (references wanted stored) parent key)) where
-        by_test : (b : Bool) → (if b then once_more (between key) else between key) ≡ slot_counting (entry_of longer key) (if b then count_by (is_same_key key) (references wanted stored) + 1 else count_by (is_same_key key) (references wanted stored)) key
-        by_test true = once_more-slot wanted (is_some (listed_as wanted.cited key)) key (listed_as wanted.cited key) (entry_of longer key) (count_by (is_same_key key) (references wanted stored))
+      referred-key key = by_test (is_same_key parent key) ∙ ap (λ (n : ℕ). slot_counting (entry_with_key longer key) n key) (sym (count_by-push (references wanted stored) parent key)) where
+        by_test : (b : Bool) → (if b then once_more (between key) else between key) ≡ slot_counting (entry_with_key longer key) (if b then count_by (is_same_key key) (references wanted stored) + 1 else count_by (is_same_key key) (references wanted stored)) key
+        by_test true = once_more-slot wanted (is_some (listed_as wanted.cited key)) key (listed_as wanted.cited key) (entry_with_key longer key) (count_by (is_same_key key) (references wanted stored))
         by_test false = refl
 
       -- a parent that isn't listed
@@ -259,20 +259,20 @@ module _ (wanted : Wanted) where
           count_by-push (references wanted stored) parent parent
           ∙ ap (λ (b : Bool). if b then count_by (is_same_key parent) (references wanted stored) + 1 else count_by (is_same_key parent) (references wanted stored)) (same_key_equiv.refl parent)
           ∙ ap (λ (n : ℕ). n + 1) unreferred in
-          let unstored : entry_of stored parent ≡ None = none_if (entry_of stored parent) (is_any_key (asked stored) parent) (covered parent) unasked in
+          let unstored : entry_with_key stored parent ≡ None = none_if (entry_with_key stored parent) (is_any_key (asked stored) parent) (covered parent) unasked in
           let others = by_test (is_same_key entry.key parent) refl unasked there in
-          let missing : entry_of longer parent ≡ None = entry_of-new stored entry parent absent ∙ ap (λ (b : Bool). if b then Some entry else entry_of stored parent) others ∙ unstored in
+          let missing : entry_with_key longer parent ≡ None = entry_of-new stored entry parent absent ∙ ap (λ (b : Bool). if b then Some entry else entry_with_key stored parent) others ∙ unstored in
           ap (λ (n : ℕ). slot_by wanted false parent None None n) (sym once)
           ∙ ap (λ (o : Option Given). slot_by wanted false parent None o (count_by (is_same_key parent) more)) (sym missing)
-          ∙ ap (λ (c : Option (List ℕ)). slot_by wanted (is_some c) parent c (entry_of longer parent) (count_by (is_same_key parent) more)) (sym uncited) where
+          ∙ ap (λ (c : Option (List ℕ)). slot_by wanted (is_some c) parent c (entry_with_key longer parent) (count_by (is_same_key parent) more)) (sym uncited) where
             by_test : (b : Bool) → is_same_key entry.key parent ≡ b → is_any_key (asked stored) parent ≡ false → is_any_key (asked stored) entry.key ≡ true → b ≡ false
             by_test true same unasked there = let both = is_any_key-same (asked stored) entry.key parent same in cc
             by_test false other unasked there = refl
 
       referred-at : Covered stored → is_any_key (asked stored) entry.key ≡ true
-          → referred_at wanted parent (shape (keys stored) (references wanted stored)) (place_of (bytes_eq (folded parent)) (map folded (keys stored))) ≡ shape (with_key (keys stored) parent) more
-      referred-at covered there = by_place (place_of (bytes_eq (folded parent)) (map folded (keys stored))) refl where
-        by_place : (o : Option ℕ) → place_of (bytes_eq (folded parent)) (map folded (keys stored)) ≡ o → referred_at wanted parent (shape (keys stored) (references wanted stored)) o ≡ shape (with_key (keys stored) parent) more
+          → referred_at wanted parent (shape (keys stored) (references wanted stored)) (first_place (bytes_eq (folded parent)) (map folded (keys stored))) ≡ shape (with_key (keys stored) parent) more
+      referred-at covered there = by_place (first_place (bytes_eq (folded parent)) (map folded (keys stored))) refl where
+        by_place : (o : Option ℕ) → first_place (bytes_eq (folded parent)) (map folded (keys stored)) ≡ o → referred_at wanted parent (shape (keys stored) (references wanted stored)) o ≡ shape (with_key (keys stored) parent) more
         by_place (Some place) at =
             let listed-there : is_any_key (keys stored) parent ≡ true = place_of-some (keys stored) parent place at in
             ap (λ (slots : List DraftSlot). record (shape (keys stored) (references wanted stored)) { slots = slots })
@@ -293,21 +293,21 @@ module _ (wanted : Wanted) where
         → referred_by None wanted (shape (keys stored) (references wanted stored)) parent ≡ draft longer
     referred-parent plain covered there None is =
         let ks : keys longer ≡ keys stored =
-        keys-push stored entry ∙ ap (λ (o : Option ℕ). fold with_key (keys stored) (more_by o entry)) plain ∙ ap (λ (p : Option (List ℕ)). fold with_key (keys stored) (listed p)) is in
+        keys-push stored entry ∙ ap (λ (o : Option ℕ). fold with_key (keys stored) (more_by o entry)) plain ∙ ap (λ (p : Option (List ℕ)). fold with_key (keys stored) (list_of_option p)) is in
         let parents : references wanted longer ≡ references wanted stored =
-        references-push wanted.all stored entry ∙ ap (λ (o : Option ℕ). references wanted stored ++ counted_by o entry) plain ∙ ap (λ (p : Option (List ℕ)). references wanted stored ++ listed p) is ∙ append-nil (references wanted stored) in
+        references-push wanted.all stored entry ∙ ap (λ (o : Option ℕ). references wanted stored ++ counted_by o entry) plain ∙ ap (λ (p : Option (List ℕ)). references wanted stored ++ list_of_option p) is ∙ append-nil (references wanted stored) in
         ap (λ (xs : List (List ℕ)). shape xs (references wanted stored)) (sym ks) ∙ ap (λ (xs : List (List ℕ)). shape (keys longer) xs) (sym parents)
     referred-parent plain covered there (Some parent) is =
         let ks : keys longer ≡ with_key (keys stored) parent =
-        keys-push stored entry ∙ ap (λ (o : Option ℕ). fold with_key (keys stored) (more_by o entry)) plain ∙ ap (λ (p : Option (List ℕ)). fold with_key (keys stored) (listed p)) is in
+        keys-push stored entry ∙ ap (λ (o : Option ℕ). fold with_key (keys stored) (more_by o entry)) plain ∙ ap (λ (p : Option (List ℕ)). fold with_key (keys stored) (list_of_option p)) is in
         let parents : references wanted longer ≡ more plain parent =
-        references-push wanted.all stored entry ∙ ap (λ (o : Option ℕ). references wanted stored ++ counted_by o entry) plain ∙ ap (λ (p : Option (List ℕ)). references wanted stored ++ listed p) is in
+        references-push wanted.all stored entry ∙ ap (λ (o : Option ℕ). references wanted stored ++ counted_by o entry) plain ∙ ap (λ (p : Option (List ℕ)). references wanted stored ++ list_of_option p) is in
         referred-at plain parent covered there
         ∙ ap (λ (xs : List (List ℕ)). shape xs (more plain parent)) (sym ks) ∙ ap (λ (xs : List (List ℕ)). shape (keys longer) xs) (sym parents)
 
     -- ---- the whole entry, without `*`
 
-    stored-plain : wanted.all ≡ None → Covered stored → is_wanted wanted stored entry.key ≡ true → (o : Option ℕ) → place_of (bytes_eq (folded entry.key)) (map folded (keys stored)) ≡ o
+    stored-plain : wanted.all ≡ None → Covered stored → is_wanted wanted stored entry.key ≡ true → (o : Option ℕ) → first_place (bytes_eq (folded entry.key)) (map folded (keys stored)) ≡ o
         → referred_by None wanted (put_at wanted entry.key (body_of wanted entry) (draft stored) o) (parent_of wanted entry) ≡ draft longer
     stored-plain plain covered asks None at =
         let none : is_any_key (keys stored) entry.key ≡ false = sym (any-folded (keys stored) entry.key) ∙ place_of-none (bytes_eq (folded entry.key)) (map folded (keys stored)) at in
@@ -339,12 +339,12 @@ module _ (wanted : Wanted) where
 
       late-key : with_entry (body_of wanted entry) entry.key (late_slot wanted entry.key (listed_as wanted.cited entry.key)) ≡ between entry.key
       late-key =
-          let found : entry_of longer entry.key ≡ Some entry =
-          entry_of-new stored entry entry.key absent ∙ ap (λ (b : Bool). if b then Some entry else entry_of stored entry.key) (same_key_equiv.refl entry.key) in
+          let found : entry_with_key longer entry.key ≡ Some entry =
+          entry_of-new stored entry entry.key absent ∙ ap (λ (b : Bool). if b then Some entry else entry_with_key stored entry.key) (same_key_equiv.refl entry.key) in
           late-slot (listed_as wanted.cited entry.key) (references wanted stored) (uncounted stored)
           ∙ ap (λ (o : Option Given). slot_with o (references wanted stored) entry.key) (sym found)
 
-      stored-starred : (o : Option ℕ) → place_of (bytes_eq (folded entry.key)) (map folded (keys stored)) ≡ o → put_at wanted entry.key (body_of wanted entry) (draft stored) o ≡ draft longer
+      stored-starred : (o : Option ℕ) → first_place (bytes_eq (folded entry.key)) (map folded (keys stored)) ≡ o → put_at wanted entry.key (body_of wanted entry) (draft stored) o ≡ draft longer
       stored-starred (Some place) at =
           let there : is_any_key (keys stored) entry.key ≡ true = place_of-some (keys stored) entry.key place at in
           let are : keys longer ≡ keys stored = keys-starred ∙ ap (λ (b : Bool). if b then keys stored else keys stored ++ entry.key ∷ []) there in
@@ -375,8 +375,8 @@ module _ (wanted : Wanted) where
 
   -- ---- how an entry stands
 
-  has-body : (stored : List Given) (key other : List ℕ) → is_same_key key other ≡ true → has_body (Some (slot stored other)) ≡ is_some (entry_of stored key)
-  has-body stored key other same = by_entry (entry_of stored other) ∙ ap (λ (o : Option Given). is_some o) (sym (entry_of-same stored key other same)) where
+  has-body : (stored : List Given) (key other : List ℕ) → is_same_key key other ≡ true → has_body (Some (slot stored other)) ≡ is_some (entry_with_key stored key)
+  has-body stored key other same = by_entry (entry_with_key stored other) ∙ ap (λ (o : Option Given). is_some o) (sym (entry_of-same stored key other same)) where
     by_entry : (o : Option Given) → is_some (option_map (body_of wanted) o) ≡ is_some o
     by_entry None = refl
     by_entry (Some e) = refl
@@ -398,12 +398,12 @@ module _ (wanted : Wanted) where
       let same : is_wanted wanted stored key ≡ is_any_key (asked stored) key = rw plain refl in same ∙ there
   wanted-listed stored key (Some place) starred there = rw starred refl
 
-  standing-by : (stored : List Given) (key : List ℕ) → Covered stored → (o : Option ℕ) → place_of (bytes_eq (folded key)) (map folded (keys stored)) ≡ o
-      → standing_at wanted (draft stored) o ≡ standing_of (is_some (entry_of stored key)) (is_wanted wanted stored key)
+  standing-by : (stored : List Given) (key : List ℕ) → Covered stored → (o : Option ℕ) → first_place (bytes_eq (folded key)) (map folded (keys stored)) ≡ o
+      → standing_at wanted (draft stored) o ≡ standing_of (is_some (entry_with_key stored key)) (is_wanted wanted stored key)
   standing-by stored key covered None at =
       let none : is_any_key (keys stored) key ≡ false = sym (any-folded (keys stored) key) ∙ place_of-none (bytes_eq (folded key)) (map folded (keys stored)) at in
       let unasked : is_any_key (asked stored) key ≡ false = sym (listed_keys stored key) ∙ none in
-      let unstored : entry_of stored key ≡ None = none_if (entry_of stored key) (is_any_key (asked stored) key) (covered key) unasked in
+      let unstored : entry_with_key stored key ≡ None = none_if (entry_with_key stored key) (is_any_key (asked stored) key) (covered key) unasked in
       standing-new stored key wanted.all refl unasked
       ∙ ap (λ (o : Option Given). standing_of (is_some o) (is_wanted wanted stored key)) (sym unstored)
   standing-by stored key covered (Some place) at =
@@ -411,10 +411,10 @@ module _ (wanted : Wanted) where
       let there : is_any_key (asked stored) key ≡ true = sym (listed_keys stored key) ∙ place_of-some (keys stored) key place at in
       let asks : is_wanted wanted stored key ≡ true = wanted-listed stored key wanted.all refl there in
       ap (λ (b : Bool). if b then standing.Repeated else standing.Wanted) (ap has_body found.1.1 ∙ has-body stored key found.0 found.1.0)
-      ∙ ap (λ (w : Bool). standing_of (is_some (entry_of stored key)) w) (sym asks)
+      ∙ ap (λ (w : Bool). standing_of (is_some (entry_with_key stored key)) w) (sym asks)
 
   pub standing-draft : (stored : List Given) (key : List ℕ) → Covered stored
-      → standing_at wanted (draft stored) (place_in (draft stored) key) ≡ standing_of (is_some (entry_of stored key)) (is_wanted wanted stored key)
+      → standing_at wanted (draft stored) (place_in (draft stored) key) ≡ standing_of (is_some (entry_with_key stored key)) (is_wanted wanted stored key)
   standing-draft stored key covered = standing-by stored key covered (place_in (draft stored) key) refl
 
   -- ---- cited keys
@@ -432,7 +432,7 @@ module _ (wanted : Wanted) where
   module _ (stored : List Given) (uncounted : references wanted stored ≡ []) where
     -- the cited keys so far, and the stored entries, have their places
     abbrev Begun : List (List ℕ) → List (List ℕ) → Type 0
-    Begun done ks = ((key : List ℕ) → is_any_key done key ≡ true → is_any_key ks key ≡ true) × ((key : List ℕ) → is_some (entry_of stored key) ≡ true → is_any_key ks key ≡ true)
+    Begun done ks = ((key : List ℕ) → is_any_key done key ≡ true → is_any_key ks key ≡ true) × ((key : List ℕ) → is_some (entry_with_key stored key) ≡ true → is_any_key ks key ≡ true)
 
     false_if : (a b : Bool) → (a ≡ true → b ≡ true) → b ≡ false → a ≡ false
     false_if true b h f = let t = h refl in cc
@@ -442,12 +442,12 @@ module _ (wanted : Wanted) where
     open-cited done ks rest key parts begun none =
         let undone : is_any_key done key ≡ false = false_if (is_any_key done key) (is_any_key ks key) (begun.0 key) none in
         let cited : listed_as wanted.cited key ≡ Some key = ap (λ (xs : List (List ℕ)). listed_as xs key) parts ∙ listed_as-first done key rest undone in
-        let unstored : entry_of stored key ≡ None = none_if (entry_of stored key) (is_any_key ks key) (begun.1 key) none in
+        let unstored : entry_with_key stored key ≡ None = none_if (entry_with_key stored key) (is_any_key ks key) (begun.1 key) none in
         ap (λ (xs : List (List ℕ)). slot_by wanted true key (Some key) None (count_by (is_same_key key) xs)) (sym uncounted)
         ∙ ap (λ (o : Option Given). slot_by wanted true key (Some key) o (count_by (is_same_key key) (references wanted stored))) (sym unstored)
-        ∙ ap (λ (c : Option (List ℕ)). slot_by wanted (is_some c) key c (entry_of stored key) (count_by (is_same_key key) (references wanted stored))) (sym cited)
+        ∙ ap (λ (c : Option (List ℕ)). slot_by wanted (is_some c) key c (entry_with_key stored key) (count_by (is_same_key key) (references wanted stored))) (sym cited)
 
-    cited-listing : (done ks rest : List (List ℕ)) (key : List ℕ) → wanted.cited ≡ done ++ key ∷ rest → Begun done ks → (o : Option ℕ) → place_of (bytes_eq (folded key)) (map folded ks) ≡ o
+    cited-listing : (done ks rest : List (List ℕ)) (key : List ℕ) → wanted.cited ≡ done ++ key ∷ rest → Begun done ks → (o : Option ℕ) → first_place (bytes_eq (folded key)) (map folded ks) ≡ o
         → cited_at wanted key (listing stored ks) o ≡ listing stored (with_key ks key)
     cited-listing done ks rest key parts begun (Some place) at =
         ap (λ (b : Bool). listing stored (if b then ks else ks ++ key ∷ [])) (sym (place_of-some ks key place at))
@@ -488,21 +488,21 @@ module _ (wanted : Wanted) where
     by_test true same h rest = let is : k ≡ other = cc in subst (λ (x : List ℕ). is_same_key key x ≡ true) is same
     by_test false differs h rest = rest h
 
-  entry-same : (entries : List Given) (key : List ℕ) (entry : Given) → entry_of entries key ≡ Some entry → is_same_key key entry.key ≡ true
+  entry-same : (entries : List Given) (key : List ℕ) (entry : Given) → entry_with_key entries key ≡ Some entry → is_same_key key entry.key ≡ true
   entry-same [] key entry h = cc
   entry-same (e ∷ entries) key entry h = by_test (is_same_key key e.key) refl h (entry-same entries key entry) where
-    by_test : (b : Bool) → is_same_key key e.key ≡ b → cond b (Some e) (entry_of entries key) ≡ Some entry → (entry_of entries key ≡ Some entry → is_same_key key entry.key ≡ true) → is_same_key key entry.key ≡ true
+    by_test : (b : Bool) → is_same_key key e.key ≡ b → cond b (Some e) (entry_with_key entries key) ≡ Some entry → (entry_with_key entries key ≡ Some entry → is_same_key key entry.key ≡ true) → is_same_key key entry.key ≡ true
     by_test true same h rest = let is : e ≡ entry = cc in subst (λ (x : Given). is_same_key key x.key ≡ true) is same
     by_test false differs h rest = rest h
 
   slot-key : (stored : List Given) (key : List ℕ) → folded key ≡ folded (slot stored key).key
-  slot-key stored key = by_case (listed_as wanted.cited key) refl (entry_of stored key) refl where
-    by_case : (o : Option (List ℕ)) → listed_as wanted.cited key ≡ o → (e : Option Given) → entry_of stored key ≡ e → folded key ≡ folded (slot_by wanted (is_some o) key o e 0).key
+  slot-key stored key = by_case (listed_as wanted.cited key) refl (entry_with_key stored key) refl where
+    by_case : (o : Option (List ℕ)) → listed_as wanted.cited key ≡ o → (e : Option Given) → entry_with_key stored key ≡ e → folded key ≡ folded (slot_by wanted (is_some o) key o e 0).key
     by_case (Some other) is e at = folded-same key other (found-same wanted.cited key other is)
     by_case None is (Some entry) at = folded-same key entry.key (entry-same stored key entry at)
     by_case None is None at = refl
 
-  pub names-listing : (stored : List Given) (ks : List (List ℕ)) → map folded ks ≡ names_of (settled_all (map (slot stored) ks))
+  pub names-listing : (stored : List Given) (ks : List (List ℕ)) → map folded ks ≡ lower_keys (settled_all (map (slot stored) ks))
   names-listing stored [] = refl
   names-listing stored (k ∷ ks) = ap (λ (f : List ℕ). f ∷ map folded ks) (slot-key stored k) ∙ ap (λ (fs : List (List ℕ)). folded (slot stored k).key ∷ fs) (names-listing stored ks)
 
@@ -528,7 +528,7 @@ module _ (wanted : Wanted) where
         untrue : false ≡ true → ⊥
         untrue h = cc
 
-  covered-keys : (stored : List Given) (key : List ℕ) → Covered stored → is_some (entry_of stored key) ≡ true → is_any_key (keys stored) key ≡ true
+  covered-keys : (stored : List Given) (key : List ℕ) → Covered stored → is_some (entry_with_key stored key) ≡ true → is_any_key (keys stored) key ≡ true
   covered-keys stored key covered some = listed_keys stored key ∙ covered key some
 
   first-keys : (stored : List Given) (key : List ℕ) → is_any_key (first_cited wanted.all wanted.cited) key ≡ true → is_any_key (keys stored) key ≡ true
@@ -547,7 +547,7 @@ module _ (wanted : Wanted) where
       ∙ ap (λ (xs : List (List ℕ)). first_cited wanted.all wanted.cited ++ xs) (sym (append-nil (last_cited (Some place) wanted.cited))) in
       cited_all-listing stored uncounted (last_cited (Some place) wanted.cited) (first_cited wanted.all wanted.cited) (keys stored) [] parts (λ key h. first-keys stored key h, λ key h. covered-keys stored key covered h)
 
-  pub last-draft : (stored : List Given) → Covered stored → cited_all wanted (draft stored) (last_cited wanted.all wanted.cited) ≡ listing stored (keys_of wanted stored)
+  pub last-draft : (stored : List Given) → Covered stored → cited_all wanted (draft stored) (last_cited wanted.all wanted.cited) ≡ listing stored (list_keys wanted stored)
   last-draft stored covered = last-by stored covered wanted.all refl
 
   settled-slots : (stored : List Given) (ks : List (List ℕ)) → settled_all (map (slot stored) ks) ≡ map (slot_of wanted stored) ks
@@ -555,8 +555,8 @@ module _ (wanted : Wanted) where
   settled-slots stored (k ∷ ks) =
       ap (λ (first : Slot). first ∷ settled_all (map (slot stored) ks)) (settled-slot wanted stored k) ∙ ap (λ (rest : List Slot). slot_of wanted stored k ∷ rest) (settled-slots stored ks)
 
-  pub slots-listing : (stored : List Given) → settled_all (listing stored (keys_of wanted stored)).slots ≡ slots_of wanted stored
-  slots-listing stored = settled-slots stored (keys_of wanted stored)
+  pub slots-listing : (stored : List Given) → settled_all (listing stored (list_keys wanted stored)).slots ≡ slots_of wanted stored
+  slots-listing stored = settled-slots stored (list_keys wanted stored)
 
   pub covered-none : Covered []
   covered-none key h = absurd (untrue h) where

@@ -5,8 +5,8 @@ use Rattle.std.specs.Str.{bytes_eq}
 use Rattle.std.specs.Option.{option_map}
 use Rattle.std.specs.List.{list_any, position_or_len}
 use Rattle.std.proofs.lemmas.Bool.Decides.{nat_tests}
-use Rattle.btx_aux.specs.Entries.{Bytes, texts_of}
-use Rattle.btx_bib.specs.Finding.{place_of}
+use Rattle.btx_aux.specs.refinement.Entries.{Bytes, texts_of}
+use Rattle.btx_bib.specs.refinement.Finding.{first_place}
 
 same_key : Bytes → Bytes → Bool
 same_key a b = bytes_eq a.items b.items
@@ -28,7 +28,7 @@ module _ {T : Type 0} (test : T → Bool) where
       let n = cond (not b) (1 + position_or_len test xs) 0 in
       cond (nat_lt n (suc (length xs))) (Some n) None
 
-  placed-is : (b : Bool) (xs : List T) → position test xs ≡ place_of test xs → placed b xs ≡ (if b then Some 0 else option_map suc (place_of test xs))
+  placed-is : (b : Bool) (xs : List T) → position test xs ≡ first_place test xs → placed b xs ≡ (if b then Some 0 else option_map suc (first_place test xs))
   placed-is true xs h = rw (lt_none (length xs)) refl
   placed-is false xs h =
       ap (λ (n : ℕ). cond (nat_lt n (suc (length xs))) (Some n) None) (one-add (position_or_len test xs))
@@ -36,11 +36,11 @@ module _ {T : Type 0} (test : T → Bool) where
       ∙ shifted (nat_lt (position_or_len test xs) (length xs)) (position_or_len test xs)
       ∙ ap (option_map suc) h
 
-  pub place_of-position : (xs : List T) → position test xs ≡ place_of test xs
+  pub place_of-position : (xs : List T) → position test xs ≡ first_place test xs
   place_of-position [] = refl
   place_of-position (x ∷ xs) = placed-is (test x) xs (place_of-position xs)
 
-pub place_of-texts : (names : List Bytes) (name : List ℕ) → place_of (λ (other : Bytes). bytes_eq name other.items) names ≡ place_of (bytes_eq name) (texts_of names)
+pub place_of-texts : (names : List Bytes) (name : List ℕ) → first_place (λ (other : Bytes). bytes_eq name other.items) names ≡ first_place (bytes_eq name) (texts_of names)
 place_of-texts [] name = refl
 place_of-texts (first ∷ names) name = ap (λ (o : Option ℕ). if bytes_eq name first.items then Some 0 else option_map suc o) (place_of-texts names name)
 

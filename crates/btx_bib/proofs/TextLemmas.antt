@@ -1,34 +1,55 @@
--- Values as places among the texts of an entry.
-use Rattle.std.proofs.Common.{◌≡◌, ℕ, zero, suc, arith, ◌<◌, ◌≤◌, List, [], ◌∷◌, ◌++◌, length, map, replicate, get_or, Option, None, Some, refl, ap, ◌∙◌}
+-- Values as places among the values that an entry has.
+use Rattle.std.proofs.Common.{◌≡◌, ℕ, zero, suc, arith, ◌+◌, ◌<◌, List, [], ◌∷◌, ◌++◌, length, length-append, map, replicate, Option, None, Some, refl, ap, ◌∙◌}
 use Rattle.std.specs.Prelude.{slice_get, slice_set}
-use Rattle.std.specs.Option.{IfSome}
 use Rattle.std.specs.List.{All, AllByRecursion}
-use Rattle.std.proofs.lemmas.List.{map-append}
+use Rattle.std.proofs.lemmas.List.{length-map, map-append}
 use Rattle.std.proofs.lemmas.List.Elements.{recursion_from_All}
 use Rattle.btx_bib.specs.declared.places.Place.{Place}
-use Rattle.btx_bib.specs.Filling.{blanks}
-use Rattle.btx_bib.specs.Finding.{changed_at}
-use Rattle.btx_bib.specs.Values.{IsWithin, number_in, text_at, text_by, value_at}
+use Rattle.btx_bib.specs.declared.places.Place.TheVariants.{Missing, Lent, Made}
+use Rattle.btx_bib.specs.declared.places.ShortPlace.{ShortPlace}
+use Rattle.btx_bib.specs.refinement.Filling.{blanks}
+use Rattle.btx_bib.specs.refinement.Finding.{changed_at}
+use Rattle.btx_bib.specs.language.Values.{field_value}
+use Rattle.btx_bib.specs.refinement.Values.{IsAdded, IsWithin, place_in, text_at}
 
 -- ---- one field
 
-pub value_at-texts : (texts : List (List ℕ)) (places : List Place) (field : ℕ) (place : Place) → field < length places → place ≡ get_or places field place → text_at texts place ≡ value_at field (map (text_at texts) places)
-value_at-texts texts [] field place h is = absurd (omega arith)
-value_at-texts texts (first ∷ places) zero place h is = ap (text_at texts) is
-value_at-texts texts (first ∷ places) (suc field) place h is = value_at-texts texts places field place (omega arith) is
+-- the value of a field, by its place
+pub value_at-place : (lent made : List (List ℕ)) (places : List Place) (field : ℕ) (place : Place) → Some place ≡ slice_get places field → text_at lent made place ≡ field_value field (map (text_at lent made) places)
+value_at-place lent made [] field place is = cc
+value_at-place lent made (first ∷ places) zero place is = by_place is where
+  by_place : Some place ≡ Some first → text_at lent made place ≡ text_at lent made first
+  by_place e = cc
+value_at-place lent made (first ∷ places) (suc field) place is = value_at-place lent made places field place is
 
-pub value_at-missing : (texts : List (List ℕ)) (places : List Place) (field : ℕ) → length places ≤ field → None ≡ value_at field (map (text_at texts) places)
-value_at-missing texts [] field h = refl
-value_at-missing texts (first ∷ places) zero h = absurd (omega arith)
-value_at-missing texts (first ∷ places) (suc field) h = value_at-missing texts places field (omega arith)
+pub value_at-past : (lent made : List (List ℕ)) (places : List Place) (field : ℕ) → None ≡ slice_get places field → None ≡ field_value field (map (text_at lent made) places)
+value_at-past lent made [] field is = refl
+value_at-past lent made (first ∷ places) zero is = cc
+value_at-past lent made (first ∷ places) (suc field) is = value_at-past lent made places field is
 
-pub texts-missing : (texts : List (List ℕ)) (place : Place) (count : ℕ) → number_in place ≡ None → map (text_at texts) (replicate count place) ≡ blanks count
-texts-missing texts place zero missing = refl
-texts-missing texts place (suc count) missing =
-    ap (λ (number : Option ℕ). text_by texts number ∷ map (text_at texts) (replicate count place)) missing
-    ∙ ap (λ (rest : List (Option (List ℕ))). None ∷ rest) (texts-missing texts place count missing)
+pub texts-missing : (lent made : List (List ℕ)) (count : ℕ) → map (text_at lent made) (replicate count Missing) ≡ blanks count
+texts-missing lent made zero = refl
+texts-missing lent made (suc count) = ap (λ (rest : List (Option (List ℕ))). None ∷ rest) (texts-missing lent made count)
 
--- ---- one text more
+-- ---- places in a byte
+
+pub places-missing : (short : ShortPlace) (count : ℕ) → place_in short ≡ Missing → map place_in (replicate count short) ≡ replicate count Missing
+places-missing short zero is = refl
+places-missing short (suc count) is =
+    ap (λ (place : Place). place ∷ map place_in (replicate count short)) is ∙ ap (λ (rest : List Place). Missing ∷ rest) (places-missing short count is)
+
+pub places-set : (shorts : List ShortPlace) (field : ℕ) (short : ShortPlace) (place : Place) → place_in short ≡ place → map place_in (slice_set shorts field short) ≡ slice_set (map place_in shorts) field place
+places-set [] field short place is = refl
+places-set (first ∷ shorts) zero short place is = ap (λ (new : Place). new ∷ map place_in shorts) is
+places-set (first ∷ shorts) (suc field) short place is = ap (λ (rest : List Place). place_in first ∷ rest) (places-set shorts field short place is)
+
+pub places-push : (shorts : List ShortPlace) (short : ShortPlace) (place : Place) → place_in short ≡ place → map place_in (shorts ++ short ∷ []) ≡ map place_in shorts ++ place ∷ []
+places-push [] short place is = ap (λ (new : Place). new ∷ []) is
+places-push (first ∷ shorts) short place is = ap (λ (rest : List Place). place_in first ∷ rest) (places-push shorts short place is)
+
+pub ruleset place_steps = (places-set, places-push, length-map)
+
+-- ---- one value more
 
 text-kept : (texts : List (List ℕ)) (new : List ℕ) (number : ℕ) → number < length texts → slice_get (texts ++ new ∷ []) number ≡ slice_get texts number
 text-kept [] new number h = absurd (omega arith)
@@ -39,36 +60,47 @@ text-new : (texts : List (List ℕ)) (new : List ℕ) → slice_get (texts ++ ne
 text-new [] new = refl
 text-new (text ∷ texts) new = text-new texts new
 
-text_by-kept : (texts : List (List ℕ)) (new : List ℕ) (number : Option ℕ) → IfSome number (λ n. n < length texts) → text_by (texts ++ new ∷ []) number ≡ text_by texts number
-text_by-kept texts new None h = refl
-text_by-kept texts new (Some number) h = text-kept texts new number h
+one-more : (texts : List (List ℕ)) (new : List ℕ) → length (texts ++ new ∷ []) ≡ length texts + 1
+one-more texts new = length-append texts (new ∷ [])
 
-texts-kept : (texts : List (List ℕ)) (new : List ℕ) (places : List Place) → AllByRecursion (IsWithin (length texts)) places → map (text_at (texts ++ new ∷ [])) places ≡ map (text_at texts) places
-texts-kept texts new [] h = refl
-texts-kept texts new (place ∷ places) h =
-    ap (λ (value : Option (List ℕ)). value ∷ map (text_at (texts ++ new ∷ [])) places) (text_by-kept texts new (number_in place) h.0)
-    ∙ ap (λ (rest : List (Option (List ℕ))). text_at texts place ∷ rest) (texts-kept texts new places h.1)
+pub added-lent : (lent made : List (List ℕ)) (new : List ℕ) → IsAdded lent made (lent ++ new ∷ []) made new (Lent (length lent))
+added-lent lent made new = record { there = text-new lent new; within = omega (arith, one-more lent new); others = other } where
+  other : (place : Place) → IsWithin (length lent) (length made) place → (text_at (lent ++ new ∷ []) made place ≡ text_at lent made place) × IsWithin (length (lent ++ new ∷ [])) (length made) place
+  other Missing h = (refl, tt)
+  other (Lent number) h = (text-kept lent new number h, omega (arith, one-more lent new, h))
+  other (Made number) h = (refl, h)
 
-text_at-new : (texts : List (List ℕ)) (new : List ℕ) (place : Place) → number_in place ≡ Some (length texts) → text_at (texts ++ new ∷ []) place ≡ Some new
-text_at-new texts new place is = ap (text_by (texts ++ new ∷ [])) is ∙ text-new texts new
+pub added-made : (lent made : List (List ℕ)) (new : List ℕ) → IsAdded lent made lent (made ++ new ∷ []) new (Made (length made))
+added-made lent made new = record { there = text-new made new; within = omega (arith, one-more made new); others = other } where
+  other : (place : Place) → IsWithin (length lent) (length made) place → (text_at lent (made ++ new ∷ []) place ≡ text_at lent made place) × IsWithin (length lent) (length (made ++ new ∷ [])) place
+  other Missing h = (refl, tt)
+  other (Lent number) h = (refl, h)
+  other (Made number) h = (text-kept made new number h, omega (arith, one-more made new, h))
 
--- one field more
-pub texts-push : (texts : List (List ℕ)) (new : List ℕ) (places : List Place) (place : Place) → All (IsWithin (length texts)) places → number_in place ≡ Some (length texts)
-    → map (text_at (texts ++ new ∷ [])) (places ++ place ∷ []) ≡ map (text_at texts) places ++ Some new ∷ []
-texts-push texts new places place within is =
-    map-append (text_at (texts ++ new ∷ [])) places (place ∷ [])
-    ∙ ap (λ (values : List (Option (List ℕ))). values ++ text_at (texts ++ new ∷ []) place ∷ []) (texts-kept texts new places (recursion_from_All _ places within))
-    ∙ ap (λ (value : Option (List ℕ)). map (text_at texts) places ++ value ∷ []) (text_at-new texts new place is)
+pub ruleset added_steps = (added-lent, added-made)
 
 map-changed_at : {A B : Type 0} (f : A → B) (xs : List A) (i : ℕ) (y : A) → map f (slice_set xs i y) ≡ changed_at i (λ (old : B). f y) (map f xs)
 map-changed_at f [] i y = refl
 map-changed_at f (x ∷ xs) zero y = refl
 map-changed_at f (x ∷ xs) (suc i) y = ap (λ (rest : List _). f x ∷ rest) (map-changed_at f xs i y)
 
--- a field with another value
-pub texts-put : (texts : List (List ℕ)) (new : List ℕ) (places : List Place) (field : ℕ) (place : Place) → All (IsWithin (length texts)) places → number_in place ≡ Some (length texts)
-    → map (text_at (texts ++ new ∷ [])) (slice_set places field place) ≡ changed_at field (λ (old : Option (List ℕ)). Some new) (map (text_at texts) places)
-texts-put texts new places field place within is =
-    map-changed_at (text_at (texts ++ new ∷ [])) places field place
-    ∙ ap (λ (value : Option (List ℕ)). changed_at field (λ (old : Option (List ℕ)). value) (map (text_at (texts ++ new ∷ [])) places)) (text_at-new texts new place is)
-    ∙ ap (changed_at field (λ (old : Option (List ℕ)). Some new)) (texts-kept texts new places (recursion_from_All _ places within))
+module _ (lent made lent' made' : List (List ℕ)) (new : List ℕ) (place : Place) (added : IsAdded lent made lent' made' new place) where
+  texts-kept : (places : List Place) → AllByRecursion (IsWithin (length lent) (length made)) places → map (text_at lent' made') places ≡ map (text_at lent made) places
+  texts-kept [] h = refl
+  texts-kept (first ∷ places) h =
+      ap (λ (value : Option (List ℕ)). value ∷ map (text_at lent' made') places) (added.others first h.0).0
+      ∙ ap (λ (rest : List (Option (List ℕ))). text_at lent made first ∷ rest) (texts-kept places h.1)
+
+  -- one field more
+  pub texts-push : (places : List Place) → All (IsWithin (length lent) (length made)) places → map (text_at lent' made') (places ++ place ∷ []) ≡ map (text_at lent made) places ++ Some new ∷ []
+  texts-push places within =
+      map-append (text_at lent' made') places (place ∷ [])
+      ∙ ap (λ (values : List (Option (List ℕ))). values ++ text_at lent' made' place ∷ []) (texts-kept places (recursion_from_All _ places within))
+      ∙ ap (λ (value : Option (List ℕ)). map (text_at lent made) places ++ value ∷ []) added.there
+
+  -- a field with another value
+  pub texts-put : (places : List Place) (field : ℕ) → All (IsWithin (length lent) (length made)) places → map (text_at lent' made') (slice_set places field place) ≡ changed_at field (λ (old : Option (List ℕ)). Some new) (map (text_at lent made) places)
+  texts-put places field within =
+      map-changed_at (text_at lent' made') places field place
+      ∙ ap (λ (value : Option (List ℕ)). changed_at field (λ (old : Option (List ℕ)). value) (map (text_at lent' made') places)) added.there
+      ∙ ap (changed_at field (λ (old : Option (List ℕ)). Some new)) (texts-kept places (recursion_from_All _ places within))

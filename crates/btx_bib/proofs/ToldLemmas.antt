@@ -3,17 +3,17 @@ use Rattle.std.proofs.Common.{◌≡◌, ◌∙◌, ℕ, true, false, List, [], 
 use Rattle.std.specs.Prelude.{is_none}
 use Rattle.std.proofs.lemmas.List.{append-nil}
 use Rattle.btx_bib.specs.declared.gathering.Pending.{Pending}
-use Rattle.btx_bib.specs.Grammar.Fields.{Field}
-use Rattle.btx_bib.specs.Grammar.PlainFields.{HasString}
-use Rattle.btx_bib.specs.Grammar.Values.{Part, Braced, Quoted, Digits, Named}
-use Rattle.btx_bib.specs.Gatherings.{told_of_number}
-use Rattle.btx_bib.specs.Values.{value_at}
-use Rattle.btx_bib.specs.Strings.{Strings, string_value}
-use Rattle.btx_bib.specs.Told.{Database, name_told, names_told}
+use Rattle.btx_bib.specs.language.Grammar.Fields.{Field}
+use Rattle.btx_bib.specs.refinement.Grammar.PlainFields.{HasString}
+use Rattle.btx_bib.specs.language.Grammar.Values.{Part, Braced, Quoted, Digits, Named}
+use Rattle.btx_bib.specs.refinement.Gatherings.{told_of_number}
+use Rattle.btx_bib.specs.language.Values.{field_value}
+use Rattle.btx_bib.specs.language.Strings.{Strings, string_value}
+use Rattle.btx_bib.specs.language.Told.{Database, name_messages, value_messages}
 
 -- what is told of a value of one part
-pub names-one : (database : Database) (strings : Strings) (own : Option (List ℕ)) (part : Part) → names_told database strings own (part ∷ []) ≡ name_told database strings own part
-names-one database strings own part = append-nil (name_told database strings own part)
+pub names-one : (database : Database) (strings : Strings) (own : Option (List ℕ)) (part : Part) → value_messages database strings own (part ∷ []) ≡ name_messages database strings own part
+names-one database strings own part = append-nil (name_messages database strings own part)
 
 pub ruleset one_name = (names-one)
 
@@ -24,7 +24,7 @@ some-none (Some text) h = refl
 some-none None h = cc
 
 -- no message comes of its value, if a name in it stands for a string
-plain-names : (database : Database) (strings : Strings) (part : Part) → HasString (string_value strings) part → names_told database strings None (part ∷ []) ≡ []
+plain-names : (database : Database) (strings : Strings) (part : Part) → HasString (string_value strings) part → value_messages database strings None (part ∷ []) ≡ []
 plain-names database strings (Braced text) h = refl
 plain-names database strings (Quoted text) h = refl
 plain-names database strings (Digits text) h = refl
@@ -37,6 +37,6 @@ silent-none database strings pending field rest number is = ap (told_of_number d
 
 -- none comes of one that has no value yet
 pub silent-some : (database : Database) (strings : Strings) (pending : Pending) (field : Field) (rest : List ℕ) (number : Option ℕ) (place : ℕ) (part : Part) → number ≡ Some place →
-    is_some (value_at place pending.body.values) ≡ false → field.value ≡ part ∷ [] → HasString (string_value strings) part → told_of_number database strings pending field rest number ≡ []
+    is_some (field_value place pending.body.values) ≡ false → field.value ≡ part ∷ [] → HasString (string_value strings) part → told_of_number database strings pending field rest number ≡ []
 silent-some database strings pending field rest number place part is lacks one known =
     ap (told_of_number database strings pending field rest) is ∙ rw (lacks, one) (plain-names database strings part known)

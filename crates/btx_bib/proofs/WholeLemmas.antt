@@ -1,23 +1,23 @@
 -- What is kept before the first database and behind the last one, and the library of it.
 use Rattle.std.proofs.Common.{◌≡◌, ℕ, zero, suc, Bool, true, false, if◌then◌else◌, List, [], ◌∷◌, ◌++◌, drop, fold, length, None, Some, refl, sym, ap, subst, ◌∙◌}
 use Rattle.std.specs.Prelude.{nat_lt, slice_get}
-use Rattle.btx_text.specs.Limits.{greatest_string}
+use Rattle.btx_text.specs.language.Limits.{greatest_string}
 use Rattle.btx_bib.specs.declared.draft.Draft.{Draft}
 use Rattle.btx_bib.specs.declared.end.End.{End}
 use Rattle.btx_bib.specs.declared.end.End.TheVariants as end
 use Rattle.btx_bib.specs.declared.gathering.Gathering.{Gathering}
 use Rattle.btx_bib.specs.declared.message.Message.{Message}
 use Rattle.btx_bib.specs.declared.slots.Slot.{Slot}
-use Rattle.btx_bib.specs.Databases.{library_by, library_of, nothing, with_macro, with_macros}
-use Rattle.btx_bib.specs.Drafts.{settled_all}
-use Rattle.btx_bib.specs.Grammar.ValueTexts.{squeezed}
-use Rattle.btx_bib.specs.Known.{Known, goes_on}
-use Rattle.btx_bib.specs.Listing.{keys_of}
-use Rattle.btx_bib.specs.Passes.{entries_of, references_told}
-use Rattle.btx_bib.specs.Strings.{defined}
-use Rattle.btx_bib.specs.Told.{Database, Reading}
-use Rattle.btx_bib.specs.Wanted.{Wanted}
-use Rattle.btx_bib.specs.Readings.{IsListed, beginning, kept_by_all, kept_macro, kept_macros, library_kept, listed_draft, told_by_all}
+use Rattle.btx_bib.specs.language.Databases.{library_by, library_of, nothing, with_macro, with_macros}
+use Rattle.btx_bib.specs.refinement.Drafts.{settled_all}
+use Rattle.btx_bib.specs.language.Grammar.ValueTexts.{squeezed}
+use Rattle.btx_bib.specs.language.Known.{Known, goes_on}
+use Rattle.btx_bib.specs.language.Listing.{list_keys}
+use Rattle.btx_bib.specs.language.Passes.{entries_of, reference_messages}
+use Rattle.btx_bib.specs.language.Strings.{defined}
+use Rattle.btx_bib.specs.language.Told.{Database, Reading}
+use Rattle.btx_bib.specs.language.Wanted.{Request}
+use Rattle.btx_bib.specs.refinement.Readings.{IsListed, nothing_gathered, kept_by_all, kept_macro, kept_macros, library_kept, listed_draft, told_by_all}
 use Rattle.btx_bib.proofs.AlongLemmas.{all-kept, all-sound, all-told}
 use Rattle.btx_bib.proofs.ApartLemmas.{known_all, reading-apart}
 use Rattle.btx_bib.proofs.KeptLemmas.{Sound, kept_of}
@@ -45,8 +45,8 @@ macro-next macros i next macro before after is at e =
 pub macro-none : (macros : List (List ℕ × List ℕ)) (i next : ℕ) (before : Gathering) → next ≡ suc i → slice_get macros i ≡ None → kept_macros before (drop next macros) ≡ kept_macros before (drop i macros)
 macro-none macros i next before is at = ap (λ (n : ℕ). kept_macros before (drop n macros)) is ∙ ap (kept_macros before) (sym (drop-none macros i at))
 
-module _ (wanted : Wanted) where
-  start-kept : beginning wanted ≡ kept_of wanted nothing
+module _ (wanted : Request) where
+  start-kept : nothing_gathered wanted ≡ kept_of wanted nothing
   start-kept = ap (λ (d : Draft). record { draft = d; strings = []; current = None; preamble = []; ending = end.Whole }) (first-draft wanted)
 
   macro-kept : (known : Known) (macro : List ℕ × List ℕ) → kept_macro (kept_of wanted known) macro ≡ kept_of wanted (with_macro known macro)
@@ -76,16 +76,16 @@ module _ (wanted : Wanted) where
 
   library-same : (known : Known) (messages : List Message) → Sound wanted known → (ending : End) → library_kept ending wanted (kept_of wanted known) messages ≡ library_by ending wanted known messages
   library-same known messages sound end.Whole =
-      ap (λ (slots : List Slot). record { entries = entries_of slots; preamble = known.preamble; messages = messages ++ references_told slots; ending = end.Whole })
+      ap (λ (slots : List Slot). record { entries = entries_of slots; preamble = known.preamble; messages = messages ++ reference_messages slots; ending = end.Whole })
       (ap (λ (d : Draft). settled_all d.slots) (last-draft wanted known.stored sound.0) ∙ slots-listing wanted known.stored)
   library-same known messages sound end.FileLimit = refl
   library-same known messages sound end.StringLimit = refl
 
-  module _ (macros : List (List ℕ × List ℕ)) (databases : List Database) (kept : Gathering) (is : kept ≡ kept_by_all wanted (kept_macros (beginning wanted) macros) databases) where
+  module _ (macros : List (List ℕ × List ℕ)) (databases : List Database) (kept : Gathering) (is : kept ≡ kept_by_all wanted (kept_macros (nothing_gathered wanted) macros) databases) where
     abbrev known : Known
     known = known_all wanted (with_macros macros) databases
 
-    before : kept_macros (beginning wanted) macros ≡ kept_of wanted (with_macros macros)
+    before : kept_macros (nothing_gathered wanted) macros ≡ kept_of wanted (with_macros macros)
     before = ap (λ (k : Gathering). kept_macros k macros) start-kept ∙ macros-kept macros nothing
 
     sound-before : Sound wanted (with_macros macros)
@@ -101,9 +101,9 @@ module _ (wanted : Wanted) where
     pub is-listed : IsListed (listed_draft wanted kept.draft)
     is-listed =
         subst (λ (k : Gathering). IsListed (listed_draft wanted k.draft)) (sym kept-known)
-        (subst IsListed (sym (last-draft wanted known.stored sound.0)) (names-listing wanted known.stored (keys_of wanted known.stored)))
+        (subst IsListed (sym (last-draft wanted known.stored sound.0)) (names-listing wanted known.stored (list_keys wanted known.stored)))
 
-    pub library-is : (messages : List Message) → messages ≡ told_by_all wanted (kept_macros (beginning wanted) macros) databases → library_kept kept.ending wanted kept messages ≡ library_of wanted macros databases
+    pub library-is : (messages : List Message) → messages ≡ told_by_all wanted (kept_macros (nothing_gathered wanted) macros) databases → library_kept kept.ending wanted kept messages ≡ library_of wanted macros databases
     unfolding library_of
     library-is messages tells =
         ap (λ (k : Gathering). library_kept k.ending wanted k messages) kept-known

@@ -29,11 +29,11 @@ impl<'a> Gathering<'a> {
     ghost use Rattle.std.specs.Prelude.{◌≡◌, ◌++◌, true, IfOk, OnOk};
     ghost use Rattle.btx_bib.specs.declared.end.End.TheVariants as end;
     ghost use Rattle.btx_bib.specs.declared.grammar.commands.Wanted.TheVariants as next;
-    ghost use Rattle.btx_bib.specs.Gatherings.{closed, events_with, kept_along, kept_told};
-    ghost use Rattle.btx_bib.specs.Known.{goes_on};
-    ghost use Rattle.btx_bib.specs.Readings.{IsListed, kept_macro, kept_macros, beginning, library_kept, listed_draft, kept_by_all, kept_one, told_by_all, told_by_one};
-    ghost use Rattle.btx_bib.specs.Requests.{wanted};
-    ghost use Rattle.btx_bib.specs.Sources.{database_of, databases_of};
+    ghost use Rattle.btx_bib.specs.refinement.Gatherings.{closed, events_with, kept_along, kept_told};
+    ghost use Rattle.btx_bib.specs.language.Known.{goes_on};
+    ghost use Rattle.btx_bib.specs.refinement.Readings.{IsListed, kept_macro, kept_macros, nothing_gathered, library_kept, listed_draft, kept_by_all, kept_one, told_by_all, told_by_one};
+    ghost use Rattle.btx_bib.specs.refinement.Requests.{wanted};
+    ghost use Rattle.btx_bib.specs.refinement.Sources.{source_database, source_databases};
 
     // A database that isn't too long.
     fn read_short(
@@ -45,7 +45,7 @@ impl<'a> Gathering<'a> {
     ) -> Result<(), AllocError>
         requires { goes_on self.old.ending ≡ true }
         ensures state { OnOk result (self.new ≡ closed (wanted request.now) (kept_along (wanted request.now) self.old (events_with (wanted request.now) self.old next.Item source.now.bytes.now))) }
-        ensures told { OnOk result (messages.new ≡ messages.old ++ kept_told (wanted request.now) (database_of source.now) self.old (events_with (wanted request.now) self.old next.Item source.now.bytes.now)) }
+        ensures told { OnOk result (messages.new ≡ messages.old ++ kept_told (wanted request.now) (source_database source.now) self.old (events_with (wanted request.now) self.old next.Item source.now.bytes.now)) }
     {
         let mut site = Site {
             file: Word::new(source.name),
@@ -63,8 +63,8 @@ impl<'a> Gathering<'a> {
         source: &Source<'a>,
         messages: &mut Messages<'a>,
     ) -> Result<(), AllocError>
-        ensures state { OnOk result (self.new ≡ kept_one (wanted request.now) self.old (database_of source.now)) }
-        ensures told { OnOk result (messages.new ≡ messages.old ++ told_by_one (wanted request.now) self.old (database_of source.now)) }
+        ensures state { OnOk result (self.new ≡ kept_one (wanted request.now) self.old (source_database source.now)) }
+        ensures told { OnOk result (messages.new ≡ messages.old ++ told_by_one (wanted request.now) self.old (source_database source.now)) }
     {
         if self.has_ended() {
             return Ok(());
@@ -84,8 +84,8 @@ impl<'a> Gathering<'a> {
         sources: &[Source<'a>],
         messages: &mut Messages<'a>,
     ) -> Result<(), AllocError>
-        ensures state { OnOk result (self.new ≡ kept_by_all (wanted request.now) self.old (databases_of sources.now)) }
-        ensures told { OnOk result (messages.new ≡ messages.old ++ told_by_all (wanted request.now) self.old (databases_of sources.now)) }
+        ensures state { OnOk result (self.new ≡ kept_by_all (wanted request.now) self.old (source_databases sources.now)) }
+        ensures told { OnOk result (messages.new ≡ messages.old ++ told_by_all (wanted request.now) self.old (source_databases sources.now)) }
     {
         for source in sources {
             self.read_one(alloc, request, source, messages)?;
@@ -95,7 +95,7 @@ impl<'a> Gathering<'a> {
 
     /// What is kept where nothing was read.
     pub fn new(alloc: Global, request: &Request<'_, 'a>) -> Result<Gathering<'a>, AllocError>
-        ensures { IfOk result (λ kept. kept ≡ beginning (wanted request.now)) }
+        ensures { IfOk result (λ kept. kept ≡ nothing_gathered (wanted request.now)) }
     {
         let mut draft = Draft::new(alloc);
         draft.cite_all(alloc, request, request.first_cited())?;
@@ -195,11 +195,11 @@ impl<'a> Gathering<'a> {
 
 ghost use Rattle.std.specs.Prelude.{◌≡◌, IfErr, IfOk};
 ghost use Rattle.btx_text.specs.declared.fault.Fault.TheVariants.{Memory};
-ghost use Rattle.btx_bib.specs.Databases.{library_of};
-ghost use Rattle.btx_bib.specs.Requests.{asked};
-ghost use Rattle.btx_bib.specs.Sources.{databases_of};
+ghost use Rattle.btx_bib.specs.language.Databases.{library_of};
+ghost use Rattle.btx_bib.specs.language.Requests.{asked};
+ghost use Rattle.btx_bib.specs.refinement.Sources.{source_databases};
 
-/// Reads the databases of a job: what they give to it and its style, where an entry that isn't cited takes so many references to stay.
+/// Reads the databases of a job: what they give to it and its style, where an entry that isn't cited stays if at least `min_crossrefs` others refer to it.
 /// The library has the bytes of the files and of the cited keys; style and sources are used in the call alone. The only fault is want
 /// of memory.
 pub fn read_databases<'a>(
@@ -209,7 +209,7 @@ pub fn read_databases<'a>(
     sources: &[Source<'a>],
     min_crossrefs: u32,
 ) -> Result<Library<'a>, Fault>
-    ensures library { IfOk result (λ library. library ≡ library_of (asked style.now job.now min_crossrefs) style.now.macros (databases_of sources.now)) }
+    ensures library { IfOk result (λ library. library ≡ library_of (asked style.now job.now min_crossrefs) style.now.macros (source_databases sources.now)) }
     ensures fault { IfErr result (λ fault. fault ≡ Memory) }
 {
     Ok(library_read(alloc, style, job, sources, min_crossrefs)?)
@@ -223,7 +223,7 @@ fn library_read<'a>(
     sources: &[Source<'a>],
     min_crossrefs: u32,
 ) -> Result<Library<'a>, AllocError>
-    ensures { IfOk result (λ library. library ≡ library_of (asked style.now job.now min_crossrefs) style.now.macros (databases_of sources.now)) }
+    ensures { IfOk result (λ library. library ≡ library_of (asked style.now job.now min_crossrefs) style.now.macros (source_databases sources.now)) }
 {
     let request = Request::of(alloc, style, job, min_crossrefs)?;
     let mut messages = Messages::new(alloc);

@@ -28,9 +28,9 @@ pub enum Standing {
 
 impl<'a> Draft<'a> {
     ghost use Rattle.std.specs.Prelude.{◌≡◌, OnOk, IfOk};
-    ghost use Rattle.btx_aux.specs.Entries.{texts_of};
-    ghost use Rattle.btx_bib.specs.Drafts.{cited_all, cited_at, empty, has_entry, place_in, put_at, referred, referred_at, standing_at, stored_at};
-    ghost use Rattle.btx_bib.specs.Requests.{wanted};
+    ghost use Rattle.btx_aux.specs.refinement.Entries.{texts_of};
+    ghost use Rattle.btx_bib.specs.refinement.Drafts.{cited_all, cited_at, empty, has_entry, place_in, put_at, referred, referred_at, standing_at, stored_at};
+    ghost use Rattle.btx_bib.specs.refinement.Requests.{wanted};
 
     /// No key is known.
     pub fn new(alloc: Global) -> Draft<'a>
@@ -111,7 +111,7 @@ impl<'a> Draft<'a> {
     }
 
     /// Stores an entry.
-    #[tactic(auto, unfolding(crate::specs::Drafts::stored_at))]
+    #[tactic(auto, unfolding(crate::specs::refinement::Drafts::stored_at))]
     pub fn store(
         &mut self,
         alloc: Global,
@@ -121,7 +121,7 @@ impl<'a> Draft<'a> {
     ) -> Result<(), AllocError>
         ensures { OnOk result (self.new ≡ stored_at (wanted request.now) key.now body.entry self.old (place_in self.old key.now)) }
     {
-        let parent = parent_of(alloc, &body)?;
+        let parent = body.values.parent(alloc)?;
         self.put(alloc, request, key, body)?;
         self.refer(alloc, request, parent)
     }
@@ -193,10 +193,10 @@ impl<'a> Draft<'a> {
 impl<'r, 'a> Request<'r, 'a> {
     ghost use Rattle.std.specs.Prelude.{◌≡◌, option_copied};
     ghost use Rattle.std.specs.Option.{unwrap_or};
-    ghost use Rattle.btx_text.specs.Keys.{folded};
-    ghost use Rattle.btx_aux.specs.Names.{listed_as};
-    ghost use Rattle.btx_bib.specs.Drafts.{late_slot, new_standing, with_entry};
-    ghost use Rattle.btx_bib.specs.Requests.{wanted};
+    ghost use Rattle.btx_text.specs.language.Keys.{folded};
+    ghost use Rattle.btx_aux.specs.language.Names.{listed_as};
+    ghost use Rattle.btx_bib.specs.refinement.Drafts.{late_slot, new_standing, with_entry};
+    ghost use Rattle.btx_bib.specs.refinement.Requests.{wanted};
 
     // How an entry stands whose key isn't in the list.
     fn standing_of_new(&self) -> Standing
@@ -222,18 +222,5 @@ impl<'r, 'a> Request<'r, 'a> {
             wanting: self.fewest,
             body: Some(body),
         }
-    }
-}
-
-ghost use Rattle.std.specs.Prelude.{◌≡◌, IfOk};
-ghost use Rattle.btx_bib.specs.Entries.{parent_in};
-
-// The key of the parent of an entry, if it has one.
-fn parent_of<'a>(alloc: Global, body: &Body<'a>) -> Result<Option<Text<'a>>, AllocError>
-    ensures { IfOk result (λ parent. parent ≡ parent_in body.now.values) }
-{
-    match body.values.parent() {
-        Some(parent) => Ok(Some(parent.copy(alloc)?)),
-        None => Ok(None),
     }
 }

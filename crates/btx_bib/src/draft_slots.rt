@@ -34,8 +34,8 @@ impl<'a> Model for DraftSlots<'a> {
 
 impl<'a> DraftSlots<'a> {
     ghost use Rattle.std.specs.Prelude.{◌≡◌, [], ◌∷◌, ◌++◌, IfOk, OnOk, slice_get};
-    ghost use Rattle.btx_bib.specs.Finding.{changed_at};
-    ghost use Rattle.btx_bib.specs.Drafts.{has_body, once_more, settled_all, with_entry};
+    ghost use Rattle.btx_bib.specs.refinement.Finding.{changed_at};
+    ghost use Rattle.btx_bib.specs.refinement.Drafts.{has_body, once_more, settled_all, with_entry};
 
     /// No place.
     pub fn new(alloc: Global) -> Self
@@ -99,7 +99,7 @@ impl<'a> DraftSlots<'a> {
 
 impl<'a> DraftSlot<'a> {
     ghost use Rattle.std.specs.Prelude.{◌≡◌};
-    ghost use Rattle.btx_bib.specs.Drafts.{settled, with_entry};
+    ghost use Rattle.btx_bib.specs.refinement.Drafts.{settled, with_entry};
 
     // Puts an entry here.
     fn fill(&mut self, key: Spelling<'a>, body: Body<'a>)

@@ -44,11 +44,11 @@ pub struct Gathering<'a> {
 
 impl<'a> Pending<'a> {
     ghost use Rattle.std.specs.Prelude.{◌≡◌, ◌++◌, true, Some, IfOk, OnOk};
-    ghost use Rattle.btx_bib.specs.Grammar.FieldViews.{field_view};
-    ghost use Rattle.btx_bib.specs.Grammar.PlainFields.{IsPlain, part_in_view, plain_field_view};
-    ghost use Rattle.btx_bib.specs.Gatherings.{IfTaken, IsSilent, field_told_of, taken_by};
-    ghost use Rattle.btx_bib.specs.Requests.{wanted};
-    ghost use Rattle.btx_bib.specs.Sites.{database};
+    ghost use Rattle.btx_bib.specs.refinement.Grammar.FieldViews.{field_view};
+    ghost use Rattle.btx_bib.specs.refinement.Grammar.PlainFields.{IsPlainPart, part_in_view, plain_field_view};
+    ghost use Rattle.btx_bib.specs.refinement.Gatherings.{IfTaken, IsSilent, field_told_of, taken_by};
+    ghost use Rattle.btx_bib.specs.refinement.Requests.{wanted};
+    ghost use Rattle.btx_bib.specs.refinement.Sites.{site_database};
 
     // Takes a field, if it is declared and the entry has no value for it yet. Answers whether its value is short enough.
     fn take(
@@ -62,7 +62,7 @@ impl<'a> Pending<'a> {
         messages: &mut Messages<'a>,
     ) -> Result<bool, AllocError>
         ensures entry { IfOk result (λ fits. (self.new, fits) ≡ taken_by (wanted request.now) strings.now self.old (field_view field.now)) }
-        ensures told { OnOk result (messages.new ≡ messages.old ++ field_told_of (wanted request.now) (database site.old) strings.now self.old (field_view field.now) rest.now) }
+        ensures told { OnOk result (messages.new ≡ messages.old ++ field_told_of (wanted request.now) (site_database site.old) strings.now self.old (field_view field.now) rest.now) }
         ensures same { OnOk result (site.new ≡ site.old) }
     {
         let Some(number) = request.field(alloc, field.name)? else {
@@ -77,7 +77,7 @@ impl<'a> Pending<'a> {
         tell_names(alloc, &field.value, strings, None, site, messages)?;
         match value_text(alloc, &field.value, strings, Ends::Trimmed) {
             Ok(text) => {
-                self.body.values.put(number, text.share()?)?;
+                self.body.values.put(alloc, number, text.share()?)?;
                 Ok(true)
             }
             Err(Fault::StringLimit) => Ok(false),
@@ -95,7 +95,7 @@ impl<'a> Pending<'a> {
         strings: &StringTable<'a>,
         field: &PlainField<'a>,
     ) -> Result<bool, AllocError>
-        requires { IsPlain (part_in_view field.now.value) }
+        requires { IsPlainPart (part_in_view field.now.value) }
         ensures entry { IfOk result (λ taken. IfTaken taken ((self.new, true) ≡ taken_by (wanted request.now) strings.now self.old (plain_field_view field.now)) (self.new ≡ self.old)) }
         ensures told { IfOk result (λ taken. taken ≡ true → IsSilent (wanted request.now) strings.now (plain_field_view field.now) (Some self.old)) }
     {
@@ -107,7 +107,7 @@ impl<'a> Pending<'a> {
         }
         match plain_text(alloc, &field.value, strings)? {
             Some(text) => {
-                self.body.values.put(number, text)?;
+                self.body.values.put(alloc, number, text)?;
                 Ok(true)
             }
             None => Ok(false),
@@ -118,15 +118,15 @@ impl<'a> Pending<'a> {
 impl<'a> Gathering<'a> {
     ghost use Rattle.std.specs.Prelude.{◌≡◌, ◌≤◌, ◌++◌, None, Some, true, not, length, IfOk, OnOk};
     ghost use Rattle.btx_bib.specs.declared.draft.Standing.TheVariants as standing;
-    ghost use Rattle.btx_bib.specs.Gatherings.{IfTaken, IsSilent, all_kept, all_told, closed, begun, begun_by, entered, events_with, fielded_by, kept_after, kept_along, kept_told, told_of, told_of_current, told_of_entry, told_of_standing, with_preamble, with_string};
-    ghost use Rattle.btx_bib.specs.Sites.{database};
-    ghost use Rattle.btx_bib.specs.Told.{Database, names_told};
-    ghost use Rattle.btx_bib.specs.Grammar.FieldViews.{field_view};
-    ghost use Rattle.btx_bib.specs.Grammar.PlainFields.{IsPlain, part_in_view, plain_field_view};
-    ghost use Rattle.btx_bib.specs.Grammar.EventViews.{event_view};
-    ghost use Rattle.btx_bib.specs.Known.{goes_on};
+    ghost use Rattle.btx_bib.specs.refinement.Gatherings.{IfTaken, IsSilent, all_kept, all_told, closed, begun, begun_by, entered, events_with, fielded_by, kept_after, kept_along, kept_told, told_of, told_of_current, told_of_entry, told_of_standing, with_preamble, with_kept_string};
+    ghost use Rattle.btx_bib.specs.refinement.Sites.{site_database};
+    ghost use Rattle.btx_bib.specs.language.Told.{Database, value_messages};
+    ghost use Rattle.btx_bib.specs.refinement.Grammar.FieldViews.{field_view};
+    ghost use Rattle.btx_bib.specs.refinement.Grammar.PlainFields.{IsPlainPart, part_in_view, plain_field_view};
+    ghost use Rattle.btx_bib.specs.refinement.Grammar.EventViews.{event_view};
+    ghost use Rattle.btx_bib.specs.language.Known.{goes_on};
     ghost use Rattle.btx_bib.specs.declared.grammar.commands.Wanted.TheVariants as next;
-    ghost use Rattle.btx_bib.specs.Requests.{wanted};
+    ghost use Rattle.btx_bib.specs.refinement.Requests.{wanted};
 
     /// The entry that was being read is at its end.
     pub fn close(&mut self, alloc: Global, request: &Request<'_, 'a>) -> Result<(), AllocError>
@@ -170,7 +170,7 @@ impl<'a> Gathering<'a> {
         messages: &mut Messages<'a>,
     ) -> Result<(), AllocError>
         ensures state { OnOk result (self.new ≡ begun_by (wanted request.now) self.old kind.now key.entry.now standing.Wanted) }
-        ensures told { OnOk result (messages.new ≡ messages.old ++ told_of_standing (wanted request.now) (database site.old) kind.now key.entry.now rest.now standing.Wanted) }
+        ensures told { OnOk result (messages.new ≡ messages.old ++ told_of_standing (wanted request.now) (site_database site.old) kind.now key.entry.now rest.now standing.Wanted) }
         ensures same { OnOk result (site.new ≡ site.old) }
     {
         let kind = request.kind(alloc, kind)?;
@@ -190,7 +190,7 @@ impl<'a> Gathering<'a> {
         messages: &mut Messages<'a>,
     ) -> Result<(), AllocError>
         ensures state { OnOk result (self.new ≡ entered (wanted request.now) self.old kind.now key.entry.now) }
-        ensures told { OnOk result (messages.new ≡ messages.old ++ told_of_entry (wanted request.now) (database site.old) self.old kind.now key.entry.now rest.now) }
+        ensures told { OnOk result (messages.new ≡ messages.old ++ told_of_entry (wanted request.now) (site_database site.old) self.old kind.now key.entry.now rest.now) }
         ensures same { OnOk result (site.new ≡ site.old) }
     {
         self.close(alloc, request)?;
@@ -211,7 +211,7 @@ impl<'a> Gathering<'a> {
         messages: &mut Messages<'a>,
     ) -> Result<(), AllocError>
         ensures state { OnOk result (self.new ≡ fielded_by (wanted request.now) self.old (field_view field.now) self.old.current) }
-        ensures told { OnOk result (messages.new ≡ messages.old ++ told_of_current (wanted request.now) (database site.old) self.old.strings (field_view field.now) rest.now self.old.current) }
+        ensures told { OnOk result (messages.new ≡ messages.old ++ told_of_current (wanted request.now) (site_database site.old) self.old.strings (field_view field.now) rest.now self.old.current) }
         ensures same { OnOk result (site.new ≡ site.old) }
     {
         let Some(pending) = &mut self.current else {
@@ -233,8 +233,8 @@ impl<'a> Gathering<'a> {
         site: &mut Site<'a>,
         messages: &mut Messages<'a>,
     ) -> Result<(), AllocError>
-        ensures state { OnOk result (self.new ≡ with_string self.old name.entry.now value.now) }
-        ensures told { OnOk result (messages.new ≡ messages.old ++ names_told (database site.old) self.old.strings (Some name.entry.now) value.now) }
+        ensures state { OnOk result (self.new ≡ with_kept_string self.old name.entry.now value.now) }
+        ensures told { OnOk result (messages.new ≡ messages.old ++ value_messages (site_database site.old) self.old.strings (Some name.entry.now) value.now) }
         ensures same { OnOk result (site.new ≡ site.old) }
     {
         tell_names(alloc, value, &self.strings, Some(name), site, messages)?;
@@ -265,7 +265,7 @@ impl<'a> Gathering<'a> {
         messages: &mut Messages<'a>,
     ) -> Result<(), AllocError>
         ensures state { OnOk result (self.new ≡ with_preamble self.old value.now) }
-        ensures told { OnOk result (messages.new ≡ messages.old ++ names_told (database site.old) self.old.strings None value.now) }
+        ensures told { OnOk result (messages.new ≡ messages.old ++ value_messages (site_database site.old) self.old.strings None value.now) }
         ensures same { OnOk result (site.new ≡ site.old) }
     {
         tell_names(alloc, value, &self.strings, None, site, messages)?;
@@ -295,7 +295,7 @@ impl<'a> Gathering<'a> {
         messages: &mut Messages<'a>,
     ) -> Result<(), AllocError>
         ensures state { OnOk result (self.new ≡ kept_after (wanted request.now) self.old (event_view event.now)) }
-        ensures told { OnOk result (messages.new ≡ messages.old ++ told_of (wanted request.now) (database site.old) self.old (event_view event.now) rest.now) }
+        ensures told { OnOk result (messages.new ≡ messages.old ++ told_of (wanted request.now) (site_database site.old) self.old (event_view event.now) rest.now) }
         ensures same { OnOk result (site.new ≡ site.old) }
     {
         match event {
@@ -329,7 +329,7 @@ impl<'a> Gathering<'a> {
     ) -> Result<(), AllocError>
         requires { goes_on self.old.ending ≡ true }
         ensures state { OnOk result (self.new ≡ kept_along (wanted request.now) self.old (events_with (wanted request.now) self.old next.Item text.entry.now)) }
-        ensures told { OnOk result (messages.new ≡ messages.old ++ kept_told (wanted request.now) (database site.old) self.old (events_with (wanted request.now) self.old next.Item text.entry.now)) }
+        ensures told { OnOk result (messages.new ≡ messages.old ++ kept_told (wanted request.now) (site_database site.old) self.old (events_with (wanted request.now) self.old next.Item text.entry.now)) }
         ensures same { OnOk result (site.new ≡ site.old) }
     {
         let mut reader = Reader::of(text);
@@ -352,7 +352,7 @@ impl<'a> Gathering<'a> {
         request: &Request<'_, 'a>,
         field: &PlainField<'a>,
     ) -> Result<bool, AllocError>
-        requires { IsPlain (part_in_view field.now.value) }
+        requires { IsPlainPart (part_in_view field.now.value) }
         ensures state { IfOk result (λ taken. IfTaken taken (self.new ≡ fielded_by (wanted request.now) self.old (plain_field_view field.now) self.old.current) (self.new ≡ self.old)) }
         ensures told { IfOk result (λ taken. taken ≡ true → IsSilent (wanted request.now) self.old.strings (plain_field_view field.now) self.old.current) }
         ensures same { IfOk result (λ taken. self.new.ending ≡ self.old.ending) }
@@ -390,7 +390,7 @@ impl<'a> Gathering<'a> {
 }
 
 impl<'a> StoredKeys for Gathering<'a> {
-    ghost use Rattle.btx_bib.specs.Gatherings.{is_kept};
+    ghost use Rattle.btx_bib.specs.refinement.Gatherings.{is_kept};
 
     ghost is_stored = { is_kept };
 
@@ -403,7 +403,7 @@ impl<'a> StoredKeys for Gathering<'a> {
 }
 
 ghost use Rattle.std.specs.Prelude.{◌≡◌};
-ghost use Rattle.btx_bib.specs.Gatherings.{is_pending};
+ghost use Rattle.btx_bib.specs.refinement.Gatherings.{is_pending};
 
 // Whether the key is that of the entry that is being read.
 fn is_pending(current: &Option<Pending<'_>>, key: &[u8]) -> bool

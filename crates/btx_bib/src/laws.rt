@@ -1,18 +1,18 @@
 //! Laws of libraries. Each is the contract of a function with nothing to do.
 ghost use Rattle.std.specs.Prelude.{◌≡◌, List, ℕ};
-ghost use Rattle.btx_bib.specs.Cuts.{CutGivesTheSame};
-ghost use Rattle.btx_bib.specs.Databases.{events_of};
-ghost use Rattle.btx_bib.specs.Grammar.Items.{Placed};
-ghost use Rattle.btx_bib.specs.Grammar.Reading.{IsReading};
-ghost use Rattle.btx_bib.specs.Known.{Known, keeping};
-ghost use Rattle.btx_bib.specs.Told.{Database};
-ghost use Rattle.btx_bib.specs.Wanted.{Wanted};
+ghost use Rattle.btx_bib.specs.laws.Cuts.{CutGivesTheSame};
+ghost use Rattle.btx_bib.specs.language.Databases.{database_events};
+ghost use Rattle.btx_bib.specs.language.Grammar.Items.{Placed};
+ghost use Rattle.btx_bib.specs.laws.Grammar.Reading.{IsReading};
+ghost use Rattle.btx_bib.specs.language.Known.{Known, keeping};
+ghost use Rattle.btx_bib.specs.language.Told.{Database};
+ghost use Rattle.btx_bib.specs.language.Wanted.{Request};
 ghost use Rattle.btx_bib.specs.declared.grammar.commands.Wanted.TheVariants as next;
-ghost use Rattle.btx_bib.specs.Laws.{KeysDiffer, ListIsKept, StarredCitedOrReferred};
-ghost use Rattle.btx_bib.specs.Parents.{InheritsFromParent, NoParentLeaves, NoReferenceDangles};
-ghost use Rattle.btx_bib.specs.Grammar.WorkedTexts as texts;
-ghost use Rattle.btx_bib.specs.WorkedLibraries as worked;
-ghost use Rattle.btx_bib.specs.Storing.{LastDefinitionCounts, LastMacroCounts, OthersKeepTheirs, OthersStoreNone, WantedNewAreStored};
+ghost use Rattle.btx_bib.specs.laws.Laws.{KeysDiffer, ListIsKept, StarredCitedOrReferred};
+ghost use Rattle.btx_bib.specs.laws.Parents.{InheritsFromParent, NoParentLeaves, NoReferenceDangles};
+ghost use Rattle.btx_bib.specs.laws.Grammar.WorkedTexts as texts;
+ghost use Rattle.btx_bib.specs.laws.WorkedLibraries as worked;
+ghost use Rattle.btx_bib.specs.laws.Storing.{LastDefinitionCounts, LastMacroCounts, OthersKeepTheirs, OthersStoreNone, WantedNewAreStored};
 
 /// No two entries of a list have one key, whose case is ignored.
 pub fn keys_differ()
@@ -54,10 +54,10 @@ pub fn cut_gives_the_same()
 
 /// The events along which a library is read are the one reading of each database.
 pub fn libraries_read_the_one_reading()
-    ensures reads { (wanted : Wanted) (known : Known) (database : Database) →
-        IsReading (keeping wanted) known next.Item database.text (events_of wanted known database) }
-    ensures only { (wanted : Wanted) (known : Known) (database : Database) (events : List Placed) →
-        IsReading (keeping wanted) known next.Item database.text events → events ≡ events_of wanted known database }
+    ensures reads { (wanted : Request) (known : Known) (database : Database) →
+        IsReading (keeping wanted) known next.Item database.text (database_events wanted known database) }
+    ensures only { (wanted : Request) (known : Known) (database : Database) (events : List Placed) →
+        IsReading (keeping wanted) known next.Item database.text events → events ≡ database_events wanted known database }
 {}
 
 /// A name stands for the value of its last definition before, and where there is none for the value that it had: at the beginning that of
@@ -79,10 +79,10 @@ pub fn wanted_new_entries_are_stored()
 /// with its references, where a database may be cut, and the line of each message.
 #[tactic(auto, using(crate::proofs::WorkedRows::worked_rows))]
 pub fn worked_databases_are_read_so()
-    ensures texts { texts.AreRead texts.texts }
-    ensures values { texts.AreTexts texts.values }
+    ensures texts { texts.AreEvents texts.texts }
+    ensures values { texts.AreValueTexts texts.value_texts }
     ensures entries { worked.AreGiven worked.entries }
-    ensures references { worked.AreGiven worked.references }
+    ensures references { worked.AreGiven worked.reference_rows }
     ensures cuts { worked.AreCuts worked.cuts }
     ensures no_cuts { worked.AreNoCuts worked.no_cuts }
     ensures messages { worked.AreLines worked.messages }

@@ -22,6 +22,7 @@ mod slots;
 pub mod spelling;
 mod strings;
 mod style_fields;
+mod texts;
 pub mod values;
 
 pub use databases::{Source, read_databases};

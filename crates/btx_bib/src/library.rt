@@ -16,7 +16,7 @@ pub struct Library<'a> {
 }
 
 impl<'a> Model for Library<'a> {
-    ghost use Rattle.btx_bib.specs.Library.{Library};
+    ghost use Rattle.btx_bib.specs.language.Library.{Library};
 
     ghost Value = { Library };
 
@@ -29,8 +29,9 @@ impl<'a> Model for Library<'a> {
 }
 
 impl<'a> Library<'a> {
-    ghost use Rattle.std.specs.Prelude.{◌≡◌, ◌==◌, length, option_copied, slice_get};
-    ghost use Rattle.btx_bib.specs.Library.{key_of, kind_of, value_of};
+    ghost use Rattle.std.specs.Prelude.{◌≡◌, ◌≤◌, ◌==◌, IfSome, length, option_copied, slice_get};
+    ghost use Rattle.btx_text.specs.language.Limits.{greatest_string};
+    ghost use Rattle.btx_bib.specs.language.Library.{key_of, entry_type, entry_value};
 
     /// How many entries the list has.
     pub fn len(&self) -> usize
@@ -72,7 +73,7 @@ impl<'a> Library<'a> {
 
     /// The number of the style's function for the type of an entry: none for a type that isn't the style's.
     pub fn kind(&self, number: usize) -> Option<u32>
-        ensures { result ≡ kind_of (slice_get self.now.entries number) }
+        ensures { result ≡ entry_type (slice_get self.now.entries number) }
     {
         match self.entry(number) {
             Some(entry) => entry.kind(),
@@ -81,8 +82,10 @@ impl<'a> Library<'a> {
     }
 
     /// The value of a field of an entry by the field's number: none where it is missing.
-    pub fn value(&self, number: usize, field: u32) -> Option<&Text<'a>>
-        ensures { option_copied result ≡ value_of field (slice_get self.now.entries number) }
+    #[inline(always)]
+    pub fn value(&self, number: usize, field: u32) -> Option<&[u8]>
+        ensures value { option_copied result ≡ entry_value field (slice_get self.now.entries number) }
+        ensures within { IfSome result (λ text. length text.now ≤ greatest_string) }
     {
         match self.entry(number) {
             Some(entry) => entry.value(field),
@@ -113,8 +116,9 @@ impl<'a> Library<'a> {
 }
 
 impl<'a> Entry<'a> {
-    ghost use Rattle.std.specs.Prelude.{◌≡◌, option_copied};
-    ghost use Rattle.btx_bib.specs.Values.{value_at};
+    ghost use Rattle.std.specs.Prelude.{◌≡◌, ◌≤◌, IfSome, length, option_copied};
+    ghost use Rattle.btx_text.specs.language.Limits.{greatest_string};
+    ghost use Rattle.btx_bib.specs.language.Values.{field_value};
 
     /// The key as the list spells it.
     pub fn key(&self) -> &[u8]
@@ -131,8 +135,10 @@ impl<'a> Entry<'a> {
     }
 
     /// The value of a field by its number: none where it is missing.
-    pub fn value(&self, field: u32) -> Option<&Text<'a>>
-        ensures { option_copied result ≡ value_at field self.now.values }
+    #[inline(always)]
+    pub fn value(&self, field: u32) -> Option<&[u8]>
+        ensures value { option_copied result ≡ field_value field self.now.values }
+        ensures within { IfSome result (λ text. length text.now ≤ greatest_string) }
     {
         self.values.get(field as usize)
     }

@@ -1,6 +1,6 @@
 //! Keys and names in lower case.
 ghost use Rattle.std.specs.Prelude.{◌≡◌, false, IfOk};
-ghost use Rattle.btx_text.specs.Keys.{folded};
+ghost use Rattle.btx_text.specs.language.Keys.{folded};
 
 use btx_text::fold_key;
 use std::alloc::{AllocError, Global};
@@ -26,7 +26,7 @@ impl<'t> Model for Lowered<'t> {
 
     ghost Value = { List ℕ };
 
-    ghost use Rattle.btx_bib.specs.Spellings.{lowered_in};
+    ghost use Rattle.btx_bib.specs.refinement.Spellings.{lowered_in};
 
     ghost view = { λ lowered. lowered_in lowered.kept };
 }

@@ -1,7 +1,7 @@
 //! The lines of the log that tell messages.
 ghost use Rattle.std.specs.Prelude.{◌≡◌, ◌++◌, OnOk, IfOk, option_copied};
-ghost use Rattle.btx_bib.specs.MessageTexts.{kind_of, line_of, slip_text, spot_of, spot_text, text_of};
-ghost use Rattle.btx_bib.specs.Wordings.{joined};
+ghost use Rattle.btx_bib.specs.language.MessageTexts.{message_kind, message_line, slip_text, spot_of, spot_text, message_text};
+ghost use Rattle.btx_bib.specs.refinement.Wordings.{wording_text};
 
 use crate::grammar::byte_sets::Delimiter;
 use crate::grammar::slip::Slip;
@@ -24,7 +24,7 @@ impl<'a> Message<'a> {
     /// The line of the log that tells it.
     #[tactic(auto, using(crate::proofs::LineLemmas::line_steps))]
     pub fn log_line(&self, alloc: Global) -> Result<LogLine, AllocError>
-        ensures { IfOk result (λ line. line ≡ line_of self.now) }
+        ensures { IfOk result (λ line. line ≡ message_line self.now) }
     {
         let kind = self.kind();
         let mut text = Vec::new(alloc);
@@ -36,7 +36,7 @@ impl<'a> Message<'a> {
 
     /// Whether it is a warning or an error.
     pub fn kind(&self) -> LineKind
-        ensures { result ≡ kind_of self.now }
+        ensures { result ≡ message_kind self.now }
     {
         match self {
             Message::Wrong(_, _) | Message::BadReference(_, _) => LineKind::Error,
@@ -59,9 +59,9 @@ impl<'a> Message<'a> {
     }
 
     // What it says, in pieces.
-    #[tactic(auto, unfolding(crate::specs::MessageTexts::text_of))]
+    #[tactic(auto, unfolding(crate::specs::language::MessageTexts::message_text))]
     fn wording(&self) -> Wording<'_>
-        ensures { joined result ≡ text_of self.now }
+        ensures { wording_text result ≡ message_text self.now }
     {
         match self {
             Message::Wrong(slip, _) => words(slip_text(*slip)),
@@ -110,14 +110,14 @@ impl<'a> Message<'a> {
 
 // Words alone.
 fn words<'m>(text: &'m [u8]) -> Wording<'m>
-    ensures { joined result ≡ text.now }
+    ensures { wording_text result ≡ text.now }
 {
     about(b"", b"", text)
 }
 
 // Words around one name.
 fn about<'m>(before: &'m [u8], name: &'m [u8], after: &'m [u8]) -> Wording<'m>
-    ensures { joined result ≡ before.now ++ name.now ++ after.now }
+    ensures { wording_text result ≡ before.now ++ name.now ++ after.now }
 {
     Wording {
         before,
@@ -129,7 +129,7 @@ fn about<'m>(before: &'m [u8], name: &'m [u8], after: &'m [u8]) -> Wording<'m>
 }
 
 // What is wrong at a place of a database, in words.
-#[tactic(auto, unfolding(crate::specs::MessageTexts::slip_text))]
+#[tactic(auto, unfolding(crate::specs::language::MessageTexts::slip_text))]
 fn slip_text(slip: Slip) -> &'static [u8]
     ensures { result.now ≡ slip_text slip }
 {
@@ -151,7 +151,7 @@ fn slip_text(slip: Slip) -> &'static [u8]
 // Appends the pieces of a text.
 #[tactic(auto, using(crate::proofs::LineLemmas::line_steps))]
 fn push_wording(text: &mut Vec<u8>, wording: Wording<'_>) -> Result<(), AllocError>
-    ensures { OnOk result (text.new.items ≡ text.old.items ++ joined wording.entry) }
+    ensures { OnOk result (text.new.items ≡ text.old.items ++ wording_text wording.entry) }
 {
     push_four(
         text,

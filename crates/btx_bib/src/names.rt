@@ -2,7 +2,7 @@
 ghost use Rattle.std.specs.Prelude.{◌≡◌, [], OnOk, ◌++◌, ◌∷◌, false};
 ghost use Rattle.std.specs.Str.{bytes_eq};
 ghost use Rattle.std.specs.List.{list_any};
-ghost use Rattle.btx_bib.specs.Finding.{place_of};
+ghost use Rattle.btx_bib.specs.refinement.Finding.{first_place};
 
 use crate::lowering::Lowered;
 use indexmap::IndexSet;
@@ -17,7 +17,7 @@ pub struct Names {
 
 impl Model for Names {
     ghost use Rattle.std.specs.Prelude.{List, ℕ};
-    ghost use Rattle.btx_aux.specs.Entries.{texts_of};
+    ghost use Rattle.btx_aux.specs.refinement.Entries.{texts_of};
 
     ghost Value = { List (List ℕ) };
 
@@ -36,7 +36,7 @@ impl Names {
 
     /// The place of a name.
     pub fn position(&self, name: &[u8]) -> Option<usize>
-        ensures { result ≡ place_of (bytes_eq name.now) self.now }
+        ensures { result ≡ first_place (bytes_eq name.now) self.now }
     {
         self.set.get_index_of(name)
     }

@@ -1,9 +1,9 @@
 //! The passes over the list, once all databases are read: inherited values, parents, and what stays.
 ghost use Rattle.std.specs.Prelude.{◌≡◌, ◌++◌, [], OnOk, IfOk, option_copied, slice_get};
 ghost use Rattle.std.specs.List.{flat_map};
-ghost use Rattle.btx_bib.specs.Finding.{changed_at};
-ghost use Rattle.btx_bib.specs.Passes.{absence_told, after_first, after_second, check_told, checked, entries_of, entry_at, inherited, is_parent, parent_told, references_told, told_in};
-ghost use Rattle.btx_bib.specs.Steps.{names_of, told_by};
+ghost use Rattle.btx_bib.specs.refinement.Finding.{changed_at};
+ghost use Rattle.btx_bib.specs.language.Passes.{absence_messages, after_first, after_second, check_messages, checked, entries_of, entry_at, inherited, is_parent, parent_messages, reference_messages, pass_messages};
+ghost use Rattle.btx_bib.specs.refinement.Steps.{lower_keys, told_by};
 
 use crate::entry::Entry;
 use crate::message::{Message, Messages};
@@ -20,13 +20,13 @@ fn inherit_at(
     names: &Names,
     place: usize,
 ) -> Result<(), AllocError>
-    requires { names.now ≡ names_of slots.old }
+    requires { names.now ≡ lower_keys slots.old }
     ensures { OnOk result (slots.new ≡ changed_at place (inherited slots.old) slots.old) }
 {
     let Some(slot) = slots.at(place) else {
         return Ok(());
     };
-    let Some(key) = slot.parent() else {
+    let Some(key) = slot.parent(alloc)? else {
         return Ok(());
     };
     let Some(parent) = slots.find(alloc, names, key.as_bytes())? else {
@@ -38,9 +38,9 @@ fn inherit_at(
 
 // The first pass: each entry takes what it lacks from its parent.
 fn inherit(slots: &mut Slots<'_>, alloc: Global, names: &Names) -> Result<(), AllocError>
-    requires { names.now ≡ names_of slots.old }
+    requires { names.now ≡ lower_keys slots.old }
     ensures pass { OnOk result (slots.new ≡ after_first slots.old) }
-    ensures names { OnOk result (names.now ≡ names_of slots.new) }
+    ensures names { OnOk result (names.now ≡ lower_keys slots.new) }
 {
     for place in 0..slots.len() {
         inherit_at(slots, alloc, names, place)?;
@@ -66,7 +66,7 @@ fn tell_parent<'a>(
     parent: Option<&Slot<'a>>,
     messages: &mut Messages<'a>,
 ) -> Result<(), AllocError>
-    ensures { OnOk result (messages.new ≡ messages.old ++ parent_told child.now key.now (option_copied parent.entry)) }
+    ensures { OnOk result (messages.new ≡ messages.old ++ parent_messages child.now key.now (option_copied parent.entry)) }
 {
     let Some(slot) = parent else {
         let key = Spelling::of_value(key.copy(alloc)?);
@@ -76,8 +76,7 @@ fn tell_parent<'a>(
         let key = Spelling::of_value(key.copy(alloc)?);
         return messages.push(Message::BadReference(child.copy(alloc)?, key));
     }
-    let above = slot.parent();
-    if above.is_some() {
+    if slot.has_parent() {
         let key = Spelling::of_value(key.copy(alloc)?);
         return messages.push(Message::NestedReference(child.copy(alloc)?, key));
     }
@@ -92,19 +91,19 @@ fn check_at<'a>(
     place: usize,
     messages: &mut Messages<'a>,
 ) -> Result<(), AllocError>
-    requires { names.now ≡ names_of slots.old }
+    requires { names.now ≡ lower_keys slots.old }
     ensures slots { OnOk result (slots.new ≡ changed_at place (checked slots.old) slots.old) }
     ensures messages { OnOk result (messages.new ≡ messages.old ++ told_by slots.old (slice_get slots.old place)) }
 {
     let Some(slot) = slots.at(place) else {
         return Ok(());
     };
-    let Some(key) = slot.parent() else {
+    let Some(key) = slot.parent(alloc)? else {
         return Ok(());
     };
     let parent = slots.find(alloc, names, key.as_bytes())?;
     let stays = is_parent(parent);
-    tell_parent(alloc, &slot.key, key, parent, messages)?;
+    tell_parent(alloc, &slot.key, &key, parent, messages)?;
     if stays {
         return Ok(());
     }
@@ -119,9 +118,9 @@ fn check<'a>(
     names: &Names,
     messages: &mut Messages<'a>,
 ) -> Result<(), AllocError>
-    requires { names.now ≡ names_of slots.old }
+    requires { names.now ≡ lower_keys slots.old }
     ensures slots { OnOk result (slots.new ≡ after_second slots.old) }
-    ensures messages { OnOk result (messages.new ≡ messages.old ++ told_in checked check_told [] slots.old) }
+    ensures messages { OnOk result (messages.new ≡ messages.old ++ pass_messages checked check_messages [] slots.old) }
 {
     for place in 0..slots.len() {
         check_at(slots, alloc, names, place, messages)?;
@@ -136,7 +135,7 @@ fn close<'a>(
     messages: &mut Messages<'a>,
 ) -> Result<(), AllocError>
     ensures entries { OnOk result (entries.new.items ≡ entries.old.items ++ entry_at slot.entry) }
-    ensures messages { OnOk result (messages.new ≡ messages.old ++ absence_told slot.entry) }
+    ensures messages { OnOk result (messages.new ≡ messages.old ++ absence_messages slot.entry) }
 {
     let Slot { key, stays, body } = slot;
     let Some(body) = body else {
@@ -158,7 +157,7 @@ fn staying<'a>(
     messages: &mut Messages<'a>,
 ) -> Result<Vec<Entry<'a>>, AllocError>
     ensures entries { IfOk result (λ entries. entries.items ≡ flat_map entry_at slots.entry) }
-    ensures messages { OnOk result (messages.new ≡ messages.old ++ flat_map absence_told slots.entry) }
+    ensures messages { OnOk result (messages.new ≡ messages.old ++ flat_map absence_messages slots.entry) }
 {
     let mut entries = Vec::new(alloc);
     let Slots { list } = slots;
@@ -175,9 +174,9 @@ fn passed<'a>(
     names: Names,
     messages: &mut Messages<'a>,
 ) -> Result<Slots<'a>, AllocError>
-    requires { names ≡ names_of slots }
+    requires { names ≡ lower_keys slots }
     ensures slots { IfOk result (λ passed. passed ≡ after_second (after_first slots.entry)) }
-    ensures messages { OnOk result (messages.new ≡ messages.old ++ told_in checked check_told [] (after_first slots.entry)) }
+    ensures messages { OnOk result (messages.new ≡ messages.old ++ pass_messages checked check_messages [] (after_first slots.entry)) }
 {
     inherit(&mut slots, alloc, &names)?;
     check(&mut slots, alloc, &names, messages)?;
@@ -185,16 +184,16 @@ fn passed<'a>(
 }
 
 /// The entries of a list that stay, with what they inherit; what the passes tell is added to the messages.
-#[tactic(auto, unfolding(crate::specs::Passes::entries_of, crate::specs::Passes::references_told))]
+#[tactic(auto, unfolding(crate::specs::language::Passes::entries_of, crate::specs::language::Passes::reference_messages))]
 pub fn entries_of<'a>(
     slots: Slots<'a>,
     alloc: Global,
     names: Names,
     messages: &mut Messages<'a>,
 ) -> Result<Vec<Entry<'a>>, AllocError>
-    requires { names ≡ names_of slots }
+    requires { names ≡ lower_keys slots }
     ensures entries { IfOk result (λ entries. entries.items ≡ entries_of slots.entry) }
-    ensures messages { OnOk result (messages.new ≡ messages.old ++ references_told slots.entry) }
+    ensures messages { OnOk result (messages.new ≡ messages.old ++ reference_messages slots.entry) }
 {
     let slots = passed(slots, alloc, names, messages)?;
     staying(slots, alloc, messages)

@@ -1,41 +1,231 @@
 //! Where the values of the declared fields stand.
-ghost use Rattle.std.specs.Prelude.{◌≡◌, None, Some, IfOk};
-ghost use Rattle.btx_bib.specs.Values.{number_in};
+ghost use Rattle.std.specs.Prelude.{◌≡◌, IfOk, IfSome, map};
+ghost use Rattle.btx_bib.specs.declared.places.Place.TheVariants as Place;
+ghost use Rattle.btx_bib.specs.refinement.Values.{place_in};
 
-use std::alloc::AllocError;
+use std::alloc::{AllocError, Global};
+use std::marker::Model;
 
-/// The number of the text that is the value of a field, or that the field is missing, in four bytes.
+/// Where the value of a field stands.
 #[derive(Clone, Copy)]
-pub struct Place {
-    // One more than the number of the text; 0 where the field is missing.
-    code: u32,
+pub enum Place {
+    /// The field is missing.
+    Missing,
+    /// It is the lent value of this number.
+    Lent(u32),
+    /// It is the made value of this number.
+    Made(u32),
 }
 
-impl Place {
+// The first code of a made value, in a byte.
+const FIRST_MADE: u8 = 128;
+
+/// A place in a byte.
+#[derive(Clone, Copy)]
+pub struct ShortPlace {
+    // 0 where the field is missing; then the lent values, and from 128 on those that were made.
+    code: u8,
+}
+
+impl ShortPlace {
     /// The field is missing.
-    pub fn missing() -> Place
-        ensures { number_in result ≡ None }
+    fn missing() -> ShortPlace
+        ensures { place_in result ≡ Place.Missing }
     {
-        Place { code: 0 }
+        ShortPlace { code: 0 }
     }
 
-    /// The text of this number is the field's value. A number that is too large is want of memory.
-    pub fn of(number: usize) -> Result<Place, AllocError>
-        ensures { IfOk result (λ place. number_in place ≡ Some number) }
+    /// A place, if it has room in a byte.
+    #[inline(always)]
+    fn of(place: Place) -> Option<ShortPlace>
+        ensures { IfSome result (λ short. place_in short ≡ place) }
     {
-        match u32::try_from(number) {
-            Ok(number) if number < u32::MAX => Ok(Place { code: number + 1 }),
-            Ok(_) | Err(_) => Err(AllocError),
+        match place {
+            Place::Missing => Some(ShortPlace { code: 0 }),
+            Place::Lent(number) => match u8::try_from(number) {
+                Ok(number) if number < FIRST_MADE - 1 => Some(ShortPlace { code: number + 1 }),
+                Ok(_) | Err(_) => None,
+            },
+            Place::Made(number) => match u8::try_from(number) {
+                Ok(number) if number < FIRST_MADE => Some(ShortPlace {
+                    code: FIRST_MADE + number,
+                }),
+                Ok(_) | Err(_) => None,
+            },
         }
     }
 
-    /// The number of the text that is the field's value, if there is one.
-    pub fn number(self) -> Option<usize>
-        ensures { result ≡ number_in self }
+    /// The place.
+    #[inline(always)]
+    fn place(self) -> Place
+        ensures { result ≡ place_in self }
     {
-        match self.code {
-            0 => None,
-            code => Some(code as usize - 1),
+        if self.code == 0 {
+            return Place::Missing;
+        }
+        if self.code < FIRST_MADE {
+            return Place::Lent(u32::from(self.code - 1));
+        }
+        Place::Made(u32::from(self.code - FIRST_MADE))
+    }
+}
+
+// How the places are kept.
+#[derive(Drop)]
+enum Kept {
+    // In a byte each.
+    Short(Vec<ShortPlace>),
+    // As they are: some have no room in a byte.
+    Long(Vec<Place>),
+}
+
+/// For each declared field where its value stands. Most entries have so few values that a place takes a byte.
+#[derive(Drop)]
+pub struct Places {
+    kept: Kept,
+}
+
+impl Model for Places {
+    ghost use Rattle.std.specs.Prelude.{List};
+    ghost use Rattle.btx_bib.specs.declared.places.Place.{Place};
+    ghost use Rattle.btx_bib.specs.refinement.Values.{places_in};
+
+    ghost Value = { List Place };
+
+    ghost view = { λ places. places_in places.kept };
+}
+
+impl Places {
+    ghost use Rattle.std.specs.Prelude.{◌≡◌, ◌<◌, ◌∷◌, ◌++◌, [], IfOk, OnErr, OnOk, length, replicate, slice_get, slice_set};
+
+    /// So many fields are missing.
+    pub fn missing(alloc: Global, count: usize) -> Result<Places, AllocError>
+        ensures { IfOk result (λ places. places ≡ replicate count Place.Missing) }
+    {
+        Ok(Places {
+            kept: Kept::Short(vec![in alloc; ShortPlace::missing(); count]?),
+        })
+    }
+
+    /// No field.
+    pub fn new(alloc: Global) -> Places
+        ensures { result ≡ [] }
+    {
+        Places {
+            kept: Kept::Short(Vec::new(alloc)),
         }
     }
+
+    /// No field, with room for `count` of them.
+    pub fn with_room(alloc: Global, count: usize) -> Result<Places, AllocError>
+        ensures { IfOk result (λ places. places ≡ []) }
+    {
+        Ok(Places {
+            kept: Kept::Short(Vec::with_capacity(alloc, count)?),
+        })
+    }
+
+    /// How many fields there are.
+    #[inline(always)]
+    pub fn len(&self) -> usize
+        ensures { result ≡ length self.now }
+    {
+        match &self.kept {
+            Kept::Short(list) => list.len(),
+            Kept::Long(list) => list.len(),
+        }
+    }
+
+    /// The place of a field.
+    #[inline(always)]
+    pub fn get(&self, field: usize) -> Option<Place>
+        ensures { result ≡ slice_get self.now field }
+    {
+        match &self.kept {
+            Kept::Short(list) => match list.get(field) {
+                Some(short) => Some(short.place()),
+                None => None,
+            },
+            Kept::Long(list) => match list.get(field) {
+                Some(place) => Some(*place),
+                None => None,
+            },
+        }
+    }
+
+    /// Puts the value of a field elsewhere.
+    #[inline(always)]
+    #[tactic(auto, using(crate::proofs::TextLemmas::place_steps))]
+    pub fn set(&mut self, alloc: Global, field: usize, place: Place) -> Result<(), AllocError>
+        requires { field < length self.old }
+        ensures ok { OnOk result (self.new ≡ slice_set self.old field place) }
+        ensures err { OnErr result (self.new ≡ self.old) }
+    {
+        match &mut self.kept {
+            Kept::Long(list) => list[field] = place,
+            Kept::Short(list) => match ShortPlace::of(place) {
+                Some(short) => list[field] = short,
+                None => {
+                    let mut long = lengthened(alloc, list.as_slice())?;
+                    long[field] = place;
+                    self.kept = Kept::Long(long);
+                }
+            },
+        }
+        Ok(())
+    }
+
+    /// A field is missing from now on.
+    #[tactic(auto, using(crate::proofs::TextLemmas::place_steps))]
+    pub fn clear(&mut self, field: usize)
+        requires { field < length self.old }
+        ensures { self.new ≡ slice_set self.old field Place.Missing }
+    {
+        match &mut self.kept {
+            Kept::Long(list) => list[field] = Place::Missing,
+            Kept::Short(list) => list[field] = ShortPlace::missing(),
+        }
+    }
+
+    /// There is no field any more.
+    pub fn clear_all(&mut self)
+        ensures { self.new ≡ [] }
+    {
+        match &mut self.kept {
+            Kept::Long(list) => list.clear(),
+            Kept::Short(list) => list.clear(),
+        }
+    }
+
+    /// Adds the place of one more field.
+    #[inline(always)]
+    #[tactic(auto, using(crate::proofs::TextLemmas::place_steps))]
+    pub fn push(&mut self, alloc: Global, place: Place) -> Result<(), AllocError>
+        ensures ok { OnOk result (self.new ≡ self.old ++ place ∷ []) }
+        ensures err { OnErr result (self.new ≡ self.old) }
+    {
+        match &mut self.kept {
+            Kept::Long(list) => list.push(place)?,
+            Kept::Short(list) => match ShortPlace::of(place) {
+                Some(short) => list.push(short)?,
+                None => {
+                    let mut long = lengthened(alloc, list.as_slice())?;
+                    long.push(place)?;
+                    self.kept = Kept::Long(long);
+                }
+            },
+        }
+        Ok(())
+    }
+}
+
+// Places that were kept in a byte each.
+fn lengthened(alloc: Global, places: &[ShortPlace]) -> Result<Vec<Place>, AllocError>
+    ensures { IfOk result (λ long. long.items ≡ map place_in places.now) }
+{
+    let mut long = Vec::with_capacity(alloc, places.len())?;
+    for place in places {
+        long.push(place.place())?;
+    }
+    Ok(long)
 }

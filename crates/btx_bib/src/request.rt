@@ -20,13 +20,14 @@ pub struct Request<'r, 'a> {
 
 impl<'r, 'a> Request<'r, 'a> {
     ghost use Rattle.std.specs.Prelude.{◌≡◌, IfOk, option_copied};
-    ghost use Rattle.btx_text.specs.Keys.{folded};
-    ghost use Rattle.btx_bib.specs.Requests.{asked, wanted};
-    ghost use Rattle.btx_bib.specs.Listing.{first_cited, last_cited};
-    ghost use Rattle.btx_aux.specs.Entries.{texts_of};
-    ghost use Rattle.btx_aux.specs.KeyTable.{listed_by};
+    ghost use Rattle.btx_text.specs.language.Keys.{folded};
+    ghost use Rattle.btx_bib.specs.language.Requests.{asked};
+    ghost use Rattle.btx_bib.specs.refinement.Requests.{wanted};
+    ghost use Rattle.btx_bib.specs.language.Listing.{first_cited, last_cited};
+    ghost use Rattle.btx_aux.specs.refinement.Entries.{texts_of};
+    ghost use Rattle.btx_aux.specs.refinement.KeyTable.{listed_by};
 
-    /// What a job and its style ask, where an entry that isn't cited takes so many references to stay. With `*` it takes none.
+    /// What a job and its style ask, where an entry that isn't cited stays if at least `min_crossrefs` others refer to it, or, with `*`, in any case.
     pub fn of(
         alloc: Global,
         style: &'r Style<'a>,

@@ -1,8 +1,8 @@
 //! The places of messages in a database.
 ghost use Rattle.std.specs.Prelude.{◌≡◌, ◌++◌, OnOk, option_copied};
-ghost use Rattle.btx_bib.specs.Grammar.PartViews.{part_view};
-ghost use Rattle.btx_bib.specs.Sites.{database};
-ghost use Rattle.btx_bib.specs.Told as spec;
+ghost use Rattle.btx_bib.specs.refinement.Grammar.PartViews.{part_view};
+ghost use Rattle.btx_bib.specs.refinement.Sites.{site_database};
+ghost use Rattle.btx_bib.specs.language.Told as spec;
 
 use crate::grammar::line_counter::LineCounter;
 use crate::grammar::parts::Part;
@@ -24,11 +24,11 @@ pub struct Site<'a> {
 }
 
 impl<'a> Site<'a> {
-    ghost use Rattle.btx_bib.specs.Told.{spot_at, spot_before};
+    ghost use Rattle.btx_bib.specs.language.Told.{spot_at, spot_before};
 
     /// The line of the byte with which this rest of the text begins.
     pub fn spot_at(&mut self, rest: &[u8]) -> Spot<'a>
-        ensures spot { result ≡ spot_at (database self.old) rest.now }
+        ensures spot { result ≡ spot_at (site_database self.old) rest.now }
         ensures same { self.new ≡ self.old }
     {
         let line = self.lines.line_at(rest);
@@ -40,7 +40,7 @@ impl<'a> Site<'a> {
 
     /// The line of the last byte before this rest of the text.
     pub fn spot_before(&mut self, rest: &[u8]) -> Spot<'a>
-        ensures spot { result ≡ spot_before (database self.old) rest.now }
+        ensures spot { result ≡ spot_before (site_database self.old) rest.now }
         ensures same { self.new ≡ self.old }
     {
         let line = self.lines.line_before(rest);
@@ -70,7 +70,7 @@ fn tell_part<'a>(
     site: &mut Site<'a>,
     messages: &mut Messages<'a>,
 ) -> Result<(), AllocError>
-    ensures told { OnOk result (messages.new ≡ messages.old ++ spec.name_told (database site.old) strings.now (option_copied own.entry) (part_view part.entry)) }
+    ensures told { OnOk result (messages.new ≡ messages.old ++ spec.name_messages (site_database site.old) strings.now (option_copied own.entry) (part_view part.entry)) }
     ensures same { OnOk result (site.new ≡ site.old) }
 {
     let Part::Named(string) = part else {
@@ -101,7 +101,7 @@ pub fn tell_names<'a>(
     site: &mut Site<'a>,
     messages: &mut Messages<'a>,
 ) -> Result<(), AllocError>
-    ensures told { OnOk result (messages.new ≡ messages.old ++ spec.names_told (database site.old) strings.now (option_copied own.entry) value.now) }
+    ensures told { OnOk result (messages.new ≡ messages.old ++ spec.value_messages (site_database site.old) strings.now (option_copied own.entry) value.now) }
     ensures same { OnOk result (site.new ≡ site.old) }
 {
     let Some(part) = value.lone_part() else {
@@ -120,7 +120,7 @@ fn tell_parts<'a>(
     site: &mut Site<'a>,
     messages: &mut Messages<'a>,
 ) -> Result<(), AllocError>
-    ensures told { OnOk result (messages.new ≡ messages.old ++ spec.names_told (database site.old) strings.now (option_copied own.entry) value.now) }
+    ensures told { OnOk result (messages.new ≡ messages.old ++ spec.value_messages (site_database site.old) strings.now (option_copied own.entry) value.now) }
     ensures same { OnOk result (site.new ≡ site.old) }
 {
     for part in value.parts() {
@@ -137,7 +137,7 @@ pub fn tell_kind<'a>(
     site: &mut Site<'a>,
     messages: &mut Messages<'a>,
 ) -> Result<(), AllocError>
-    ensures told { OnOk result (messages.new ≡ messages.old ++ spec.kind_told key.entry.now kind (spec.spot_at (database site.old) rest.now)) }
+    ensures told { OnOk result (messages.new ≡ messages.old ++ spec.type_messages key.entry.now kind (spec.spot_at (site_database site.old) rest.now)) }
     ensures same { OnOk result (site.new ≡ site.old) }
 {
     match kind {

@@ -43,10 +43,10 @@ impl<'a> Model for Slots<'a> {
 impl<'a> Slots<'a> {
     ghost use Rattle.std.specs.Prelude.{◌≡◌, [], ◌∷◌, ◌++◌, IfOk, OnOk, length, option_copied, slice_get};
     ghost use Rattle.std.specs.Str.{bytes_eq};
-    ghost use Rattle.btx_text.specs.Keys.{folded};
-    ghost use Rattle.btx_bib.specs.Finding.{changed_at, place_of};
-    ghost use Rattle.btx_bib.specs.Passes.{cut, with_body, with_values};
-    ghost use Rattle.btx_bib.specs.Steps.{slot_by};
+    ghost use Rattle.btx_text.specs.language.Keys.{folded};
+    ghost use Rattle.btx_bib.specs.refinement.Finding.{changed_at, first_place};
+    ghost use Rattle.btx_bib.specs.language.Passes.{without_crossref, with_body, with_field_values};
+    ghost use Rattle.btx_bib.specs.refinement.Steps.{slot_by};
 
     /// No place.
     pub fn new(alloc: Global) -> Self
@@ -81,7 +81,7 @@ impl<'a> Slots<'a> {
 
     // The place of a key in lower case.
     fn by_name(&self, names: &Names, lowered: &[u8]) -> Option<&Slot<'a>>
-        ensures { option_copied result ≡ slot_by self.now (place_of (bytes_eq lowered.now) names.now) }
+        ensures { option_copied result ≡ slot_by self.now (first_place (bytes_eq lowered.now) names.now) }
     {
         match names.position(lowered) {
             Some(place) => self.at(place),
@@ -96,7 +96,7 @@ impl<'a> Slots<'a> {
         names: &Names,
         key: &[u8],
     ) -> Result<Option<&Slot<'a>>, AllocError>
-        ensures { IfOk result (λ found. option_copied found ≡ slot_by self.now (place_of (bytes_eq (folded key.now)) names.now)) }
+        ensures { IfOk result (λ found. option_copied found ≡ slot_by self.now (first_place (bytes_eq (folded key.now)) names.now)) }
     {
         let lowered = in_lower_case(alloc, key)?;
         Ok(self.by_name(names, lowered.as_bytes()))
@@ -104,7 +104,7 @@ impl<'a> Slots<'a> {
 
     /// Gives the entry at a place other values.
     pub fn set_values(&mut self, place: usize, values: Values<'a>) -> Result<(), AllocError>
-        ensures { OnOk result (self.new ≡ changed_at place (λ slot. with_body slot (with_values slot.body values.entry)) self.old) }
+        ensures { OnOk result (self.new ≡ changed_at place (λ slot. with_body slot (with_field_values slot.body values.entry)) self.old) }
     {
         if place < self.list.len() {
             let slot = &mut self.list[place];
@@ -115,7 +115,7 @@ impl<'a> Slots<'a> {
 
     /// Takes the entry at a place its parent.
     pub fn cut(&mut self, place: usize)
-        ensures { self.new ≡ changed_at place cut self.old }
+        ensures { self.new ≡ changed_at place without_crossref self.old }
     {
         if place < self.list.len() {
             let slot = &mut self.list[place];
@@ -125,24 +125,34 @@ impl<'a> Slots<'a> {
 }
 
 impl<'a> Slot<'a> {
-    ghost use Rattle.std.specs.Prelude.{◌≡◌, ◌≤◌, [], length, IfOk, OnOk, option_copied};
-    ghost use Rattle.btx_text.specs.Limits.{greatest_string};
-    ghost use Rattle.btx_bib.specs.Passes.{cut, inherited_values, parent_at, values_in, with_body, with_values};
+    ghost use Rattle.std.specs.Prelude.{◌≡◌, ◌≤◌, [], length, IfOk, OnOk, is_some};
+    ghost use Rattle.btx_text.specs.language.Limits.{greatest_string};
+    ghost use Rattle.btx_bib.specs.language.Passes.{without_crossref, inherited_values, parent_at, body_values, with_body, with_field_values};
 
-    /// The key of the parent.
-    pub fn parent(&self) -> Option<&Text<'a>>
-        ensures { option_copied result ≡ parent_at self.now }
+    /// The key of the parent once more.
+    pub fn parent(&self, alloc: Global) -> Result<Option<Text<'a>>, AllocError>
+        ensures { IfOk result (λ parent. parent ≡ parent_at self.now) }
     {
         match &self.body {
-            Some(body) => body.values.parent(),
-            None => None,
+            Some(body) => body.values.parent(alloc),
+            None => Ok(None),
+        }
+    }
+
+    /// Whether there is a parent.
+    pub fn has_parent(&self) -> bool
+        ensures { result ≡ is_some (parent_at self.now) }
+    {
+        match &self.body {
+            Some(body) => body.values.has_parent(),
+            None => false,
         }
     }
 
     // The values of the entry, or these if there is none.
     fn values_or<'s>(&'s self, none: &'s Values<'a>) -> &'s Values<'a>
         requires { none.now ≡ [] }
-        ensures { result.now ≡ values_in self.now.body }
+        ensures { result.now ≡ body_values self.now.body }
     {
         match &self.body {
             Some(body) => &body.values,
@@ -153,7 +163,7 @@ impl<'a> Slot<'a> {
     /// The values, where those that are missing are the parent's.
     pub fn values_from(&self, alloc: Global, parent: &Slot<'a>) -> Result<Values<'a>, AllocError>
         requires { length parent.now.key ≤ greatest_string }
-        ensures { IfOk result (λ values. values ≡ inherited_values parent.now.key (values_in self.now.body) (values_in parent.now.body)) }
+        ensures { IfOk result (λ values. values ≡ inherited_values parent.now.key (body_values self.now.body) (body_values parent.now.body)) }
     {
         let none = Values::new(alloc);
         let own = self.values_or(&none);
@@ -163,7 +173,7 @@ impl<'a> Slot<'a> {
 
     // Gives the entry other values.
     fn set_values(&mut self, values: Values<'a>) -> Result<(), AllocError>
-        ensures { OnOk result (self.new ≡ with_body self.old (with_values self.old.body values.entry)) }
+        ensures { OnOk result (self.new ≡ with_body self.old (with_field_values self.old.body values.entry)) }
     {
         match &mut self.body {
             Some(body) => body.values.replace(values),
@@ -173,7 +183,7 @@ impl<'a> Slot<'a> {
 
     // Takes the entry its parent.
     fn cut(&mut self)
-        ensures { self.new ≡ cut self.old }
+        ensures { self.new ≡ without_crossref self.old }
     {
         if let Some(body) = &mut self.body {
             body.values.cut();

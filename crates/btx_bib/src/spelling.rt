@@ -1,6 +1,6 @@
 //! Keys and names, as files and values spell them.
 ghost use Rattle.std.specs.Prelude.{◌≡◌, ◌≤◌, IfOk, length};
-ghost use Rattle.btx_text.specs.Limits.{greatest_string};
+ghost use Rattle.btx_text.specs.language.Limits.{greatest_string};
 
 use btx_text::Text;
 use std::alloc::{AllocError, Global};
@@ -63,7 +63,7 @@ impl<'a> Model for Spelling<'a> {
 
     ghost Value = { List ℕ };
 
-    ghost use Rattle.btx_bib.specs.Spellings.{spelled_in};
+    ghost use Rattle.btx_bib.specs.refinement.Spellings.{spelled_in};
 
     ghost view = { λ spelling. spelled_in spelling.source };
 }

@@ -1,7 +1,7 @@
 //! The strings of databases, by their names.
 ghost use Rattle.std.specs.Prelude.{◌≡◌, [], true, false, OnOk};
-ghost use Rattle.btx_bib.specs.Grammar.Squeezing.{is_squeezed};
-ghost use Rattle.btx_bib.specs.Strings.{defined};
+ghost use Rattle.btx_bib.specs.refinement.Grammar.Squeezing.{is_squeezed};
+ghost use Rattle.btx_bib.specs.language.Strings.{defined};
 
 use crate::grammar::value_texts::Strings;
 use crate::lowering::in_lower_case;
@@ -18,7 +18,7 @@ pub struct StringTable<'a> {
 
 impl<'a> Model for StringTable<'a> {
     ghost use Rattle.std.specs.Prelude.{List, ℕ};
-    ghost use Rattle.btx_bib.specs.Strings.{AreSqueezed, pairs_of};
+    ghost use Rattle.btx_bib.specs.refinement.Strings.{AreSqueezed, pairs_of};
 
     ghost Value = { List (List ℕ × List ℕ) };
 
@@ -50,7 +50,7 @@ impl<'a> StringTable<'a> {
 }
 
 impl<'a> Strings<'a> for StringTable<'a> {
-    ghost use Rattle.btx_bib.specs.Strings.{string_value};
+    ghost use Rattle.btx_bib.specs.language.Strings.{string_value};
 
     ghost values = { string_value };
 
@@ -70,7 +70,7 @@ pub struct Others<'s, 'a> {
 }
 
 impl<'s, 'a> Strings<'a> for Others<'s, 'a> {
-    ghost use Rattle.btx_bib.specs.Strings.{other_value};
+    ghost use Rattle.btx_bib.specs.language.Strings.{other_value};
 
     ghost values = { λ others. other_value others.strings.now others.own.now };
 

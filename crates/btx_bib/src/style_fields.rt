@@ -1,7 +1,7 @@
 //! The fields that a style declares, as databases name them.
 ghost use Rattle.std.specs.Prelude.{◌≡◌, Some, IfOk, IfSome, OnOk};
-ghost use Rattle.btx_text.specs.Keys.{folded};
-ghost use Rattle.btx_bst.specs.Style.{field_of};
+ghost use Rattle.btx_text.specs.language.Keys.{folded};
+ghost use Rattle.btx_bst.specs.language.Style.{field_of};
 
 use crate::lowering::in_lower_case;
 use btx_bst::{Callee, Style};
@@ -30,14 +30,14 @@ pub struct StyleFields<'r, 'a> {
 
 impl<'r, 'a> Model for StyleFields<'r, 'a> {
     ghost use Rattle.std.specs.Prelude.{All};
-    ghost use Rattle.btx_bst.specs.Style.{Style};
-    ghost use Rattle.btx_bib.specs.KnownFields.{IsKnown};
+    ghost use Rattle.btx_bst.specs.language.Style.{Style};
+    ghost use Rattle.btx_bib.specs.refinement.KnownFields.{IsKnownField};
 
     ghost Value = { Style };
 
     ghost view = { λ fields. fields.style.now };
 
-    ghost invariant = { λ fields. All (IsKnown fields.style.now) fields.known.items };
+    ghost invariant = { λ fields. All (IsKnownField fields.style.now) fields.known.items };
 }
 
 // The place of a name. Any place is right; no two names of usual fields have the same.

@@ -1,53 +1,68 @@
 //! The values of the declared fields.
-use crate::places::Place;
+use crate::places::{Place, Places};
 use crate::spelling::Spelling;
+use crate::texts::Texts;
 use btx_text::Text;
 use std::alloc::{AllocError, Global};
 use std::marker::Model;
 
-// Most entries have so many values and no more.
+// Room for the values of an entry: most have no more.
 const MOSTLY_GIVEN: usize = 16;
 
-// Most children inherit so many values and no more.
+// Room for the values that an entry inherits: most inherit no more.
 const MOSTLY_INHERITED: usize = 8;
 
 /// For each declared field its value, or that it is missing.
 #[derive(Drop)]
 pub struct Values<'a> {
     // Of each declared field.
-    places: Vec<Place>,
+    places: Places,
     // The values that there are.
-    texts: Vec<Text<'a>>,
+    texts: Texts<'a>,
 }
 
 impl<'a> Model for Values<'a> {
     ghost use Rattle.std.specs.Prelude.{List, ℕ, Option, All, length, map};
-    ghost use Rattle.btx_bib.specs.Values.{IsWithin, text_at};
+    ghost use Rattle.btx_bib.specs.refinement.Values.{IsWithin, text_at};
 
     ghost Value = { List (Option (List ℕ)) };
 
-    ghost view = { λ values. map (text_at values.texts.items) values.places.items };
+    ghost view = { λ values. map (text_at values.texts.lent.items values.texts.made.items) values.places };
 
-    ghost invariant = { λ values. All (IsWithin (length values.texts.items)) values.places.items };
+    ghost invariant = { λ values. All (IsWithin (length values.texts.lent.items) (length values.texts.made.items)) values.places };
 }
 
 impl<'a> Values<'a> {
-    ghost use Rattle.std.specs.Prelude.{◌≡◌, ◌<◌, ◌≤◌, [], ◌∷◌, ◌++◌, Some, IfOk, OnOk, length, option_copied, is_some};
-    ghost use Rattle.btx_text.specs.Limits.{greatest_string};
-    ghost use Rattle.btx_bib.specs.Values.{value_at};
-    ghost use Rattle.btx_bib.specs.Finding.{changed_at};
-    ghost use Rattle.btx_bib.specs.Filling.{blanks};
+    ghost use Rattle.std.specs.Prelude.{◌≡◌, ◌<◌, ◌≤◌, [], ◌∷◌, ◌++◌, Some, IfOk, IfSome, OnOk, length, option_copied, is_some};
+    ghost use Rattle.btx_text.specs.language.Limits.{greatest_string};
+    ghost use Rattle.btx_bib.specs.language.Values.{field_value};
+    ghost use Rattle.btx_bib.specs.refinement.Finding.{changed_at};
+    ghost use Rattle.btx_bib.specs.refinement.Filling.{blanks};
     ghost use Rattle.std.specs.Option.{option_or};
-    ghost use Rattle.btx_bib.specs.Entries.{parent_in};
-    ghost use Rattle.btx_bib.specs.Passes.{inherited_values, without_parent};
+    ghost use Rattle.btx_bib.specs.language.Entries.{parent_in};
+    ghost use Rattle.btx_bib.specs.language.Passes.{inherited_values, without_parent};
 
     /// The value of a field by its number, if there is one. A field that isn't declared has none.
-    pub fn get(&self, field: usize) -> Option<&Text<'a>>
-        ensures { option_copied result ≡ value_at field self.now }
+    #[inline(always)]
+    pub fn get(&self, field: usize) -> Option<&[u8]>
+        ensures value { option_copied result ≡ field_value field self.now }
+        ensures within { IfSome result (λ text. length text.now ≤ greatest_string) }
     {
-        let place = self.places.get(field)?;
-        let number = place.number()?;
-        Some(&self.texts[number])
+        match self.places.get(field) {
+            Some(place) => self.texts.at(place),
+            None => None,
+        }
+    }
+
+    /// The value of a field once more, if there is one.
+    #[inline(always)]
+    pub fn copied(&self, alloc: Global, field: usize) -> Result<Option<Text<'a>>, AllocError>
+        ensures { IfOk result (λ copy. copy ≡ field_value field self.now) }
+    {
+        match self.places.get(field) {
+            Some(place) => self.texts.copied(alloc, place),
+            None => Ok(None),
+        }
     }
 
     /// No value.
@@ -55,8 +70,11 @@ impl<'a> Values<'a> {
         ensures { result ≡ [] }
     {
         Values {
-            places: Vec::new(alloc),
-            texts: Vec::new(alloc),
+            places: Places::new(alloc),
+            texts: Texts {
+                lent: Vec::new(alloc),
+                made: Vec::new(alloc),
+            },
         }
     }
 
@@ -65,42 +83,46 @@ impl<'a> Values<'a> {
         ensures { IfOk result (λ values. values ≡ blanks count) }
     {
         Ok(Values {
-            places: vec![in alloc; Place::missing(); count]?,
-            texts: Vec::with_capacity(alloc, count.min(MOSTLY_GIVEN))?,
+            places: Places::missing(alloc, count)?,
+            texts: Texts {
+                lent: Vec::with_capacity(alloc, count.min(MOSTLY_GIVEN))?,
+                made: Vec::new(alloc),
+            },
         })
     }
 
     /// Whether a field has a value.
+    #[inline(always)]
     pub fn has(&self, field: usize) -> bool
-        ensures { result ≡ is_some (value_at field self.now) }
+        ensures { result ≡ is_some (field_value field self.now) }
     {
         let value = self.get(field);
         value.is_some()
     }
 
     /// Puts the value of a field.
-    pub fn put(&mut self, field: usize, value: Text<'a>) -> Result<(), AllocError>
+    #[inline(always)]
+    pub fn put(&mut self, alloc: Global, field: usize, value: Text<'a>) -> Result<(), AllocError>
         ensures { OnOk result (self.new ≡ changed_at field (λ old. Some value.entry) self.old) }
     {
         if field < self.places.len() {
-            let place = Place::of(self.texts.len())?;
-            self.texts.push(value)?;
-            self.places[field] = place;
+            let place = self.texts.add(value)?;
+            self.places.set(alloc, field, place)?;
         }
         Ok(())
     }
 
     // Adds one field.
-    fn push(&mut self, value: Option<Text<'a>>) -> Result<(), AllocError>
+    #[inline(always)]
+    fn push(&mut self, alloc: Global, value: Option<Text<'a>>) -> Result<(), AllocError>
         ensures { OnOk result (self.new ≡ self.old ++ value.entry ∷ []) }
     {
         let Some(text) = value else {
-            self.places.push(Place::missing())?;
+            self.places.push(alloc, Place::Missing)?;
             return Ok(());
         };
-        let place = Place::of(self.texts.len())?;
-        self.texts.push(text)?;
-        self.places.push(place)?;
+        let place = self.texts.add(text)?;
+        self.places.push(alloc, place)?;
         Ok(())
     }
 
@@ -109,40 +131,50 @@ impl<'a> Values<'a> {
     pub fn trim(&mut self) -> Result<(), AllocError>
         ensures { OnOk result (self.new ≡ self.old) }
     {
-        let inherited = match self.parent() {
-            Some(_) => MOSTLY_INHERITED,
-            None => 0,
+        let inherited = if self.has_parent() {
+            MOSTLY_INHERITED
+        } else {
+            0
         };
-        self.texts.reserve_exact(inherited)?;
-        self.texts
-            .shrink_to(self.texts.len().saturating_add(inherited));
+        let lent = &mut self.texts.lent;
+        lent.reserve_exact(inherited)?;
+        lent.shrink_to(lent.len().saturating_add(inherited));
+        self.texts.made.shrink_to_fit();
         Ok(())
     }
 
-    /// The key of the parent: the value of the first declared field.
-    pub fn parent(&self) -> Option<&Text<'a>>
-        ensures { option_copied result ≡ parent_in self.now }
+    /// The key of the parent once more: the value of the first declared field.
+    pub fn parent(&self, alloc: Global) -> Result<Option<Text<'a>>, AllocError>
+        ensures { IfOk result (λ parent. parent ≡ parent_in self.now) }
     {
-        self.get(0)
+        self.copied(alloc, 0)
+    }
+
+    /// Whether there is a parent.
+    pub fn has_parent(&self) -> bool
+        ensures { result ≡ is_some (parent_in self.now) }
+    {
+        self.has(0)
     }
 
     // A field's value, or the parent's.
+    #[inline(always)]
     fn value_or(
         &self,
         alloc: Global,
         field: usize,
         parent: &Values<'a>,
     ) -> Result<Option<Text<'a>>, AllocError>
-        ensures { IfOk result (λ value. value ≡ option_or (value_at field self.now) (value_at field parent.now)) }
+        ensures { IfOk result (λ value. value ≡ option_or (field_value field self.now) (field_value field parent.now)) }
     {
-        let value = match self.get(field) {
-            Some(value) => Some(value),
-            None => parent.get(field),
-        };
-        copied(alloc, value)
+        match self.copied(alloc, field)? {
+            Some(value) => Ok(Some(value)),
+            None => parent.copied(alloc, field),
+        }
     }
 
     // A field's value, or the parent's. The first is the parent's key.
+    #[inline(always)]
     fn inherited_at(
         &self,
         alloc: Global,
@@ -152,7 +184,7 @@ impl<'a> Values<'a> {
     ) -> Result<Option<Text<'a>>, AllocError>
         requires field { field < length self.now }
         requires key { length key.now ≤ greatest_string }
-        ensures { IfOk result (λ value. value ≡ value_at field (inherited_values key.now self.now parent.now)) }
+        ensures { IfOk result (λ value. value ≡ field_value field (inherited_values key.now self.now parent.now)) }
     {
         if field == 0 {
             return Ok(Some(key.to_text(alloc)?));
@@ -171,11 +203,14 @@ impl<'a> Values<'a> {
         ensures { IfOk result (λ values. values ≡ inherited_values key.now self.now parent.now) }
     {
         let mut values = Values {
-            places: Vec::with_capacity(alloc, self.places.len())?,
-            texts: Vec::with_capacity(alloc, self.places.len())?,
+            places: Places::with_room(alloc, self.places.len())?,
+            texts: Texts {
+                lent: Vec::with_capacity(alloc, self.places.len())?,
+                made: Vec::new(alloc),
+            },
         };
         for field in 0..self.places.len() {
-            values.push(self.inherited_at(alloc, field, key, parent)?)?;
+            values.push(alloc, self.inherited_at(alloc, field, key, parent)?)?;
         }
         Ok(values)
     }
@@ -184,33 +219,23 @@ impl<'a> Values<'a> {
     pub fn cut(&mut self)
         ensures { self.new ≡ without_parent self.old }
     {
-        if !self.places.is_empty() {
-            self.places[0] = Place::missing();
+        if self.places.len() > 0 {
+            self.places.clear(0);
         }
     }
 
-    /// Has these values from now on, in the room that it has if that suffices.
+    /// Has these values from now on, the lent ones in the room that it has if that suffices.
     pub fn replace(&mut self, values: Values<'a>) -> Result<(), AllocError>
         ensures { OnOk result (self.new ≡ values.entry) }
     {
         let Values { places, mut texts } = values;
-        self.places.clear();
-        self.texts.clear();
-        self.texts.append(&mut texts)?;
-        self.texts.shrink_to_fit();
+        self.places.clear_all();
+        self.texts.lent.clear();
+        self.texts.lent.append(&mut texts.lent)?;
+        self.texts.lent.shrink_to_fit();
+        texts.made.shrink_to_fit();
+        self.texts.made = texts.made;
         self.places = places;
         Ok(())
-    }
-}
-
-ghost use Rattle.std.specs.Prelude.{◌≡◌, IfOk, option_copied};
-
-// A text once more, if there is one.
-fn copied<'a>(alloc: Global, text: Option<&Text<'a>>) -> Result<Option<Text<'a>>, AllocError>
-    ensures { IfOk result (λ copy. copy ≡ option_copied text.entry) }
-{
-    match text {
-        Some(text) => Ok(Some(text.copy(alloc)?)),
-        None => Ok(None),
     }
 }

@@ -19,7 +19,7 @@ struct OneValue<'a> {
 
 impl<'a> Model for OneValue<'a> {
     ghost use Rattle.std.specs.Prelude.{◌≡◌, List, ℕ, true, false};
-    ghost use Rattle.btx_bib.specs.Grammar.Squeezing.{is_squeezed};
+    ghost use Rattle.btx_bib.specs.refinement.Grammar.Squeezing.{is_squeezed};
 
     ghost Value = { List ℕ };
 
@@ -39,7 +39,7 @@ impl<'a> Strings<'a> for OneValue<'a> {
 }
 
 // Every name has a letter with white round it.
-#[tactic(auto, unfolding(btx_bib::specs::Grammar::Squeezing::is_squeezed))]
+#[tactic(auto, unfolding(btx_bib::specs::refinement::Grammar::Squeezing::is_squeezed))]
 fn spaced_letter<'a>() -> OneValue<'a> {
     OneValue {
         value: Text::borrowed(b" v "),
@@ -47,7 +47,7 @@ fn spaced_letter<'a>() -> OneValue<'a> {
 }
 
 // Every name has the empty text.
-#[tactic(auto, unfolding(btx_bib::specs::Grammar::Squeezing::is_squeezed))]
+#[tactic(auto, unfolding(btx_bib::specs::refinement::Grammar::Squeezing::is_squeezed))]
 fn empty_value<'a>() -> OneValue<'a> {
     OneValue {
         value: Text::empty(),

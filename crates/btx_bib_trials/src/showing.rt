@@ -2,7 +2,7 @@
 use btx_aux::{AuxJob, MemoryFinder, read_aux};
 use btx_bib::{End, Library, Source, read_databases};
 use btx_bst::{Style, read_style};
-use btx_text::{Fault, LineKind, Text};
+use btx_text::{Fault, LineKind};
 use std::alloc::{AllocError, Global};
 
 /// What is asked of databases: a style's text and how many fields it has with `crossref`, the cited keys, and how many references keep
@@ -23,9 +23,9 @@ pub struct Asked<'a> {
 pub type Size = (End, usize, usize, usize);
 
 // A value and a `;`: a `-` where it is missing.
-fn push_value(shown: &mut Vec<u8>, value: Option<&Text<'_>>) -> Result<(), AllocError> {
+fn push_value(shown: &mut Vec<u8>, value: Option<&[u8]>) -> Result<(), AllocError> {
     match value {
-        Some(value) => shown.extend_from_slice(value.as_bytes())?,
+        Some(value) => shown.extend_from_slice(value)?,
         None => shown.push(b'-')?,
     }
     shown.push(b';')?;

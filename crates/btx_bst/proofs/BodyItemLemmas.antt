@@ -3,36 +3,36 @@ use Rattle.std.proofs.Common.{ℕ, suc, List, [], ◌∷◌, ◌++◌, Option, N
 use Rattle.btx_bst.specs.declared.callee.Callee.{Callee}
 use Rattle.btx_bst.specs.declared.token.Token.{Token}
 use Rattle.btx_bst.specs.declared.token.Token.TheVariants.{Quote, Run}
-use Rattle.btx_bst.specs.Places.{size}
-use Rattle.btx_bst.specs.Complaints.{Complaint, EndOfFile}
-use Rattle.btx_bst.specs.Bodies.{Body}
-use Rattle.btx_bst.specs.Items.{Item, Message}
-use Rattle.btx_bst.specs.Names.{Names, named}
-use Rattle.btx_bst.specs.Turns.{Turn}
-use Rattle.btx_bst.specs.Words.{Word, Open, Close, String, Integer, Quoted, Name, Faulty, Unended, Ended, met_at}
-use Rattle.btx_bst.specs.BodyText.{Inside, End, Whole, Broken, with_named, closed_inside, word_turn, body_turn, body_end}
+use Rattle.btx_bst.specs.language.Places.{size}
+use Rattle.btx_bst.specs.language.Complaints.{Complaint, EndOfFile}
+use Rattle.btx_bst.specs.language.Bodies.{FunctionBody}
+use Rattle.btx_bst.specs.language.Items.{Item, Message}
+use Rattle.btx_bst.specs.language.Names.{Names, named}
+use Rattle.btx_bst.specs.language.Turns.{Turn}
+use Rattle.btx_bst.specs.language.Words.{BodyWord, Open, Close, String, Integer, Quoted, Name, Faulty, Unended, Ended, met_at}
+use Rattle.btx_bst.specs.language.BodyText.{Inside, BodyEnd, Whole, Broken, with_named, closed_inside, word_turn, body_turn, body_end}
 use Rattle.btx_bst.proofs.TurnLemmas.{OnTurn, turns-keep}
 
 -- kept by each further message
 abbrev pub OnMessages : (List Item → Type 0) → Type 0
 OnMessages P = (c : Complaint) (line : ℕ) (is : List Item) → P is → P (is ++ Message c line ∷ [])
 
-abbrev pub OnEnd : (List Item → Type 0) → End → Type 0
+abbrev pub OnEnd : (List Item → Type 0) → BodyEnd → Type 0
 OnEnd P (Whole inside) = P inside.items
 OnEnd P (Broken complaint inside) = P inside.items
 
-abbrev OnInside : (List Item → Type 0) → Turn Inside End → Type 0
+abbrev OnInside : (List Item → Type 0) → Turn Inside BodyEnd → Type 0
 OnInside P turn = OnTurn (λ s. P s.items) (OnEnd P) turn
 
 items_named : (P : List Item → Type 0) → OnMessages P → (token : Callee → Token) (name : List ℕ) (s : Inside) (o : Option Callee) → P s.items → P (with_named token name s o).items
 items_named P each token name s None h = each _ _ s.items h
 items_named P each token name s (Some c) h = h
 
-items_closed : (P : List Item → Type 0) (s : Inside) (around : List Body) → P s.items → OnInside P (closed_inside s around)
+items_closed : (P : List Item → Type 0) (s : Inside) (around : List FunctionBody) → P s.items → OnInside P (closed_inside s around)
 items_closed P s [] h = h
 items_closed P s (outer ∷ around) h = h
 
-items_word : (P : List Item → Type 0) → OnMessages P → (names : Names) (s : Inside) (w : Word) → P s.items → OnInside P (word_turn names s w)
+items_word : (P : List Item → Type 0) → OnMessages P → (names : Names) (s : Inside) (w : BodyWord) → P s.items → OnInside P (word_turn names s w)
 items_word P each names s Open h = h
 items_word P each names s Close h = items_closed P s s.around h
 items_word P each names s (String text) h = h

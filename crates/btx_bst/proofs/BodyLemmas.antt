@@ -7,8 +7,8 @@ use Rattle.std.proofs.Math.Seq.{drop-append_seam, take-append_seam}
 use Rattle.btx_bst.specs.declared.token.Token.{Token}
 use Rattle.btx_bst.specs.declared.bodies.Range.{Range}
 use Rattle.std.specs.Borrow.{Bor}
-use Rattle.btx_bst.specs.Views.{texts_view}
-use Rattle.btx_bst.specs.Ranges.{tokens_in}
+use Rattle.btx_bst.specs.refinement.Views.{texts_view}
+use Rattle.btx_bst.specs.refinement.Ranges.{tokens_in}
 
 -- a range that was in bounds has the same tokens after more of them
 part_more : (ts us : List Token) (r : Range) → r.from ≤ r.to → r.to ≤ length ts → tokens_in (ts ++ us) r ≡ tokens_in ts r

@@ -4,15 +4,15 @@ use Rattle.std.proofs.lemmas.List.{length-drop, length-append}
 use Rattle.btx_bst.specs.declared.callee.Callee.{Callee}
 use Rattle.btx_bst.specs.declared.token.Token.{Token}
 use Rattle.btx_bst.specs.declared.token.Token.TheVariants.{Quote, Run}
-use Rattle.btx_bst.specs.Weights.{body_weight}
-use Rattle.btx_bst.specs.Places.{Place, ink, size}
-use Rattle.btx_bst.specs.Fronts.{word_len, digits_len, quote_len, is_word_end}
-use Rattle.btx_bst.specs.Complaints.{TextAfter, EndOfFile}
-use Rattle.btx_bst.specs.Bodies.{Body}
-use Rattle.btx_bst.specs.Words.{Word, Open, Close, String, Integer, Quoted, Name, Faulty, Unended, Ended, front, Met, word_front, integer_at, integer_of, integer_before, signed, value_of, string_at, string_before, string_ended, met_at, met_in}
-use Rattle.btx_bst.specs.Names.{Names, named}
-use Rattle.btx_bst.specs.Turns.{Turn, Again, Ends, follow}
-use Rattle.btx_bst.specs.BodyText.{Inside, End, Whole, Broken, with_named, closed_inside, word_turn, body_turn, body_end}
+use Rattle.btx_bst.specs.refinement.Weights.{body_weight}
+use Rattle.btx_bst.specs.language.Places.{Place, ink, size}
+use Rattle.btx_bst.specs.language.Fronts.{word_len, digits_len, quote_len, is_word_end}
+use Rattle.btx_bst.specs.language.Complaints.{TextAfter, EndOfFile}
+use Rattle.btx_bst.specs.language.Bodies.{FunctionBody}
+use Rattle.btx_bst.specs.language.Words.{BodyWord, Open, Close, String, Integer, Quoted, Name, Faulty, Unended, Ended, front, Met, word_front, integer_at, integer_front, integer_before, signed, digits_value, string_at, string_before, string_ended, met_at, met_in}
+use Rattle.btx_bst.specs.language.Names.{Names, named}
+use Rattle.btx_bst.specs.language.Turns.{Turn, Again, Ends, after_turn}
+use Rattle.btx_bst.specs.language.BodyText.{Inside, BodyEnd, Whole, Broken, with_named, closed_inside, word_turn, body_turn, body_end}
 use Rattle.btx_bst.proofs.TurnLemmas.{OnTurn, turns-next, turns-keep}
 use Rattle.btx_bst.proofs.SizeLemmas.{ink-size}
 
@@ -39,15 +39,15 @@ integer_before-len line rest (Some z) h = at (is_word_end rest) where
   at true = h
   at false = omega (arith, drop-len (word_len rest) rest)
 
-integer_of-len : (line : List ℕ) (minus : Bool) (rest : List ℕ) (n : ℕ) → length rest ≤ length line → length (integer_of line minus rest n).rest ≤ length line
+integer_of-len : (line : List ℕ) (minus : Bool) (rest : List ℕ) (n : ℕ) → length rest ≤ length line → length (integer_front line minus rest n).rest ≤ length line
 integer_of-len line minus rest zero h = drop-len (word_len line) line
-integer_of-len line minus rest (suc n) h = integer_before-len line (drop (suc n) rest) (signed minus (value_of (take (suc n) rest))) (omega (arith, drop-len (suc n) rest))
+integer_of-len line minus rest (suc n) h = integer_before-len line (drop (suc n) rest) (signed minus (digits_value (take (suc n) rest))) (omega (arith, drop-len (suc n) rest))
 
 integer_at-len : (s : List ℕ) → length (integer_at s).rest ≤ length s
 unfolding integer_at
 integer_at-len [] = omega arith
 integer_at-len (b ∷ bs) = at (b == 45) where
-  at : (t : Bool) → length (cond t (integer_of (b ∷ bs) true bs (digits_len bs)) (integer_of (b ∷ bs) false (b ∷ bs) (digits_len (b ∷ bs)))).rest ≤ suc (length bs)
+  at : (t : Bool) → length (cond t (integer_front (b ∷ bs) true bs (digits_len bs)) (integer_front (b ∷ bs) false (b ∷ bs) (digits_len (b ∷ bs)))).rest ≤ suc (length bs)
   at true = integer_of-len (b ∷ bs) true bs (digits_len bs) (omega arith)
   at false = integer_of-len (b ∷ bs) false (b ∷ bs) (digits_len (b ∷ bs)) (omega arith)
 
@@ -63,7 +63,7 @@ word_front-len b bs = at (b == 123) (b == 125) (b == 34) (b == 35) (b == 39) whe
   at false false false false false = drop-len (word_len bs) bs
 
 -- the end of the file
-abbrev pub is_ended : Word → Bool
+abbrev pub is_ended : BodyWord → Bool
 is_ended Ended = true
 is_ended _ = false
 
@@ -82,22 +82,22 @@ pub met_at-size : (p : Place) → MetSized (size p) (met_at p)
 met_at-size p = met_in-size (ink p) (ink p).line (size p) refl (ink-size p)
 
 -- where an end stands
-abbrev pub place_of : End → Place
+abbrev pub place_of : BodyEnd → Place
 place_of (Whole inside) = inside.place
 place_of (Broken complaint inside) = inside.place
 
-abbrev pub BodyTurn : ℕ → Turn Inside End → Type 0
+abbrev pub BodyTurn : ℕ → Turn Inside BodyEnd → Type 0
 BodyTurn n t = OnTurn (λ s. size s.place < n) (λ r. size (place_of r) ≤ n) t
 
 with_named-place : (token : Callee → Token) (name : List ℕ) (s : Inside) (o : Option Callee) → (with_named token name s o).place ≡ s.place
 with_named-place token name s None = refl
 with_named-place token name s (Some callee) = refl
 
-closed_inside-size : (s : Inside) (around : List Body) (n : ℕ) → size s.place < n → BodyTurn n (closed_inside s around)
+closed_inside-size : (s : Inside) (around : List FunctionBody) (n : ℕ) → size s.place < n → BodyTurn n (closed_inside s around)
 closed_inside-size s [] n h = omega arith
 closed_inside-size s (outer ∷ around) n h = h
 
-word_turn-size : (names : Names) (s : Inside) (w : Word) (n : ℕ) → size s.place ≤ n → (is_ended w ≡ false → size s.place < n) → BodyTurn n (word_turn names s w)
+word_turn-size : (names : Names) (s : Inside) (w : BodyWord) (n : ℕ) → size s.place ≤ n → (is_ended w ≡ false → size s.place < n) → BodyTurn n (word_turn names s w)
 word_turn-size names s Open n h k = k refl
 word_turn-size names s Close n h k = closed_inside-size s s.around n (k refl)
 word_turn-size names s (String text) n h k = k refl
@@ -117,20 +117,20 @@ body_turn-size names s =
 abbrev left_in : Inside → ℕ
 left_in s = size s.place
 
-falls : (names : Names) (s : Inside) → OnTurn (λ t. left_in t < left_in s) (λ (r : End). Unit {0}) (body_turn names s)
+falls : (names : Names) (s : Inside) → OnTurn (λ t. left_in t < left_in s) (λ (r : BodyEnd). Unit {0}) (body_turn names s)
 falls names s = at (body_turn names s) (body_turn-size names s) where
-  at : (t : Turn Inside End) → BodyTurn (size s.place) t → OnTurn (λ t. left_in t < left_in s) (λ (r : End). Unit {0}) t
+  at : (t : Turn Inside BodyEnd) → BodyTurn (size s.place) t → OnTurn (λ t. left_in t < left_in s) (λ (r : BodyEnd). Unit {0}) t
   at (Again u) h = h
   at (Ends r) h = tt
 
-pub body_end-next : (names : Names) (s : Inside) → body_end names s ≡ follow (body_end names) (body_turn names s)
+pub body_end-next : (names : Names) (s : Inside) → body_end names s ≡ after_turn (body_end names) (body_turn names s)
 unfolding body_end
 body_end-next names s = turns-next (body_turn names) (Broken EndOfFile) left_in (falls names) s
 
 pub body_end-again : (names : Names) (s t : Inside) → body_turn names s ≡ Again t → body_end names s ≡ body_end names t
 body_end-again names s t e = rw (body_end-next names s, e) refl
 
-pub body_end-ends : (names : Names) (s : Inside) (r : End) → body_turn names s ≡ Ends r → body_end names s ≡ r
+pub body_end-ends : (names : Names) (s : Inside) (r : BodyEnd) → body_turn names s ≡ Ends r → body_end names s ≡ r
 body_end-ends names s r e = rw (body_end-next names s, e) refl
 
 pub body_turn-less : (names : Names) (s t : Inside) → body_turn names s ≡ Again t → size t.place < size s.place
@@ -140,7 +140,7 @@ pub ruleset body_steps = (body_end-again, body_end-ends, body_turn-less)
 
 -- ---- what a body weighs
 
-abbrev pub inside_of : End → Inside
+abbrev pub inside_of : BodyEnd → Inside
 inside_of (Whole inside) = inside
 inside_of (Broken complaint inside) = inside
 
@@ -151,14 +151,14 @@ with_named-weight : (token : Callee → Token) (name : List ℕ) (s : Inside) (o
 with_named-weight token name s None = refl
 with_named-weight token name s (Some callee) = refl
 
-abbrev TurnWeighs : ℕ → Turn Inside End → Type 0
+abbrev TurnWeighs : ℕ → Turn Inside BodyEnd → Type 0
 TurnWeighs n t = OnTurn (λ s. weight_of s ≤ n) (λ r. weight_of (inside_of r) ≤ n) t
 
-closed_inside-weight : (s : Inside) (around : List Body) (n : ℕ) → suc (weight_of s) ≤ n → TurnWeighs n (closed_inside s around)
+closed_inside-weight : (s : Inside) (around : List FunctionBody) (n : ℕ) → suc (weight_of s) ≤ n → TurnWeighs n (closed_inside s around)
 closed_inside-weight s [] n h = omega arith
 closed_inside-weight s (outer ∷ around) n h = omega (arith, length-append s.bodies (s.tokens ∷ []))
 
-word_turn-weight : (names : Names) (s : Inside) (w : Word) (n : ℕ) → weight_of s ≤ n → (is_ended w ≡ false → suc (weight_of s) ≤ n) → TurnWeighs n (word_turn names s w)
+word_turn-weight : (names : Names) (s : Inside) (w : BodyWord) (n : ℕ) → weight_of s ≤ n → (is_ended w ≡ false → suc (weight_of s) ≤ n) → TurnWeighs n (word_turn names s w)
 word_turn-weight names s Open n h k = h
 word_turn-weight names s Close n h k = closed_inside-weight s s.around n (k refl)
 word_turn-weight names s (String text) n h k = let l = k refl in omega (arith, l, length-append s.texts (text ∷ []))

@@ -3,33 +3,33 @@ use Rattle.std.proofs.Common.{◌≡◌, ℕ, zero, suc, ◌+◌, ◌<◌, ◌==
 use Rattle.std.specs.Prelude.{◌||◌, codes}
 use Rattle.std.specs.Str.{bytes_eq}
 use Rattle.std.proofs.lemmas.Slice.Eq.{bytes_eq-Decides}
-use Rattle.btx_text.specs.Class.{begins_name}
-use Rattle.btx_text.specs.Keys.{folded}
+use Rattle.btx_text.specs.language.Class.{begins_name}
+use Rattle.btx_text.specs.language.Keys.{folded}
 use Rattle.btx_bst.specs.declared.callee.Callee.{Callee}
 use Rattle.btx_bst.specs.declared.callee.Kind.{Kind}
 use Rattle.btx_bst.specs.declared.callee.Kind.TheVariants as kind
 use Rattle.btx_bst.specs.declared.command.Command.{Command}
 use Rattle.btx_bst.specs.declared.command.Command.TheVariants as command
-use Rattle.btx_bst.specs.Places.{Place, place_at, further, ink, size, skipped, skipped_from, beginning}
-use Rattle.btx_bst.specs.Complaints.{Complaint, NoOpen, NoClose, NoName, Defined, Unknown, Another, BeforeRead, BeforeEntry, AfterRead, EndOfFile}
-use Rattle.btx_bst.specs.Reads.{Read, Took, Slip}
-use Rattle.btx_bst.specs.Items as item
-use Rattle.btx_bst.specs.Items.{Item}
-use Rattle.btx_bst.specs.CommandWords.{word_of}
-use Rattle.btx_bst.specs.Names.{Names, named, macro_lower, with_name}
-use Rattle.btx_bst.specs.Style.{Style}
-use Rattle.btx_bst.specs.Turns.{Ends}
-use Rattle.btx_bst.specs.Lists.{brace_in, opening, closing, name_in, name_at, quoted_in, quoted_at, letters_at, listing, Listed, listed, with_new, name_turn, list_turn_in, list_turn, list_end, list_read, list_at}
-use Rattle.btx_bst.specs.BodyText.{End, Whole, Broken, body_end}
-use Rattle.btx_bst.specs.Outcomes.{Outcome, outcome, after_read, with_item}
-use Rattle.btx_bst.specs.Commands.{after_list, after_listed, entry, entry_lists, function, function_of, function_ended, inside_at, has_read, read, run, run_of, sort, declare, macro_command, macro_of, function_in, command_at, command_named}
-use Rattle.btx_bst.specs.Predefined.{predefined}
-use Rattle.btx_bst.specs.StyleText.{State, state, start, resumed, resumed_after, word_outcome, command_outcome, style_from, style_of}
-use Rattle.btx_bst.specs.Spelling.{complaint_in, made_by, made_till, Division, IsBroken}
-use Rattle.btx_bst.specs.ItemSpelling.{AreFull, IsEnd}
-use Rattle.btx_bst.specs.Written.{AreNew, declared, made_in, with_body}
-use Rattle.btx_bst.specs.TokenSpelling.{Gap, Spaced, IsMissing, SignHere, NameHere, TextHere, LettersHere}
-use Rattle.btx_bst.specs.CommandSpelling.{Rule, Then, Opened, Closed, Where, Unless, New, Known, Makes, AreNames, goes_on, EndsList, InList, Lists, HasBody, Executes, Behind, IsWordOf, Named, CommandHere, Skips, GoesOn, IsStyle, ReadingLaw, OneReadingLaw}
+use Rattle.btx_bst.specs.language.Places.{Place, place_at, further, ink, size, skipped, skipped_from, beginning}
+use Rattle.btx_bst.specs.language.Complaints.{Complaint, NoOpen, NoClose, NoName, Defined, Unknown, Another, BeforeRead, BeforeEntry, AfterRead, EndOfFile}
+use Rattle.btx_bst.specs.language.Reads.{Read, Took, Slip}
+use Rattle.btx_bst.specs.language.Items as item
+use Rattle.btx_bst.specs.language.Items.{Item}
+use Rattle.btx_bst.specs.language.CommandWords.{command_word_of}
+use Rattle.btx_bst.specs.language.Names.{Names, named, macro_lower, with_name}
+use Rattle.btx_bst.specs.language.Style.{Style}
+use Rattle.btx_bst.specs.language.Turns.{Ends}
+use Rattle.btx_bst.specs.language.Lists.{brace_in, opening, closing, name_in, next_name, quoted_in, quoted_at, letters_at, listing, Listed, listed, with_new, name_turn, list_turn_in, list_turn, list_end, list_read, list_at}
+use Rattle.btx_bst.specs.language.BodyText.{BodyEnd, Whole, Broken, body_end}
+use Rattle.btx_bst.specs.language.Outcomes.{CommandOutcome, outcome, after_read, with_item}
+use Rattle.btx_bst.specs.language.Commands.{after_list, after_listed, entry_command, entry_lists, function_command, function_of, function_ended, inside_at, has_read, read_command, run_command, run_of, sort_command, declare, macro_command, macro_of, function_in, command_at, command_named}
+use Rattle.btx_bst.specs.language.Predefined.{predefined}
+use Rattle.btx_bst.specs.language.StyleText.{StyleState, style_state, unread_style, resumed, resumed_after, word_outcome, command_outcome, style_from, style_of}
+use Rattle.btx_bst.specs.laws.Spelling.{complaint_in, made_by, made_till, Division, IsBroken}
+use Rattle.btx_bst.specs.laws.ItemSpelling.{AreFull, IsEnd}
+use Rattle.btx_bst.specs.laws.Written.{AreNew, declared, made_in, with_made_function}
+use Rattle.btx_bst.specs.laws.TokenSpelling.{Gap, BehindGap, IsMissing, StyleSignHere, StyleNameHere, TextHere, LettersHere}
+use Rattle.btx_bst.specs.laws.CommandSpelling.{Rule, AndThen, Opened, Closed, Where, Unless, New, HasMeaning, Makes, AreNames, is_list_byte, EndsList, InList, Lists, HasBody, Executes, Behind, IsWordOf, Named, CommandHere, Skips, GoesOn, IsStyle, ReadingLaw, OneReadingLaw}
 use Rattle.btx_bst.proofs.ListLemmas.{Sized, name_at-size, list_end-again, list_end-ends}
 use Rattle.btx_bst.proofs.StyleLemmas.{style_from-again, style_from-ends, item_turn-less}
 use Rattle.btx_bst.proofs.SpellingLemmas.{spelled, broken, divided}
@@ -39,74 +39,74 @@ use Rattle.btx_bst.proofs.WordSpellingLemmas.{parts-spelled, spelled-parts, brea
 use Rattle.btx_bst.proofs.TokenSpellingLemmas.{gap_one, gap_met, Agrees, spaced, sign_agrees, name_agrees, name_slip, text_agrees, letters_agrees}
 
 -- a rule has what a command comes to, and nothing else
-pub record Gives (R : Style → Place → Outcome → Type 0) (f : Style → Place → Outcome) : Type 0 where
+pub record Gives (R : Style → Place → CommandOutcome → Type 0) (f : Style → Place → CommandOutcome) : Type 0 where
   pub met : (s : Style) (p : Place) → R s p (f s p)
-  pub one : (s : Style) (p : Place) (o : Outcome) → R s p o → f s p ≡ o
+  pub one : (s : Style) (p : Place) (o : CommandOutcome) → R s p o → f s p ≡ o
 
-same : (R : Style → Place → Outcome → Type 0) (f g : Style → Place → Outcome) → ((s : Style) (p : Place) → f s p ≡ g s p) → Gives R f → Gives R g
+same : (R : Style → Place → CommandOutcome → Type 0) (f g : Style → Place → CommandOutcome) → ((s : Style) (p : Place) → f s p ≡ g s p) → Gives R f → Gives R g
 same R f g e h = record { met = λ s p. rw (sym (e s p)) (h.met s p); one = λ s p o k. sym (e s p) ∙ h.one s p o k }
 
 -- ---- how rules are made
 
-then_met : {A : Type 0} (R : Place → Read A → Type 0) (rest : A → Rule) (go : A → Style → Place → Outcome) → ((a : A) → Gives (rest a) (go a)) → (s : Style) (p : Place) (x : Read A) → R p x → Then R rest s p (after_read s x (λ a q. go a s q))
+then_met : {A : Type 0} (R : Place → Read A → Type 0) (rest : A → Rule) (go : A → Style → Place → CommandOutcome) → ((a : A) → Gives (rest a) (go a)) → (s : Style) (p : Place) (x : Read A) → R p x → AndThen R rest s p (after_read s x (λ a q. go a s q))
 then_met R rest go g s p (Took a q) k = inl (a, q, k, (g a).met s q)
 then_met R rest go g s p (Slip c q) k = inr (c, q, k, refl)
 
-then_one : {A : Type 0} (R : Place → Read A → Type 0) (r : Place → Read A) (rest : A → Rule) (go : A → Style → Place → Outcome) → Agrees R r → ((a : A) → Gives (rest a) (go a)) → (s : Style) (p : Place) (o : Outcome) → Then R rest s p o → after_read s (r p) (λ a q. go a s q) ≡ o
+then_one : {A : Type 0} (R : Place → Read A → Type 0) (r : Place → Read A) (rest : A → Rule) (go : A → Style → Place → CommandOutcome) → Agrees R r → ((a : A) → Gives (rest a) (go a)) → (s : Style) (p : Place) (o : CommandOutcome) → AndThen R rest s p o → after_read s (r p) (λ a q. go a s q) ≡ o
 then_one {A} R r rest go h g s p o (inl k) = ap (λ (x : Read A). after_read s x (λ a q. go a s q)) (h.one p (Took k.0 k.1) k.2) ∙ (g k.0).one s k.1 o k.3
 then_one {A} R r rest go h g s p o (inr k) = ap (λ (x : Read A). after_read s x (λ a q. go a s q)) (h.one p (Slip k.0 k.1) k.2) ∙ sym k.3
 
-then_gives : {A : Type 0} (R : Place → Read A → Type 0) (r : Place → Read A) (rest : A → Rule) (go : A → Style → Place → Outcome) → Agrees R r → ((a : A) → Gives (rest a) (go a)) → Gives (Then R rest) (λ s p. after_read s (r p) (λ a q. go a s q))
+then_gives : {A : Type 0} (R : Place → Read A → Type 0) (r : Place → Read A) (rest : A → Rule) (go : A → Style → Place → CommandOutcome) → Agrees R r → ((a : A) → Gives (rest a) (go a)) → Gives (AndThen R rest) (λ s p. after_read s (r p) (λ a q. go a s q))
 then_gives R r rest go h g = record { met = λ s p. then_met R rest go g s p (r p) (h.met p); one = then_one R r rest go h g }
 
-opened : (rest : Rule) (go : Style → Place → Outcome) → Gives rest go → Gives (Opened rest) (λ s p. after_read s (opening p) (λ x q. go s q))
-opened rest go g = then_gives (Spaced (SignHere 123 NoOpen)) opening (λ x. rest) (λ x. go) (spaced (SignHere 123 NoOpen) (λ p. brace_in 123 NoOpen p p.line) (sign_agrees 123 NoOpen)) (λ x. g)
+opened : (rest : Rule) (go : Style → Place → CommandOutcome) → Gives rest go → Gives (Opened rest) (λ s p. after_read s (opening p) (λ x q. go s q))
+opened rest go g = then_gives (BehindGap (StyleSignHere 123 NoOpen)) opening (λ x. rest) (λ x. go) (spaced (StyleSignHere 123 NoOpen) (λ p. brace_in 123 NoOpen p p.line) (sign_agrees 123 NoOpen)) (λ x. g)
 
-closed : (rest : Rule) (go : Style → Place → Outcome) → Gives rest go → Gives (Closed rest) (λ s p. after_read s (closing p) (λ x q. go s q))
-closed rest go g = then_gives (Spaced (SignHere 125 NoClose)) closing (λ x. rest) (λ x. go) (spaced (SignHere 125 NoClose) (λ p. brace_in 125 NoClose p p.line) (sign_agrees 125 NoClose)) (λ x. g)
+closed : (rest : Rule) (go : Style → Place → CommandOutcome) → Gives rest go → Gives (Closed rest) (λ s p. after_read s (closing p) (λ x q. go s q))
+closed rest go g = then_gives (BehindGap (StyleSignHere 125 NoClose)) closing (λ x. rest) (λ x. go) (spaced (StyleSignHere 125 NoClose) (λ p. brace_in 125 NoClose p p.line) (sign_agrees 125 NoClose)) (λ x. g)
 
-a_name : (rest : List ℕ → Rule) (go : List ℕ → Style → Place → Outcome) → ((name : List ℕ) → Gives (rest name) (go name)) → Gives (Then (Spaced NameHere) rest) (λ s p. after_read s (name_at p) (λ name q. go name s q))
-a_name rest go g = then_gives (Spaced NameHere) name_at rest go (spaced NameHere (λ p. name_in p p.line) name_agrees) g
+a_name : (rest : List ℕ → Rule) (go : List ℕ → Style → Place → CommandOutcome) → ((name : List ℕ) → Gives (rest name) (go name)) → Gives (AndThen (BehindGap StyleNameHere) rest) (λ s p. after_read s (next_name p) (λ name q. go name s q))
+a_name rest go g = then_gives (BehindGap StyleNameHere) next_name rest go (spaced StyleNameHere (λ p. name_in p p.line) name_agrees) g
 
-where_met : (test : Style → Bool) (wrong : Complaint) (rest : Rule) (go : Style → Place → Outcome) → Gives rest go → (s : Style) (p : Place) (t : Bool) → test s ≡ t → Where test wrong rest s p (cond t (go s p) (outcome (Some wrong) s p))
+where_met : (test : Style → Bool) (wrong : Complaint) (rest : Rule) (go : Style → Place → CommandOutcome) → Gives rest go → (s : Style) (p : Place) (t : Bool) → test s ≡ t → Where test wrong rest s p (cond t (go s p) (outcome (Some wrong) s p))
 where_met test wrong rest go g s p true e = inl (e, g.met s p)
 where_met test wrong rest go g s p false e = inr (e, refl)
 
-where_one : (test : Style → Bool) (wrong : Complaint) (rest : Rule) (go : Style → Place → Outcome) → Gives rest go → (s : Style) (p : Place) (o : Outcome) → Where test wrong rest s p o → cond (test s) (go s p) (outcome (Some wrong) s p) ≡ o
+where_one : (test : Style → Bool) (wrong : Complaint) (rest : Rule) (go : Style → Place → CommandOutcome) → Gives rest go → (s : Style) (p : Place) (o : CommandOutcome) → Where test wrong rest s p o → cond (test s) (go s p) (outcome (Some wrong) s p) ≡ o
 where_one test wrong rest go g s p o (inl k) = ap (λ (t : Bool). cond t (go s p) (outcome (Some wrong) s p)) k.0 ∙ g.one s p o k.1
 where_one test wrong rest go g s p o (inr k) = ap (λ (t : Bool). cond t (go s p) (outcome (Some wrong) s p)) k.0 ∙ sym k.1
 
-where_gives : (test : Style → Bool) (wrong : Complaint) (rest : Rule) (go : Style → Place → Outcome) → Gives rest go → Gives (Where test wrong rest) (λ s p. cond (test s) (go s p) (outcome (Some wrong) s p))
+where_gives : (test : Style → Bool) (wrong : Complaint) (rest : Rule) (go : Style → Place → CommandOutcome) → Gives rest go → Gives (Where test wrong rest) (λ s p. cond (test s) (go s p) (outcome (Some wrong) s p))
 where_gives test wrong rest go g = record { met = λ s p. where_met test wrong rest go g s p (test s) refl; one = where_one test wrong rest go g }
 
-unless_met : (test : Style → Bool) (wrong : Complaint) (rest : Rule) (go : Style → Place → Outcome) → Gives rest go → (s : Style) (p : Place) (t : Bool) → test s ≡ t → Unless test wrong rest s p (cond t (outcome (Some wrong) s p) (go s p))
+unless_met : (test : Style → Bool) (wrong : Complaint) (rest : Rule) (go : Style → Place → CommandOutcome) → Gives rest go → (s : Style) (p : Place) (t : Bool) → test s ≡ t → Unless test wrong rest s p (cond t (outcome (Some wrong) s p) (go s p))
 unless_met test wrong rest go g s p true e = inl (e, refl)
 unless_met test wrong rest go g s p false e = inr (e, g.met s p)
 
-unless_one : (test : Style → Bool) (wrong : Complaint) (rest : Rule) (go : Style → Place → Outcome) → Gives rest go → (s : Style) (p : Place) (o : Outcome) → Unless test wrong rest s p o → cond (test s) (outcome (Some wrong) s p) (go s p) ≡ o
+unless_one : (test : Style → Bool) (wrong : Complaint) (rest : Rule) (go : Style → Place → CommandOutcome) → Gives rest go → (s : Style) (p : Place) (o : CommandOutcome) → Unless test wrong rest s p o → cond (test s) (outcome (Some wrong) s p) (go s p) ≡ o
 unless_one test wrong rest go g s p o (inl k) = ap (λ (t : Bool). cond t (outcome (Some wrong) s p) (go s p)) k.0 ∙ sym k.1
 unless_one test wrong rest go g s p o (inr k) = ap (λ (t : Bool). cond t (outcome (Some wrong) s p) (go s p)) k.0 ∙ g.one s p o k.1
 
-unless_gives : (test : Style → Bool) (wrong : Complaint) (rest : Rule) (go : Style → Place → Outcome) → Gives rest go → Gives (Unless test wrong rest) (λ s p. cond (test s) (outcome (Some wrong) s p) (go s p))
+unless_gives : (test : Style → Bool) (wrong : Complaint) (rest : Rule) (go : Style → Place → CommandOutcome) → Gives rest go → Gives (Unless test wrong rest) (λ s p. cond (test s) (outcome (Some wrong) s p) (go s p))
 unless_gives test wrong rest go g = record { met = λ s p. unless_met test wrong rest go g s p (test s) refl; one = unless_one test wrong rest go g }
 
-new_gives : {A : Type 0} (meaning : Style → Option A) (wrong : Complaint) (rest : Rule) (f : Style → Place → Option A → Outcome) → ((s : Style) (p : Place) (a : A) → f s p (Some a) ≡ outcome (Some wrong) s p) → Gives rest (λ s p. f s p None) → Gives (New meaning wrong rest) (λ s p. f s p (meaning s))
+new_gives : {A : Type 0} (meaning : Style → Option A) (wrong : Complaint) (rest : Rule) (f : Style → Place → Option A → CommandOutcome) → ((s : Style) (p : Place) (a : A) → f s p (Some a) ≡ outcome (Some wrong) s p) → Gives rest (λ s p. f s p None) → Gives (New meaning wrong rest) (λ s p. f s p (meaning s))
 new_gives {A} meaning wrong rest f e g = record { met = λ s p. met s p (meaning s) refl; one = one } where
   met : (s : Style) (p : Place) (m : Option A) → meaning s ≡ m → New meaning wrong rest s p (f s p m)
   met s p None h = inl (h, g.met s p)
   met s p (Some a) h = inr (a, h, e s p a)
 
-  one : (s : Style) (p : Place) (o : Outcome) → New meaning wrong rest s p o → f s p (meaning s) ≡ o
+  one : (s : Style) (p : Place) (o : CommandOutcome) → New meaning wrong rest s p o → f s p (meaning s) ≡ o
   one s p o (inl k) = ap (f s p) k.0 ∙ g.one s p o k.1
   one s p o (inr k) = ap (f s p) k.1 ∙ e s p k.0 ∙ sym k.2
 
-known_gives : {A : Type 0} (meaning : Style → Option A) (wrong : Complaint) (rest : A → Rule) (f : Style → Place → Option A → Outcome) → ((s : Style) (p : Place) → f s p None ≡ outcome (Some wrong) s p) → ((a : A) → Gives (rest a) (λ s p. f s p (Some a))) → Gives (Known meaning wrong rest) (λ s p. f s p (meaning s))
+known_gives : {A : Type 0} (meaning : Style → Option A) (wrong : Complaint) (rest : A → Rule) (f : Style → Place → Option A → CommandOutcome) → ((s : Style) (p : Place) → f s p None ≡ outcome (Some wrong) s p) → ((a : A) → Gives (rest a) (λ s p. f s p (Some a))) → Gives (HasMeaning meaning wrong rest) (λ s p. f s p (meaning s))
 known_gives {A} meaning wrong rest f e g = record { met = λ s p. met s p (meaning s) refl; one = one } where
-  met : (s : Style) (p : Place) (m : Option A) → meaning s ≡ m → Known meaning wrong rest s p (f s p m)
+  met : (s : Style) (p : Place) (m : Option A) → meaning s ≡ m → HasMeaning meaning wrong rest s p (f s p m)
   met s p None h = inr (h, e s p)
   met s p (Some a) h = inl (a, h, (g a).met s p)
 
-  one : (s : Style) (p : Place) (o : Outcome) → Known meaning wrong rest s p o → f s p (meaning s) ≡ o
+  one : (s : Style) (p : Place) (o : CommandOutcome) → HasMeaning meaning wrong rest s p o → f s p (meaning s) ≡ o
   one s p o (inl k) = ap (f s p) k.1 ∙ (g k.0).one s p o k.2
   one s p o (inr k) = ap (f s p) k.0 ∙ e s p ∙ sym k.1
 
@@ -115,18 +115,18 @@ makes_gives change = record { met = λ s p. refl; one = λ s p o k. sym k }
 
 -- ---- lists of names
 
-brace_at : (p q : Place) → Spaced (SignHere 125 NoClose) p (Took tt q) → closing p ≡ Took tt q
-brace_at p q h = (spaced (SignHere 125 NoClose) (λ r. brace_in 125 NoClose r r.line) (sign_agrees 125 NoClose)).one p (Took tt q) h
+brace_at : (p q : Place) → BehindGap (StyleSignHere 125 NoClose) p (Took tt q) → closing p ≡ Took tt q
+brace_at p q h = (spaced (StyleSignHere 125 NoClose) (λ r. brace_in 125 NoClose r r.line) (sign_agrees 125 NoClose)).one p (Took tt q) h
 
-name_at_one : (p : Place) (x : Read (List ℕ)) → Spaced NameHere p x → name_at p ≡ x
-name_at_one p x h = (spaced NameHere (λ r. name_in r r.line) name_agrees).one p x h
+name_at_one : (p : Place) (x : Read (List ℕ)) → BehindGap StyleNameHere p x → next_name p ≡ x
+name_at_one p x h = (spaced StyleNameHere (λ r. name_in r r.line) name_agrees).one p x h
 
-turn_name : (k : Kind) (known : Names) (p : Place) (c d : Complaint) (q : Place) → closing p ≡ Slip d (ink p) → name_at p ≡ Slip c q → list_turn k (listing known p) ≡ Ends (listed (Some c) known q)
+turn_name : (k : Kind) (known : Names) (p : Place) (c d : Complaint) (q : Place) → closing p ≡ Slip d (ink p) → next_name p ≡ Slip c q → list_turn k (listing known p) ≡ Ends (listed (Some c) known q)
 unfolding list_turn
 turn_name k known p c d q e f =
     ap (list_turn_in k known) e ∙ ap (λ (r : Place). name_turn k known (name_in r r.line)) (ink_twice p) ∙ ap (name_turn k known) f
 
-turn_old : (k : Kind) (known : Names) (name : List ℕ) (p q : Place) (old : Callee) → name_at p ≡ Took name q → named known name ≡ Some old → list_turn k (listing known p) ≡ Ends (listed (Some (Defined name)) known q)
+turn_old : (k : Kind) (known : Names) (name : List ℕ) (p q : Place) (old : Callee) → next_name p ≡ Took name q → named known name ≡ Some old → list_turn k (listing known p) ≡ Ends (listed (Some (Defined name)) known q)
 unfolding list_turn
 turn_old k known name p q old e f =
     ap (list_turn_in k known) (name_no_brace (ink p) q (ink p).line name e) ∙ ap (λ (r : Place). name_turn k known (name_in r r.line)) (ink_twice p)
@@ -149,16 +149,16 @@ or_right : (t u : Bool) → (t || u) ≡ false → u ≡ false
 or_right true u h = absurd (cc)
 or_right false u h = h
 
-not_closed : (p : Place) (c : Complaint) (line : List ℕ) → IsMissing goes_on NoName c line → brace_in 125 NoClose p line ≡ Slip (said line) p
+not_closed : (p : Place) (c : Complaint) (line : List ℕ) → IsMissing is_list_byte NoName c line → brace_in 125 NoClose p line ≡ Slip (said line) p
 unfolding said
 not_closed p c [] m = refl
 not_closed p c (b ∷ bs) m = ap (λ (t : Bool). cond {A = Read (Unit {0})} t (Took tt (further p bs)) (Slip NoClose p)) (or_left (b == 125) (begins_name b) m.0)
 
-no_name : (c : Complaint) (line : List ℕ) → IsMissing goes_on NoName c line → IsMissing begins_name NoName c line
+no_name : (c : Complaint) (line : List ℕ) → IsMissing is_list_byte NoName c line → IsMissing begins_name NoName c line
 no_name c [] m = m
 no_name c (b ∷ bs) m = (or_right (b == 125) (begins_name b) m.0, m.1)
 
-turn_missing : (k : Kind) (known : Names) (p q : Place) (c : Complaint) → Gap p q → IsMissing goes_on NoName c q.line → list_turn k (listing known p) ≡ Ends (listed (Some c) known q)
+turn_missing : (k : Kind) (known : Names) (p q : Place) (c : Complaint) → Gap p q → IsMissing is_list_byte NoName c q.line → list_turn k (listing known p) ≡ Ends (listed (Some c) known q)
 turn_missing k known p q c g m =
     let e = gap_one p q g in
     turn_name k known p c (said q.line) q
@@ -186,7 +186,7 @@ or_false : (t u : Bool) → t ≡ false → u ≡ false → (t || u) ≡ false
 or_false true u e f = absurd (cc)
 or_false false u e f = f
 
-both_missing : (c d : Complaint) (line : List ℕ) → IsMissing (λ b. b == 125) NoClose d line → IsMissing begins_name NoName c line → IsMissing goes_on NoName c line
+both_missing : (c d : Complaint) (line : List ℕ) → IsMissing (λ b. b == 125) NoClose d line → IsMissing begins_name NoName c line → IsMissing is_list_byte NoName c line
 both_missing c d [] m n = n
 both_missing c d (b ∷ bs) m n = (or_false (b == 125) (begins_name b) m.0 n.0, n.1)
 
@@ -196,28 +196,28 @@ missing_list k known p i j c d g m h n =
     let m2 : IsMissing (λ b. b == 125) NoClose d j.line = rw (sym same_place) m in
     (listed (Some c) known j, ([], p, refl, tt, inr (inl (c, j, h, both_missing c d j.line m2 n, refl))))
 
-name_less : (p q : Place) (name : List ℕ) → name_at p ≡ Took name q → size q < size p
+name_less : (p q : Place) (name : List ℕ) → next_name p ≡ Took name q → size q < size p
 name_less p q name e = let h : Sized (size p) (Took name q) = rw e at (name_at-size p) in h
 
-named_list : (k : Kind) (known : Names) (p q : Place) (name : List ℕ) (o : Option Callee) → Spaced NameHere p (Took name q) → named known name ≡ o → ((known : Names) → AList k known q) → AList k known p
+named_list : (k : Kind) (known : Names) (p q : Place) (name : List ℕ) (o : Option Callee) → BehindGap StyleNameHere p (Took name q) → named known name ≡ o → ((known : Names) → AList k known q) → AList k known p
 named_list k known p q name (Some old) h e more = (listed (Some (Defined name)) known q, ([], p, refl, tt, inr (inr (name, q, old, h, e, refl))))
 named_list k known p q name None h e more =
     let m = more (with_name k (folded name) known) in
     (m.0, (name ∷ m.1.0, m.1.1, (q, h, m.1.2), (e, m.1.3), m.1.4))
 
-name_list : (k : Kind) (known : Names) (p i : Place) (d : Complaint) (x : Read (List ℕ)) → Gap p i → IsMissing (λ b. b == 125) NoClose d i.line → Spaced NameHere p x → name_at p ≡ x → ((q : Place) → size q < size p → (known : Names) → AList k known q) → AList k known p
+name_list : (k : Kind) (known : Names) (p i : Place) (d : Complaint) (x : Read (List ℕ)) → Gap p i → IsMissing (λ b. b == 125) NoClose d i.line → BehindGap StyleNameHere p x → next_name p ≡ x → ((q : Place) → size q < size p → (known : Names) → AList k known q) → AList k known p
 name_list k known p i d (Slip c q) g m h e more = missing_list k known p i h.0 c d g m h.1 h.2.1
 name_list k known p i d (Took name q) g m h e more = named_list k known p q name (named known name) h refl (more q (name_less p q name e))
 
-brace_list : (k : Kind) (known : Names) (p : Place) (x : Read (Unit {0})) → Spaced (SignHere 125 NoClose) p x → ((q : Place) → size q < size p → (known : Names) → AList k known q) → AList k known p
+brace_list : (k : Kind) (known : Names) (p : Place) (x : Read (Unit {0})) → BehindGap (StyleSignHere 125 NoClose) p x → ((q : Place) → size q < size p → (known : Names) → AList k known q) → AList k known p
 brace_list k known p (Took none q) h more = (listed None known q, ([], p, refl, tt, inl (q, h, refl)))
 brace_list k known p (Slip d q) h more =
-    name_list k known p h.0 d (name_at p) h.1 h.2.1 ((spaced NameHere (λ r. name_in r r.line) name_agrees).met p) refl more
+    name_list k known p h.0 d (next_name p) h.1 h.2.1 ((spaced StyleNameHere (λ r. name_in r r.line) name_agrees).met p) refl more
 
 list_within : (n : ℕ) (k : Kind) (known : Names) (p : Place) → size p < n → AList k known p
 list_within zero k known p h = absurd (omega arith)
 list_within (suc n) k known p h =
-    brace_list k known p (closing p) ((spaced (SignHere 125 NoClose) (λ r. brace_in 125 NoClose r r.line) (sign_agrees 125 NoClose)).met p) (λ q l known. list_within n k known q (omega arith))
+    brace_list k known p (closing p) ((spaced (StyleSignHere 125 NoClose) (λ r. brace_in 125 NoClose r r.line) (sign_agrees 125 NoClose)).met p) (λ q l known. list_within n k known q (omega arith))
 
 in_met : (k : Kind) (known : Names) (p : Place) → InList k known p (list_end k (listing known p))
 in_met k known p =
@@ -229,39 +229,39 @@ Inner kind rest style from o =
     ((known : Names) × (to : Place) × InList kind style.names from (listed None known to) × rest (record style { names = known }) to o)
     ⊎ ((complaint : Complaint) × (known : Names) × (to : Place) × InList kind style.names from (listed (Some complaint) known to) × (o ≡ outcome (Some complaint) (record style { names = known }) to))
 
-inner_met : (k : Kind) (rest : Rule) (go : Style → Place → Outcome) → Gives rest go → (s : Style) (p : Place) (c : Option Complaint) (known : Names) (q : Place) → InList k s.names p (listed c known q) → Inner k rest s p (after_listed c (record s { names = known }) q go)
+inner_met : (k : Kind) (rest : Rule) (go : Style → Place → CommandOutcome) → Gives rest go → (s : Style) (p : Place) (c : Option Complaint) (known : Names) (q : Place) → InList k s.names p (listed c known q) → Inner k rest s p (after_listed c (record s { names = known }) q go)
 inner_met k rest go g s p None known q h = inl (known, q, h, g.met (record s { names = known }) q)
 inner_met k rest go g s p (Some c) known q h = inr (c, known, q, h, refl)
 
-inner_one : (k : Kind) (rest : Rule) (go : Style → Place → Outcome) → Gives rest go → (s : Style) (p : Place) (o : Outcome) → Inner k rest s p o → after_list s (list_end k (listing s.names p)) go ≡ o
+inner_one : (k : Kind) (rest : Rule) (go : Style → Place → CommandOutcome) → Gives rest go → (s : Style) (p : Place) (o : CommandOutcome) → Inner k rest s p o → after_list s (list_end k (listing s.names p)) go ≡ o
 inner_one k rest go g s p o (inl h) = ap (λ (l : Listed). after_list s l go) (in_one k s.names p (listed None h.0 h.1) h.2) ∙ g.one (record s { names = h.0 }) h.1 o h.3
 inner_one k rest go g s p o (inr h) = ap (λ (l : Listed). after_list s l go) (in_one k s.names p (listed (Some h.0) h.1 h.2) h.3) ∙ sym h.4
 
-inner_gives : (k : Kind) (rest : Rule) (go : Style → Place → Outcome) → Gives rest go → Gives (Inner k rest) (λ s p. after_list s (list_end k (listing s.names p)) go)
+inner_gives : (k : Kind) (rest : Rule) (go : Style → Place → CommandOutcome) → Gives rest go → Gives (Inner k rest) (λ s p. after_list s (list_end k (listing s.names p)) go)
 inner_gives k rest go g = record {
   met = λ s p. let l = list_end k (listing s.names p) in inner_met k rest go g s p l.complaint l.listing.names l.listing.place (in_met k s.names p);
   one = inner_one k rest go g;
 }
 
-list_opened : (k : Kind) (s : Style) (go : Style → Place → Outcome) (r : Read (Unit {0})) → after_read s r (λ x q. after_list s (list_end k (listing s.names q)) go) ≡ after_list s (list_read k s.names r) go
+list_opened : (k : Kind) (s : Style) (go : Style → Place → CommandOutcome) (r : Read (Unit {0})) → after_read s r (λ x q. after_list s (list_end k (listing s.names q)) go) ≡ after_list s (list_read k s.names r) go
 list_opened k s go (Took x q) = refl
 list_opened k s go (Slip c q) = refl
 
-lists_gives : (k : Kind) (rest : Rule) (go : Style → Place → Outcome) → Gives rest go → Gives (Lists k rest) (λ s p. after_list s (list_at k s.names p) go)
+lists_gives : (k : Kind) (rest : Rule) (go : Style → Place → CommandOutcome) → Gives rest go → Gives (Lists k rest) (λ s p. after_list s (list_at k s.names p) go)
 lists_gives k rest go g =
     same (Lists k rest) (λ s p. after_read s (opening p) (λ x q. after_list s (list_end k (listing s.names q)) go)) (λ s p. after_list s (list_at k s.names p) go)
     (λ s p. list_opened k s go (opening p)) (opened (Inner k rest) (λ s p. after_list s (list_end k (listing s.names p)) go) (inner_gives k rest go g))
 
 -- ---- bodies
 
-body_broken : (s : Style) (name : List ℕ) (c : Complaint) (q : Place) (items : List Item) (e : End) → IsBroken c q items e → function_ended s name e ≡ outcome (Some c) (record s { items = items }) q
+body_broken : (s : Style) (name : List ℕ) (c : Complaint) (q : Place) (items : List Item) (e : BodyEnd) → IsBroken c q items e → function_ended s name e ≡ outcome (Some c) (record s { items = items }) q
 body_broken s name c q items (Whole i) h = absurd h
 body_broken s name c q items (Broken d i) h =
     ap (λ (x : Complaint). outcome (Some x) (record s { items = i.items }) i.place) h.0
     ∙ ap (λ (x : Place). outcome (Some c) (record s { items = i.items }) x) h.1
     ∙ ap (λ (x : List Item). outcome (Some c) (record s { items = x }) q) h.2
 
-body_one : (name : List ℕ) (s : Style) (p : Place) (o : Outcome) → HasBody name s p o → function_ended s (folded name) (body_end s.names (inside_at s p)) ≡ o
+body_one : (name : List ℕ) (s : Style) (p : Place) (o : CommandOutcome) → HasBody name s p o → function_ended s (folded name) (body_end s.names (inside_at s p)) ≡ o
 body_one name s p o (inl h) = ap (function_ended s (folded name)) (spelled s.names h.0 p h.1 (made_in s) (parts-spelled h.0 p h.1 h.2)) ∙ sym h.3
 body_one name s p o (inr h) =
     body_broken s (folded name) (complaint_in h.0) h.1 (made_till s.names h.0 (made_in s)).items (body_end s.names (inside_at s p)) (broken s.names h.0 p h.1 (made_in s) (break-spelled h.0 p h.1 h.2)) ∙ sym h.3
@@ -270,7 +270,7 @@ body_met : (name : List ℕ) (s : Style) (p : Place) → HasBody name s p (funct
 body_met name s p = at (divided p) where
   at : Division p → HasBody name s p (function_ended s (folded name) (body_end s.names (inside_at s p)))
   at (inl h) =
-      let o = outcome None (with_body name (made_by s.names h.0 (made_in s)) s) h.1 in
+      let o = outcome None (with_made_function name (made_by s.names h.0 (made_in s)) s) h.1 in
       let k : HasBody name s p o = inl (h.0, h.1, spelled-parts h.0 p h.1 h.2, refl) in rw (body_one name s p o k) k
   at (inr h) =
       let o = outcome (Some (complaint_in h.0)) (record s { items = (made_till s.names h.0 (made_in s)).items }) h.1 in
@@ -281,32 +281,32 @@ body_gives name = record { met = body_met name; one = body_one name }
 
 -- ---- commands
 
-entry_gives : Gives (Behind command.Entry) entry
-unfolding entry
+entry_gives : Gives (Behind command.Entry) entry_command
+unfolding entry_command
 entry_gives =
     unless_gives (λ s. s.has_entry) (Another command.Entry) _ entry_lists
     (lists_gives kind.Field _ _ (lists_gives kind.EntryInteger _ _ (lists_gives kind.EntryString _ _ (makes_gives (λ s. with_item item.Entry (record s { has_entry = true }))))))
 
-function_gives : Gives (Behind command.Function) function
-unfolding function
+function_gives : Gives (Behind command.Function) function_command
+unfolding function_command
 function_gives =
     opened _ _ (a_name _ _ (λ name.
     new_gives (λ s. named s.names name) (Defined name) _ (λ s p o. function_of s name p o) (λ s p a. refl) (closed _ _ (opened _ _ (body_gives name)))))
 
-read_gives : Gives (Behind command.Read) read
-unfolding read
+read_gives : Gives (Behind command.Read) read_command
+unfolding read_command
 read_gives =
     unless_gives has_read (Another command.Read) _ _
     (where_gives (λ s. s.has_entry) BeforeEntry _ _ (makes_gives (λ s. with_item item.Read (record s { before_read = Some (length s.bodies) }))))
 
-run_gives : (c : Command) (make : Callee → Item) → Gives (Executes c make) (run c make)
-unfolding run
+run_gives : (c : Command) (make : Callee → Item) → Gives (Executes c make) (run_command c make)
+unfolding run_command
 run_gives c make =
     where_gives has_read (BeforeRead c) _ _ (opened _ _ (a_name _ _ (λ name.
     known_gives (λ s. function_in (named s.names name)) (Unknown name) _ (λ s p o. run_of make s name p o) (λ s p. refl) (λ callee. closed _ _ (makes_gives (with_item (make callee)))))))
 
-sort_gives : Gives (Behind command.Sort) sort
-unfolding sort
+sort_gives : Gives (Behind command.Sort) sort_command
+unfolding sort_command
 sort_gives = where_gives has_read (BeforeRead command.Sort) _ _ (makes_gives (with_item item.Sort))
 
 declare_gives : (k : Kind) (i : Item) → Gives (Lists k (Makes (with_item i))) (declare k i)
@@ -318,7 +318,7 @@ unfolding macro_command
 macro_gives =
     unless_gives has_read AfterRead _ _ (opened _ _ (a_name _ _ (λ name.
     new_gives (λ s. macro_lower s.macros (folded name)) (Defined name) _ (λ s p o. macro_of s name p o) (λ s p a. refl) (closed _ _ (opened _ _
-    (then_gives (Spaced TextHere) quoted_at _ _ (spaced TextHere (λ p. quoted_in p p.line) text_agrees) (λ text.
+    (then_gives (BehindGap TextHere) quoted_at _ _ (spaced TextHere (λ p. quoted_in p p.line) text_agrees) (λ text.
     closed _ _ (makes_gives (λ s. with_item item.Macro (record s { macros = s.macros ++ (folded name, text) ∷ [] }))))))))))
 
 command_gives : (c : Command) → Gives (Behind c) (command_at c)
@@ -335,7 +335,7 @@ command_gives command.Macro = macro_gives
 
 -- ---- the words of commands
 
-word_named : (c : Command) → command_named (folded (word_of c)) ≡ Some c
+word_named : (c : Command) → command_named (folded (command_word_of c)) ≡ Some c
 unfolding command_named
 word_named command.Entry = refl
 word_named command.Function = refl
@@ -351,9 +351,9 @@ word_named command.Macro = refl
 -- what a name is if it is the word of a command
 abbrev IsItsWord : List ℕ → Option Command → Type 0
 IsItsWord name None = Unit {0}
-IsItsWord name (Some c) = name ≡ folded (word_of c)
+IsItsWord name (Some c) = name ≡ folded (command_word_of c)
 
-its_word : (name lit : List ℕ) (c : Command) (rest : Option Command) → lit ≡ folded (word_of c) → IsItsWord name rest → IsItsWord name (cond (bytes_eq name lit) (Some c) rest)
+its_word : (name lit : List ℕ) (c : Command) (rest : Option Command) → lit ≡ folded (command_word_of c) → IsItsWord name rest → IsItsWord name (cond (bytes_eq name lit) (Some c) rest)
 its_word name lit c rest e h = at (bytes_eq name lit) refl where
   at : (t : Bool) → bytes_eq name lit ≡ t → IsItsWord name (cond t (Some c) rest)
   at true f = (bytes_eq-Decides name lit).0 f ∙ e
@@ -382,7 +382,7 @@ no_command : (letters : List ℕ) (o : Option Command) → IsItsWord (folded let
 no_command letters None h k = refl
 no_command letters (Some c) h k = absurd (k c h)
 
-word_one : (letters : List ℕ) (s : Style) (p : Place) (o : Outcome) → Named letters s p o → word_outcome s p letters (command_named (folded letters)) ≡ o
+word_one : (letters : List ℕ) (s : Style) (p : Place) (o : CommandOutcome) → Named letters s p o → word_outcome s p letters (command_named (folded letters)) ≡ o
 word_one letters s p o (inl h) = ap (word_outcome s p letters) (is_named letters h.0 h.1) ∙ (command_gives h.0).one s p o h.2
 word_one letters s p o (inr h) = ap (word_outcome s p letters) (no_command letters (command_named (folded letters)) (named_word (folded letters)) h.0) ∙ sym h.1
 
@@ -428,9 +428,9 @@ skips_met p = at (full_lines p.after) where
     split (inl k) = with_end (place_at (p.number + length h.0 + 1) [] k.0) (h.0, h.1, inl (k.0, k.1, refl))
     split (inr k) = with_end (place_at (p.number + length h.0) [] []) (h.0, h.1, inr (k, refl))
 
-goes_one : (c : Option Complaint) (s : Style) (p : Place) (next : State) → GoesOn c s p next → resumed c s p ≡ next
+goes_one : (c : Option Complaint) (s : Style) (p : Place) (next : StyleState) → GoesOn c s p next → resumed c s p ≡ next
 goes_one None s p next h = sym h
-goes_one (Some c) s p next h = ap (state (with_item (item.Message c p.number) s)) (skips_one p h.0 h.1) ∙ sym h.2
+goes_one (Some c) s p next h = ap (style_state (with_item (item.Message c p.number) s)) (skips_one p h.0 h.1) ∙ sym h.2
 
 goes_met : (c : Option Complaint) (s : Style) (p : Place) → GoesOn c s p (resumed c s p)
 goes_met None s p = refl
@@ -441,19 +441,19 @@ goes_met (Some c) s p = (skipped p, skips_met p, refl)
 not_end : (p q : Place) → Gap p q → (q.line ≡ [] → ⊥) → IsEnd p → ⊥
 not_end p q g h e = h (ap (λ (r : Place). r.line) (sym (gap_one p q g)) ∙ e)
 
-command_one : (s : Style) (p here : Place) (o : Outcome) → Gap p here → CommandHere s here o → command_outcome s (ink p) ≡ o
+command_one : (s : Style) (p here : Place) (o : CommandOutcome) → Gap p here → CommandHere s here o → command_outcome s (ink p) ≡ o
 command_one s p here o g c = ap (command_outcome s) (gap_one p here g) ∙ outcome_gives.one s here o c
 
-is_read_as : (os : List Outcome) (from : State) (end : Style) → IsStyle os from end → style_from from ≡ end
+is_read_as : (os : List CommandOutcome) (from : StyleState) (end : Style) → IsStyle os from end → style_from from ≡ end
 is_read_as [] from end h = style_from-ends from from.style (end_turn from (ap (λ (r : Place). r.line) (gap_one from.place h.0 h.1) ∙ h.2)) ∙ h.3
 is_read_as (o ∷ os) from end h =
     style_from-again from (resumed_after o) (more_turn from o (not_end from.place h.0 h.2 h.3) (command_one from.style from.place h.0 o h.2 h.4))
     ∙ ap style_from (goes_one o.complaint o.style o.place h.1 h.5) ∙ is_read_as os h.1 end h.6
 
-abbrev AStyle : State → Type 0
-AStyle from = (os : List Outcome) × (end : Style) × IsStyle os from end
+abbrev AStyle : StyleState → Type 0
+AStyle from = (os : List CommandOutcome) × (end : Style) × IsStyle os from end
 
-style_at : (from : State) (line : List ℕ) → (ink from.place).line ≡ line → ((t : State) → size t.place < size from.place → AStyle t) → AStyle from
+style_at : (from : StyleState) (line : List ℕ) → (ink from.place).line ≡ line → ((t : StyleState) → size t.place < size from.place → AStyle t) → AStyle from
 style_at from [] e more = ([], from.style, (ink from.place, gap_met from.place, e, refl))
 style_at from (b ∷ bs) e more =
     let o = command_outcome from.style (ink from.place) in
@@ -462,28 +462,28 @@ style_at from (b ∷ bs) e more =
     let g = more t (item_turn-less from t (more_turn from o begun refl)) in
     (o ∷ g.0, g.1, (ink from.place, t, gap_met from.place, begun, outcome_gives.met from.style (ink from.place), goes_met o.complaint o.style o.place, g.2))
 
-style_within : (n : ℕ) (from : State) → size from.place < n → AStyle from
+style_within : (n : ℕ) (from : StyleState) → size from.place < n → AStyle from
 style_within zero from h = absurd (omega arith)
 style_within (suc n) from h = style_at from (ink from.place).line refl (λ t l. style_within n t (omega arith))
 
 pub style-read : ReadingLaw
 unfolding style_of
 style-read file text =
-    let from = state (start file predefined) (beginning text) in
+    let from = style_state (unread_style file predefined) (beginning text) in
     let a = style_within (suc (size from.place)) from (omega arith) in
     (a.0, rw (is_read_as a.0 from a.1 a.2) a.2)
 
 one_place : (p q r : Place) → Gap p q → Gap p r → q ≡ r
 one_place p q r g h = sym (gap_one p q g) ∙ gap_one p r h
 
-one_list : (from : State) (first second : List Outcome) (a b : Style) → IsStyle first from a → IsStyle second from b → first ≡ second
+one_list : (from : StyleState) (first second : List CommandOutcome) (a b : Style) → IsStyle first from a → IsStyle second from b → first ≡ second
 one_list from [] [] a b h k = refl
 one_list from [] (o ∷ os) a b h k = absurd (k.3 (ap (λ (r : Place). r.line) (one_place from.place k.0 h.0 k.2 h.1) ∙ h.2))
 one_list from (o ∷ os) [] a b h k = absurd (h.3 (ap (λ (r : Place). r.line) (one_place from.place h.0 k.0 h.2 k.1) ∙ k.2))
 one_list from (o ∷ os) (x ∷ xs) a b h k =
     let same_outcome : o ≡ x = sym (command_one from.style from.place h.0 o h.2 h.4) ∙ command_one from.style from.place k.0 x k.2 k.4 in
     let same_next : h.1 ≡ k.1 = sym (goes_one o.complaint o.style o.place h.1 h.5) ∙ ap resumed_after same_outcome ∙ goes_one x.complaint x.style x.place k.1 k.5 in
-    ap (λ (y : Outcome). y ∷ os) same_outcome ∙ ap (λ (ys : List Outcome). x ∷ ys) (one_list k.1 os xs a b (rw (sym same_next) h.6) k.6)
+    ap (λ (y : CommandOutcome). y ∷ os) same_outcome ∙ ap (λ (ys : List CommandOutcome). x ∷ ys) (one_list k.1 os xs a b (rw (sym same_next) h.6) k.6)
 
 pub one-reading : OneReadingLaw
 one-reading from first second a b h k = (one_list from first second a b h k, sym (is_read_as first from a h) ∙ is_read_as second from b k)

@@ -5,16 +5,16 @@ use Rattle.std.specs.Prelude.{is_some}
 use Rattle.std.specs.List.{fold}
 use Rattle.std.proofs.lemmas.List.{length-append}
 use Rattle.std.proofs.lemmas.List.Sums.{fold-append}
-use Rattle.btx_text.specs.Keys.{folded}
-use Rattle.btx_bst.specs.Complaints.{Complaint}
-use Rattle.btx_bst.specs.Items.{Item}
-use Rattle.btx_bst.specs.Items as item
-use Rattle.btx_bst.specs.Style.{Style}
-use Rattle.btx_bst.specs.BodyText.{End, Whole, Broken, body_end}
-use Rattle.btx_bst.specs.Commands.{function_ended, inside_at}
-use Rattle.btx_bst.specs.Counts.{functions_behind, functions_in, is_read, before_read_in, CountLaw, BeforeReadLaw}
-use Rattle.btx_bst.specs.Predefined.{predefined}
-use Rattle.btx_bst.specs.StyleText.{style_of, start}
+use Rattle.btx_text.specs.language.Keys.{folded}
+use Rattle.btx_bst.specs.language.Complaints.{Complaint}
+use Rattle.btx_bst.specs.language.Items.{Item}
+use Rattle.btx_bst.specs.language.Items as item
+use Rattle.btx_bst.specs.language.Style.{Style}
+use Rattle.btx_bst.specs.language.BodyText.{BodyEnd, Whole, Broken, body_end}
+use Rattle.btx_bst.specs.language.Commands.{function_ended, inside_at}
+use Rattle.btx_bst.specs.laws.Counts.{functions_behind, functions_in, is_read, before_read_in, CountLaw, BeforeReadLaw}
+use Rattle.btx_bst.specs.language.Predefined.{predefined}
+use Rattle.btx_bst.specs.language.StyleText.{style_of, unread_style}
 use Rattle.btx_bst.proofs.BodyItemLemmas.{OnEnd, body_items}
 use Rattle.btx_bst.proofs.KeepLemmas.{Keeps, kept-style}
 
@@ -71,7 +71,7 @@ counted_read n b is e h = record {
   first = ap (λ (m : ℕ). Some m) h.all ∙ sym (before_first is (sym h.first ∙ e));
 }
 
-counted_ended : (s : Style) (name : List ℕ) (r : End) → OnEnd (Counted (length s.bodies) s.before_read) r → IsCounted (function_ended s name r).style
+counted_ended : (s : Style) (name : List ℕ) (r : BodyEnd) → OnEnd (Counted (length s.bodies) s.before_read) r → IsCounted (function_ended s name r).style
 counted_ended s name (Broken c i) h = h
 counted_ended s name (Whole i) h = record {
   all = let e : length (i.bodies ++ i.tokens ∷ []) ≡ suc (length i.bodies) = omega (arith, length-append i.bodies (i.tokens ∷ [])) in e ∙ sym (functions_push i.items (item.Function (length i.bodies)));
@@ -98,7 +98,7 @@ counted_keeps = record {
   on_macro = λ s name text r e h. counted_push (length s.bodies) s.before_read s.items item.Macro (λ m. refl) refl h;
 }
 
-counted_start : (file : List ℕ) → IsCounted (start file predefined)
+counted_start : (file : List ℕ) → IsCounted (unread_style file predefined)
 unfolding before_read_in
 counted_start file = record { all = refl; first = refl }
 

@@ -4,12 +4,12 @@ use Rattle.std.specs.Prelude.{slice_index_or}
 use Rattle.std.proofs.lemmas.Option.{slice_get_past}
 use Rattle.std.proofs.lemmas.Bool.{ltb-true, ltb-false}
 use Rattle.std.proofs.lemmas.List.{get_or_past}
-use Rattle.btx_bst.specs.Bodies.{Body}
-use Rattle.btx_bst.specs.Style.{Style}
-use Rattle.btx_bst.specs.Direct.{is_direct_at, is_call_type, is_user_literal, IsDirectBody, IsDirect}
+use Rattle.btx_bst.specs.language.Bodies.{FunctionBody}
+use Rattle.btx_bst.specs.language.Style.{Style}
+use Rattle.btx_bst.specs.language.Direct.{is_direct_at, is_call_type, is_user_literal, IsDirectBody, IsDirect}
 
 -- past its end a body is direct
-direct-past : (body : Body) (i : ℕ) → length body ≤ i → is_direct_at body i ≡ true
+direct-past : (body : FunctionBody) (i : ℕ) → length body ≤ i → is_direct_at body i ≡ true
 unfolding is_direct_at is_call_type is_user_literal
 direct-past body i h = rw (slice_get_past body i h) refl
 
@@ -20,7 +20,7 @@ cases k n = at (ltb k n) refl where
   at false e = inr (ltb-false k n e)
 
 -- a body that is direct at each of its places is direct
-pub direct-body : (body : Body) (n : ℕ) → length body ≤ n → ((k : ℕ) → k < n → is_direct_at body k ≡ true) → IsDirectBody body
+pub direct-body : (body : FunctionBody) (n : ℕ) → length body ≤ n → ((k : ℕ) → k < n → is_direct_at body k ≡ true) → IsDirectBody body
 direct-body body n h all k = at (cases k n) where
   at : (k < n) ⊎ (n ≤ k) → is_direct_at body k ≡ true
   at (inl l) = all k l

@@ -4,26 +4,26 @@ use Rattle.std.specs.Prelude.{slice_get}
 use Rattle.std.specs.Option.{option_or}
 use Rattle.std.specs.Str.{bytes_eq}
 use Rattle.std.proofs.lemmas.Option.{slice_get_within, same_Some}
-use Rattle.btx_text.specs.Keys.{folded}
+use Rattle.btx_text.specs.language.Keys.{folded}
 use Rattle.btx_bst.specs.declared.callee.Callee.{Callee}
 use Rattle.btx_bst.specs.declared.callee.Callee.TheVariants.{User, Field, EntryInteger, EntryString, GlobalInteger, GlobalString}
 use Rattle.btx_bst.specs.declared.callee.Callee.TheVariants as callee
 use Rattle.btx_bst.specs.declared.callee.Kind.{Kind}
 use Rattle.btx_bst.specs.declared.callee.Kind.TheVariants as kind
-use Rattle.btx_bst.specs.Places.{Place, size}
-use Rattle.btx_bst.specs.Complaints.{Complaint}
-use Rattle.btx_bst.specs.Reads.{Read, Took, Slip}
-use Rattle.btx_bst.specs.Items.{Item}
-use Rattle.btx_bst.specs.Items as item
-use Rattle.btx_bst.specs.Names.{Names, named, named_lower, with_name, with_function, padded}
-use Rattle.btx_bst.specs.Style.{Style}
-use Rattle.btx_bst.specs.Turns.{Turn}
-use Rattle.btx_bst.specs.Lists.{opening, closing, name_at, Listing, listing, Listed, with_new, name_turn, list_turn_in, list_turn, list_end, list_read, unlisted}
-use Rattle.btx_bst.specs.BodyText.{End, Whole, Broken, body_end}
-use Rattle.btx_bst.specs.Commands.{function_in, function_ended, inside_at}
-use Rattle.btx_bst.specs.Predefined.{predefined}
-use Rattle.btx_bst.specs.StyleText.{start}
-use Rattle.btx_bst.specs.References.{executed_by, ExecutedLaw}
+use Rattle.btx_bst.specs.language.Places.{Place, size}
+use Rattle.btx_bst.specs.language.Complaints.{Complaint}
+use Rattle.btx_bst.specs.language.Reads.{Read, Took, Slip}
+use Rattle.btx_bst.specs.language.Items.{Item}
+use Rattle.btx_bst.specs.language.Items as item
+use Rattle.btx_bst.specs.language.Names.{Names, named, named_lower, with_name, with_function, padded}
+use Rattle.btx_bst.specs.language.Style.{Style}
+use Rattle.btx_bst.specs.language.Turns.{Turn}
+use Rattle.btx_bst.specs.language.Lists.{opening, closing, next_name, Listing, listing, Listed, with_new, name_turn, list_turn_in, list_turn, list_end, list_read, unlisted}
+use Rattle.btx_bst.specs.language.BodyText.{BodyEnd, Whole, Broken, body_end}
+use Rattle.btx_bst.specs.language.Commands.{function_in, function_ended, inside_at}
+use Rattle.btx_bst.specs.language.Predefined.{predefined}
+use Rattle.btx_bst.specs.language.StyleText.{unread_style}
+use Rattle.btx_bst.specs.laws.References.{function_executed, ExecutedLaw}
 use Rattle.btx_bst.proofs.TurnLemmas.{OnTurn, turns-keep}
 use Rattle.btx_bst.proofs.TableLemmas.{IsFurther}
 use Rattle.btx_bst.proofs.FurtherLemmas.{further-function, further-field, further-entry_integer, further-entry_string, further-global_integer, further-global_string, named-pad, padded-length}
@@ -85,7 +85,7 @@ functions_read is k a (Took name p) h = functions_new is k a name p (named a nam
 
 functions_turn : (is : List Item) (k : Kind) (a : Names) (r : Read (Unit {0})) → HaveFunctions is a → FunctionsTurn is (list_turn_in k a r)
 functions_turn is k a (Took x p) h = h
-functions_turn is k a (Slip c p) h = functions_read is k a (name_at p) h
+functions_turn is k a (Slip c p) h = functions_read is k a (next_name p) h
 
 functions_end : (is : List Item) (k : Kind) (s : Listing) → HaveFunctions is s.names → HaveFunctions is (list_end k s).listing.names
 unfolding list_end list_turn
@@ -101,14 +101,14 @@ functions_list is k a (Took x p) h = functions_end is k (listing a p) h
 
 -- each function that is executed stands before
 abbrev StandBefore : List Item → Type 0
-StandBefore is = (x : Item) (number k : ℕ) → slice_get is k ≡ Some x → executed_by x ≡ Some (User number) → (j : ℕ) × (j < k) × (slice_get is j ≡ Some (item.Function number))
+StandBefore is = (x : Item) (number k : ℕ) → slice_get is k ≡ Some x → function_executed x ≡ Some (User number) → (j : ℕ) × (j < k) × (slice_get is j ≡ Some (item.Function number))
 
-before_push : (is : List Item) (x : Item) → ((number : ℕ) → executed_by x ≡ Some (User number) → There (item.Function number) is) → StandBefore is → StandBefore (is ++ x ∷ [])
+before_push : (is : List Item) (x : Item) → ((number : ℕ) → function_executed x ≡ Some (User number) → There (item.Function number) is) → StandBefore is → StandBefore (is ++ x ∷ [])
 before_push is x need h y number k e f = at (push_cases is x k y e) where
   at : (slice_get is k ≡ Some y) ⊎ ((k ≡ length is) × (x ≡ y)) → (j : ℕ) × (j < k) × (slice_get (is ++ x ∷ []) j ≡ Some (item.Function number))
   at (inl a) = let g = h y number k a f in (g.0, g.1, push_left is x g.0 (item.Function number) g.2)
   at (inr a) =
-      let g = need number (ap executed_by a.1 ∙ f) in
+      let g = need number (ap function_executed a.1 ∙ f) in
       let l = slice_get_within is g.0 (item.Function number) g.1 in
       (g.0, omega (arith, a.0, l), push_left is x g.0 (item.Function number) g.1)
 
@@ -122,7 +122,7 @@ record Defined (s : Style) : Type 0 where
   functions : HaveFunctions s.items s.names
   before : StandBefore s.items
 
-defined_plain : (x : Item) (s t : Style) → FineStyle t → t.names ≡ s.names → t.items ≡ s.items ++ x ∷ [] → ((number : ℕ) → executed_by x ≡ Some (User number) → There (item.Function number) s.items) → Defined s → Defined t
+defined_plain : (x : Item) (s t : Style) → FineStyle t → t.names ≡ s.names → t.items ≡ s.items ++ x ∷ [] → ((number : ℕ) → function_executed x ≡ Some (User number) → There (item.Function number) s.items) → Defined s → Defined t
 defined_plain x s t f e g need d = record { fine = f; functions = rw (e, g) (functions_more s.items x s.names d.functions); before = rw g (before_push s.items x need d.before) }
 
 -- what a body keeps
@@ -132,7 +132,7 @@ InBody a is = HaveFunctions is a × StandBefore is
 body_message : (a : Names) (c : Complaint) (line : ℕ) (is : List Item) → InBody a is → InBody a (is ++ item.Message c line ∷ [])
 body_message a c line is h = (functions_more is (item.Message c line) a h.0, before_message c line is h.1)
 
-defined_ended : (s : Style) (name : List ℕ) (r : End) → named_lower s.names name ≡ None → FineStyle s → FineEnd s.names (length s.bodies) r → FineStyle (function_ended s name r).style → OnEnd (InBody s.names) r → Defined (function_ended s name r).style
+defined_ended : (s : Style) (name : List ℕ) (r : BodyEnd) → named_lower s.names name ≡ None → FineStyle s → FineEnd s.names (length s.bodies) r → FineStyle (function_ended s name r).style → OnEnd (InBody s.names) r → Defined (function_ended s name r).style
 defined_ended s name (Broken c i) none h f g d = record { fine = g; functions = d.0; before = d.1 }
 defined_ended s name (Whole i) none h f g d =
     let n = length i.bodies in
@@ -175,12 +175,12 @@ defined_keeps = record {
 }
 
 -- before a style no name names a function of it
-no_function : (file name : List ℕ) (n : ℕ) → named_lower (start file predefined).names name ≡ Some (User n) → ⊥
+no_function : (file name : List ℕ) (n : ℕ) → named_lower (unread_style file predefined).names name ≡ Some (User n) → ⊥
 no_function file name n e =
-    let l : n < length (start file predefined).bodies = (refers_within (start file predefined) (fine_start file)).names name (User n) e in
+    let l : n < length (unread_style file predefined).bodies = (refers_within (unread_style file predefined) (fine_start file)).names name (User n) e in
     absurd (omega arith)
 
-defined_start : (file : List ℕ) → Defined (start file predefined)
+defined_start : (file : List ℕ) → Defined (unread_style file predefined)
 defined_start file = record { fine = fine_start file; functions = λ name n e. absurd (no_function file name n e); before = λ x n k e f. absurd (cc) }
 
 pub executed-law : ExecutedLaw

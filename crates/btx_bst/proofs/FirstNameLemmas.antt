@@ -1,21 +1,21 @@
 -- The names before a style keep their numbers.
 use Rattle.std.proofs.Common.{◌≡◌, ℕ, zero, suc, List, [], ◌∷◌, ◌++◌, Option, None, Some}
 use Rattle.std.specs.Prelude.{slice_get, codes}
-use Rattle.btx_text.specs.Keys.{folded}
+use Rattle.btx_text.specs.language.Keys.{folded}
 use Rattle.btx_bst.specs.declared.callee.Callee.{Callee}
 use Rattle.btx_bst.specs.declared.callee.Kind.{Kind}
 use Rattle.btx_bst.specs.declared.callee.Kind.TheVariants as kind
-use Rattle.btx_bst.specs.Places.{Place, size}
-use Rattle.btx_bst.specs.Reads.{Read, Took, Slip}
-use Rattle.btx_bst.specs.Names.{Names, named, with_name}
-use Rattle.btx_bst.specs.Style.{Style}
-use Rattle.btx_bst.specs.Turns.{Turn}
-use Rattle.btx_bst.specs.Lists.{opening, closing, name_at, Listing, listing, Listed, with_new, name_turn, list_turn_in, list_turn, list_end, list_read, unlisted}
-use Rattle.btx_bst.specs.BodyText.{End, Whole, Broken, body_end}
-use Rattle.btx_bst.specs.Commands.{function_ended, inside_at}
-use Rattle.btx_bst.specs.Predefined.{predefined}
-use Rattle.btx_bst.specs.StyleText.{style_of}
-use Rattle.btx_bst.specs.FirstNames.{FirstNamesLaw}
+use Rattle.btx_bst.specs.language.Places.{Place, size}
+use Rattle.btx_bst.specs.language.Reads.{Read, Took, Slip}
+use Rattle.btx_bst.specs.language.Names.{Names, named, with_name}
+use Rattle.btx_bst.specs.language.Style.{Style}
+use Rattle.btx_bst.specs.language.Turns.{Turn}
+use Rattle.btx_bst.specs.language.Lists.{opening, closing, next_name, Listing, listing, Listed, with_new, name_turn, list_turn_in, list_turn, list_end, list_read, unlisted}
+use Rattle.btx_bst.specs.language.BodyText.{BodyEnd, Whole, Broken, body_end}
+use Rattle.btx_bst.specs.language.Commands.{function_ended, inside_at}
+use Rattle.btx_bst.specs.language.Predefined.{predefined}
+use Rattle.btx_bst.specs.language.StyleText.{style_of}
+use Rattle.btx_bst.specs.laws.FirstNames.{FirstNamesLaw}
 use Rattle.btx_bst.proofs.TurnLemmas.{OnTurn, turns-keep}
 use Rattle.btx_bst.proofs.KeepLemmas.{Keeps, kept-style}
 use Rattle.btx_bst.proofs.MeaningLemmas.{clear-style}
@@ -52,7 +52,7 @@ first_read k a (Took name p) h = first_new k a name p (named a name) h
 
 first_turn : (k : Kind) (a : Names) (r : Read (Unit {0})) → StandFirst a → FirstTurn (list_turn_in k a r)
 first_turn k a (Took x p) h = h
-first_turn k a (Slip c p) h = first_read k a (name_at p) h
+first_turn k a (Slip c p) h = first_read k a (next_name p) h
 
 first_end : (k : Kind) (s : Listing) → StandFirst s.names → StandFirst (list_end k s).listing.names
 unfolding list_end list_turn
@@ -67,7 +67,7 @@ first_list k a (Took x p) h = first_end k (listing a p) h
 abbrev IsFirstIn : Style → Type 0
 IsFirstIn s = StandFirst s.names
 
-first_ended : (s : Style) (name : List ℕ) (r : End) → IsFirstIn s → IsFirstIn (function_ended s name r).style
+first_ended : (s : Style) (name : List ℕ) (r : BodyEnd) → IsFirstIn s → IsFirstIn (function_ended s name r).style
 first_ended s name (Broken c i) h = h
 first_ended s name (Whole i) h = record { parent = h.parent; sort_key = h.sort_key; entry_limit = h.entry_limit; global_limit = h.global_limit }
 

@@ -1,9 +1,9 @@
 -- Lemmas on the fronts of a line.
 use Rattle.std.proofs.Common.{◌≡◌, ℕ, suc, ◌+◌, ◌<◌, ◌≤◌, Bool, cond, List, [], length, drop, get_or, refl, ◌==◌}
 use Rattle.std.proofs.lemmas.List.{take_rest, drop_more, drop_all, drop-drop}
-use Rattle.btx_text.specs.Class.{is_white}
-use Rattle.btx_bst.specs.Places.{behind_white}
-use Rattle.btx_bst.specs.Fronts.{len_till}
+use Rattle.btx_text.specs.language.Class.{is_white}
+use Rattle.btx_bst.specs.language.Places.{behind_white}
+use Rattle.btx_bst.specs.language.Fronts.{len_till}
 
 pub len_till_at : (test : ℕ → Bool) (s : List ℕ) (i : ℕ) → i < length s → len_till test (drop i s) ≡ cond (test (get_or s i 0)) 0 (suc (len_till test (drop (i + 1) s)))
 unfolding len_till

@@ -4,7 +4,7 @@ use Rattle.std.specs.Prelude.{nat_lt, Some, None, pos, negsuc, min}
 use Rattle.std.specs.List.{fold}
 use Rattle.std.proofs.lemmas.List.{drop_more, drop_all}
 use borrow.Author.Tests.{ltb-true, ltb-false}
-use Rattle.btx_bst.specs.Words.{with_digit, value_of, signed}
+use Rattle.btx_bst.specs.language.Words.{with_digit, digits_value, signed}
 
 -- the greatest value that is kept
 abbrev pub cap : ℕ
@@ -46,8 +46,8 @@ value-next digits i v w h e =
 pub value-last : (digits : List ℕ) (i v : ℕ) → length digits ≤ i → v ≤ cap → capped_from v (drop i digits) ≡ v
 value-last digits i v h k = rw (drop_all i digits h) (omega arith)
 
-pub value-whole : (digits : List ℕ) → capped_from 0 digits ≡ min (value_of digits) cap
-unfolding value_of
+pub value-whole : (digits : List ℕ) → capped_from 0 digits ≡ min (digits_value digits) cap
+unfolding digits_value
 value-whole digits = refl
 
 pub ruleset value_steps = (value-next, value-last, value-whole)

@@ -1,7 +1,7 @@
 -- An element of a list with one more.
 use Rattle.std.proofs.Common.{◌≡◌, ℕ, zero, suc, ◌⊎◌, inl, inr, List, [], ◌∷◌, ◌++◌, length, refl, arith, Some}
 use Rattle.std.specs.Prelude.{slice_get}
-use Rattle.btx_bst.specs.Items.{Item}
+use Rattle.btx_bst.specs.language.Items.{Item}
 
 pub push_cases : {A : Type 0} (xs : List A) (y : A) (k : ℕ) (m : A) → slice_get (xs ++ y ∷ []) k ≡ Some m → (slice_get xs k ≡ Some m) ⊎ ((k ≡ length xs) × (y ≡ m))
 push_cases [] y zero m e = inr (refl, cc)

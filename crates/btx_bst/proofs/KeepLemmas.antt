@@ -1,24 +1,24 @@
 -- What each command keeps, the style of a text has.
 use Rattle.std.proofs.Common.{◌≡◌, ℕ, suc, Bool, true, false, cond, List, [], ◌∷◌, ◌++◌, length, refl, Option, Some, None}
-use Rattle.btx_text.specs.Keys.{folded}
+use Rattle.btx_text.specs.language.Keys.{folded}
 use Rattle.btx_bst.specs.declared.callee.Callee.{Callee}
 use Rattle.btx_bst.specs.declared.callee.Kind.{Kind}
 use Rattle.btx_bst.specs.declared.callee.Kind.TheVariants as kind
 use Rattle.btx_bst.specs.declared.command.Command.{Command}
 use Rattle.btx_bst.specs.declared.command.Command.TheVariants as command
-use Rattle.btx_bst.specs.Places.{Place, ink, size, beginning}
-use Rattle.btx_bst.specs.Complaints.{Complaint, Another, BeforeEntry, BeforeRead, AfterRead}
-use Rattle.btx_bst.specs.Reads.{Read, Took, Slip}
-use Rattle.btx_bst.specs.Items.{Item}
-use Rattle.btx_bst.specs.Items as item
-use Rattle.btx_bst.specs.Names.{named, macro_lower}
-use Rattle.btx_bst.specs.Style.{Style}
-use Rattle.btx_bst.specs.BodyText.{body_end}
-use Rattle.btx_bst.specs.Lists.{opening, closing, name_at, quoted_at, letters_at, list_at}
-use Rattle.btx_bst.specs.Outcomes.{Outcome, outcome, after_read, with_item}
-use Rattle.btx_bst.specs.Commands.{after_list, after_listed, entry, entry_lists, function, function_of, function_ended, inside_at, has_read, read, run, run_of, run_name, sort, declare, macro_command, macro_of, macro_name, function_in, command_at, command_named}
-use Rattle.btx_bst.specs.StyleText.{State, state, start, resumed, word_outcome, command_outcome, item_in, item_turn, style_in, style_from, style_of}
-use Rattle.btx_bst.specs.Predefined.{predefined}
+use Rattle.btx_bst.specs.language.Places.{Place, ink, size, beginning}
+use Rattle.btx_bst.specs.language.Complaints.{Complaint, Another, BeforeEntry, BeforeRead, AfterRead}
+use Rattle.btx_bst.specs.language.Reads.{Read, Took, Slip}
+use Rattle.btx_bst.specs.language.Items.{Item}
+use Rattle.btx_bst.specs.language.Items as item
+use Rattle.btx_bst.specs.language.Names.{named, macro_lower}
+use Rattle.btx_bst.specs.language.Style.{Style}
+use Rattle.btx_bst.specs.language.BodyText.{body_end}
+use Rattle.btx_bst.specs.language.Lists.{opening, closing, next_name, quoted_at, letters_at, list_at}
+use Rattle.btx_bst.specs.language.Outcomes.{CommandOutcome, outcome, after_read, with_item}
+use Rattle.btx_bst.specs.language.Commands.{after_list, after_listed, entry_command, entry_lists, function_command, function_of, function_ended, inside_at, has_read, read_command, run_command, run_of, run_name, sort_command, declare, macro_command, macro_of, macro_name, function_in, command_at, command_named}
+use Rattle.btx_bst.specs.language.StyleText.{StyleState, style_state, unread_style, resumed, word_outcome, command_outcome, item_in, item_turn, style_so_far, style_from, style_of}
+use Rattle.btx_bst.specs.language.Predefined.{predefined}
 use Rattle.btx_bst.proofs.TurnLemmas.{OnTurn, turns-keep}
 
 -- kept by a further item
@@ -44,23 +44,23 @@ pub record Keeps (P : Style → Type 0) : Type 0 where
   pub on_strings : OnItem P item.Strings
   pub on_macro : (s : Style) (name text : List ℕ) → has_read s ≡ false → macro_lower s.macros (folded name) ≡ None → P s → P (with_item item.Macro (record s { macros = s.macros ++ (folded name, text) ∷ [] }))
 
-after : {A : Type 0} (P : Style → Type 0) (s : Style) (r : Read A) (go : A → Place → Outcome) → P s → ((x : A) (p : Place) → P (go x p).style) → P (after_read s r go).style
+after : {A : Type 0} (P : Style → Type 0) (s : Style) (r : Read A) (go : A → Place → CommandOutcome) → P s → ((x : A) (p : Place) → P (go x p).style) → P (after_read s r go).style
 after P s (Took x p) go h k = k x p
 after P s (Slip c p) go h k = h
 
-listed_after : (P : Style → Type 0) (c : Option Complaint) (s : Style) (p : Place) (go : Style → Place → Outcome) → P s → P (go s p).style → P (after_listed c s p go).style
+listed_after : (P : Style → Type 0) (c : Option Complaint) (s : Style) (p : Place) (go : Style → Place → CommandOutcome) → P s → P (go s p).style → P (after_listed c s p go).style
 listed_after P None s p go h k = k
 listed_after P (Some c) s p go h k = h
 
-list_after : (P : Style → Type 0) → Keeps P → (s : Style) (kind : Kind) (p : Place) (go : Style → Place → Outcome) → P s → ((t : Style) (q : Place) → t.has_entry ≡ s.has_entry → P t → P (go t q).style) → P (after_list s (list_at kind s.names p) go).style
+list_after : (P : Style → Type 0) → Keeps P → (s : Style) (kind : Kind) (p : Place) (go : Style → Place → CommandOutcome) → P s → ((t : Style) (q : Place) → t.has_entry ≡ s.has_entry → P t → P (go t q).style) → P (after_list s (list_at kind s.names p) go).style
 list_after P keeps s kind p go h k =
     let l = list_at kind s.names p in
     let t : Style = record s { names = l.listing.names } in
     let f : P t = keeps.on_names s kind p h in
     listed_after P l.complaint t l.listing.place go f (k t l.listing.place refl f)
 
-kept_entry : (P : Style → Type 0) → Keeps P → (s : Style) (p : Place) → P s → P (entry s p).style
-unfolding entry
+kept_entry : (P : Style → Type 0) → Keeps P → (s : Style) (p : Place) → P s → P (entry_command s p).style
+unfolding entry_command
 kept_entry P keeps s p h = at s.has_entry refl where
   at : (t : Bool) → s.has_entry ≡ t → P (cond t (outcome (Some (Another command.Entry)) s p) (entry_lists s p)).style
   at true e = h
@@ -76,14 +76,14 @@ kept_function_of P keeps s name p None e h =
     after P s (closing p) _ h (λ x q.
     after P s (opening q) _ h (λ x r. keeps.on_function s name r e h))
 
-kept_function : (P : Style → Type 0) → Keeps P → (s : Style) (p : Place) → P s → P (function s p).style
-unfolding function
+kept_function : (P : Style → Type 0) → Keeps P → (s : Style) (p : Place) → P s → P (function_command s p).style
+unfolding function_command
 kept_function P keeps s p h =
     after P s (opening p) _ h (λ x q.
-    after P s (name_at q) _ h (λ name r. kept_function_of P keeps s name r (named s.names name) refl h))
+    after P s (next_name q) _ h (λ name r. kept_function_of P keeps s name r (named s.names name) refl h))
 
-kept_read : (P : Style → Type 0) → Keeps P → (s : Style) (p : Place) → P s → P (read s p).style
-unfolding read
+kept_read : (P : Style → Type 0) → Keeps P → (s : Style) (p : Place) → P s → P (read_command s p).style
+unfolding read_command
 kept_read P keeps s p h = at (has_read s) s.has_entry refl refl where
   at : (t u : Bool) → has_read s ≡ t → s.has_entry ≡ u → P (cond t (outcome (Some (Another command.Read)) s p) (cond u (outcome None (with_item item.Read (record s { before_read = Some (length s.bodies) })) p) (outcome (Some BeforeEntry) s p))).style
   at true u e f = h
@@ -94,17 +94,17 @@ kept_run_of : (P : Style → Type 0) (make : Callee → Item) → OnRun P make �
 kept_run_of P make each s name p None r e h = h
 kept_run_of P make each s name p (Some c) r e h = after P s (closing p) _ h (λ x q. each s name c r e h)
 
-kept_run : (P : Style → Type 0) (c : Command) (make : Callee → Item) → OnRun P make → (s : Style) (p : Place) → P s → P (run c make s p).style
-unfolding run
+kept_run : (P : Style → Type 0) (c : Command) (make : Callee → Item) → OnRun P make → (s : Style) (p : Place) → P s → P (run_command c make s p).style
+unfolding run_command
 kept_run P c make each s p h = at (has_read s) refl where
   at : (t : Bool) → has_read s ≡ t → P (cond t (run_name make s p) (outcome (Some (BeforeRead c)) s p)).style
   at true e =
       after P s (opening p) _ h (λ x q.
-      after P s (name_at q) _ h (λ name r. kept_run_of P make each s name r (function_in (named s.names name)) e refl h))
+      after P s (next_name q) _ h (λ name r. kept_run_of P make each s name r (function_in (named s.names name)) e refl h))
   at false e = h
 
-kept_sort : (P : Style → Type 0) → Keeps P → (s : Style) (p : Place) → P s → P (sort s p).style
-unfolding sort
+kept_sort : (P : Style → Type 0) → Keeps P → (s : Style) (p : Place) → P s → P (sort_command s p).style
+unfolding sort_command
 kept_sort P keeps s p h = at (has_read s) refl where
   at : (t : Bool) → has_read s ≡ t → P (cond t (outcome None (with_item item.Sort s) p) (outcome (Some (BeforeRead command.Sort)) s p)).style
   at true e = keeps.on_sort s e h
@@ -129,7 +129,7 @@ kept_macro P keeps s p h = at (has_read s) refl where
   at true e = h
   at false e =
       after P s (opening p) _ h (λ x q.
-      after P s (name_at q) _ h (λ name r. kept_macro_of P keeps s name r (macro_lower s.macros (folded name)) e refl h))
+      after P s (next_name q) _ h (λ name r. kept_macro_of P keeps s name r (macro_lower s.macros (folded name)) e refl h))
 
 kept_command : (P : Style → Type 0) → Keeps P → (c : Command) (s : Style) (p : Place) → P s → P (command_at c s p).style
 kept_command P keeps command.Entry s p h = kept_entry P keeps s p h
@@ -154,13 +154,13 @@ kept_resumed P keeps (Some c) s p h = keeps.on_message c p.number s h
 kept_outcome : (P : Style → Type 0) → Keeps P → (s : Style) (p : Place) → P s → P (command_outcome s p).style
 kept_outcome P keeps s p h = after P s (letters_at p) _ h (λ word q. kept_word P keeps s q word (command_named (folded word)) h)
 
-kept_item : (P : Style → Type 0) → Keeps P → (s : Style) (p : Place) (line : List ℕ) → P s → OnTurn (λ (t : State). P t.style) P (item_in s p line)
+kept_item : (P : Style → Type 0) → Keeps P → (s : Style) (p : Place) (line : List ℕ) → P s → OnTurn (λ (t : StyleState). P t.style) P (item_in s p line)
 kept_item P keeps s p [] h = h
 kept_item P keeps s p (b ∷ bs) h =
     let o = command_outcome s p in kept_resumed P keeps o.complaint o.style o.place (kept_outcome P keeps s p h)
 
-pub kept-style : (P : Style → Type 0) → Keeps P → (file text : List ℕ) → P (start file predefined) → P (style_of file text)
+pub kept-style : (P : Style → Type 0) → Keeps P → (file text : List ℕ) → P (unread_style file predefined) → P (style_of file text)
 unfolding style_of style_from item_turn
 kept-style P keeps file text h =
-    let s : State = state (start file predefined) (beginning text) in
-    turns-keep (λ (t : State). P t.style) P item_turn style_in (λ t k. kept_item P keeps t.style (ink t.place) (ink t.place).line k) (λ t k. k) (suc (size s.place)) s h
+    let s : StyleState = style_state (unread_style file predefined) (beginning text) in
+    turns-keep (λ (t : StyleState). P t.style) P item_turn style_so_far (λ t k. kept_item P keeps t.style (ink t.place) (ink t.place).line k) (λ t k. k) (suc (size s.place)) s h

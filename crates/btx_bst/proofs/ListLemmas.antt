@@ -1,18 +1,18 @@
 -- Lists of names, name by name.
 use Rattle.std.proofs.Common.{◌≡◌, ℕ, zero, suc, ◌+◌, ◌<◌, ◌≤◌, Bool, true, false, cond, List, [], ◌∷◌, length, take, drop, refl, ◌==◌, arith, Option, Some, None}
 use Rattle.std.proofs.lemmas.List.{length-drop, length-append}
-use Rattle.btx_text.specs.Keys.{folded}
+use Rattle.btx_text.specs.language.Keys.{folded}
 use Rattle.btx_bst.specs.declared.callee.Callee.{Callee}
 use Rattle.btx_bst.specs.declared.callee.Kind.{Kind}
 use Rattle.btx_bst.specs.declared.callee.Kind.TheVariants as kind
-use Rattle.btx_bst.specs.Weights.{names_weight}
-use Rattle.btx_bst.specs.Places.{Place, ink, size, further}
-use Rattle.btx_bst.specs.Fronts.{name_len, quote_len}
-use Rattle.btx_bst.specs.Complaints.{Complaint, NoQuote}
-use Rattle.btx_bst.specs.Reads.{Read, Took, Slip}
-use Rattle.btx_bst.specs.Names.{Names, named, with_name}
-use Rattle.btx_bst.specs.Turns.{Turn, Again, Ends, follow}
-use Rattle.btx_bst.specs.Lists.{brace_in, opening, closing, front_of, name_in, name_at, text_of, quoted_in, quoted_at, Listing, listing, Listed, list_read, list_at, with_new, name_turn, list_turn_in, list_turn, list_end, unlisted}
+use Rattle.btx_bst.specs.refinement.Weights.{names_weight}
+use Rattle.btx_bst.specs.language.Places.{Place, ink, size, further}
+use Rattle.btx_bst.specs.language.Fronts.{name_len, quote_len}
+use Rattle.btx_bst.specs.language.Complaints.{Complaint, NoQuote}
+use Rattle.btx_bst.specs.language.Reads.{Read, Took, Slip}
+use Rattle.btx_bst.specs.language.Names.{Names, named, with_name}
+use Rattle.btx_bst.specs.language.Turns.{Turn, Again, Ends, after_turn}
+use Rattle.btx_bst.specs.language.Lists.{brace_in, opening, closing, front_of, name_in, next_name, quoted_text, quoted_in, quoted_at, Listing, listing, Listed, list_read, list_at, with_new, name_turn, list_turn_in, list_turn, list_end, unlisted}
 use Rattle.btx_bst.proofs.TurnLemmas.{OnTurn, turns-next, turns-keep}
 use Rattle.btx_bst.proofs.SizeLemmas.{ink-size}
 
@@ -49,10 +49,10 @@ name_in-size : (p : Place) (line : List ℕ) (n : ℕ) → p.line ≡ line → s
 name_in-size p [] n e h = h
 name_in-size p (b ∷ bs) n e h = front_of-size _ p (b ∷ bs) (name_len (b ∷ bs)) n e (omega arith) h
 
-pub name_at-size : (p : Place) → Sized (size p) (name_at p)
+pub name_at-size : (p : Place) → Sized (size p) (next_name p)
 name_at-size p = name_in-size (ink p) (ink p).line (size p) refl (ink-size p)
 
-text_of-size : (p : Place) (t s : List ℕ) (n : ℕ) → size p ≤ n → length s ≤ length p.line → Sized n (text_of p t s)
+text_of-size : (p : Place) (t s : List ℕ) (n : ℕ) → size p ≤ n → length s ≤ length p.line → Sized n (quoted_text p t s)
 unfolding size
 text_of-size p t [] n h k = h
 text_of-size p t (q ∷ rest) n h k = omega arith
@@ -63,7 +63,7 @@ quoted_in-size p (b ∷ bs) n e h = at (b == 34) where
   shorter : length p.line ≡ suc (length bs)
   shorter = rw e refl
 
-  at : (t : Bool) → Sized n (cond {A = Read (List ℕ)} t (text_of p (take (quote_len bs) bs) (drop (quote_len bs) bs)) (Slip NoQuote p))
+  at : (t : Bool) → Sized n (cond {A = Read (List ℕ)} t (quoted_text p (take (quote_len bs) bs) (drop (quote_len bs) bs)) (Slip NoQuote p))
   at true = text_of-size p (take (quote_len bs) bs) (drop (quote_len bs) bs) n h (omega (arith, shorter, length-drop (quote_len bs) bs))
   at false = h
 
@@ -90,7 +90,7 @@ unfolding list_turn
 list_turn-size kind s = at (closing s.place) (closing-size s.place) where
   at : (r : Read (Unit {0})) → Sized (size s.place) r → ListTurn (size s.place) (list_turn_in kind s.names r)
   at (Took x p) h = omega arith
-  at (Slip c p) h = less (size p) (size s.place) _ h (name_turn-size kind s.names (size p) (name_at p) (name_at-size p))
+  at (Slip c p) h = less (size p) (size s.place) _ h (name_turn-size kind s.names (size p) (next_name p) (name_at-size p))
 
 abbrev left_in : Listing → ℕ
 left_in s = size s.place
@@ -101,7 +101,7 @@ falls kind s = at (list_turn kind s) (list_turn-size kind s) where
   at (Again u) h = h
   at (Ends r) h = tt
 
-pub list_end-next : (kind : Kind) (s : Listing) → list_end kind s ≡ follow (list_end kind) (list_turn kind s)
+pub list_end-next : (kind : Kind) (s : Listing) → list_end kind s ≡ after_turn (list_end kind) (list_turn kind s)
 unfolding list_end
 list_end-next kind s = turns-next (list_turn kind) unlisted left_in (falls kind) s
 
@@ -153,7 +153,7 @@ unfolding list_turn
 list_turn-weight kind s n k = at (closing s.place) (closing-size s.place) where
   at : (r : Read (Unit {0})) → Sized (size s.place) r → TurnWeighs n s.names.functions (list_turn_in kind s.names r)
   at (Took x p) h = (omega arith, refl)
-  at (Slip c p) h = name_turn-weight kind s.names n (size p) (name_at p) (name_at-size p) (omega arith)
+  at (Slip c p) h = name_turn-weight kind s.names n (size p) (next_name p) (name_at-size p) (omega arith)
 
 list_end-weight : (kind : Kind) (s : Listing) → Weighs (size s.place + names_weight s.names) s.names.functions (list_end kind s).listing
 unfolding list_end

@@ -5,19 +5,19 @@ use Rattle.std.specs.Option.{option_or}
 use Rattle.std.specs.Str.{bytes_eq}
 use Rattle.std.proofs.lemmas.Slice.Eq.{bytes_eq-Decides}
 use Rattle.std.proofs.lemmas.Option.{slice_get_within}
-use Rattle.btx_text.specs.Keys.{folded}
-use Rattle.btx_bst.specs.Complaints.{Complaint}
-use Rattle.btx_bst.specs.Items.{Item}
-use Rattle.btx_bst.specs.Items as item
-use Rattle.btx_bst.specs.Names.{Macros, macro_lower}
-use Rattle.btx_bst.specs.Style.{Style}
-use Rattle.btx_bst.specs.BodyText.{End, Whole, Broken, body_end}
-use Rattle.btx_bst.specs.Outcomes.{with_item}
-use Rattle.btx_bst.specs.Commands.{function_ended, inside_at, has_read}
-use Rattle.btx_bst.specs.Predefined.{predefined}
-use Rattle.btx_bst.specs.StyleText.{style_of, start}
-use Rattle.btx_bst.specs.Order.{MacroLaw}
-use Rattle.btx_bst.specs.Macros.{MacroTextsLaw, OneMacroLaw}
+use Rattle.btx_text.specs.language.Keys.{folded}
+use Rattle.btx_bst.specs.language.Complaints.{Complaint}
+use Rattle.btx_bst.specs.language.Items.{Item}
+use Rattle.btx_bst.specs.language.Items as item
+use Rattle.btx_bst.specs.language.Names.{Macros, macro_lower}
+use Rattle.btx_bst.specs.language.Style.{Style}
+use Rattle.btx_bst.specs.language.BodyText.{BodyEnd, Whole, Broken, body_end}
+use Rattle.btx_bst.specs.language.Outcomes.{with_item}
+use Rattle.btx_bst.specs.language.Commands.{function_ended, inside_at, has_read}
+use Rattle.btx_bst.specs.language.Predefined.{predefined}
+use Rattle.btx_bst.specs.language.StyleText.{style_of, unread_style}
+use Rattle.btx_bst.specs.laws.Order.{MacroLaw}
+use Rattle.btx_bst.specs.laws.Macros.{MacroTextsLaw, OneMacroLaw}
 use Rattle.btx_bst.proofs.ItemLemmas.{push_cases}
 use Rattle.btx_bst.proofs.BodyItemLemmas.{OnEnd, body_items}
 use Rattle.btx_bst.proofs.KeepLemmas.{Keeps, kept-style}
@@ -106,7 +106,7 @@ InPlace s = Behind (has_read s) s.items × Meant s.macros
 place_push : (x : Item) (s : Style) → (x ≡ item.Read → ⊥) → (x ≡ item.Macro → has_read s ≡ false) → InPlace s → InPlace (with_item x s)
 place_push x s no_read no_later h = (behind_push (has_read s) s.items x no_read no_later h.0, h.1)
 
-place_ended : (s : Style) (name : List ℕ) (r : End) → OnEnd (Behind (has_read s)) r → InPlace s → InPlace (function_ended s name r).style
+place_ended : (s : Style) (name : List ℕ) (r : BodyEnd) → OnEnd (Behind (has_read s)) r → InPlace s → InPlace (function_ended s name r).style
 place_ended s name (Broken c i) g h = (g, h.1)
 place_ended s name (Whole i) g h = (behind_push (has_read s) i.items (item.Function (length i.bodies)) (λ k. absurd (cc)) (λ k. absurd (cc)) g, h.1)
 
@@ -129,7 +129,7 @@ place_keeps = record {
   on_macro = λ s name text r e h. (behind_push (has_read s) s.items item.Macro (λ k. absurd (cc)) (λ k. r) h.0, meant_push s.macros (folded name) text e h.1);
 }
 
-place_start : (file : List ℕ) → InPlace (start file predefined)
+place_start : (file : List ℕ) → InPlace (unread_style file predefined)
 place_start file = (
   record { read_out = λ k e. absurd (cc); before = λ j k e f. absurd (cc) },
   record { texts = λ k name text e. absurd (cc); one = λ j k name a b e f. absurd (cc) },

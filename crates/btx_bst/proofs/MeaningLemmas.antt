@@ -5,7 +5,7 @@ use Rattle.std.specs.Option.{option_or}
 use Rattle.std.specs.Str.{bytes_eq}
 use Rattle.std.proofs.lemmas.Slice.Eq.{bytes_eq-Decides}
 use Rattle.std.proofs.lemmas.Option.{slice_get-get_or, same_Some}
-use Rattle.btx_text.specs.Keys.{folded}
+use Rattle.btx_text.specs.language.Keys.{folded}
 use Rattle.btx_bst.specs.declared.built_in.BuiltIn.{BuiltIn}
 use Rattle.btx_bst.specs.declared.built_in.BuiltIn.TheVariants.{Equals, Greater, Less, Plus, Minus, Concatenate, Assign, AddPeriod, CallType, ChangeCase, CharacterToInteger, Cite, Duplicate, Empty, FormatName, If, IntegerToCharacter, IntegerToString, Missing, NewLine, NumNames, Pop, Preamble, Purify, Quote, Skip, Stack, Substring, Swap, TextLength, TextPrefix, Top, Warning, While, Width, Write}
 use Rattle.btx_bst.specs.declared.built_in.BuiltIn.TheVariants as built_in
@@ -14,18 +14,18 @@ use Rattle.btx_bst.specs.declared.callee.Callee.TheVariants.{User, Field, EntryI
 use Rattle.btx_bst.specs.declared.callee.Callee.TheVariants as callee
 use Rattle.btx_bst.specs.declared.callee.Kind.{Kind}
 use Rattle.btx_bst.specs.declared.callee.Kind.TheVariants as kind
-use Rattle.btx_bst.specs.Places.{Place, size}
-use Rattle.btx_bst.specs.Reads.{Read, Took, Slip}
-use Rattle.btx_bst.specs.BuiltIns.{built_ins, built_in_of, word_of}
-use Rattle.btx_bst.specs.Names.{Names, named, named_lower, name_of, with_name, with_function, padded}
-use Rattle.btx_bst.specs.Style.{Style}
-use Rattle.btx_bst.specs.Turns.{Turn}
-use Rattle.btx_bst.specs.Lists.{opening, closing, name_at, Listing, listing, Listed, with_new, name_turn, list_turn_in, list_turn, list_end, list_read, unlisted}
-use Rattle.btx_bst.specs.BodyText.{End, Whole, Broken, body_end}
-use Rattle.btx_bst.specs.Commands.{function_ended, inside_at}
-use Rattle.btx_bst.specs.Predefined.{predefined}
-use Rattle.btx_bst.specs.StyleText.{style_of}
-use Rattle.btx_bst.specs.Meanings.{HasName, MeaningsLaw, OneMeaningLaw}
+use Rattle.btx_bst.specs.language.Places.{Place, size}
+use Rattle.btx_bst.specs.language.Reads.{Read, Took, Slip}
+use Rattle.btx_bst.specs.language.BuiltIns.{built_ins, built_in_of, built_in_name}
+use Rattle.btx_bst.specs.language.Names.{Names, named, named_lower, name_of, with_name, with_function, padded}
+use Rattle.btx_bst.specs.language.Style.{Style}
+use Rattle.btx_bst.specs.language.Turns.{Turn}
+use Rattle.btx_bst.specs.language.Lists.{opening, closing, next_name, Listing, listing, Listed, with_new, name_turn, list_turn_in, list_turn, list_end, list_read, unlisted}
+use Rattle.btx_bst.specs.language.BodyText.{BodyEnd, Whole, Broken, body_end}
+use Rattle.btx_bst.specs.language.Commands.{function_ended, inside_at}
+use Rattle.btx_bst.specs.language.Predefined.{predefined}
+use Rattle.btx_bst.specs.language.StyleText.{style_of}
+use Rattle.btx_bst.specs.laws.Meanings.{HasName, MeaningsLaw, OneMeaningLaw}
 use Rattle.btx_bst.proofs.TurnLemmas.{OnTurn, turns-keep}
 use Rattle.btx_bst.proofs.TableLemmas.{IsFurther}
 use Rattle.btx_bst.proofs.FurtherLemmas.{further-function, further-field, further-entry_integer, further-entry_string, further-global_integer, further-global_string, named-pad, padded-length}
@@ -140,7 +140,7 @@ told_read k a (Took name p) t = told_new k a name p (named a name) refl t
 
 told_turn : (k : Kind) (a : Names) (r : Read (Unit {0})) → AllTold a → ToldTurn (list_turn_in k a r)
 told_turn k a (Took x p) t = t
-told_turn k a (Slip c p) t = told_read k a (name_at p) t
+told_turn k a (Slip c p) t = told_read k a (next_name p) t
 
 told_end : (k : Kind) (s : Listing) → AllTold s.names → AllTold (list_end k s).listing.names
 unfolding list_end list_turn
@@ -157,7 +157,7 @@ told_list k a (Took x p) t = told_end k (listing a p) t
 abbrev pub Clear : Style → Type 0
 Clear s = FineStyle s × AllTold s.names
 
-clear_ended : (s : Style) (name : List ℕ) (r : End) → named_lower s.names name ≡ None → Clear s → FineEnd s.names (length s.bodies) r → AllTold (function_ended s name r).style.names
+clear_ended : (s : Style) (name : List ℕ) (r : BodyEnd) → named_lower s.names name ≡ None → Clear s → FineEnd s.names (length s.bodies) r → AllTold (function_ended s name r).style.names
 clear_ended s name (Broken c i) none h f = h.1
 clear_ended s name (Whole i) none h f =
     let l = h.0.no_later in
@@ -206,7 +206,7 @@ clear-style file text = kept-style Clear clear_keeps file text (fine_start file,
 
 -- ---- the name of anything
 
-built_in_word : (b : BuiltIn) → built_in_of (word_of b) ≡ Some b
+built_in_word : (b : BuiltIn) → built_in_of (built_in_name b) ≡ Some b
 unfolding built_in_of built_ins
 built_in_word Equals = refl
 built_in_word Greater = refl
@@ -246,7 +246,7 @@ built_in_word While = refl
 built_in_word Width = refl
 built_in_word Write = refl
 
-word_named : (a : Names) (b : BuiltIn) → named_lower a (word_of b) ≡ Some (callee.BuiltIn b)
+word_named : (a : Names) (b : BuiltIn) → named_lower a (built_in_name b) ≡ Some (callee.BuiltIn b)
 unfolding named_lower
 word_named a b = rw (built_in_word b) refl
 

@@ -1,5 +1,5 @@
 -- What is read one after another is the next, and then the rest.
-use Rattle.btx_bst.specs.Nexts.{ListNextLaw, BodyNextLaw, StyleNextLaw}
+use Rattle.btx_bst.specs.laws.Nexts.{ListNextLaw, BodyNextLaw, StyleNextLaw}
 use Rattle.btx_bst.proofs.ListLemmas.{list_end-next}
 use Rattle.btx_bst.proofs.BodyTurnLemmas.{body_end-next}
 use Rattle.btx_bst.proofs.StyleLemmas.{style_from-next}

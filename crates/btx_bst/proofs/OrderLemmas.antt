@@ -2,17 +2,17 @@
 use Rattle.std.proofs.Common.{◌≡◌, ℕ, ◌<◌, ◌⊎◌, inl, inr, Bool, true, false, List, [], ◌∷◌, ◌++◌, length, refl, sym, ap, ◌∙◌, arith, None, Some}
 use Rattle.std.specs.Prelude.{slice_get}
 use Rattle.std.proofs.lemmas.Option.{slice_get_within}
-use Rattle.btx_text.specs.Keys.{folded}
-use Rattle.btx_bst.specs.Complaints.{Complaint}
-use Rattle.btx_bst.specs.Items.{Item}
-use Rattle.btx_bst.specs.Items as item
-use Rattle.btx_bst.specs.Style.{Style}
-use Rattle.btx_bst.specs.BodyText.{End, Whole, Broken, body_end}
-use Rattle.btx_bst.specs.Outcomes.{with_item}
-use Rattle.btx_bst.specs.Commands.{function_ended, inside_at, has_read}
-use Rattle.btx_bst.specs.Predefined.{predefined}
-use Rattle.btx_bst.specs.StyleText.{style_of, start}
-use Rattle.btx_bst.specs.Order.{IsOnce, needs, OnceLaw, OrderLaw}
+use Rattle.btx_text.specs.language.Keys.{folded}
+use Rattle.btx_bst.specs.language.Complaints.{Complaint}
+use Rattle.btx_bst.specs.language.Items.{Item}
+use Rattle.btx_bst.specs.language.Items as item
+use Rattle.btx_bst.specs.language.Style.{Style}
+use Rattle.btx_bst.specs.language.BodyText.{BodyEnd, Whole, Broken, body_end}
+use Rattle.btx_bst.specs.language.Outcomes.{with_item}
+use Rattle.btx_bst.specs.language.Commands.{function_ended, inside_at, has_read}
+use Rattle.btx_bst.specs.language.Predefined.{predefined}
+use Rattle.btx_bst.specs.language.StyleText.{style_of, unread_style}
+use Rattle.btx_bst.specs.laws.Order.{IsOnce, needs, OnceLaw, OrderLaw}
 use Rattle.btx_bst.proofs.BodyItemLemmas.{OnEnd, body_items}
 use Rattle.btx_bst.proofs.ItemLemmas.{There, there_more, there_last, there_cases, push_cases, push_left}
 use Rattle.btx_bst.proofs.KeepLemmas.{Keeps, kept-style}
@@ -70,7 +70,7 @@ ordered_message e t is c line h = ordered_push e t is (item.Message c line) (λ 
 abbrev InOrder : Style → Type 0
 InOrder s = Ordered s.has_entry (has_read s) s.items
 
-order_ended : (s : Style) (name : List ℕ) (r : End) → OnEnd (Ordered s.has_entry (has_read s)) r → InOrder (function_ended s name r).style
+order_ended : (s : Style) (name : List ℕ) (r : BodyEnd) → OnEnd (Ordered s.has_entry (has_read s)) r → InOrder (function_ended s name r).style
 order_ended s name (Broken c i) h = h
 order_ended s name (Whole i) h = ordered_push s.has_entry (has_read s) i.items (item.Function (length i.bodies)) (λ k. absurd (cc)) (λ k. absurd (cc)) (λ o. o) (λ first k. absurd (cc)) h
 
@@ -123,7 +123,7 @@ order_keeps = record {
   on_macro = λ s name text r e h. order_plain item.Macro (record s { macros = s.macros ++ (folded name, text) ∷ [] }) (λ k. absurd (cc)) (λ k. absurd (cc)) (λ o. o) refl h;
 }
 
-order_start : (file : List ℕ) → InOrder (start file predefined)
+order_start : (file : List ℕ) → InOrder (unread_style file predefined)
 order_start file = record { entry_in = λ k. absurd (cc); entry_out = λ k. absurd (nothing item.Entry k); read_in = λ k. absurd (cc); read_out = λ k. absurd (nothing item.Read k); once = λ i j k o e f. absurd (cc); order = λ i first k e f. absurd (cc) } where
   nothing : (i : Item) → There i [] → ⊥
   nothing i h = let e = h.1 in absurd (cc)

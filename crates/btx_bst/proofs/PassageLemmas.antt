@@ -1,8 +1,8 @@
 -- Nothing of a text is read twice, and nothing is left out.
 use Rattle.std.proofs.Common.{◌≡◌, ℕ, ℤ, zero, suc, ◌+◌, ◌==◌, Bool, true, false, cond, List, [], ◌∷◌, ◌++◌, length, take, drop, refl, sym, ap, ◌∙◌, arith, append_assoc, append-nil, Option, None, Some}
 use Rattle.std.proofs.lemmas.List.{take-append-drop}
-use Rattle.btx_text.specs.Class.{is_white}
-use Rattle.btx_text.specs.Keys.{folded}
+use Rattle.btx_text.specs.language.Class.{is_white}
+use Rattle.btx_text.specs.language.Keys.{folded}
 use Rattle.btx_bst.specs.declared.callee.Callee.{Callee}
 use Rattle.btx_bst.specs.declared.callee.Kind.{Kind}
 use Rattle.btx_bst.specs.declared.callee.Kind.TheVariants as kind
@@ -10,23 +10,23 @@ use Rattle.btx_bst.specs.declared.command.Command.{Command}
 use Rattle.btx_bst.specs.declared.command.Command.TheVariants as command
 use Rattle.btx_bst.specs.declared.token.Token.{Token}
 use Rattle.btx_bst.specs.declared.token.Token.TheVariants.{Quote, Run}
-use Rattle.btx_bst.specs.Places.{Place, place_at, further, ink, ink_from, behind_white, line_or, skipped_from, size}
-use Rattle.btx_bst.specs.Complaints.{Complaint, NoCommand, NoOpen, NoClose, NoName, NoQuote, EndOfFile, TextAfter, Another, BeforeEntry, BeforeRead, AfterRead}
-use Rattle.btx_bst.specs.Reads.{Read, Took, Slip}
-use Rattle.btx_bst.specs.Items as item
-use Rattle.btx_bst.specs.Items.{Item}
-use Rattle.btx_bst.specs.Bodies.{Body}
-use Rattle.btx_bst.specs.Fronts.{name_len, letters_len, quote_len, word_len, digits_len, is_word_end}
-use Rattle.btx_bst.specs.Words.{Word, Open, Close, String, Integer, Quoted, Name, Faulty, Unended, Ended, front, word_front, integer_at, integer_of, integer_before, string_at, string_before, string_ended, met_at, met_in}
-use Rattle.btx_bst.specs.Names.{Names, named, macro_lower}
-use Rattle.btx_bst.specs.Style.{Style}
-use Rattle.btx_bst.specs.Turns.{Turn}
-use Rattle.btx_bst.specs.Lists.{brace_in, opening, closing, front_of, name_in, name_at, letters_at, text_of, quoted_in, quoted_at, Listing, listing, Listed, with_new, name_turn, list_turn_in, list_turn, list_end, list_read, list_at, unlisted}
-use Rattle.btx_bst.specs.BodyText.{Inside, End, Whole, Broken, with_named, closed_inside, word_turn, body_turn, body_end}
-use Rattle.btx_bst.specs.Outcomes.{Outcome, outcome, after_read, with_item}
-use Rattle.btx_bst.specs.Commands.{after_listed, after_list, entry, entry_lists, function_ended, function_of, function, inside_at, has_read, read, function_in, run_of, run_name, run, sort, declare, macro_of, macro_name, macro_command, command_at, command_named}
-use Rattle.btx_bst.specs.StyleText.{word_outcome}
-use Rattle.btx_bst.specs.Passages.{lines_text, text_from, Passage, InkLaw, CommandLaw, SkipLaw}
+use Rattle.btx_bst.specs.language.Places.{Place, place_at, further, ink, ink_from, behind_white, line_or, skipped_from, size}
+use Rattle.btx_bst.specs.language.Complaints.{Complaint, NoCommand, NoOpen, NoClose, NoName, NoQuote, EndOfFile, TextAfter, Another, BeforeEntry, BeforeRead, AfterRead}
+use Rattle.btx_bst.specs.language.Reads.{Read, Took, Slip}
+use Rattle.btx_bst.specs.language.Items as item
+use Rattle.btx_bst.specs.language.Items.{Item}
+use Rattle.btx_bst.specs.language.Bodies.{FunctionBody}
+use Rattle.btx_bst.specs.language.Fronts.{name_len, letters_len, quote_len, word_len, digits_len, is_word_end}
+use Rattle.btx_bst.specs.language.Words.{BodyWord, Open, Close, String, Integer, Quoted, Name, Faulty, Unended, Ended, front, word_front, integer_at, integer_front, integer_before, string_at, string_before, string_ended, met_at, met_in}
+use Rattle.btx_bst.specs.language.Names.{Names, named, macro_lower}
+use Rattle.btx_bst.specs.language.Style.{Style}
+use Rattle.btx_bst.specs.language.Turns.{Turn}
+use Rattle.btx_bst.specs.language.Lists.{brace_in, opening, closing, front_of, name_in, next_name, letters_at, quoted_text, quoted_in, quoted_at, Listing, listing, Listed, with_new, name_turn, list_turn_in, list_turn, list_end, list_read, list_at, unlisted}
+use Rattle.btx_bst.specs.language.BodyText.{Inside, BodyEnd, Whole, Broken, with_named, closed_inside, word_turn, body_turn, body_end}
+use Rattle.btx_bst.specs.language.Outcomes.{CommandOutcome, outcome, after_read, with_item}
+use Rattle.btx_bst.specs.language.Commands.{after_listed, after_list, entry_command, entry_lists, function_ended, function_of, function_command, inside_at, has_read, read_command, function_in, run_of, run_name, run_command, sort_command, declare, macro_of, macro_name, macro_command, command_at, command_named}
+use Rattle.btx_bst.specs.language.StyleText.{word_outcome}
+use Rattle.btx_bst.specs.laws.Passages.{lines_text, text_from, Passage, InkLaw, CommandLaw, SkipLaw}
 use Rattle.btx_bst.proofs.TurnLemmas.{OnTurn, turns-keep}
 
 -- ---- passages
@@ -124,14 +124,14 @@ name_passes : (p : Place) (line : List ℕ) → p.line ≡ line → ReadPasses p
 name_passes p [] e = pass_here p
 name_passes p (b ∷ bs) e = front_passes NoName p (b ∷ bs) (name_len (b ∷ bs)) e
 
-text_passes : (p : Place) (line text behind : List ℕ) → p.line ≡ line → EndsIn line behind → ReadPasses p (text_of p text behind)
+text_passes : (p : Place) (line text behind : List ℕ) → p.line ≡ line → EndsIn line behind → ReadPasses p (quoted_text p text behind)
 text_passes p line text [] e a = pass_here p
 text_passes p line text (quote ∷ rest) e a = pass_further p line rest e (ends_on line (quote ∷ rest) rest a (quote ∷ [], refl))
 
 quoted_passes : (p : Place) (line : List ℕ) → p.line ≡ line → ReadPasses p (quoted_in p line)
 quoted_passes p [] e = pass_here p
 quoted_passes p (b ∷ bs) e = at (b == 34) where
-  at : (t : Bool) → ReadPasses p (cond t (text_of p (take (quote_len bs) bs) (drop (quote_len bs) bs)) (Slip NoQuote p))
+  at : (t : Bool) → ReadPasses p (cond t (quoted_text p (take (quote_len bs) bs) (drop (quote_len bs) bs)) (Slip NoQuote p))
   at true = text_passes p (b ∷ bs) (take (quote_len bs) bs) (drop (quote_len bs) bs) e (ends_byte b bs _ (ends_drop (quote_len bs) bs))
   at false = pass_here p
 
@@ -146,7 +146,7 @@ opening_passes p = behind_ink p _ (brace_passes 123 NoOpen (ink p) (ink p).line 
 closing_passes : (p : Place) → ReadPasses p (closing p)
 closing_passes p = behind_ink p _ (brace_passes 125 NoClose (ink p) (ink p).line refl)
 
-name_at_passes : (p : Place) → ReadPasses p (name_at p)
+name_at_passes : (p : Place) → ReadPasses p (next_name p)
 name_at_passes p = behind_ink p _ (name_passes (ink p) (ink p).line refl)
 
 quoted_at_passes : (p : Place) → ReadPasses p (quoted_at p)
@@ -171,7 +171,7 @@ on_read p q (Slip c s) a h = pass_on p q s a h
 
 turn_passes : (p : Place) (k : Kind) (names : Names) (r : Read (Unit {0})) → ReadPasses p r → ListPasses p (list_turn_in k names r)
 turn_passes p k names (Took x q) h = h
-turn_passes p k names (Slip c q) h = named_passes p k names (name_at q) (on_read p q (name_at q) h (name_at_passes q))
+turn_passes p k names (Slip c q) h = named_passes p k names (next_name q) (on_read p q (next_name q) h (name_at_passes q))
 
 list_end_passes : (p : Place) (k : Kind) (s : Listing) → Passage p s.place → Passage p (list_end k s).listing.place
 unfolding list_end list_turn
@@ -208,7 +208,7 @@ integer_before_ends line rest (Some z) a = at (is_word_end rest) where
   at true = a
   at false = ends_on line rest _ a (ends_drop (word_len rest) rest)
 
-integer_of_ends : (line : List ℕ) (minus : Bool) (rest : List ℕ) (n : ℕ) → EndsIn line rest → EndsIn line (integer_of line minus rest n).rest
+integer_of_ends : (line : List ℕ) (minus : Bool) (rest : List ℕ) (n : ℕ) → EndsIn line rest → EndsIn line (integer_front line minus rest n).rest
 integer_of_ends line minus rest zero a = ends_drop (word_len line) line
 integer_of_ends line minus rest (suc n) a = integer_before_ends line (drop (suc n) rest) _ (ends_on line rest _ a (ends_drop (suc n) rest))
 
@@ -216,7 +216,7 @@ integer_ends : (s : List ℕ) → EndsIn s (integer_at s).rest
 unfolding integer_at
 integer_ends [] = ends_here []
 integer_ends (b ∷ bs) = at (b == 45) where
-  at : (t : Bool) → EndsIn (b ∷ bs) (cond t (integer_of (b ∷ bs) true bs (digits_len bs)) (integer_of (b ∷ bs) false (b ∷ bs) (digits_len (b ∷ bs)))).rest
+  at : (t : Bool) → EndsIn (b ∷ bs) (cond t (integer_front (b ∷ bs) true bs (digits_len bs)) (integer_front (b ∷ bs) false (b ∷ bs) (digits_len (b ∷ bs)))).rest
   at true = integer_of_ends (b ∷ bs) true bs (digits_len bs) (b ∷ [], refl)
   at false = integer_of_ends (b ∷ bs) false (b ∷ bs) (digits_len (b ∷ bs)) (ends_here (b ∷ bs))
 
@@ -240,22 +240,22 @@ met_passes p = pass_on p (ink p) _ (ink-law p) (met_in_passes (ink p) (ink p).li
 
 -- ---- bodies
 
-abbrev EndPasses : Place → End → Type 0
+abbrev EndPasses : Place → BodyEnd → Type 0
 EndPasses p (Whole s) = Passage p s.place
 EndPasses p (Broken c s) = Passage p s.place
 
-abbrev BodyPasses : Place → Turn Inside End → Type 0
+abbrev BodyPasses : Place → Turn Inside BodyEnd → Type 0
 BodyPasses p t = OnTurn (λ s. Passage p s.place) (EndPasses p) t
 
 named_body_passes : (p : Place) (token : Callee → Token) (name : List ℕ) (s : Inside) (o : Option Callee) → Passage p s.place → Passage p (with_named token name s o).place
 named_body_passes p token name s None h = h
 named_body_passes p token name s (Some c) h = h
 
-closed_passes : (p : Place) (s : Inside) (around : List Body) → Passage p s.place → BodyPasses p (closed_inside s around)
+closed_passes : (p : Place) (s : Inside) (around : List FunctionBody) → Passage p s.place → BodyPasses p (closed_inside s around)
 closed_passes p s [] h = h
 closed_passes p s (outer ∷ around) h = h
 
-word_passes : (p : Place) (names : Names) (s : Inside) (w : Word) → Passage p s.place → BodyPasses p (word_turn names s w)
+word_passes : (p : Place) (names : Names) (s : Inside) (w : BodyWord) → Passage p s.place → BodyPasses p (word_turn names s w)
 word_passes p names s Open h = h
 word_passes p names s Close h = closed_passes p s s.around h
 word_passes p names s (String text) h = h
@@ -275,20 +275,20 @@ body_passes p names s h =
 
 -- ---- commands
 
-after_passes : {A : Type 0} (p : Place) (s : Style) (r : Read A) (go : A → Place → Outcome) → ReadPasses p r → ((x : A) (q : Place) → Passage q (go x q).place) → Passage p (after_read s r go).place
+after_passes : {A : Type 0} (p : Place) (s : Style) (r : Read A) (go : A → Place → CommandOutcome) → ReadPasses p r → ((x : A) (q : Place) → Passage q (go x q).place) → Passage p (after_read s r go).place
 after_passes p s (Took x q) go h each = pass_on p q _ h (each x q)
 after_passes p s (Slip c q) go h each = h
 
-listed_passes : (p : Place) (c : Option Complaint) (s : Style) (q : Place) (go : Style → Place → Outcome) → Passage p q → ((t : Style) (r : Place) → Passage r (go t r).place) → Passage p (after_listed c s q go).place
+listed_passes : (p : Place) (c : Option Complaint) (s : Style) (q : Place) (go : Style → Place → CommandOutcome) → Passage p q → ((t : Style) (r : Place) → Passage r (go t r).place) → Passage p (after_listed c s q go).place
 listed_passes p None s q go h each = pass_on p q _ h (each s q)
 listed_passes p (Some c) s q go h each = h
 
-after_list_passes : (k : Kind) (s : Style) (p : Place) (go : Style → Place → Outcome) → ((t : Style) (r : Place) → Passage r (go t r).place) → Passage p (after_list s (list_at k s.names p) go).place
+after_list_passes : (k : Kind) (s : Style) (p : Place) (go : Style → Place → CommandOutcome) → ((t : Style) (r : Place) → Passage r (go t r).place) → Passage p (after_list s (list_at k s.names p) go).place
 after_list_passes k s p go each =
     let l = list_at k s.names p in listed_passes p l.complaint (record s { names = l.listing.names }) l.listing.place go (list_passes p k s.names) each
 
-entry_passes : (s : Style) (p : Place) → Passage p (entry s p).place
-unfolding entry
+entry_passes : (s : Style) (p : Place) → Passage p (entry_command s p).place
+unfolding entry_command
 entry_passes s p = at s.has_entry where
   at : (t : Bool) → Passage p (cond t (outcome (Some (Another command.Entry)) s p) (entry_lists s p)).place
   at true = pass_here p
@@ -297,7 +297,7 @@ entry_passes s p = at s.has_entry where
       after_list_passes kind.EntryInteger t q _ (λ u r.
       after_list_passes kind.EntryString u r _ (λ v z. pass_here z)))
 
-ended_passes : (p : Place) (s : Style) (name : List ℕ) (r : End) → EndPasses p r → Passage p (function_ended s name r).place
+ended_passes : (p : Place) (s : Style) (name : List ℕ) (r : BodyEnd) → EndPasses p r → Passage p (function_ended s name r).place
 ended_passes p s name (Broken c i) h = h
 ended_passes p s name (Whole i) h = h
 
@@ -307,14 +307,14 @@ function_of_passes s name p None =
     after_passes p s (closing p) _ (closing_passes p) (λ x q.
     after_passes q s (opening q) _ (opening_passes q) (λ x r. ended_passes r s (folded name) _ (body_passes r s.names (inside_at s r) (pass_here r))))
 
-function_passes : (s : Style) (p : Place) → Passage p (function s p).place
-unfolding function
+function_passes : (s : Style) (p : Place) → Passage p (function_command s p).place
+unfolding function_command
 function_passes s p =
     after_passes p s (opening p) _ (opening_passes p) (λ x q.
-    after_passes q s (name_at q) _ (name_at_passes q) (λ name r. function_of_passes s name r (named s.names name)))
+    after_passes q s (next_name q) _ (name_at_passes q) (λ name r. function_of_passes s name r (named s.names name)))
 
-read_passes : (s : Style) (p : Place) → Passage p (read s p).place
-unfolding read
+read_passes : (s : Style) (p : Place) → Passage p (read_command s p).place
+unfolding read_command
 read_passes s p = at (has_read s) s.has_entry where
   at : (t u : Bool) → Passage p (cond t (outcome (Some (Another command.Read)) s p) (cond u (outcome None (with_item item.Read (record s { before_read = Some (length s.bodies) })) p) (outcome (Some BeforeEntry) s p))).place
   at true u = pass_here p
@@ -325,17 +325,17 @@ run_of_passes : (make : Callee → Item) (s : Style) (name : List ℕ) (p : Plac
 run_of_passes make s name p None = pass_here p
 run_of_passes make s name p (Some c) = after_passes p s (closing p) _ (closing_passes p) (λ x q. pass_here q)
 
-run_passes : (c : Command) (make : Callee → Item) (s : Style) (p : Place) → Passage p (run c make s p).place
-unfolding run
+run_passes : (c : Command) (make : Callee → Item) (s : Style) (p : Place) → Passage p (run_command c make s p).place
+unfolding run_command
 run_passes c make s p = at (has_read s) where
   at : (t : Bool) → Passage p (cond t (run_name make s p) (outcome (Some (BeforeRead c)) s p)).place
   at true =
       after_passes p s (opening p) _ (opening_passes p) (λ x q.
-      after_passes q s (name_at q) _ (name_at_passes q) (λ name r. run_of_passes make s name r (function_in (named s.names name))))
+      after_passes q s (next_name q) _ (name_at_passes q) (λ name r. run_of_passes make s name r (function_in (named s.names name))))
   at false = pass_here p
 
-sort_passes : (s : Style) (p : Place) → Passage p (sort s p).place
-unfolding sort
+sort_passes : (s : Style) (p : Place) → Passage p (sort_command s p).place
+unfolding sort_command
 sort_passes s p = at (has_read s) where
   at : (t : Bool) → Passage p (cond t (outcome None (with_item item.Sort s) p) (outcome (Some (BeforeRead command.Sort)) s p)).place
   at true = pass_here p
@@ -360,7 +360,7 @@ macro_passes s p = at (has_read s) where
   at true = pass_here p
   at false =
       after_passes p s (opening p) _ (opening_passes p) (λ x q.
-      after_passes q s (name_at q) _ (name_at_passes q) (λ name r. macro_of_passes s name r (macro_lower s.macros (folded name))))
+      after_passes q s (next_name q) _ (name_at_passes q) (λ name r. macro_of_passes s name r (macro_lower s.macros (folded name))))
 
 command_at_passes : (c : Command) (s : Style) (p : Place) → Passage p (command_at c s p).place
 command_at_passes command.Entry s p = entry_passes s p

@@ -1,21 +1,21 @@
 -- Lemmas on places.
 use Rattle.std.proofs.Common.{◌≡◌, ℕ, suc, ◌+◌, ◌<◌, ◌≤◌, Bool, true, false, cond, List, [], ◌∷◌, length, map, refl, ◌==◌, arith}
 use Rattle.std.proofs.lemmas.List.{length-map}
-use Rattle.btx_text.specs.Lines.{lines_of, pieces_of, in_front, trimmed, white_before}
-use Rattle.btx_text.specs.Class.{is_white}
-use Rattle.btx_bst.specs.Places.{beginning, size, lines_size, place_at, behind_white, ink_from, skipped_from, line_or}
+use Rattle.btx_text.specs.language.Lines.{lines_of, line_pieces, in_front, trimmed, white_before}
+use Rattle.btx_text.specs.language.Class.{is_white}
+use Rattle.btx_bst.specs.language.Places.{beginning, size, lines_size, place_at, behind_white, ink_from, skipped_from, line_or}
 
 in_front-len : (b : ℕ) (pieces : List (List ℕ)) (n : ℕ) → length pieces ≤ n → length (in_front b pieces) ≤ suc n
 in_front-len b [] n h = omega arith
 in_front-len b (p ∷ ps) n h = omega arith
 
-pieces-len : (text : List ℕ) → length (pieces_of text) ≤ length text
-unfolding pieces_of
+pieces-len : (text : List ℕ) → length (line_pieces text) ≤ length text
+unfolding line_pieces
 pieces-len [] = omega arith
 pieces-len (b ∷ bs) = at (b == 10) (pieces-len bs) where
-  at : (t : Bool) → length (pieces_of bs) ≤ length bs → length (cond t ([] ∷ pieces_of bs) (in_front b (pieces_of bs))) ≤ suc (length bs)
+  at : (t : Bool) → length (line_pieces bs) ≤ length bs → length (cond t ([] ∷ line_pieces bs) (in_front b (line_pieces bs))) ≤ suc (length bs)
   at true h = omega arith
-  at false h = in_front-len b (pieces_of bs) (length bs) h
+  at false h = in_front-len b (line_pieces bs) (length bs) h
 
 pub lines_len : (text : List ℕ) → length (lines_of text) ≤ length text
 lines_len text = rw length-map (pieces-len text)
@@ -86,14 +86,14 @@ unfolding lines_size
 in_front-size b [] n h = omega arith
 in_front-size b (p ∷ ps) n h = omega arith
 
-pieces-size : (text : List ℕ) → lines_size (pieces_of text) ≤ suc (length text)
-unfolding pieces_of lines_size
+pieces-size : (text : List ℕ) → lines_size (line_pieces text) ≤ suc (length text)
+unfolding line_pieces lines_size
 pieces-size [] = omega arith
 pieces-size (b ∷ bs) = at (b == 10) (pieces-size bs) where
-  at : (t : Bool) → lines_size (pieces_of bs) ≤ suc (length bs) → lines_size (cond t ([] ∷ pieces_of bs) (in_front b (pieces_of bs))) ≤ suc (suc (length bs))
+  at : (t : Bool) → lines_size (line_pieces bs) ≤ suc (length bs) → lines_size (cond t ([] ∷ line_pieces bs) (in_front b (line_pieces bs))) ≤ suc (suc (length bs))
   at true h = omega arith
-  at false h = in_front-size b (pieces_of bs) (length bs) h
+  at false h = in_front-size b (line_pieces bs) (length bs) h
 
 pub beginning-size : (text : List ℕ) → size (beginning text) ≤ suc (length text)
 unfolding size
-beginning-size text = omega (arith, trimmed-size (pieces_of text), pieces-size text)
+beginning-size text = omega (arith, trimmed-size (line_pieces text), pieces-size text)

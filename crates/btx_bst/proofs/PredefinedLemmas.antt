@@ -1,8 +1,9 @@
 -- The names that are known before a style.
 use Rattle.std.proofs.Common.{◌≡◌, None, refl}
 use Rattle.std.specs.Prelude.{codes}
-use Rattle.btx_bst.specs.BuiltIns.{built_ins, built_in_of}
-use Rattle.btx_bst.specs.Names.{no_names, named_lower, with_name}
+use Rattle.btx_bst.specs.language.BuiltIns.{built_ins, built_in_of}
+use Rattle.btx_bst.specs.language.Names.{named_lower, with_name}
+use Rattle.btx_bst.specs.laws.Names.{no_names}
 use Rattle.btx_bst.specs.declared.callee.Kind.TheVariants as kind
 
 -- none of them is a built-in function or another one of them

@@ -5,7 +5,7 @@ use Rattle.std.specs.Option.{option_map, option_or}
 use Rattle.std.specs.Str.{bytes_eq}
 use Rattle.std.proofs.lemmas.List.{length-append, length-replicate}
 use Rattle.std.proofs.lemmas.List.Quantifiers.{position-Some}
-use Rattle.btx_text.specs.Keys.{folded}
+use Rattle.btx_text.specs.language.Keys.{folded}
 use Rattle.btx_bst.specs.declared.callee.Callee.{Callee}
 use Rattle.btx_bst.specs.declared.callee.Callee.TheVariants.{User, Field, EntryInteger, EntryString, GlobalInteger, GlobalString}
 use Rattle.btx_bst.specs.declared.callee.Callee.TheVariants as callee
@@ -14,24 +14,24 @@ use Rattle.btx_bst.specs.declared.callee.Kind.TheVariants as kind
 use Rattle.btx_bst.specs.declared.token.Token.{Token}
 use Rattle.btx_bst.specs.declared.token.Token.TheVariants.{Text, Quote, Run}
 use Rattle.btx_bst.specs.declared.token.Token.TheVariants as token
-use Rattle.btx_bst.specs.Places.{Place, size}
-use Rattle.btx_bst.specs.Complaints.{Complaint, EndOfFile}
-use Rattle.btx_bst.specs.Reads.{Read, Took, Slip}
-use Rattle.btx_bst.specs.Items.{Item}
-use Rattle.btx_bst.specs.Items as item
-use Rattle.btx_bst.specs.Bodies.{Body}
-use Rattle.btx_bst.specs.BuiltIns.{built_in_of}
-use Rattle.btx_bst.specs.Names.{Names, named, named_lower, has_name, number_in, with_name, with_function, padded}
-use Rattle.btx_bst.specs.Style.{Style, as_type}
-use Rattle.btx_bst.specs.Turns.{Turn}
-use Rattle.btx_bst.specs.Words.{Word, Open, Close, String, Integer, Quoted, Name, Faulty, Unended, Ended, met_at}
-use Rattle.btx_bst.specs.Lists.{opening, closing, name_at, Listing, listing, Listed, with_new, name_turn, list_turn_in, list_turn, list_end, list_read, list_at, unlisted}
-use Rattle.btx_bst.specs.BodyText.{Inside, End, Whole, Broken, with_named, closed_inside, word_turn, body_turn, body_end}
-use Rattle.btx_bst.specs.Outcomes.{with_item}
-use Rattle.btx_bst.specs.Commands.{function_ended, function_in, inside_at}
-use Rattle.btx_bst.specs.Predefined.{predefined}
-use Rattle.btx_bst.specs.StyleText.{style_of, start}
-use Rattle.btx_bst.specs.References.{IsKnown, IsFunction, Refers, IsKnownItem, RefersWithin, ReferencesLaw, ItemsLaw}
+use Rattle.btx_bst.specs.language.Places.{Place, size}
+use Rattle.btx_bst.specs.language.Complaints.{Complaint, EndOfFile}
+use Rattle.btx_bst.specs.language.Reads.{Read, Took, Slip}
+use Rattle.btx_bst.specs.language.Items.{Item}
+use Rattle.btx_bst.specs.language.Items as item
+use Rattle.btx_bst.specs.language.Bodies.{FunctionBody}
+use Rattle.btx_bst.specs.language.BuiltIns.{built_in_of}
+use Rattle.btx_bst.specs.language.Names.{Names, named, named_lower, has_name, number_in, with_name, with_function, padded}
+use Rattle.btx_bst.specs.language.Style.{Style, as_type}
+use Rattle.btx_bst.specs.language.Turns.{Turn}
+use Rattle.btx_bst.specs.language.Words.{BodyWord, Open, Close, String, Integer, Quoted, Name, Faulty, Unended, Ended, met_at}
+use Rattle.btx_bst.specs.language.Lists.{opening, closing, next_name, Listing, listing, Listed, with_new, name_turn, list_turn_in, list_turn, list_end, list_read, list_at, unlisted}
+use Rattle.btx_bst.specs.language.BodyText.{Inside, BodyEnd, Whole, Broken, with_named, closed_inside, word_turn, body_turn, body_end}
+use Rattle.btx_bst.specs.language.Outcomes.{with_item}
+use Rattle.btx_bst.specs.language.Commands.{function_ended, function_in, inside_at}
+use Rattle.btx_bst.specs.language.Predefined.{predefined}
+use Rattle.btx_bst.specs.language.StyleText.{style_of, unread_style}
+use Rattle.btx_bst.specs.laws.References.{IsKnown, IsFunction, Refers, IsKnownItem, RefersWithin, ReferencesLaw, ItemsLaw}
 use Rattle.btx_bst.proofs.TurnLemmas.{OnTurn, turns-keep}
 use Rattle.btx_bst.proofs.KeepLemmas.{Keeps, kept-style}
 
@@ -64,37 +64,37 @@ refers_more a b t u n m (Quote c) w g h k = known_more a b n m c w h k
 refers_more a b t u n m (Run c) w g h k = known_more a b n m c w h k
 
 -- all tokens of a body
-abbrev pub AllRefer : Names → ℕ → ℕ → Body → Type 0
+abbrev pub AllRefer : Names → ℕ → ℕ → FunctionBody → Type 0
 AllRefer names t n [] = Unit {0}
 AllRefer names t n (x ∷ xs) = Refers names t n x × AllRefer names t n xs
 
-all_more : (a b : Names) (t u n m : ℕ) (xs : Body) → Wider a b → t ≤ u → n ≤ m → AllRefer a t n xs → AllRefer b u m xs
+all_more : (a b : Names) (t u n m : ℕ) (xs : FunctionBody) → Wider a b → t ≤ u → n ≤ m → AllRefer a t n xs → AllRefer b u m xs
 all_more a b t u n m [] w g h k = tt
 all_more a b t u n m (x ∷ xs) w g h k = (refers_more a b t u n m x w g h k.0, all_more a b t u n m xs w g h k.1)
 
-all_push : (a : Names) (t n : ℕ) (xs : Body) (x : Token) → AllRefer a t n xs → Refers a t n x → AllRefer a t n (xs ++ x ∷ [])
+all_push : (a : Names) (t n : ℕ) (xs : FunctionBody) (x : Token) → AllRefer a t n xs → Refers a t n x → AllRefer a t n (xs ++ x ∷ [])
 all_push a t n [] x h k = (k, tt)
 all_push a t n (y ∷ xs) x h k = (h.0, all_push a t n xs x h.1 k)
 
 -- each body, the first of which has this number
-abbrev pub AreEarlier : Names → ℕ → ℕ → List Body → Type 0
+abbrev pub AreEarlier : Names → ℕ → ℕ → List FunctionBody → Type 0
 AreEarlier names t n [] = Unit {0}
 AreEarlier names t n (body ∷ bodies) = AllRefer names t n body × AreEarlier names t (suc n) bodies
 
-earlier_more : (a b : Names) (t u n : ℕ) (bodies : List Body) → Wider a b → t ≤ u → AreEarlier a t n bodies → AreEarlier b u n bodies
+earlier_more : (a b : Names) (t u n : ℕ) (bodies : List FunctionBody) → Wider a b → t ≤ u → AreEarlier a t n bodies → AreEarlier b u n bodies
 earlier_more a b t u n [] w g h = tt
 earlier_more a b t u n (body ∷ bodies) w g h = (all_more a b t u n n body w g (omega arith) h.0, earlier_more a b t u (suc n) bodies w g h.1)
 
-earlier_push : (a : Names) (t n m : ℕ) (bodies : List Body) (body : Body) → m ≡ n + length bodies → AreEarlier a t n bodies → AllRefer a t m body → AreEarlier a t n (bodies ++ body ∷ [])
+earlier_push : (a : Names) (t n m : ℕ) (bodies : List FunctionBody) (body : FunctionBody) → m ≡ n + length bodies → AreEarlier a t n bodies → AllRefer a t m body → AreEarlier a t n (bodies ++ body ∷ [])
 earlier_push a t n m [] body e h k = (all_more a a t t m n body (same-width a) (omega arith) (omega arith) k, tt)
 earlier_push a t n m (first ∷ bodies) body e h k = (h.0, earlier_push a t (suc n) m bodies body (omega arith) h.1 k)
 
 -- the bodies round the innermost one
-abbrev pub AroundRefer : Names → ℕ → ℕ → List Body → Type 0
+abbrev pub AroundRefer : Names → ℕ → ℕ → List FunctionBody → Type 0
 AroundRefer names t n [] = Unit {0}
 AroundRefer names t n (body ∷ bodies) = AllRefer names t n body × AroundRefer names t n bodies
 
-around_more : (a : Names) (t u n m : ℕ) (bodies : List Body) → t ≤ u → n ≤ m → AroundRefer a t n bodies → AroundRefer a u m bodies
+around_more : (a : Names) (t u n m : ℕ) (bodies : List FunctionBody) → t ≤ u → n ≤ m → AroundRefer a t n bodies → AroundRefer a u m bodies
 around_more a t u n m [] g h k = tt
 around_more a t u n m (body ∷ bodies) g h k = (all_more a a t u n m body (same-width a) g h k.0, around_more a t u n m bodies g h k.1)
 
@@ -171,11 +171,11 @@ pub record Fine (names : Names) (before : ℕ) (inside : Inside) : Type 0 where
   pub earlier : AreEarlier names (length inside.texts) 0 inside.bodies
   pub items_known : AllItems before inside.items
 
-abbrev pub FineEnd : Names → ℕ → End → Type 0
+abbrev pub FineEnd : Names → ℕ → BodyEnd → Type 0
 FineEnd names before (Whole inside) = Fine names before inside
 FineEnd names before (Broken complaint inside) = Fine names before inside
 
-abbrev FineTurn : Names → ℕ → Turn Inside End → Type 0
+abbrev FineTurn : Names → ℕ → Turn Inside BodyEnd → Type 0
 FineTurn names before t = OnTurn (Fine names before) (FineEnd names before) t
 
 fine_token : (a : Names) (b : ℕ) (s : Inside) (x : Token) → Refers a (length s.texts) (length s.bodies) x → Fine a b s → Fine a b (record s { tokens = s.tokens ++ x ∷ [] })
@@ -203,7 +203,7 @@ fine_text a b s text f =
       items_known = f.items_known;
     }
 
-fine_closed : (a : Names) (b : ℕ) (s : Inside) (around : List Body) → s.around ≡ around → Fine a b s → FineTurn a b (closed_inside s around)
+fine_closed : (a : Names) (b : ℕ) (s : Inside) (around : List FunctionBody) → s.around ≡ around → Fine a b s → FineTurn a b (closed_inside s around)
 fine_closed a b s [] e f = f
 fine_closed a b s (outer ∷ around) e f =
     let t = length s.texts in
@@ -220,7 +220,7 @@ fine_closed a b s (outer ∷ around) e f =
       items_known = f.items_known;
     }
 
-fine_word : (a : Names) (b : ℕ) (s : Inside) (w : Word) → ((n : ℕ) (name : List ℕ) → b ≤ n → FoundKnown a n (named a name)) → Fine a b s → FineTurn a b (word_turn a s w)
+fine_word : (a : Names) (b : ℕ) (s : Inside) (w : BodyWord) → ((n : ℕ) (name : List ℕ) → b ≤ n → FoundKnown a n (named a name)) → Fine a b s → FineTurn a b (word_turn a s w)
 fine_word a b s Open found f = record { grown = f.grown; tokens_known = tt; around_known = (f.tokens_known, f.around_known); earlier = f.earlier; items_known = f.items_known }
 fine_word a b s Close found f = fine_closed a b s s.around refl f
 fine_word a b s (String text) found f = fine_text a b s text f
@@ -275,7 +275,7 @@ further_name a k b (Took name p) h = further_new a k b name p (named b name) h
 
 further_turn : (a : Names) (k : Kind) (b : Names) (r : Read (Unit {0})) → Further a b → FurtherTurn a (list_turn_in k b r)
 further_turn a k b (Took x p) h = h
-further_turn a k b (Slip c p) h = further_name a k b (name_at p) h
+further_turn a k b (Slip c p) h = further_name a k b (next_name p) h
 
 further_end : (a : Names) (k : Kind) (s : Listing) → Further a s.names → Further a (list_end k s).listing.names
 unfolding list_end list_turn
@@ -312,7 +312,7 @@ padded-len : (n : ℕ) (functions : List (Option (List ℕ))) (name : List ℕ) 
 padded-len n functions name h =
     omega (arith, length-append (padded n functions) (Some name ∷ []), length-append functions (replicate (n - length functions) None), length-replicate {A = Option (List ℕ)} (n - length functions) None)
 
-fine_ended : (s : Style) (name : List ℕ) (r : End) → FineStyle s → FineEnd s.names (length s.bodies) r → FineStyle (function_ended s name r).style
+fine_ended : (s : Style) (name : List ℕ) (r : BodyEnd) → FineStyle s → FineEnd s.names (length s.bodies) r → FineStyle (function_ended s name r).style
 fine_ended s name (Broken c i) h f = record { no_later = h.no_later; earlier = h.earlier; items_known = f.items_known }
 fine_ended s name (Whole i) h f =
     let t = length i.texts in
@@ -365,7 +365,7 @@ fine_keeps = record {
   on_macro = λ s name text r e f. fine_item item.Macro (record s { macros = s.macros ++ (folded name, text) ∷ [] }) tt (record { no_later = f.no_later; earlier = f.earlier; items_known = f.items_known });
 }
 
-pub fine_start : (file : List ℕ) → FineStyle (start file predefined)
+pub fine_start : (file : List ℕ) → FineStyle (unread_style file predefined)
 fine_start file = record { no_later = omega arith; earlier = tt; items_known = tt }
 
 fine_style : (file text : List ℕ) → FineStyle (style_of file text)
@@ -373,12 +373,12 @@ fine_style file text = kept-style FineStyle fine_keeps file text (fine_start fil
 
 -- ---- by number and place
 
-token_at : (a : Names) (t n : ℕ) (body : Body) (k : ℕ) (x : Token) → AllRefer a t n body → slice_get body k ≡ Some x → Refers a t n x
+token_at : (a : Names) (t n : ℕ) (body : FunctionBody) (k : ℕ) (x : Token) → AllRefer a t n body → slice_get body k ≡ Some x → Refers a t n x
 token_at a t n [] k x h e = absurd (cc)
 token_at a t n (y ∷ body) zero x h e = let d : y ≡ x = cc in rw (sym d) h.0
 token_at a t n (y ∷ body) (suc k) x h e = token_at a t n body k x h.1 e
 
-body_at : (a : Names) (t n m : ℕ) (bodies : List Body) (k : ℕ) → m ≡ n + k → AreEarlier a t n bodies → AllRefer a t m (slice_index_or bodies k [])
+body_at : (a : Names) (t n m : ℕ) (bodies : List FunctionBody) (k : ℕ) → m ≡ n + k → AreEarlier a t n bodies → AllRefer a t m (slice_index_or bodies k [])
 body_at a t n m [] k e h = tt
 body_at a t n m (body ∷ bodies) zero e h = all_more a a t t n m body (same-width a) (omega arith) (omega arith) h.0
 body_at a t n m (body ∷ bodies) (suc k) e h = body_at a t (suc n) m bodies k (omega arith) h.1

@@ -5,19 +5,19 @@ use Rattle.std.proofs.lemmas.List.{length-drop}
 use Rattle.std.specs.Borrow.{Bor}
 use Rattle.btx_bst.specs.declared.callee.Kind.{Kind}
 use Rattle.btx_bst.specs.declared.complaint.Complaint.{Complaint}
-use Rattle.btx_text.specs.Limits.{greatest_file}
-use Rattle.btx_bst.specs.Places.{Place, size, beginning}
-use Rattle.btx_bst.specs.Style.{Style}
-use Rattle.btx_bst.specs.StyleText.{start}
-use Rattle.btx_bst.specs.Predefined.{predefined}
+use Rattle.btx_text.specs.language.Limits.{greatest_file}
+use Rattle.btx_bst.specs.language.Places.{Place, size, beginning}
+use Rattle.btx_bst.specs.language.Style.{Style}
+use Rattle.btx_bst.specs.language.StyleText.{unread_style}
+use Rattle.btx_bst.specs.language.Predefined.{predefined}
 use Rattle.btx_bst.proofs.PlaceLemmas.{beginning-size}
-use Rattle.btx_bst.specs.Names.{Names}
-use Rattle.btx_bst.specs.Lists.{front_of, opening, closing, name_at, letters_at, list_at}
-use Rattle.btx_bst.specs.Complaints.{NoCommand}
-use Rattle.btx_bst.specs.Fronts.{letters_len}
-use Rattle.btx_bst.specs.BodyText.{Inside, End, Whole, Broken, body_end}
-use Rattle.btx_bst.specs.Weights.{names_weight, HasRoom}
-use Rattle.btx_bst.specs.Views.{read_unit, read_text, listed_view, body_end_view, complaint_view}
+use Rattle.btx_bst.specs.language.Names.{Names}
+use Rattle.btx_bst.specs.language.Lists.{front_of, opening, closing, next_name, letters_at, list_at}
+use Rattle.btx_bst.specs.language.Complaints.{NoCommand}
+use Rattle.btx_bst.specs.language.Fronts.{letters_len}
+use Rattle.btx_bst.specs.language.BodyText.{Inside, BodyEnd, Whole, Broken, body_end}
+use Rattle.btx_bst.specs.refinement.Weights.{names_weight, HasRoom}
+use Rattle.btx_bst.specs.refinement.Views.{read_unit, read_text, listed_view, body_end_view, complaint_view}
 use Rattle.btx_bst.proofs.ListLemmas.{Sized, opening-size, closing-size, name_at-size, list_at-weight, Weighs}
 use Rattle.btx_bst.proofs.BodyTurnLemmas.{weight_of, inside_of, body_end-weight}
 use Rattle.btx_bst.proofs.StyleLemmas.{Adds, body_end-grows}
@@ -36,7 +36,7 @@ opening-shorter r p q e = let h : Sized (size p) (read_unit r q) = rw e (opening
 pub closing-shorter : (r : Result (Unit {0}) Complaint) (p q : Place) → read_unit r q ≡ closing p → size q ≤ size p
 closing-shorter r p q e = let h : Sized (size p) (read_unit r q) = rw e (closing-size p) in unit-size r q (size p) h
 
-pub name-shorter : (r : Result (Bor (List ℕ)) Complaint) (p q : Place) → read_text r q ≡ name_at p → size q ≤ size p
+pub name-shorter : (r : Result (Bor (List ℕ)) Complaint) (p q : Place) → read_text r q ≡ next_name p → size q ≤ size p
 name-shorter r p q e = let h : Sized (size p) (read_text r q) = rw e (name_at-size p) in text-size r q (size p) h
 
 front-shorter : (p : Place) (k : ℕ) → Sized (suc (size p)) (front_of NoCommand p p.line k)
@@ -68,7 +68,7 @@ list-room o kind names more p q e =
 abbrev pub Grown : Inside → Inside → Type 0
 Grown s t = (weight_of t ≤ weight_of s) × Adds s.bodies s.texts t
 
-grown-end : (names : Names) (s : Inside) (r : End) → r ≡ body_end names s → Grown s (inside_of r)
+grown-end : (names : Names) (s : Inside) (r : BodyEnd) → r ≡ body_end names s → Grown s (inside_of r)
 grown-end names s r e = rw e (body_end-weight names s, body_end-grows names s)
 
 pub body-room : (o : Option Complaint) (names : Names) (s t : Inside) → body_end_view o t ≡ body_end names s → Grown s t
@@ -76,6 +76,6 @@ body-room None names s t e = grown-end names s (Whole t) e
 body-room (Some c) names s t e = grown-end names s (Broken (complaint_view c) t) e
 
 -- a style of which nothing has been read has room
-pub start-room : (style : Style) (file : List ℕ) (names : Names) (p : Place) (text : List ℕ) → style ≡ start file names → names ≡ predefined → p ≡ beginning text → length text ≤ greatest_file → HasRoom style p
+pub start-room : (style : Style) (file : List ℕ) (names : Names) (p : Place) (text : List ℕ) → style ≡ unread_style file names → names ≡ predefined → p ≡ beginning text → length text ≤ greatest_file → HasRoom style p
 start-room style file names p text e n b h =
-    let s : HasRoom (start file predefined) (beginning text) = (omega (arith, beginning-size text, h), omega arith) in rw (e, n, b) s
+    let s : HasRoom (unread_style file predefined) (beginning text) = (omega (arith, beginning-size text, h), omega arith) in rw (e, n, b) s

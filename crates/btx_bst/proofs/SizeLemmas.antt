@@ -1,7 +1,7 @@
 -- How much of a text is left.
 use Rattle.std.proofs.Common.{ℕ, suc, ◌+◌, ◌≤◌, Bool, true, false, cond, List, [], ◌∷◌, length, ◌==◌, arith}
-use Rattle.btx_text.specs.Class.{is_white}
-use Rattle.btx_bst.specs.Places.{Place, behind_white, ink, ink_from, line_or, skipped, skipped_from, size, lines_size}
+use Rattle.btx_text.specs.language.Class.{is_white}
+use Rattle.btx_bst.specs.language.Places.{Place, behind_white, ink, ink_from, line_or, skipped, skipped_from, size, lines_size}
 
 white-len : (s : List ℕ) → length (behind_white s) ≤ length s
 unfolding behind_white

@@ -3,8 +3,8 @@ use Rattle.std.proofs.Common.{◌≡◌, ℕ, Bool, true, false, List, [], ◌�
 use Rattle.std.specs.Char.{to_ascii_lowercase, is_ascii_uppercase}
 use Rattle.std.specs.List.{list_any}
 use Rattle.std.proofs.lemmas.Bool.Decides.{nat_tests}
-use Rattle.btx_text.specs.Keys.{folded}
-use Rattle.btx_bst.specs.Spelled.{has_capital}
+use Rattle.btx_text.specs.language.Keys.{folded}
+use Rattle.btx_bst.specs.refinement.Spelled.{has_capital}
 
 stays : (c : ℕ) → is_ascii_uppercase c ≡ false → to_ascii_lowercase c ≡ c
 stays c h = grind (arith, nat_tests)

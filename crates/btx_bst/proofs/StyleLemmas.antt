@@ -2,7 +2,7 @@
 use Rattle.std.proofs.Common.{◌≡◌, ℕ, zero, suc, ◌+◌, ◌-◌, ◌<◌, ◌≤◌, Bool, true, false, cond, List, [], ◌∷◌, ◌++◌, length, take, drop, refl, ap, arith, Option, Some, None}
 use Rattle.std.specs.Prelude.{is_some, replicate}
 use Rattle.std.proofs.lemmas.List.{length-drop, length-append, take-append-le, length-replicate}
-use Rattle.btx_text.specs.Keys.{folded}
+use Rattle.btx_text.specs.language.Keys.{folded}
 use Rattle.btx_bst.specs.declared.callee.Callee.{Callee}
 use Rattle.btx_bst.specs.declared.callee.Kind.{Kind}
 use Rattle.btx_bst.specs.declared.callee.Kind.TheVariants as kind
@@ -10,22 +10,22 @@ use Rattle.btx_bst.specs.declared.token.Token.{Token}
 use Rattle.btx_bst.specs.declared.token.Token.TheVariants.{Quote, Run}
 use Rattle.btx_bst.specs.declared.command.Command.{Command}
 use Rattle.btx_bst.specs.declared.command.Command.TheVariants as command
-use Rattle.btx_bst.specs.Places.{Place, ink, size, further}
-use Rattle.btx_bst.specs.Fronts.{letters_len}
-use Rattle.btx_bst.specs.Complaints.{Complaint, Defined, Unknown, EndOfFile, NoCommand, Another, BeforeEntry, BeforeRead, AfterRead}
-use Rattle.btx_bst.specs.Reads.{Read, Took, Slip}
-use Rattle.btx_bst.specs.Bodies.{Body}
-use Rattle.btx_bst.specs.Items.{Item, Read as ReadItem, Sort as SortItem}
-use Rattle.btx_bst.specs.Words.{Word, Open, Close, String, Integer, Quoted, Name, Faulty, Unended, Ended, met_at}
-use Rattle.btx_bst.specs.Names.{Names, named, macro_lower, padded}
-use Rattle.btx_bst.specs.Turns.{Turn, Again, Ends, follow}
-use Rattle.btx_bst.specs.Lists.{opening, closing, name_at, quoted_at, front_of, list_at, list_read, list_end, list_turn, Listing, Listed, listing, unlisted}
-use Rattle.btx_bst.specs.BodyText.{Inside, End, Whole, Broken, with_named, closed_inside, word_turn, body_turn, body_end}
-use Rattle.btx_bst.specs.Style.{Style}
-use Rattle.btx_bst.specs.Outcomes.{Outcome, outcome, after_read, with_item}
-use Rattle.btx_bst.specs.Commands.{after_list, after_listed, entry, entry_lists, function, function_of, function_ended, inside_at, read, run, run_of, run_name, sort, declare, macro_command, macro_of, macro_name, function_in, command_at, command_named}
-use Rattle.btx_bst.specs.StyleText.{State, resumed, resumed_after, word_outcome, item_in, item_turn, style_in, style_from}
-use Rattle.btx_bst.specs.Weights.{names_weight, weight, HasRoom}
+use Rattle.btx_bst.specs.language.Places.{Place, ink, size, further}
+use Rattle.btx_bst.specs.language.Fronts.{letters_len}
+use Rattle.btx_bst.specs.language.Complaints.{Complaint, Defined, Unknown, EndOfFile, NoCommand, Another, BeforeEntry, BeforeRead, AfterRead}
+use Rattle.btx_bst.specs.language.Reads.{Read, Took, Slip}
+use Rattle.btx_bst.specs.language.Bodies.{FunctionBody}
+use Rattle.btx_bst.specs.language.Items.{Item, Read as ReadItem, Sort as SortItem}
+use Rattle.btx_bst.specs.language.Words.{BodyWord, Open, Close, String, Integer, Quoted, Name, Faulty, Unended, Ended, met_at}
+use Rattle.btx_bst.specs.language.Names.{Names, named, macro_lower, padded}
+use Rattle.btx_bst.specs.language.Turns.{Turn, Again, Ends, after_turn}
+use Rattle.btx_bst.specs.language.Lists.{opening, closing, next_name, quoted_at, front_of, list_at, list_read, list_end, list_turn, Listing, Listed, listing, unlisted}
+use Rattle.btx_bst.specs.language.BodyText.{Inside, BodyEnd, Whole, Broken, with_named, closed_inside, word_turn, body_turn, body_end}
+use Rattle.btx_bst.specs.language.Style.{Style}
+use Rattle.btx_bst.specs.language.Outcomes.{CommandOutcome, outcome, after_read, with_item}
+use Rattle.btx_bst.specs.language.Commands.{after_list, after_listed, entry_command, entry_lists, function_command, function_of, function_ended, inside_at, read_command, run_command, run_of, run_name, sort_command, declare, macro_command, macro_of, macro_name, function_in, command_at, command_named}
+use Rattle.btx_bst.specs.language.StyleText.{StyleState, resumed, resumed_after, word_outcome, item_in, item_turn, style_so_far, style_from}
+use Rattle.btx_bst.specs.refinement.Weights.{names_weight, weight, HasRoom}
 use Rattle.btx_bst.proofs.TurnLemmas.{OnTurn, turns-next, turns-keep}
 use Rattle.btx_bst.proofs.SizeLemmas.{ink-size, skipped-size}
 use Rattle.btx_bst.proofs.ListLemmas.{Sized, closing-size, opening-size, name_at-size, quoted_at-size, list_turn-size, ListTurn, list_at-weight}
@@ -49,7 +49,7 @@ list_at-size kind names p = at (opening p) (opening-size p) where
   at (Slip c q) h = h
   at (Took x q) h = let k = list_end-size kind (listing names q) in omega arith
 
-weaken_body : (m n : ℕ) (t : Turn Inside End) → m ≤ n → BodyTurn m t → OnTurn (λ s. size s.place ≤ n) (λ r. size (place_of r) ≤ n) t
+weaken_body : (m n : ℕ) (t : Turn Inside BodyEnd) → m ≤ n → BodyTurn m t → OnTurn (λ s. size s.place ≤ n) (λ r. size (place_of r) ≤ n) t
 weaken_body m n (Again s) h k = omega arith
 weaken_body m n (Ends r) h k = omega arith
 
@@ -73,21 +73,21 @@ Begins-more : {A : Type 0} (xs ys : List A) (y : A) → Begins xs ys → Begins 
 Begins-more xs ys y h = (omega (arith, h.0, length-append ys (y ∷ [])), rw (take-append-le (length xs) ys (y ∷ []) h.0) h.1)
 
 -- what is known inside a body adds to these bodies and strings
-abbrev pub Adds : List Body → List (List ℕ) → Inside → Type 0
+abbrev pub Adds : List FunctionBody → List (List ℕ) → Inside → Type 0
 Adds bodies texts s = Begins bodies s.bodies × Begins texts s.texts
 
-abbrev Grows : List Body → List (List ℕ) → Turn Inside End → Type 0
+abbrev Grows : List FunctionBody → List (List ℕ) → Turn Inside BodyEnd → Type 0
 Grows bodies texts t = OnTurn (Adds bodies texts) (λ r. Adds bodies texts (inside_of r)) t
 
-with_named-adds : (token : Callee → Token) (name : List ℕ) (bodies : List Body) (texts : List (List ℕ)) (s : Inside) (o : Option Callee) → Adds bodies texts s → Adds bodies texts (with_named token name s o)
+with_named-adds : (token : Callee → Token) (name : List ℕ) (bodies : List FunctionBody) (texts : List (List ℕ)) (s : Inside) (o : Option Callee) → Adds bodies texts s → Adds bodies texts (with_named token name s o)
 with_named-adds token name bodies texts s None h = h
 with_named-adds token name bodies texts s (Some callee) h = h
 
-closed_inside-grows : (bodies : List Body) (texts : List (List ℕ)) (s : Inside) (around : List Body) → Adds bodies texts s → Grows bodies texts (closed_inside s around)
+closed_inside-grows : (bodies : List FunctionBody) (texts : List (List ℕ)) (s : Inside) (around : List FunctionBody) → Adds bodies texts s → Grows bodies texts (closed_inside s around)
 closed_inside-grows bodies texts s [] h = h
 closed_inside-grows bodies texts s (outer ∷ around) h = (Begins-more bodies s.bodies s.tokens h.0, h.1)
 
-word_turn-grows : (names : Names) (bodies : List Body) (texts : List (List ℕ)) (s : Inside) (w : Word) → Adds bodies texts s → Grows bodies texts (word_turn names s w)
+word_turn-grows : (names : Names) (bodies : List FunctionBody) (texts : List (List ℕ)) (s : Inside) (w : BodyWord) → Adds bodies texts s → Grows bodies texts (word_turn names s w)
 word_turn-grows names bodies texts s Open h = h
 word_turn-grows names bodies texts s Close h = closed_inside-grows bodies texts s s.around h
 word_turn-grows names bodies texts s (String text) h = (h.0, Begins-more texts s.texts text h.1)
@@ -98,7 +98,7 @@ word_turn-grows names bodies texts s (Faulty c) h = h
 word_turn-grows names bodies texts s Unended h = h
 word_turn-grows names bodies texts s Ended h = h
 
-body_turn-grows : (names : Names) (bodies : List Body) (texts : List (List ℕ)) (s : Inside) → Adds bodies texts s → Grows bodies texts (body_turn names s)
+body_turn-grows : (names : Names) (bodies : List FunctionBody) (texts : List (List ℕ)) (s : Inside) → Adds bodies texts s → Grows bodies texts (body_turn names s)
 unfolding body_turn
 body_turn-grows names bodies texts s h = word_turn-grows names bodies texts (record s { place = (met_at s.place).place }) (met_at s.place).word h
 
@@ -123,7 +123,7 @@ abbrev pub counts : Style → ℕ
 counts style = length style.bodies + length style.texts + names_weight style.names
 
 -- so much of the text is left at most, the style and it weigh so much at most, and no function has a name before it has a body
-abbrev pub Within : ℕ → ℕ → Outcome → Type 0
+abbrev pub Within : ℕ → ℕ → CommandOutcome → Type 0
 Within n m o = (size o.place ≤ n) × (weight o.style o.place ≤ m) × (length o.style.names.functions ≤ length o.style.bodies)
 
 abbrev Base : ℕ → ℕ → Style → Type 0
@@ -132,7 +132,7 @@ Base n m style = (n + counts style ≤ m) × (length style.names.functions ≤ l
 here : (c : Option Complaint) (style : Style) (p : Place) (n m : ℕ) → size p ≤ n → Base n m style → Within n m (outcome c style p)
 here c style p n m h b = (h, omega (arith, b.0), b.1)
 
-after_read-within : {A : Type 0} (style : Style) (r : Read A) (go : A → Place → Outcome) (n m : ℕ) → Sized n r → Base n m style → ((x : A) (p : Place) → size p < n → Within n m (go x p)) → Within n m (after_read style r go)
+after_read-within : {A : Type 0} (style : Style) (r : Read A) (go : A → Place → CommandOutcome) (n m : ℕ) → Sized n r → Base n m style → ((x : A) (p : Place) → size p < n → Within n m (go x p)) → Within n m (after_read style r go)
 after_read-within style (Took x p) go n m h b k = k x p h
 after_read-within style (Slip c p) go n m h b k = here (Some c) style p n m h b
 
@@ -140,11 +140,11 @@ weaker : {A : Type 0} (m n : ℕ) (r : Read A) → m ≤ n → Sized m r → Siz
 weaker m n (Took x p) h k = omega arith
 weaker m n (Slip c p) h k = omega arith
 
-after_listed-within : (c : Option Complaint) (style : Style) (p : Place) (go : Style → Place → Outcome) (n m : ℕ) → size p ≤ n → size p + counts style ≤ m → length style.names.functions ≤ length style.bodies → Within n m (go style p) → Within n m (after_listed c style p go)
+after_listed-within : (c : Option Complaint) (style : Style) (p : Place) (go : Style → Place → CommandOutcome) (n m : ℕ) → size p ≤ n → size p + counts style ≤ m → length style.names.functions ≤ length style.bodies → Within n m (go style p) → Within n m (after_listed c style p go)
 after_listed-within None style p go n m h w f k = k
 after_listed-within (Some c) style p go n m h w f k = (h, omega arith, f)
 
-after_list-within : (style : Style) (kind : Kind) (p : Place) (go : Style → Place → Outcome) (n m : ℕ) → size p ≤ n → size p + counts style ≤ m → length style.names.functions ≤ length style.bodies → ((d : Style) (q : Place) → size q ≤ n → size q + counts d ≤ m → length d.names.functions ≤ length d.bodies → Within n m (go d q)) → Within n m (after_list style (list_at kind style.names p) go)
+after_list-within : (style : Style) (kind : Kind) (p : Place) (go : Style → Place → CommandOutcome) (n m : ℕ) → size p ≤ n → size p + counts style ≤ m → length style.names.functions ≤ length style.bodies → ((d : Style) (q : Place) → size q ≤ n → size q + counts d ≤ m → length d.names.functions ≤ length d.bodies → Within n m (go d q)) → Within n m (after_list style (list_at kind style.names p) go)
 after_list-within style kind p go n m h w f k =
     let l = list_at kind style.names p in
     let d : Style = record style { names = l.listing.names } in
@@ -154,8 +154,8 @@ after_list-within style kind p go n m h w f k =
     let named_once : length d.names.functions ≤ length d.bodies = rw a.1 f in
     after_listed-within l.complaint d l.listing.place go n m less heavy named_once (k d l.listing.place less heavy named_once)
 
-entry-within : (style : Style) (p : Place) → length style.names.functions ≤ length style.bodies → Within (size p) (weight style p) (entry style p)
-unfolding entry
+entry-within : (style : Style) (p : Place) → length style.names.functions ≤ length style.bodies → Within (size p) (weight style p) (entry_command style p)
+unfolding entry_command
 entry-within style p f = at style.has_entry where
   at : (t : Bool) → Within (size p) (weight style p) (cond t (outcome (Some (Another command.Entry)) style p) (entry_lists style p))
   at true = (omega arith, omega arith, f)
@@ -170,10 +170,10 @@ padded-len n functions name h =
 
 function_ended-within : (style : Style) (name : List ℕ) (s : Inside) (n m : ℕ) → size s.place < n → Base n m style → s.bodies ≡ style.bodies → s.texts ≡ style.texts → Within n m (function_ended style name (body_end style.names s))
 function_ended-within style name s n m h b e g = at (body_end style.names s) (body_end-weight style.names s) (body_end-grows style.names s) (body_end-size style.names s) where
-  at : (r : End) → size (inside_of r).place + length (inside_of r).bodies + length (inside_of r).texts ≤ size s.place + length s.bodies + length s.texts → Adds s.bodies s.texts (inside_of r) → size (place_of r) ≤ size s.place → Within n m (function_ended style name r)
+  at : (r : BodyEnd) → size (inside_of r).place + length (inside_of r).bodies + length (inside_of r).texts ≤ size s.place + length s.bodies + length s.texts → Adds s.bodies s.texts (inside_of r) → size (place_of r) ≤ size s.place → Within n m (function_ended style name r)
   at (Broken c i) w a z = (omega arith, omega (arith, b.0), b.1)
   at (Whole i) w a z =
-      let eb : length s.bodies ≡ length style.bodies = ap (λ (xs : List Body). length xs) e in
+      let eb : length s.bodies ≡ length style.bodies = ap (λ (xs : List FunctionBody). length xs) e in
       let et : length s.texts ≡ length style.texts = ap (λ (xs : List (List ℕ)). length xs) g in
       let f : length style.names.functions ≤ length i.bodies = omega (arith, a.0.0, eb, b.1) in
       let l = length-append i.bodies (i.tokens ∷ []) in
@@ -186,16 +186,16 @@ function_of-within style name p None n m h b =
     after_read-within style (opening q) _ n m (weaker (size q) n (opening q) (omega arith) (opening-size q)) b (λ x r l.
     function_ended-within style (folded name) (inside_at style r) n m l b refl refl))
 
-function-within : (style : Style) (p : Place) → length style.names.functions ≤ length style.bodies → Within (size p) (weight style p) (function style p)
-unfolding function
+function-within : (style : Style) (p : Place) → length style.names.functions ≤ length style.bodies → Within (size p) (weight style p) (function_command style p)
+unfolding function_command
 function-within style p f =
     let b : Base (size p) (weight style p) style = (omega arith, f) in
     after_read-within style (opening p) _ (size p) (weight style p) (opening-size p) b (λ x q k.
-    after_read-within style (name_at q) _ (size p) (weight style p) (weaker (size q) (size p) (name_at q) (omega arith) (name_at-size q)) b (λ name r l.
+    after_read-within style (next_name q) _ (size p) (weight style p) (weaker (size q) (size p) (next_name q) (omega arith) (name_at-size q)) b (λ name r l.
     function_of-within style name r (named style.names name) (size p) (weight style p) l b))
 
-read-within : (style : Style) (p : Place) → length style.names.functions ≤ length style.bodies → Within (size p) (weight style p) (read style p)
-unfolding read
+read-within : (style : Style) (p : Place) → length style.names.functions ≤ length style.bodies → Within (size p) (weight style p) (read_command style p)
+unfolding read_command
 read-within style p f = at (is_some style.before_read) style.has_entry where
   at : (t u : Bool) → Within (size p) (weight style p) (cond t (outcome (Some (Another command.Read)) style p) (cond u (outcome None (with_item ReadItem (record style { before_read = Some (length style.bodies) })) p) (outcome (Some BeforeEntry) style p)))
   at true u = (omega arith, omega arith, f)
@@ -207,18 +207,18 @@ run_of-within item style name p None n m h b = here (Some (Unknown name)) style 
 run_of-within item style name p (Some callee) n m h b =
     after_read-within style (closing p) _ n m (weaker (size p) n (closing p) h (closing-size p)) b (λ x q k. (omega arith, omega (arith, b.0), b.1))
 
-run-within : (c : Command) (item : Callee → Item) (style : Style) (p : Place) → length style.names.functions ≤ length style.bodies → Within (size p) (weight style p) (run c item style p)
-unfolding run
+run-within : (c : Command) (item : Callee → Item) (style : Style) (p : Place) → length style.names.functions ≤ length style.bodies → Within (size p) (weight style p) (run_command c item style p)
+unfolding run_command
 run-within c item style p f = at (is_some style.before_read) where
   at : (t : Bool) → Within (size p) (weight style p) (cond t (run_name item style p) (outcome (Some (BeforeRead c)) style p))
   at true =
       after_read-within style (opening p) _ (size p) (weight style p) (opening-size p) (omega arith, f) (λ x q k.
-      after_read-within style (name_at q) _ (size p) (weight style p) (weaker (size q) (size p) (name_at q) (omega arith) (name_at-size q)) (omega arith, f) (λ name r l.
+      after_read-within style (next_name q) _ (size p) (weight style p) (weaker (size q) (size p) (next_name q) (omega arith) (name_at-size q)) (omega arith, f) (λ name r l.
       run_of-within item style name r (function_in (named style.names name)) (size p) (weight style p) (omega arith) (omega arith, f)))
   at false = (omega arith, omega arith, f)
 
-sort-within : (style : Style) (p : Place) → length style.names.functions ≤ length style.bodies → Within (size p) (weight style p) (sort style p)
-unfolding sort
+sort-within : (style : Style) (p : Place) → length style.names.functions ≤ length style.bodies → Within (size p) (weight style p) (sort_command style p)
+unfolding sort_command
 sort-within style p f = at (is_some style.before_read) where
   at : (t : Bool) → Within (size p) (weight style p) (cond t (outcome None (with_item SortItem style) p) (outcome (Some (BeforeRead command.Sort)) style p))
   at true = (omega arith, omega arith, f)
@@ -243,7 +243,7 @@ macro-within style p f = at (is_some style.before_read) where
   at true = (omega arith, omega arith, f)
   at false =
       after_read-within style (opening p) _ (size p) (weight style p) (opening-size p) (omega arith, f) (λ x q k.
-      after_read-within style (name_at q) _ (size p) (weight style p) (weaker (size q) (size p) (name_at q) (omega arith) (name_at-size q)) (omega arith, f) (λ name r l.
+      after_read-within style (next_name q) _ (size p) (weight style p) (weaker (size q) (size p) (next_name q) (omega arith) (name_at-size q)) (omega arith, f) (λ name r l.
       macro_of-within style name r (macro_lower style.macros (folded name)) (size p) (weight style p) (omega arith) (omega arith, f)))
 
 command_at-within : (c : Command) (style : Style) (p : Place) → length style.names.functions ≤ length style.bodies → Within (size p) (weight style p) (command_at c style p)
@@ -263,14 +263,14 @@ word_outcome-within style p word None f = (omega arith, omega arith, f)
 word_outcome-within style p word (Some c) f = command_at-within c style p f
 
 -- what is left after an item, and the style's weight then
-abbrev StateWithin : ℕ → ℕ → State → Type 0
+abbrev StateWithin : ℕ → ℕ → StyleState → Type 0
 StateWithin n m s = (size s.place ≤ n) × (weight s.style s.place ≤ m) × (length s.style.names.functions ≤ length s.style.bodies)
 
 resumed-within : (c : Option Complaint) (style : Style) (p : Place) (n m : ℕ) → Within n m (outcome c style p) → StateWithin n m (resumed c style p)
 resumed-within None style p n m h = h
 resumed-within (Some c) style p n m h = (omega (arith, h.0, skipped-size p), omega (arith, h.1, skipped-size p), h.2)
 
-front_of-within : (style : Style) (p : Place) (n k : ℕ) (go : List ℕ → Place → Outcome) → size p ≤ n → 0 < length p.line → length style.names.functions ≤ length style.bodies → ((word : List ℕ) (q : Place) → Within (size q) (weight style q) (go word q)) → (size (resumed_after (after_read style (front_of NoCommand p p.line k) go)).place < n) × StateWithin n (weight style p) (resumed_after (after_read style (front_of NoCommand p p.line k) go))
+front_of-within : (style : Style) (p : Place) (n k : ℕ) (go : List ℕ → Place → CommandOutcome) → size p ≤ n → 0 < length p.line → length style.names.functions ≤ length style.bodies → ((word : List ℕ) (q : Place) → Within (size q) (weight style q) (go word q)) → (size (resumed_after (after_read style (front_of NoCommand p p.line k) go)).place < n) × StateWithin n (weight style p) (resumed_after (after_read style (front_of NoCommand p p.line k) go))
 unfolding size
 front_of-within style p n zero go h some f each =
     let a = skipped-size p in (omega arith, (omega arith, omega arith, f))
@@ -289,22 +289,22 @@ item_in-within style p (b ∷ bs) n e h f =
 
 -- ---- each item leaves less, whatever the style
 
-after_read-size : {A : Type 0} (style : Style) (r : Read A) (go : A → Place → Outcome) (n : ℕ) → Sized n r → ((x : A) (p : Place) → size p < n → size (go x p).place ≤ n) → size (after_read style r go).place ≤ n
+after_read-size : {A : Type 0} (style : Style) (r : Read A) (go : A → Place → CommandOutcome) (n : ℕ) → Sized n r → ((x : A) (p : Place) → size p < n → size (go x p).place ≤ n) → size (after_read style r go).place ≤ n
 after_read-size style (Took x p) go n h k = k x p h
 after_read-size style (Slip c p) go n h k = h
 
-after_listed-size : (c : Option Complaint) (style : Style) (p : Place) (go : Style → Place → Outcome) (n : ℕ) → size p ≤ n → ((d : Style) → size (go d p).place ≤ n) → size (after_listed c style p go).place ≤ n
+after_listed-size : (c : Option Complaint) (style : Style) (p : Place) (go : Style → Place → CommandOutcome) (n : ℕ) → size p ≤ n → ((d : Style) → size (go d p).place ≤ n) → size (after_listed c style p go).place ≤ n
 after_listed-size None style p go n h k = k style
 after_listed-size (Some c) style p go n h k = h
 
-after_list-size : (style : Style) (kind : Kind) (p : Place) (go : Style → Place → Outcome) (n : ℕ) → size p ≤ n → ((d : Style) (q : Place) → size q ≤ n → size (go d q).place ≤ n) → size (after_list style (list_at kind style.names p) go).place ≤ n
+after_list-size : (style : Style) (kind : Kind) (p : Place) (go : Style → Place → CommandOutcome) (n : ℕ) → size p ≤ n → ((d : Style) (q : Place) → size q ≤ n → size (go d q).place ≤ n) → size (after_list style (list_at kind style.names p) go).place ≤ n
 after_list-size style kind p go n h k =
     let l = list_at kind style.names p in
     let less : size l.listing.place ≤ n = let s = list_at-size kind style.names p in omega arith in
     after_listed-size l.complaint (record style { names = l.listing.names }) l.listing.place go n less (λ d. k d l.listing.place less)
 
-entry-size : (style : Style) (p : Place) → size (entry style p).place ≤ size p
-unfolding entry
+entry-size : (style : Style) (p : Place) → size (entry_command style p).place ≤ size p
+unfolding entry_command
 entry-size style p = at style.has_entry where
   at : (t : Bool) → size (cond t (outcome (Some (Another command.Entry)) style p) (entry_lists style p)).place ≤ size p
   at true = omega arith
@@ -313,7 +313,7 @@ entry-size style p = at style.has_entry where
       after_list-size d kind.EntryInteger q _ (size p) h (λ d q h.
       after_list-size d kind.EntryString q _ (size p) h (λ d q h. h)))
 
-function_ended-size : (style : Style) (name : List ℕ) (e : End) (n : ℕ) → size (place_of e) ≤ n → size (function_ended style name e).place ≤ n
+function_ended-size : (style : Style) (name : List ℕ) (e : BodyEnd) (n : ℕ) → size (place_of e) ≤ n → size (function_ended style name e).place ≤ n
 function_ended-size style name (Broken c i) n h = h
 function_ended-size style name (Whole i) n h = h
 
@@ -324,15 +324,15 @@ function_of-size style name p None n h =
     after_read-size style (opening q) _ n (weaker (size q) n (opening q) (omega arith) (opening-size q)) (λ x r l.
     function_ended-size style (folded name) (body_end style.names (inside_at style r)) n (let s = body_end-size style.names (inside_at style r) in omega arith)))
 
-function-size : (style : Style) (p : Place) → size (function style p).place ≤ size p
-unfolding function
+function-size : (style : Style) (p : Place) → size (function_command style p).place ≤ size p
+unfolding function_command
 function-size style p =
     after_read-size style (opening p) _ (size p) (opening-size p) (λ x q k.
-    after_read-size style (name_at q) _ (size p) (weaker (size q) (size p) (name_at q) (omega arith) (name_at-size q)) (λ name r l.
+    after_read-size style (next_name q) _ (size p) (weaker (size q) (size p) (next_name q) (omega arith) (name_at-size q)) (λ name r l.
     function_of-size style name r (named style.names name) (size p) (omega arith)))
 
-read-size : (style : Style) (p : Place) → size (read style p).place ≤ size p
-unfolding read
+read-size : (style : Style) (p : Place) → size (read_command style p).place ≤ size p
+unfolding read_command
 read-size style p = at (is_some style.before_read) style.has_entry where
   at : (t u : Bool) → size (cond t (outcome (Some (Another command.Read)) style p) (cond u (outcome None (with_item ReadItem (record style { before_read = Some (length style.bodies) })) p) (outcome (Some BeforeEntry) style p))).place ≤ size p
   at true u = omega arith
@@ -344,18 +344,18 @@ run_of-size item style name p None n h = h
 run_of-size item style name p (Some callee) n h =
     after_read-size style (closing p) _ n (weaker (size p) n (closing p) h (closing-size p)) (λ x q k. omega arith)
 
-run-size : (c : Command) (item : Callee → Item) (style : Style) (p : Place) → size (run c item style p).place ≤ size p
-unfolding run
+run-size : (c : Command) (item : Callee → Item) (style : Style) (p : Place) → size (run_command c item style p).place ≤ size p
+unfolding run_command
 run-size c item style p = at (is_some style.before_read) where
   at : (t : Bool) → size (cond t (run_name item style p) (outcome (Some (BeforeRead c)) style p)).place ≤ size p
   at true =
       after_read-size style (opening p) _ (size p) (opening-size p) (λ x q k.
-      after_read-size style (name_at q) _ (size p) (weaker (size q) (size p) (name_at q) (omega arith) (name_at-size q)) (λ name r l.
+      after_read-size style (next_name q) _ (size p) (weaker (size q) (size p) (next_name q) (omega arith) (name_at-size q)) (λ name r l.
       run_of-size item style name r (function_in (named style.names name)) (size p) (omega arith)))
   at false = omega arith
 
-sort-size : (style : Style) (p : Place) → size (sort style p).place ≤ size p
-unfolding sort
+sort-size : (style : Style) (p : Place) → size (sort_command style p).place ≤ size p
+unfolding sort_command
 sort-size style p = at (is_some style.before_read) where
   at : (t : Bool) → size (cond t (outcome None (with_item SortItem style) p) (outcome (Some (BeforeRead command.Sort)) style p)).place ≤ size p
   at true = omega arith
@@ -380,7 +380,7 @@ macro-size style p = at (is_some style.before_read) where
   at true = omega arith
   at false =
       after_read-size style (opening p) _ (size p) (opening-size p) (λ x q k.
-      after_read-size style (name_at q) _ (size p) (weaker (size q) (size p) (name_at q) (omega arith) (name_at-size q)) (λ name r l.
+      after_read-size style (next_name q) _ (size p) (weaker (size q) (size p) (next_name q) (omega arith) (name_at-size q)) (λ name r l.
       macro_of-size style name r (macro_lower style.macros (folded name)) (size p) (omega arith)))
 
 command_at-size : (c : Command) (style : Style) (p : Place) → size (command_at c style p).place ≤ size p
@@ -403,7 +403,7 @@ resumed-size : (c : Option Complaint) (style : Style) (p : Place) → size (resu
 resumed-size None style p = omega arith
 resumed-size (Some c) style p = omega (arith, skipped-size p)
 
-front_of-less : (style : Style) (p : Place) (n k : ℕ) (go : List ℕ → Place → Outcome) → size p ≤ n → 0 < length p.line → ((word : List ℕ) (q : Place) → size (go word q).place ≤ size q) → size (resumed_after (after_read style (front_of NoCommand p p.line k) go)).place < n
+front_of-less : (style : Style) (p : Place) (n k : ℕ) (go : List ℕ → Place → CommandOutcome) → size p ≤ n → 0 < length p.line → ((word : List ℕ) (q : Place) → size (go word q).place ≤ size q) → size (resumed_after (after_read style (front_of NoCommand p p.line k) go)).place < n
 unfolding size
 front_of-less style p n zero go h some each = omega (arith, skipped-size p)
 front_of-less style p n (suc k) go h some each =
@@ -417,28 +417,28 @@ item_in-size style p (b ∷ bs) n e h =
     let some : 0 < length p.line = rw e (omega arith) in
     front_of-less style p n (letters_len p.line) _ h some (λ word q. word_outcome-size style q word (command_named (folded word)))
 
-abbrev left_in : State → ℕ
+abbrev left_in : StyleState → ℕ
 left_in s = size s.place
 
-item_turn-size : (s : State) → OnTurn (λ t. left_in t < left_in s) (λ (r : Style). Unit {0}) (item_turn s)
+item_turn-size : (s : StyleState) → OnTurn (λ t. left_in t < left_in s) (λ (r : Style). Unit {0}) (item_turn s)
 unfolding item_turn
 item_turn-size s = item_in-size s.style (ink s.place) (ink s.place).line (size s.place) refl (ink-size s.place)
 
-pub style_from-next : (s : State) → style_from s ≡ follow style_from (item_turn s)
+pub style_from-next : (s : StyleState) → style_from s ≡ after_turn style_from (item_turn s)
 unfolding style_from
-style_from-next s = turns-next item_turn style_in left_in item_turn-size s
+style_from-next s = turns-next item_turn style_so_far left_in item_turn-size s
 
-pub style_from-again : (s t : State) → item_turn s ≡ Again t → style_from s ≡ style_from t
+pub style_from-again : (s t : StyleState) → item_turn s ≡ Again t → style_from s ≡ style_from t
 style_from-again s t e = rw (style_from-next s, e) refl
 
-pub style_from-ends : (s : State) (r : Style) → item_turn s ≡ Ends r → style_from s ≡ r
+pub style_from-ends : (s : StyleState) (r : Style) → item_turn s ≡ Ends r → style_from s ≡ r
 style_from-ends s r e = rw (style_from-next s, e) refl
 
-pub item_turn-less : (s t : State) → item_turn s ≡ Again t → size t.place < size s.place
+pub item_turn-less : (s t : StyleState) → item_turn s ≡ Again t → size t.place < size s.place
 item_turn-less s t e = let h : OnTurn (λ t. left_in t < left_in s) (λ (r : Style). Unit {0}) (Again t) = rw e at (item_turn-size s) in h
 
 -- a style keeps its room, item by item
-pub item_turn-room : (s t : State) → item_turn s ≡ Again t → HasRoom s.style s.place → HasRoom t.style t.place
+pub item_turn-room : (s t : StyleState) → item_turn s ≡ Again t → HasRoom s.style s.place → HasRoom t.style t.place
 unfolding item_turn
 item_turn-room s t e h =
     let p = ink s.place in

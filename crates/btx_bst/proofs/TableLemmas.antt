@@ -12,9 +12,10 @@ use Rattle.btx_bst.specs.declared.built_in.BuiltIn.{BuiltIn}
 use Rattle.btx_bst.specs.declared.built_in.TheConstants.{BUILT_INS}
 use Rattle.btx_bst.specs.declared.callee.Callee.{Callee}
 use Rattle.btx_bst.specs.declared.callee.Callee.TheVariants as callee
-use Rattle.btx_bst.specs.BuiltIns.{built_ins, built_in_of, word_of}
-use Rattle.btx_bst.specs.Names.{Names, no_names, named_lower, macro_lower}
-use Rattle.btx_bst.specs.NameTables.{Entries, found_in, pairs_in, words_in, added, IsTable, macros_view}
+use Rattle.btx_bst.specs.language.BuiltIns.{built_ins, built_in_of, built_in_name}
+use Rattle.btx_bst.specs.language.Names.{Names, named_lower, macro_lower}
+use Rattle.btx_bst.specs.laws.Names.{no_names}
+use Rattle.btx_bst.specs.refinement.NameTables.{Entries, found_in, pairs_in, words_in, with_built_in, IsTable, macros_view}
 
 abbrev pub same_name : Vec ℕ Global → Vec ℕ Global → Bool
 same_name a b = bytes_eq a.items b.items
@@ -30,11 +31,11 @@ pairs-insert (e ∷ es) k c = at (bytes_eq k.items e.0.items) (pairs-insert es k
   at false h = ap (λ (rest : List Pair). (e.0.items, e.1) ∷ rest) h
 
 -- the words are all different
-pub all-words : fold added [] BUILT_INS ≡ words_in built_ins
+pub all-words : fold with_built_in [] BUILT_INS ≡ words_in built_ins
 unfolding built_ins
 all-words = refl
 
-pub word-added : (es fs : Entries) (k : Vec ℕ Global) (b : BuiltIn) → k.items ≡ word_of b → fs ≡ insert_entry same_name es k (callee.BuiltIn b) → pairs_in fs ≡ added (pairs_in es) b
+pub word-added : (es fs : Entries) (k : Vec ℕ Global) (b : BuiltIn) → k.items ≡ built_in_name b → fs ≡ insert_entry same_name es k (callee.BuiltIn b) → pairs_in fs ≡ with_built_in (pairs_in es) b
 word-added es fs k b e f =
     ap pairs_in f ∙ pairs-insert es k (callee.BuiltIn b) ∙ ap (λ (w : List ℕ). insert_entry bytes_eq (pairs_in es) w (callee.BuiltIn b)) e
 
@@ -44,10 +45,10 @@ pub found-pairs : (es : Entries) (m : List ℕ) → found_in es m ≡ lookup (by
 found-pairs [] m = refl
 found-pairs (e ∷ es) m = ap (cond (bytes_eq m e.0.items) (Some e.1)) (found-pairs es m)
 
-found-words : (bs : List BuiltIn) (m : List ℕ) → lookup (bytes_eq m) (words_in bs) ≡ option_map callee.BuiltIn (find (λ (b : BuiltIn). bytes_eq m (word_of b)) bs)
+found-words : (bs : List BuiltIn) (m : List ℕ) → lookup (bytes_eq m) (words_in bs) ≡ option_map callee.BuiltIn (find (λ (b : BuiltIn). bytes_eq m (built_in_name b)) bs)
 found-words [] m = refl
-found-words (b ∷ bs) m = at (bytes_eq m (word_of b)) (found-words bs m) where
-  at : (t : Bool) → lookup (bytes_eq m) (words_in bs) ≡ option_map callee.BuiltIn (find (λ (b : BuiltIn). bytes_eq m (word_of b)) bs) → cond t (Some (callee.BuiltIn b)) (lookup (bytes_eq m) (words_in bs)) ≡ option_map callee.BuiltIn (cond t (Some b) (find (λ (b : BuiltIn). bytes_eq m (word_of b)) bs))
+found-words (b ∷ bs) m = at (bytes_eq m (built_in_name b)) (found-words bs m) where
+  at : (t : Bool) → lookup (bytes_eq m) (words_in bs) ≡ option_map callee.BuiltIn (find (λ (b : BuiltIn). bytes_eq m (built_in_name b)) bs) → cond t (Some (callee.BuiltIn b)) (lookup (bytes_eq m) (words_in bs)) ≡ option_map callee.BuiltIn (cond t (Some b) (find (λ (b : BuiltIn). bytes_eq m (built_in_name b)) bs))
   at true h = refl
   at false h = h
 

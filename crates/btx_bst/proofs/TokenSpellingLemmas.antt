@@ -4,13 +4,13 @@ use Rattle.std.specs.Prelude.{not, ◌||◌, ◌&&◌}
 use Rattle.std.proofs.Math.Seq.{take-append_seam, drop-append_seam}
 use Rattle.std.proofs.lemmas.Bool.{eqb-true, eq-eqb}
 use Rattle.std.proofs.lemmas.List.{take-append-drop}
-use Rattle.btx_text.specs.Class.{is_white, is_digit, is_name_byte, begins_name}
-use Rattle.btx_bst.specs.Places.{Place, place_at, further, behind_white, line_or, ink_from, ink}
-use Rattle.btx_bst.specs.Complaints.{Complaint, NoCommand, NoName, NoQuote}
-use Rattle.btx_bst.specs.Reads.{Read, Took, Slip}
-use Rattle.btx_bst.specs.Fronts.{len_till, ends_name, is_no_letter, is_quote, quote_len, letters_len}
-use Rattle.btx_bst.specs.Lists.{brace_in, front_of, name_in, text_of, quoted_in, letters_at}
-use Rattle.btx_bst.specs.TokenSpelling.{NoneIn, Begins, EndsBefore, IsUpTo, IsBlank, is_ink, AllWhite, InkIn, GapFrom, Gap, Spaced, IsMissing, SignHere, NameHere, IsNoText, TextHere, LettersHere}
+use Rattle.btx_text.specs.language.Class.{is_white, is_digit, is_name_byte, begins_name}
+use Rattle.btx_bst.specs.language.Places.{Place, place_at, further, behind_white, line_or, ink_from, ink}
+use Rattle.btx_bst.specs.language.Complaints.{Complaint, NoCommand, NoName, NoQuote}
+use Rattle.btx_bst.specs.language.Reads.{Read, Took, Slip}
+use Rattle.btx_bst.specs.language.Fronts.{len_till, ends_name, is_no_letter, is_quote, quote_len, letters_len}
+use Rattle.btx_bst.specs.language.Lists.{brace_in, front_of, name_in, quoted_text, quoted_in, letters_at}
+use Rattle.btx_bst.specs.laws.TokenSpelling.{NoneIn, Begins, EndsBefore, IsUpTo, IsBlank, ends_gap, AllWhite, InkIn, GapFrom, Gap, BehindGap, IsMissing, StyleSignHere, StyleNameHere, IsNoText, TextHere, LettersHere}
 
 -- ---- runs of bytes
 
@@ -58,7 +58,7 @@ white_blank [] h = refl
 white_blank (b ∷ bs) (inl e) = ap (λ (n : ℕ). behind_white (n ∷ bs)) e
 white_blank (b ∷ bs) (inr h) = ap (λ (x : Bool). cond x (behind_white bs) (cond (b == 37) [] (b ∷ bs))) h.0 ∙ white_blank bs h.1
 
-white_ink : (white rest : List ℕ) → AllWhite white → Begins is_ink rest → behind_white (white ++ rest) ≡ rest
+white_ink : (white rest : List ℕ) → AllWhite white → Begins ends_gap rest → behind_white (white ++ rest) ≡ rest
 unfolding behind_white
 white_ink [] [] w i = absurd i
 white_ink [] (b ∷ bs) w i = at (is_white b) (b == 37) i where
@@ -68,7 +68,7 @@ white_ink [] (b ∷ bs) w i = at (is_white b) (b == 37) i where
   at false false h = refl
 white_ink (b ∷ white) rest w i = ap (λ (x : Bool). cond x (behind_white (white ++ rest)) (cond (b == 37) [] (b ∷ (white ++ rest)))) w.0 ∙ white_ink white rest w.1 i
 
-line_or_ink : (n : ℕ) (rest : List ℕ) (after : List (List ℕ)) (later : Place) → Begins is_ink rest → line_or n rest after later ≡ place_at n rest after
+line_or_ink : (n : ℕ) (rest : List ℕ) (after : List (List ℕ)) (later : Place) → Begins ends_gap rest → line_or n rest after later ≡ place_at n rest after
 line_or_ink n [] after later i = absurd i
 line_or_ink n (b ∷ bs) after later i = refl
 
@@ -90,7 +90,7 @@ gap_one p q h = gap_one_from p.number p.line p.after q h
 
 -- a line is blank, or has white and then something else
 abbrev Divides : List ℕ → List ℕ → Type 0
-Divides line behind = (IsBlank line × (behind ≡ [])) ⊎ ((white : List ℕ) × (rest : List ℕ) × AllWhite white × (line ≡ white ++ rest) × Begins is_ink rest × (behind ≡ rest))
+Divides line behind = (IsBlank line × (behind ≡ [])) ⊎ ((white : List ℕ) × (rest : List ℕ) × AllWhite white × (line ≡ white ++ rest) × Begins ends_gap rest × (behind ≡ rest))
 
 divides : (line : List ℕ) → Divides line (behind_white line)
 unfolding behind_white
@@ -123,13 +123,13 @@ pub record Agrees {A : Type 0} (R : Place → Read A → Type 0) (r : Place → 
   pub met : (p : Place) → R p (r p)
   pub one : (p : Place) (x : Read A) → R p x → r p ≡ x
 
-pub spaced : {A : Type 0} (R : Place → Read A → Type 0) (r : Place → Read A) → Agrees R r → Agrees (Spaced R) (λ p. r (ink p))
+pub spaced : {A : Type 0} (R : Place → Read A → Type 0) (r : Place → Read A) → Agrees R r → Agrees (BehindGap R) (λ p. r (ink p))
 spaced R r h = record { met = λ p. (ink p, gap_met p, h.met (ink p)); one = λ p x k. ap r (gap_one p k.0 k.1) ∙ h.one k.0 x k.2 }
 
-sign_met : (b : ℕ) (c : Complaint) (p : Place) (line : List ℕ) → p.line ≡ line → SignHere b c p (brace_in b c p line)
+sign_met : (b : ℕ) (c : Complaint) (p : Place) (line : List ℕ) → p.line ≡ line → StyleSignHere b c p (brace_in b c p line)
 sign_met b c p [] e = (refl, rw e refl)
 sign_met b c p (x ∷ xs) e = at (x == b) refl where
-  at : (t : Bool) → (x == b) ≡ t → SignHere b c p (cond t (Took tt (further p xs)) (Slip c p))
+  at : (t : Bool) → (x == b) ≡ t → StyleSignHere b c p (cond t (Took tt (further p xs)) (Slip c p))
   at true f = (xs, e ∙ ap (λ (n : ℕ). n ∷ xs) (eqb-true x b f), refl)
   at false f = (refl, rw e (f, refl))
 
@@ -138,19 +138,19 @@ sign_slip b c k p q [] e m = ap (λ (x : Complaint). Slip x p) (sym m) ∙ ap (S
 sign_slip b c k p q (x ∷ xs) e m =
     ap (λ (t : Bool). cond {A = Read (Unit {0})} t (Took tt (further p xs)) (Slip c p)) m.0 ∙ ap (λ (x : Complaint). Slip x p) (sym m.1) ∙ ap (Slip k) (sym e)
 
-sign_one : (b : ℕ) (c : Complaint) (p : Place) (x : Read (Unit {0})) → SignHere b c p x → brace_in b c p p.line ≡ x
+sign_one : (b : ℕ) (c : Complaint) (p : Place) (x : Read (Unit {0})) → StyleSignHere b c p x → brace_in b c p p.line ≡ x
 sign_one b c p (Took none q) h =
     ap (brace_in b c p) h.1 ∙ ap (λ (t : Bool). cond {A = Read (Unit {0})} t (Took tt (further p h.0)) (Slip c p)) (eq-eqb b b refl) ∙ ap (Took tt) (sym h.2)
 sign_one b c p (Slip k q) h = sign_slip b c k p q p.line h.0 h.1
 
-pub sign_agrees : (b : ℕ) (c : Complaint) → Agrees (SignHere b c) (λ p. brace_in b c p p.line)
+pub sign_agrees : (b : ℕ) (c : Complaint) → Agrees (StyleSignHere b c) (λ p. brace_in b c p p.line)
 sign_agrees b c = record { met = λ p. sign_met b c p p.line refl; one = sign_one b c }
 
-name_met : (p : Place) (line : List ℕ) → p.line ≡ line → NameHere p (name_in p line)
+name_met : (p : Place) (line : List ℕ) → p.line ≡ line → StyleNameHere p (name_in p line)
 unfolding len_till
 name_met p [] e = (refl, rw e refl)
 name_met p (b ∷ bs) e = at (is_digit b) (is_name_byte b) refl refl where
-  at : (d n : Bool) → is_digit b ≡ d → is_name_byte b ≡ n → NameHere p (front_of NoName p (b ∷ bs) (cond d 0 (cond (not n) 0 (suc (len_till ends_name bs)))))
+  at : (d n : Bool) → is_digit b ≡ d → is_name_byte b ≡ n → StyleNameHere p (front_of NoName p (b ∷ bs) (cond d 0 (cond (not n) 0 (suc (len_till ends_name bs)))))
   at true true f g = (refl, rw e (rw (f, g) refl, refl))
   at true false f g = (refl, rw e (rw (f, g) refl, refl))
   at false false f g = (refl, rw e (rw (f, g) refl, refl))
@@ -185,34 +185,34 @@ name_slip k p q (b ∷ bs) e m =
       at false false h = refl
       at false true h = absurd (cc)
 
-name_one : (p : Place) (x : Read (List ℕ)) → NameHere p x → name_in p p.line ≡ x
+name_one : (p : Place) (x : Read (List ℕ)) → StyleNameHere p x → name_in p p.line ≡ x
 name_one p (Took [] q) h = absurd h.2
 name_one p (Took (b ∷ w) q) h = ap (name_in p) h.1.joined ∙ name_front p b w h.0 h.1.none h.1.ends h.2 ∙ ap (Took (b ∷ w)) (sym h.3)
 name_one p (Slip k q) h = name_slip k p q p.line h.0 h.1
 
-pub name_agrees : Agrees NameHere (λ p. name_in p p.line)
+pub name_agrees : Agrees StyleNameHere (λ p. name_in p p.line)
 name_agrees = record { met = λ p. name_met p p.line refl; one = name_one }
 
 text_met : (p : Place) (line : List ℕ) → p.line ≡ line → TextHere p (quoted_in p line)
 text_met p [] e = (refl, rw e refl)
 text_met p (b ∷ bs) e = at (b == 34) refl where
-  ended : (t s : List ℕ) → p.line ≡ 34 ∷ bs → IsUpTo is_quote t bs s → TextHere p (text_of p t s)
+  ended : (t s : List ℕ) → p.line ≡ 34 ∷ bs → IsUpTo is_quote t bs s → TextHere p (quoted_text p t s)
   ended t [] f u = (refl, rw f (refl, inr (rw (u.joined ∙ append-nil t) u.none)))
   ended t (c ∷ rest) f u = (rest, f ∙ ap (λ (xs : List ℕ). 34 ∷ xs) (u.joined ∙ ap (λ (n : ℕ). t ++ n ∷ rest) (eqb-true c 34 u.ends)), u.none, refl)
 
-  at : (t : Bool) → (b == 34) ≡ t → TextHere p (cond t (text_of p (take (quote_len bs) bs) (drop (quote_len bs) bs)) (Slip NoQuote p))
+  at : (t : Bool) → (b == 34) ≡ t → TextHere p (cond t (quoted_text p (take (quote_len bs) bs) (drop (quote_len bs) bs)) (Slip NoQuote p))
   at true f = ended (take (quote_len bs) bs) (drop (quote_len bs) bs) (e ∙ ap (λ (n : ℕ). n ∷ bs) (eqb-true b 34 f)) (upto_met is_quote bs)
   at false f = (refl, rw e (refl, inl f))
 
-no_quote : (p : Place) (bs : List ℕ) → NoneIn is_quote bs → text_of p (take (quote_len bs) bs) (drop (quote_len bs) bs) ≡ Slip NoQuote p
+no_quote : (p : Place) (bs : List ℕ) → NoneIn is_quote bs → quoted_text p (take (quote_len bs) bs) (drop (quote_len bs) bs) ≡ Slip NoQuote p
 no_quote p bs none =
     let u : IsUpTo is_quote bs bs [] = record { joined = sym (append-nil bs); none = none; ends = tt } in
-    ap (text_of p (take (quote_len bs) bs)) (upto_drop is_quote bs bs [] u)
+    ap (quoted_text p (take (quote_len bs) bs)) (upto_drop is_quote bs bs [] u)
 
 text_slip : (k : Complaint) (p q : Place) (line : List ℕ) → q ≡ p → IsNoText k line → quoted_in p line ≡ Slip k q
 text_slip k p q [] e m = ap (λ (x : Complaint). Slip x p) (sym m) ∙ ap (Slip k) (sym e)
 text_slip k p q (b ∷ bs) e m = at (b == 34) refl m.1 ∙ ap (λ (x : Complaint). Slip x p) (sym m.0) ∙ ap (Slip k) (sym e) where
-  at : (t : Bool) → (b == 34) ≡ t → ((b == 34) ≡ false) ⊎ NoneIn is_quote bs → cond t (text_of p (take (quote_len bs) bs) (drop (quote_len bs) bs)) (Slip NoQuote p) ≡ Slip NoQuote p
+  at : (t : Bool) → (b == 34) ≡ t → ((b == 34) ≡ false) ⊎ NoneIn is_quote bs → cond t (quoted_text p (take (quote_len bs) bs) (drop (quote_len bs) bs)) (Slip NoQuote p) ≡ Slip NoQuote p
   at false f h = refl
   at true f (inl g) = absurd (cc)
   at true f (inr none) = no_quote p bs none
@@ -221,7 +221,7 @@ text_front : (p : Place) (text rest : List ℕ) → NoneIn is_quote text → quo
 text_front p text rest none =
     let bs = text ++ 34 ∷ rest in
     let u : IsUpTo is_quote text bs (34 ∷ rest) = record { joined = refl; none = none; ends = refl } in
-    ap (λ (xs : List ℕ). text_of p xs (drop (quote_len bs) bs)) (upto_take is_quote text bs (34 ∷ rest) u) ∙ ap (text_of p text) (upto_drop is_quote text bs (34 ∷ rest) u)
+    ap (λ (xs : List ℕ). quoted_text p xs (drop (quote_len bs) bs)) (upto_take is_quote text bs (34 ∷ rest) u) ∙ ap (quoted_text p text) (upto_drop is_quote text bs (34 ∷ rest) u)
 
 text_one : (p : Place) (x : Read (List ℕ)) → TextHere p x → quoted_in p p.line ≡ x
 text_one p (Took text q) h = ap (quoted_in p) h.1 ∙ text_front p text h.0 h.2 ∙ ap (Took text) (sym h.3)

@@ -4,14 +4,14 @@ use Rattle.std.specs.Prelude.{not, ◌||◌, nat_lt}
 use Rattle.std.proofs.Math.Seq.{take-append_seam, drop-append_seam}
 use Rattle.std.proofs.lemmas.Bool.{eqb-true, ltb-true, lt-ltb}
 use borrow.Author.Tests.{ltb-false}
-use Rattle.btx_text.specs.Class.{is_white}
-use Rattle.btx_bst.specs.Places.{Place, place_at, further, ink}
-use Rattle.btx_bst.specs.Complaints.{BadInteger, TextAfter}
-use Rattle.btx_bst.specs.Fronts.{len_till, ends_word, is_no_digit, is_quote, word_len, quote_len, digits_len, is_word_end}
-use Rattle.btx_bst.specs.Words.{Word, Open, Close, String, Integer, Quoted, Name, Faulty, Unended, Ended, Front, front, string_before, string_ended, string_at, value_of, signed, integer_before, integer_of, integer_at, word_front, Met, met, met_in, met_at}
-use Rattle.btx_bst.specs.Spelling.{Parts, Nothing, Plain, Group, Spells, Fragment, Here, After, AfterGroup, Inner, Breaks}
-use Rattle.btx_bst.specs.TokenSpelling.{NoneIn, Begins, EndsBefore, IsUpTo, is_ink, GapFrom}
-use Rattle.btx_bst.specs.WordSpelling.{IsWord, IsNumeral, Fits, number_of, IsInteger, IsOverlong, IsNoInteger, IsString, begins_plainly, IsToken, Token, AreParts, BreakOff, TokensLaw}
+use Rattle.btx_text.specs.language.Class.{is_white}
+use Rattle.btx_bst.specs.language.Places.{Place, place_at, further, ink}
+use Rattle.btx_bst.specs.language.Complaints.{BadInteger, TextAfter}
+use Rattle.btx_bst.specs.language.Fronts.{len_till, ends_word, is_no_digit, is_quote, word_len, quote_len, digits_len, is_word_end}
+use Rattle.btx_bst.specs.language.Words.{BodyWord, Open, Close, String, Integer, Quoted, Name, Faulty, Unended, Ended, Front, front, string_before, string_ended, string_at, digits_value, signed, integer_before, integer_front, integer_at, word_front, Met, met, met_in, met_at}
+use Rattle.btx_bst.specs.laws.Spelling.{Parts, Nothing, Plain, Group, Spells, Fragment, Here, After, AfterGroup, Inner, Breaks}
+use Rattle.btx_bst.specs.laws.TokenSpelling.{NoneIn, Begins, EndsBefore, IsUpTo, ends_gap, GapFrom}
+use Rattle.btx_bst.specs.laws.WordSpelling.{IsBodyWord, IsNumeral, Fits, number_of, IsInteger, IsOverlong, IsNoInteger, IsString, begins_plainly, IsToken, NextWord, AreParts, BreakOff, TokensLaw}
 use Rattle.btx_bst.proofs.TokenSpellingLemmas.{len_text, upto_take, upto_drop, upto_met, gap_one, gap_met}
 
 -- ---- ends of words
@@ -20,7 +20,7 @@ word_end_true : (line : List ℕ) → EndsBefore ends_word line → is_word_end 
 word_end_true [] h = refl
 word_end_true (b ∷ bs) h = h
 
-word_end_false : (more line rest : List ℕ) → IsWord more line rest → (more ≡ [] → ⊥) → is_word_end line ≡ false
+word_end_false : (more line rest : List ℕ) → IsBodyWord more line rest → (more ≡ [] → ⊥) → is_word_end line ≡ false
 word_end_false [] line rest w h = absurd (h refl)
 word_end_false (b ∷ more) line rest w h = ap is_word_end w.joined ∙ w.none.0
 
@@ -111,15 +111,15 @@ fits_or_not true n = at (nat_lt 2147483648 n) refl where
 abbrev signed_by : Bool → List ℕ → List ℕ
 signed_by minus unsigned = cond minus (45 ∷ unsigned) unsigned
 
-at_plain : (b : ℕ) (bs : List ℕ) → (b == 45) ≡ false → integer_at (b ∷ bs) ≡ integer_of (b ∷ bs) false (b ∷ bs) (digits_len (b ∷ bs))
+at_plain : (b : ℕ) (bs : List ℕ) → (b == 45) ≡ false → integer_at (b ∷ bs) ≡ integer_front (b ∷ bs) false (b ∷ bs) (digits_len (b ∷ bs))
 unfolding integer_at
-at_plain b bs e = ap (λ (t : Bool). cond t (integer_of (b ∷ bs) true bs (digits_len bs)) (integer_of (b ∷ bs) false (b ∷ bs) (digits_len (b ∷ bs)))) e
+at_plain b bs e = ap (λ (t : Bool). cond t (integer_front (b ∷ bs) true bs (digits_len bs)) (integer_front (b ∷ bs) false (b ∷ bs) (digits_len (b ∷ bs)))) e
 
-at_minus : (bs : List ℕ) → integer_at (45 ∷ bs) ≡ integer_of (45 ∷ bs) true bs (digits_len bs)
+at_minus : (bs : List ℕ) → integer_at (45 ∷ bs) ≡ integer_front (45 ∷ bs) true bs (digits_len bs)
 unfolding integer_at
 at_minus bs = refl
 
-at_nothing : integer_at [] ≡ integer_of [] false [] (digits_len [])
+at_nothing : integer_at [] ≡ integer_front [] false [] (digits_len [])
 unfolding integer_at len_till
 at_nothing = refl
 
@@ -137,23 +137,23 @@ end_no_minus b h = at (b == 45) refl where
 
 -- what is read of a line behind a sign
 abbrev ReadBehind : Bool → List ℕ → List ℕ → Type 0
-ReadBehind minus line bs = integer_at line ≡ integer_of line minus bs (digits_len bs)
+ReadBehind minus line bs = integer_at line ≡ integer_front line minus bs (digits_len bs)
 
 read_behind : (minus : Bool) (line bs : List ℕ) → line ≡ signed_by minus bs → (minus ≡ false → Begins (λ b. b == 45) bs → ⊥) → ReadBehind minus line bs
-read_behind true line bs e k = ap integer_at e ∙ at_minus bs ∙ ap (λ (l : List ℕ). integer_of l true bs (digits_len bs)) (sym e)
-read_behind false line [] e k = ap integer_at e ∙ at_nothing ∙ ap (λ (l : List ℕ). integer_of l false [] (digits_len [])) (sym e)
+read_behind true line bs e k = ap integer_at e ∙ at_minus bs ∙ ap (λ (l : List ℕ). integer_front l true bs (digits_len bs)) (sym e)
+read_behind false line [] e k = ap integer_at e ∙ at_nothing ∙ ap (λ (l : List ℕ). integer_front l false [] (digits_len [])) (sym e)
 read_behind false line (b ∷ bs) e k =
-    ap integer_at e ∙ at_plain b bs (no_minus (b == 45) refl) ∙ ap (λ (l : List ℕ). integer_of l false (b ∷ bs) (digits_len (b ∷ bs))) (sym e) where
+    ap integer_at e ∙ at_plain b bs (no_minus (b == 45) refl) ∙ ap (λ (l : List ℕ). integer_front l false (b ∷ bs) (digits_len (b ∷ bs))) (sym e) where
       no_minus : (t : Bool) → (b == 45) ≡ t → t ≡ false
       no_minus true f = absurd (k refl f)
       no_minus false f = refl
 
-numeral_front : (line : List ℕ) (minus : Bool) (digits behind : List ℕ) → NoneIn is_no_digit digits → EndsBefore is_no_digit behind → (digits ≡ [] → ⊥) → integer_of line minus (digits ++ behind) (digits_len (digits ++ behind)) ≡ integer_before line behind (signed minus (value_of digits))
+numeral_front : (line : List ℕ) (minus : Bool) (digits behind : List ℕ) → NoneIn is_no_digit digits → EndsBefore is_no_digit behind → (digits ≡ [] → ⊥) → integer_front line minus (digits ++ behind) (digits_len (digits ++ behind)) ≡ integer_before line behind (signed minus (digits_value digits))
 numeral_front line minus [] behind none ends some = absurd (some refl)
 numeral_front line minus (d ∷ ds) behind none ends some =
-    ap (integer_of line minus (d ∷ (ds ++ behind))) (len_text is_no_digit (d ∷ ds) behind none ends)
-    ∙ ap (λ (xs : List ℕ). integer_before line xs (signed minus (value_of (d ∷ take (length ds) (ds ++ behind))))) (drop-append_seam ds behind)
-    ∙ ap (λ (xs : List ℕ). integer_before line behind (signed minus (value_of (d ∷ xs)))) (take-append_seam ds behind)
+    ap (integer_front line minus (d ∷ (ds ++ behind))) (len_text is_no_digit (d ∷ ds) behind none ends)
+    ∙ ap (λ (xs : List ℕ). integer_before line xs (signed minus (digits_value (d ∷ take (length ds) (ds ++ behind))))) (drop-append_seam ds behind)
+    ∙ ap (λ (xs : List ℕ). integer_before line behind (signed minus (digits_value (d ∷ xs)))) (take-append_seam ds behind)
 
 signed_append : (minus : Bool) (u rest : List ℕ) → signed_by minus u ++ rest ≡ signed_by minus (u ++ rest)
 signed_append true u rest = refl
@@ -163,7 +163,7 @@ no_minus_first : (minus : Bool) (digits behind : List ℕ) → NoneIn is_no_digi
 no_minus_first minus [] behind none some e h = some refl
 no_minus_first minus (d ∷ ds) behind none some e h = let f = digit_no_minus d none.0 in absurd (cc)
 
-numeral_read : (minus : Bool) (digits more word line rest : List ℕ) → IsWord word line rest → IsNumeral minus digits more word → integer_at line ≡ integer_before line (more ++ rest) (signed minus (value_of digits))
+numeral_read : (minus : Bool) (digits more word line rest : List ℕ) → IsBodyWord word line rest → IsNumeral minus digits more word → integer_at line ≡ integer_before line (more ++ rest) (signed minus (digits_value digits))
 numeral_read minus digits more word line rest w n =
     let u : n.unsigned ++ rest ≡ digits ++ (more ++ rest) = ap (λ (xs : List ℕ). xs ++ rest) n.digits_first.joined ∙ append_assoc digits more rest in
     let e : line ≡ signed_by minus (digits ++ (more ++ rest)) =
@@ -178,27 +178,27 @@ none_unsigned : (minus : Bool) (u word : List ℕ) → signed_by minus u ≡ wor
 none_unsigned true u word e h = (carried ends_word (45 ∷ u) word e h).1
 none_unsigned false u word e h = carried ends_word u word e h
 
-more_word : (minus : Bool) (digits more word line rest : List ℕ) → IsWord word line rest → IsNumeral minus digits more word → IsWord more (more ++ rest) rest
+more_word : (minus : Bool) (digits more word line rest : List ℕ) → IsBodyWord word line rest → IsNumeral minus digits more word → IsBodyWord more (more ++ rest) rest
 more_word minus digits more word line rest w n =
     let k : NoneIn ends_word (digits ++ more) = rw (sym n.digits_first.joined) (none_unsigned minus n.unsigned word n.signed w.none) in
     record { joined = refl; none = none_right ends_word digits more k; ends = w.ends }
 
-integer_whole : (value : ℤ) (word line rest : List ℕ) → IsWord word line rest → IsInteger value word → integer_at line ≡ front (Integer value) rest
+integer_whole : (value : ℤ) (word line rest : List ℕ) → IsBodyWord word line rest → IsInteger value word → integer_at line ≡ front (Integer value) rest
 integer_whole value word line rest w h =
-    numeral_read h.0 h.1 [] word line rest w h.2 ∙ ap (integer_before line rest) (fits_signed h.0 (value_of h.1) h.3)
+    numeral_read h.0 h.1 [] word line rest w h.2 ∙ ap (integer_before line rest) (fits_signed h.0 (digits_value h.1) h.3)
     ∙ ap (λ (v : ℤ). integer_before line rest (Some v)) (sym h.4)
     ∙ ap (λ (t : Bool). cond t (front (Integer value) rest) (front (Faulty TextAfter) (drop (word_len rest) rest))) (word_end_true rest w.ends)
 
-integer_after : (word line rest : List ℕ) → IsWord word line rest → IsOverlong word → integer_at line ≡ front (Faulty TextAfter) rest
+integer_after : (word line rest : List ℕ) → IsBodyWord word line rest → IsOverlong word → integer_at line ≡ front (Faulty TextAfter) rest
 integer_after word line rest w h =
     let more = h.2 in
-    let value = number_of h.0 (value_of h.1) in
+    let value = number_of h.0 (digits_value h.1) in
     let m = more_word h.0 h.1 more word line rest w h.3 in
-    numeral_read h.0 h.1 more word line rest w h.3 ∙ ap (integer_before line (more ++ rest)) (fits_signed h.0 (value_of h.1) h.4)
+    numeral_read h.0 h.1 more word line rest w h.3 ∙ ap (integer_before line (more ++ rest)) (fits_signed h.0 (digits_value h.1) h.4)
     ∙ ap (λ (t : Bool). cond t (front (Integer value) (more ++ rest)) (front (Faulty TextAfter) (drop (word_len (more ++ rest)) (more ++ rest)))) (word_end_false more (more ++ rest) rest m h.5)
     ∙ ap (front (Faulty TextAfter)) (upto_drop ends_word more (more ++ rest) rest m)
 
-none_read : (minus : Bool) (u word line rest : List ℕ) → IsWord word line rest → signed_by minus u ≡ word → ReadBehind minus line (u ++ rest) → IsNoInteger word → integer_at line ≡ front (Faulty BadInteger) rest
+none_read : (minus : Bool) (u word line rest : List ℕ) → IsBodyWord word line rest → signed_by minus u ≡ word → ReadBehind minus line (u ++ rest) → IsNoInteger word → integer_at line ≡ front (Faulty BadInteger) rest
 none_read minus u word line rest w e r never = at (take (digits_len u) u) (drop (digits_len u) u) (upto_met is_no_digit u) where
   bad : List ℕ
   bad = drop (word_len line) line
@@ -206,18 +206,18 @@ none_read minus u word line rest w e r never = at (take (digits_len u) u) (drop 
   at : (digits more : List ℕ) → IsUpTo is_no_digit digits u more → integer_at line ≡ front (Faulty BadInteger) rest
   at [] more d =
       let ends : EndsBefore is_no_digit u = rw d.joined d.ends in
-      r ∙ ap (integer_of line minus (u ++ rest)) (len_text is_no_digit [] (u ++ rest) tt (more_ends u rest ends w.ends)) ∙ ap (front (Faulty BadInteger)) (upto_drop ends_word word line rest w)
+      r ∙ ap (integer_front line minus (u ++ rest)) (len_text is_no_digit [] (u ++ rest) tt (more_ends u rest ends w.ends)) ∙ ap (front (Faulty BadInteger)) (upto_drop ends_word word line rest w)
   at (x ∷ xs) more d =
       let n : IsNumeral minus (x ∷ xs) more word = record { unsigned = u; signed = e; digits_first = d; some = λ k. absurd (cc) } in
       numeral_read minus (x ∷ xs) more word line rest w n
-      ∙ ap (integer_before line (more ++ rest)) (unfit_signed minus (value_of (x ∷ xs)) (never minus (x ∷ xs) more n))
+      ∙ ap (integer_before line (more ++ rest)) (unfit_signed minus (digits_value (x ∷ xs)) (never minus (x ∷ xs) more n))
       ∙ ap (front (Faulty BadInteger)) (upto_drop ends_word word line rest w)
 
 no_minus_end : (rest : List ℕ) → EndsBefore ends_word rest → Begins (λ b. b == 45) rest → ⊥
 no_minus_end [] h k = k
 no_minus_end (b ∷ bs) h k = let f = end_no_minus b h in absurd (cc)
 
-integer_none : (word line rest : List ℕ) → IsWord word line rest → IsNoInteger word → integer_at line ≡ front (Faulty BadInteger) rest
+integer_none : (word line rest : List ℕ) → IsBodyWord word line rest → IsNoInteger word → integer_at line ≡ front (Faulty BadInteger) rest
 integer_none [] line rest w never = none_read false [] [] line rest w refl (read_behind false line rest w.joined (λ e. no_minus_end rest w.ends)) never
 integer_none (b ∷ bs) line rest w never = at (b == 45) refl where
   at : (t : Bool) → (b == 45) ≡ t → integer_at line ≡ front (Faulty BadInteger) rest
@@ -254,29 +254,29 @@ same_digits m minus digits more word u n e k =
 abbrev Classed : List ℕ → Type 0
 Classed word = ((value : ℤ) × IsInteger value word) ⊎ (IsOverlong word ⊎ IsNoInteger word)
 
-fitting : (minus : Bool) (digits more word : List ℕ) → IsNumeral minus digits more word → Fits minus (value_of digits) → Classed word
-fitting minus digits [] word n f = inl (number_of minus (value_of digits), (minus, digits, n, f, refl))
+fitting : (minus : Bool) (digits more word : List ℕ) → IsNumeral minus digits more word → Fits minus (digits_value digits) → Classed word
+fitting minus digits [] word n f = inl (number_of minus (digits_value digits), (minus, digits, n, f, refl))
 fitting minus digits (b ∷ more) word n f = inr (inl (minus, digits, b ∷ more, n, f, λ e. absurd (cc)))
 
-not_fitting : (minus : Bool) (u digits word : List ℕ) → signed_by minus u ≡ word → Unsigned minus u → take (digits_len u) u ≡ digits → (Fits minus (value_of digits) → ⊥) → IsNoInteger word
+not_fitting : (minus : Bool) (u digits word : List ℕ) → signed_by minus u ≡ word → Unsigned minus u → take (digits_len u) u ≡ digits → (Fits minus (digits_value digits) → ⊥) → IsNoInteger word
 not_fitting minus u digits word e k t f m d r n g =
     let o = same_digits m minus d r word u n e k in
     let same : d ≡ digits = o.1 ∙ t in
-    f (let g1 : Fits minus (value_of d) = rw (sym o.0) g in let g2 : Fits minus (value_of digits) = rw (sym same) g1 in g2)
+    f (let g1 : Fits minus (digits_value d) = rw (sym o.0) g in let g2 : Fits minus (digits_value digits) = rw (sym same) g1 in g2)
 
 no_digits : (minus : Bool) (u word : List ℕ) → signed_by minus u ≡ word → Unsigned minus u → take (digits_len u) u ≡ [] → IsNoInteger word
 no_digits minus u word e k t m d r n g = n.some ((same_digits m minus d r word u n e k).1 ∙ t)
 
 classed : (minus : Bool) (u word : List ℕ) → signed_by minus u ≡ word → Unsigned minus u → Classed word
 classed minus u word e k = at (take (digits_len u) u) (drop (digits_len u) u) refl (upto_met is_no_digit u) where
-  with_number : (digits more : List ℕ) → take (digits_len u) u ≡ digits → IsNumeral minus digits more word → Fits minus (value_of digits) ⊎ (Fits minus (value_of digits) → ⊥) → Classed word
+  with_number : (digits more : List ℕ) → take (digits_len u) u ≡ digits → IsNumeral minus digits more word → Fits minus (digits_value digits) ⊎ (Fits minus (digits_value digits) → ⊥) → Classed word
   with_number digits more t n (inl f) = fitting minus digits more word n f
   with_number digits more t n (inr f) = inr (inr (not_fitting minus u digits word e k t f))
 
   at : (digits more : List ℕ) → take (digits_len u) u ≡ digits → IsUpTo is_no_digit digits u more → Classed word
   at [] more t d = inr (inr (no_digits minus u word e k t))
   at (x ∷ xs) more t d =
-      with_number (x ∷ xs) more t (record { unsigned = u; signed = e; digits_first = d; some = λ f. absurd (cc) }) (fits_or_not minus (value_of (x ∷ xs)))
+      with_number (x ∷ xs) more t (record { unsigned = u; signed = e; digits_first = d; some = λ f. absurd (cc) }) (fits_or_not minus (digits_value (x ∷ xs)))
 
 class_of_word : (word : List ℕ) → Classed word
 class_of_word [] = classed false [] [] refl (λ e h. h)
@@ -318,7 +318,7 @@ word_no_brace b h = at (is_white b) (b == 125) (b == 37) h where
   at false true p e = absurd (cc)
   at false false p e = refl
 
-pub token_one : (w : Word) (p : Place) (rest : List ℕ) → IsToken w p.line rest → met_in p p.line ≡ met w (further p rest)
+pub token_one : (w : BodyWord) (p : Place) (rest : List ℕ) → IsToken w p.line rest → met_in p p.line ≡ met w (further p rest)
 unfolding word_front
 token_one Open p rest h = ap (met_in p) h
 token_one Close p rest h = ap (met_in p) h
@@ -343,11 +343,11 @@ token_one Ended p rest h = ap (met_in p) h.0 ∙ ap (λ (xs : List ℕ). met End
 -- ---- each line has a word
 
 abbrev AToken : List ℕ → Type 0
-AToken line = (w : Word) × (rest : List ℕ) × IsToken w line rest
+AToken line = (w : BodyWord) × (rest : List ℕ) × IsToken w line rest
 
 string_token : (bs : List ℕ) → AToken (34 ∷ bs)
 string_token bs = at (take (quote_len bs) bs) (drop (quote_len bs) bs) (upto_met is_quote bs) where
-  behind_it : (text behind more rest : List ℕ) → 34 ∷ bs ≡ 34 ∷ (text ++ 34 ∷ behind) → NoneIn is_quote text → IsWord more behind rest → AToken (34 ∷ bs)
+  behind_it : (text behind more rest : List ℕ) → 34 ∷ bs ≡ 34 ∷ (text ++ 34 ∷ behind) → NoneIn is_quote text → IsBodyWord more behind rest → AToken (34 ∷ bs)
   behind_it text behind [] rest e n w = (String text, rest, (behind, e, n, w))
   behind_it text behind (x ∷ xs) rest e n w = (Faulty TextAfter, rest, inl (text, x ∷ xs, (behind, e, n, w), λ f. absurd (cc)))
 
@@ -359,15 +359,15 @@ string_token bs = at (take (quote_len bs) bs) (drop (quote_len bs) bs) (upto_met
 
 hash_token : (bs : List ℕ) → AToken (35 ∷ bs)
 hash_token bs = at (take (word_len bs) bs) (drop (word_len bs) bs) (upto_met ends_word bs) where
-  with_class : (word rest : List ℕ) → IsWord word bs rest → Classed word → AToken (35 ∷ bs)
+  with_class : (word rest : List ℕ) → IsBodyWord word bs rest → Classed word → AToken (35 ∷ bs)
   with_class word rest u (inl h) = (Integer h.0, rest, (word, bs, refl, u, h.1))
   with_class word rest u (inr (inl h)) = (Faulty TextAfter, rest, inr (word, bs, refl, u, h))
   with_class word rest u (inr (inr h)) = (Faulty BadInteger, rest, (word, bs, refl, u, h))
 
-  at : (word rest : List ℕ) → IsWord word bs rest → AToken (35 ∷ bs)
+  at : (word rest : List ℕ) → IsBodyWord word bs rest → AToken (35 ∷ bs)
   at word rest u = with_class word rest u (class_of_word word)
 
-ink_in_word : (b : ℕ) → is_ink b ≡ true → (b == 125) ≡ false → ends_word b ≡ false
+ink_in_word : (b : ℕ) → ends_gap b ≡ true → (b == 125) ≡ false → ends_word b ≡ false
 ink_in_word b h k = at (is_white b) (b == 125) (b == 37) h k where
   at : (w c p : Bool) → not (w || p) ≡ true → c ≡ false → (w || c || p) ≡ false
   at true c p e f = absurd (cc)
@@ -383,7 +383,7 @@ name_token b bs e h =
       (record { joined = ap (λ (xs : List ℕ). b ∷ xs) u.joined; none = (e, u.none); ends = u.ends }, h),
     )
 
-byte_token : (b : ℕ) (bs : List ℕ) → is_ink b ≡ true → AToken (b ∷ bs)
+byte_token : (b : ℕ) (bs : List ℕ) → ends_gap b ≡ true → AToken (b ∷ bs)
 byte_token b bs h = at (b == 123) (b == 125) (b == 34) (b == 35) (b == 39) refl refl refl refl refl where
   plain : (o q i s : Bool) → o ≡ false → q ≡ false → i ≡ false → s ≡ false → not (o || q || i || s) ≡ true
   plain true q i s e f g j = absurd (cc)
@@ -401,26 +401,26 @@ byte_token b bs h = at (b == 123) (b == 125) (b == 34) (b == 35) (b == 39) refl 
       (Quoted (take (word_len bs) bs), drop (word_len bs) bs, (bs, ap (λ (n : ℕ). n ∷ bs) (eqb-true b 39 k), upto_met ends_word bs))
   at false false false false false e f g j k = name_token b bs (ink_in_word b h f) (plain (b == 123) (b == 34) (b == 35) (b == 39) e g j k)
 
-token_met : (line : List ℕ) → (line ≡ []) ⊎ Begins is_ink line → AToken line
+token_met : (line : List ℕ) → (line ≡ []) ⊎ Begins ends_gap line → AToken line
 token_met [] h = (Ended, [], (refl, refl))
 token_met (b ∷ bs) (inl e) = absurd (cc)
 token_met (b ∷ bs) (inr h) = byte_token b bs h
 
-inked_from : (n : ℕ) (line : List ℕ) (after : List (List ℕ)) (q : Place) → GapFrom n line after q → (q.line ≡ []) ⊎ Begins is_ink q.line
+inked_from : (n : ℕ) (line : List ℕ) (after : List (List ℕ)) (q : Place) → GapFrom n line after q → (q.line ≡ []) ⊎ Begins ends_gap q.line
 inked_from n line [] q (inl h) = inr (rw h.5 h.4)
 inked_from n line [] q (inr h) = inl (ap (λ (r : Place). r.line) h.1)
 inked_from n line (next ∷ after) q (inl h) = inr (rw h.5 h.4)
 inked_from n line (next ∷ after) q (inr h) = inked_from (n + 1) next after q h.1
 
-inked : (p : Place) → ((ink p).line ≡ []) ⊎ Begins is_ink (ink p).line
+inked : (p : Place) → ((ink p).line ≡ []) ⊎ Begins ends_gap (ink p).line
 inked p = inked_from p.number p.line p.after (ink p) (gap_met p)
 
 -- ---- the law
 
-pub token-met : (w : Word) (p q : Place) → Token w p q → met_at p ≡ met w q
+pub token-met : (w : BodyWord) (p q : Place) → NextWord w p q → met_at p ≡ met w q
 token-met w p q h = ap (λ (r : Place). met_in r r.line) (gap_one p h.0 h.2) ∙ token_one w h.0 h.1 h.3 ∙ ap (met w) (sym h.4)
 
-pub met-token : (w : Word) (p q : Place) → met_at p ≡ met w q → Token w p q
+pub met-token : (w : BodyWord) (p q : Place) → met_at p ≡ met w q → NextWord w p q
 met-token w p q e =
     let i = ink p in
     let t = token_met i.line (inked p) in

@@ -2,8 +2,8 @@
 use Rattle.std.proofs.Common.{◌≡◌, ℕ, ◌+◌, ◌==◌, Bool, true, false, cond, List, [], ◌∷◌, ◌++◌, length, map, refl, sym, ap, ◌∙◌, append_assoc, append-nil, Option, None, Some}
 use Rattle.std.proofs.lemmas.Bool.{eqb-true}
 use Rattle.std.proofs.lemmas.List.{map-append}
-use Rattle.btx_text.specs.Class.{is_white}
-use Rattle.btx_text.specs.Keys.{folded}
+use Rattle.btx_text.specs.language.Class.{is_white}
+use Rattle.btx_text.specs.language.Keys.{folded}
 use Rattle.btx_bst.specs.declared.callee.Callee.{Callee}
 use Rattle.btx_bst.specs.declared.callee.Kind.{Kind}
 use Rattle.btx_bst.specs.declared.callee.Kind.TheVariants as kind
@@ -11,23 +11,23 @@ use Rattle.btx_bst.specs.declared.command.Command.{Command}
 use Rattle.btx_bst.specs.declared.command.Command.TheVariants as command
 use Rattle.btx_bst.specs.declared.token.Token.{Token}
 use Rattle.btx_bst.specs.declared.token.Token.TheVariants.{Quote, Run}
-use Rattle.btx_bst.specs.Places.{Place, place_at, further, ink, ink_from, behind_white, line_or}
-use Rattle.btx_bst.specs.Complaints.{NoCommand, NoClose, Another, BeforeEntry, BeforeRead, AfterRead}
-use Rattle.btx_bst.specs.Reads.{Read as OneRead, Took, Slip}
-use Rattle.btx_bst.specs.Items as item
-use Rattle.btx_bst.specs.Items.{Item}
-use Rattle.btx_bst.specs.Fronts.{len_till, letters_len}
-use Rattle.btx_bst.specs.Words as words
-use Rattle.btx_bst.specs.Words.{Word}
-use Rattle.btx_bst.specs.Names.{Names, named, with_name}
-use Rattle.btx_bst.specs.Style.{Style}
-use Rattle.btx_bst.specs.Turns.{Again, Ends}
-use Rattle.btx_bst.specs.Lists.{brace_in, opening, closing, front_of, name_in, name_at, letters_at, listing, Listed, listed, with_new, name_turn, list_turn_in, list_turn, list_end, list_read, list_at}
-use Rattle.btx_bst.specs.Outcomes.{Outcome, outcome, after_read, with_item}
-use Rattle.btx_bst.specs.Commands.{after_list, entry, entry_lists, function_ended, function_of, function, read, run_of, run_name, run, sort, declare, macro_of, macro_name, macro_command, command_at}
-use Rattle.btx_bst.specs.StyleText.{State, word_outcome, command_outcome}
-use Rattle.btx_bst.specs.Spelling.{Parts, Nothing, Plain, Group, Made, made_named, made_word, begun, defined, made_by}
-use Rattle.btx_bst.specs.Written.{Written, Entry, Function, Read, Execute, Iterate, Reverse, Sort, Integers, Strings, Macro, command_of, SpellsNames, SpellsList, SpellsName, SpellsArguments, SpellsCommand, AreNew, declared, IsGoodWord, IsGoodBody, made_in, Runs, Does, WrittenLaw, kind_of, FaultlessLaw}
+use Rattle.btx_bst.specs.language.Places.{Place, place_at, further, ink, ink_from, behind_white, line_or}
+use Rattle.btx_bst.specs.language.Complaints.{NoCommand, NoClose, Another, BeforeEntry, BeforeRead, AfterRead}
+use Rattle.btx_bst.specs.language.Reads.{Read as OneRead, Took, Slip}
+use Rattle.btx_bst.specs.language.Items as item
+use Rattle.btx_bst.specs.language.Items.{Item}
+use Rattle.btx_bst.specs.language.Fronts.{len_till, letters_len}
+use Rattle.btx_bst.specs.language.Words as words
+use Rattle.btx_bst.specs.language.Words.{BodyWord}
+use Rattle.btx_bst.specs.language.Names.{Names, named, with_name}
+use Rattle.btx_bst.specs.language.Style.{Style}
+use Rattle.btx_bst.specs.language.Turns.{Again, Ends}
+use Rattle.btx_bst.specs.language.Lists.{brace_in, opening, closing, front_of, name_in, next_name, letters_at, listing, Listed, listed, with_new, name_turn, list_turn_in, list_turn, list_end, list_read, list_at}
+use Rattle.btx_bst.specs.language.Outcomes.{CommandOutcome, outcome, after_read, with_item}
+use Rattle.btx_bst.specs.language.Commands.{after_list, entry_command, entry_lists, function_ended, function_of, function_command, read_command, run_of, run_name, run_command, sort_command, declare, macro_of, macro_name, macro_command, command_at}
+use Rattle.btx_bst.specs.language.StyleText.{StyleState, word_outcome, command_outcome}
+use Rattle.btx_bst.specs.laws.Spelling.{Parts, Nothing, Plain, Group, Made, made_named, made_word, nameless_begun, nameless_defined, made_by}
+use Rattle.btx_bst.specs.laws.Written.{Written, Entry, Function, Read, Execute, Iterate, Reverse, Sort, Integers, Strings, Macro, command_written, SpellsNames, SpellsList, SpellsName, SpellsArguments, SpellsCommand, AreNew, declared, IsGoodWord, IsGoodBody, made_in, ExecutesFunction, MakesStyle, WrittenLaw, item_command, FaultlessLaw}
 use Rattle.btx_bst.proofs.ListLemmas.{list_end-again, list_end-ends}
 use Rattle.btx_bst.proofs.StyleLemmas.{style_from-again}
 use Rattle.btx_bst.proofs.SpellingLemmas.{spelled}
@@ -71,7 +71,7 @@ name_no_brace p q (b ∷ bs) name e = at (b == 125) refl where
   at true f = absurd (brace_no_name p q b bs name (eqb-true b 125 f) e)
   at false f = refl
 
-pub listed_name : (k : Kind) (known : Names) (name : List ℕ) (p q : Place) → name_at p ≡ Took name q → named known name ≡ None → list_turn k (listing known p) ≡ Again (listing (with_name k (folded name) known) q)
+pub listed_name : (k : Kind) (known : Names) (name : List ℕ) (p q : Place) → next_name p ≡ Took name q → named known name ≡ None → list_turn k (listing known p) ≡ Again (listing (with_name k (folded name) known) q)
 unfolding list_turn
 listed_name k known name p q e f =
     ap (list_turn_in k known) (name_no_brace (ink p) q (ink p).line name e)
@@ -91,16 +91,16 @@ names_listed k (name ∷ names) known p q h g =
 list_listed : (k : Kind) (names : List (List ℕ)) (known : Names) (p q : Place) → SpellsList names p q → AreNew k names known → list_at k known p ≡ listed None (declared k names known) q
 list_listed k names known p q h g = ap (list_read k known) h.1 ∙ names_listed k names known h.0 q h.2 g
 
-after_listed_names : (k : Kind) (names : List (List ℕ)) (style : Style) (p q : Place) (go : Style → Place → Outcome) → SpellsList names p q → AreNew k names style.names → after_list style (list_at k style.names p) go ≡ go (record style { names = declared k names style.names }) q
+after_listed_names : (k : Kind) (names : List (List ℕ)) (style : Style) (p q : Place) (go : Style → Place → CommandOutcome) → SpellsList names p q → AreNew k names style.names → after_list style (list_at k style.names p) go ≡ go (record style { names = declared k names style.names }) q
 after_listed_names k names style p q go h g = ap (λ (l : Listed). after_list style l go) (list_listed k names style.names p q h g)
 
-took : {A : Type 0} (style : Style) (r : OneRead A) (x : A) (p : Place) (go : A → Place → Outcome) → r ≡ Took x p → after_read style r go ≡ go x p
+took : {A : Type 0} (style : Style) (r : OneRead A) (x : A) (p : Place) (go : A → Place → CommandOutcome) → r ≡ Took x p → after_read style r go ≡ go x p
 took style r x p go e = ap (λ (s : OneRead _). after_read style s go) e
 
 -- ---- commands
 
-entry_does : (fields integers strings : List (List ℕ)) (style end : Style) (p q : Place) → SpellsArguments (Entry fields integers strings) p q → Does (Entry fields integers strings) style end → entry style p ≡ outcome None end q
-unfolding entry
+entry_does : (fields integers strings : List (List ℕ)) (style end : Style) (p q : Place) → SpellsArguments (Entry fields integers strings) p q → MakesStyle (Entry fields integers strings) style end → entry_command style p ≡ outcome None end q
+unfolding entry_command
 entry_does fields integers strings style end p q h d =
     let first = declared kind.Field fields style.names in
     let second = declared kind.EntryInteger integers first in
@@ -110,11 +110,11 @@ entry_does fields integers strings style end p q h d =
     ∙ after_listed_names kind.EntryString strings (record style { names = second }) h.1 q _ h.4 d.3
     ∙ ap (λ (s : Style). outcome None s q) d.4
 
-named_does : (name : List ℕ) (style : Style) (p q : Place) (go : List ℕ → Place → Outcome) (o : Outcome) → (h : SpellsName name p q) → go name h.1 ≡ o → after_read style (opening p) (λ _ r. after_read style (name_at r) go) ≡ o
-named_does name style p q go o h e = took style (opening p) tt h.0 _ h.2 ∙ took style (name_at h.0) name h.1 go h.3 ∙ e
+named_does : (name : List ℕ) (style : Style) (p q : Place) (go : List ℕ → Place → CommandOutcome) (o : CommandOutcome) → (h : SpellsName name p q) → go name h.1 ≡ o → after_read style (opening p) (λ _ r. after_read style (next_name r) go) ≡ o
+named_does name style p q go o h e = took style (opening p) tt h.0 _ h.2 ∙ took style (next_name h.0) name h.1 go h.3 ∙ e
 
-function_does : (name : List ℕ) (body : Parts) (style end : Style) (p q : Place) → SpellsArguments (Function name body) p q → Does (Function name body) style end → function style p ≡ outcome None end q
-unfolding function
+function_does : (name : List ℕ) (body : Parts) (style end : Style) (p q : Place) → SpellsArguments (Function name body) p q → MakesStyle (Function name body) style end → function_command style p ≡ outcome None end q
+unfolding function_command
 function_does name body style end p q h d =
     let n = h.1 in
     let b = h.2 in
@@ -123,23 +123,23 @@ function_does name body style end p q h d =
     ∙ ap (function_ended style (folded name)) (spelled style.names body b.0 q (made_in style) b.2)
     ∙ ap (λ (s : Style). outcome None s q) d.2)
 
-read_does : (style end : Style) (p q : Place) → p ≡ q → Does Read style end → read style p ≡ outcome None end q
-unfolding read
+read_does : (style end : Style) (p q : Place) → p ≡ q → MakesStyle Read style end → read_command style p ≡ outcome None end q
+unfolding read_command
 read_does style end p q h d =
     let taken = with_item item.Read (record style { before_read = Some (length style.bodies) }) in
     ap (λ (t : Bool). cond t (outcome (Some (Another command.Read)) style p) (cond style.has_entry (outcome None taken p) (outcome (Some BeforeEntry) style p))) d.0
     ∙ ap (λ (t : Bool). cond t (outcome None taken p) (outcome (Some BeforeEntry) style p)) d.1
     ∙ ap (λ (s : Style). outcome None s p) d.2 ∙ ap (outcome None end) h
 
-run_does : (c : Command) (make : Callee → Item) (name : List ℕ) (style end : Style) (p q : Place) → SpellsName name p q → Runs make name style end → run c make style p ≡ outcome None end q
-unfolding run
+run_does : (c : Command) (make : Callee → Item) (name : List ℕ) (style end : Style) (p q : Place) → SpellsName name p q → ExecutesFunction make name style end → run_command c make style p ≡ outcome None end q
+unfolding run_command
 run_does c make name style end p q h d =
     ap (λ (t : Bool). cond t (run_name make style p) (outcome (Some (BeforeRead c)) style p)) d.1
     ∙ named_does name style p q _ _ h
     (ap (run_of make style name h.1) d.2 ∙ took style (closing h.1) tt q _ h.4 ∙ ap (λ (s : Style). outcome None s q) d.3)
 
-sort_does : (style end : Style) (p q : Place) → p ≡ q → Does Sort style end → sort style p ≡ outcome None end q
-unfolding sort
+sort_does : (style end : Style) (p q : Place) → p ≡ q → MakesStyle Sort style end → sort_command style p ≡ outcome None end q
+unfolding sort_command
 sort_does style end p q h d =
     ap (λ (t : Bool). cond t (outcome None (with_item item.Sort style) p) (outcome (Some (BeforeRead command.Sort)) style p)) d.0
     ∙ ap (λ (s : Style). outcome None s p) d.1 ∙ ap (outcome None end) h
@@ -148,7 +148,7 @@ declare_does : (k : Kind) (i : Item) (names : List (List ℕ)) (style end : Styl
 unfolding declare
 declare_does k i names style end p q h g e = after_listed_names k names style p q _ h g ∙ ap (λ (s : Style). outcome None s q) e
 
-macro_does : (name text : List ℕ) (style end : Style) (p q : Place) → SpellsArguments (Macro name text) p q → Does (Macro name text) style end → macro_command style p ≡ outcome None end q
+macro_does : (name text : List ℕ) (style end : Style) (p q : Place) → SpellsArguments (Macro name text) p q → MakesStyle (Macro name text) style end → macro_command style p ≡ outcome None end q
 unfolding macro_command
 macro_does name text style end p q h d =
     let n = h.1 in
@@ -158,7 +158,7 @@ macro_does name text style end p q h d =
     (ap (macro_of style name n.1) d.1 ∙ took style (closing n.1) tt h.0 _ n.4 ∙ took style (opening h.0) tt t.0 _ t.2 ∙ took style _ text t.1 _ t.3
     ∙ took style (closing t.1) tt q _ t.4 ∙ ap (λ (s : Style). outcome None s q) d.2)
 
-command_does : (w : Written) (style end : Style) (p q : Place) → SpellsArguments w p q → Does w style end → command_at (command_of w) style p ≡ outcome None end q
+command_does : (w : Written) (style end : Style) (p q : Place) → SpellsArguments w p q → MakesStyle w style end → command_at (command_written w) style p ≡ outcome None end q
 command_does (Entry fields integers strings) style end p q h d = entry_does fields integers strings style end p q h d
 command_does (Function name body) style end p q h d = function_does name body style end p q h d
 command_does Read style end p q h d = read_does style end p q h d
@@ -170,7 +170,7 @@ command_does (Integers names) style end p q h d = declare_does kind.GlobalIntege
 command_does (Strings names) style end p q h d = declare_does kind.GlobalString item.Strings names style end p q h d.0 d.1
 command_does (Macro name text) style end p q h d = macro_does name text style end p q h d
 
-written_command : (w : Written) (style end : Style) (p q : Place) → SpellsCommand w p q → Does w style end → command_outcome style (ink p) ≡ outcome None end q
+written_command : (w : Written) (style end : Style) (p q : Place) → SpellsCommand w p q → MakesStyle w style end → command_outcome style (ink p) ≡ outcome None end q
 written_command w style end p q h d =
     took style (letters_at (ink p)) h.0 h.1 _ h.2 ∙ ap (word_outcome style h.1 h.0) h.3 ∙ command_does w style end h.1 q h.4 d
 
@@ -186,7 +186,7 @@ word_no_end p q word e h = front_no_end p q p.line word e h
 pub written : WrittenLaw
 written [] from end h = given [] from end h
 written (w ∷ more) from end h =
-    let t : State = h.0 in
+    let t : StyleState = h.0 in
     let s = h.1 in
     style_from-again from t (more_turn from (outcome None t.style t.place) (word_no_end (ink from.place) s.1 s.0 s.2) (written_command w from.style t.style from.place t.place s h.2))
     ∙ written more t end h.3
@@ -197,7 +197,7 @@ good_named : (token : Callee → Token) (line : ℕ) (name : List ℕ) (o : Opti
 good_named token line name None c m e = absurd (cc)
 good_named token line name (Some d) c m e = refl
 
-good_word : (known : Names) (line : ℕ) (w : Word) (m : Made) → IsGoodWord known w → (made_word known line w m).items ≡ m.items
+good_word : (known : Names) (line : ℕ) (w : BodyWord) (m : Made) → IsGoodWord known w → (made_word known line w m).items ≡ m.items
 good_word known line (words.String text) m g = refl
 good_word known line (words.Integer value) m g = refl
 good_word known line (words.Quoted name) m g = good_named Quote line name (named known name) g.0 m g.1
@@ -213,23 +213,23 @@ unfolding made_by
 good_body known Nothing m g = refl
 good_body known (Plain line w more) m g = good_body known more (made_word known line w m) g.1 ∙ good_word known line w m g.0
 good_body known (Group inside more) m g =
-    good_body known more (defined m.tokens (made_by known inside (begun m))) g.1 ∙ good_body known inside (begun m) g.0
+    good_body known more (nameless_defined m.tokens (made_by known inside (nameless_begun m))) g.1 ∙ good_body known inside (nameless_begun m) g.0
 
 abbrev Kinds : Type 0
 Kinds = List (Option Command)
 
-kinds_push : (is : List Item) (x : Item) → map kind_of (is ++ x ∷ []) ≡ map kind_of is ++ kind_of x ∷ []
-kinds_push is x = map-append kind_of is (x ∷ [])
+kinds_push : (is : List Item) (x : Item) → map item_command (is ++ x ∷ []) ≡ map item_command is ++ item_command x ∷ []
+kinds_push is x = map-append item_command is (x ∷ [])
 
 -- an item more, of this kind
-pushed : (x : Item) (is : List Item) (end : Style) (js : List Item) → js ≡ is ++ x ∷ [] → end.items ≡ js → map kind_of end.items ≡ map kind_of is ++ kind_of x ∷ []
-pushed x is end js e f = ap (map kind_of) (f ∙ e) ∙ kinds_push is x
+pushed : (x : Item) (is : List Item) (end : Style) (js : List Item) → js ≡ is ++ x ∷ [] → end.items ≡ js → map item_command end.items ≡ map item_command is ++ item_command x ∷ []
+pushed x is end js e f = ap (map item_command) (f ∙ e) ∙ kinds_push is x
 
-does_kind : (w : Written) (style end : Style) → Does w style end → map kind_of end.items ≡ map kind_of style.items ++ Some (command_of w) ∷ []
+does_kind : (w : Written) (style end : Style) → MakesStyle w style end → map item_command end.items ≡ map item_command style.items ++ Some (command_written w) ∷ []
 does_kind (Entry fields integers strings) style end d = pushed item.Entry style.items end _ refl (ap (λ (s : Style). s.items) (sym d.4))
 does_kind (Function name body) style end d =
-    ap (λ (s : Style). map kind_of s.items) (sym d.2) ∙ kinds_push (made_by style.names body (made_in style)).items (item.Function _)
-    ∙ ap (λ (is : List Item). map kind_of is ++ Some command.Function ∷ []) (good_body style.names body (made_in style) d.1)
+    ap (λ (s : Style). map item_command s.items) (sym d.2) ∙ kinds_push (made_by style.names body (made_in style)).items (item.Function _)
+    ∙ ap (λ (is : List Item). map item_command is ++ Some command.Function ∷ []) (good_body style.names body (made_in style) d.1)
 does_kind Read style end d = pushed item.Read style.items end _ refl (ap (λ (s : Style). s.items) (sym d.2))
 does_kind (Execute name) style end d = pushed (item.Execute d.0) style.items end _ refl (ap (λ (s : Style). s.items) (sym d.3))
 does_kind (Iterate name) style end d = pushed (item.Iterate d.0) style.items end _ refl (ap (λ (s : Style). s.items) (sym d.3))
@@ -240,11 +240,11 @@ does_kind (Strings names) style end d = pushed item.Strings style.items end _ re
 does_kind (Macro name text) style end d = pushed item.Macro style.items end _ refl (ap (λ (s : Style). s.items) (sym d.2))
 
 pub faultless : FaultlessLaw
-faultless [] from end h = ap (λ (s : Style). map kind_of s.items) (sym h.1) ∙ sym (append-nil (map kind_of from.style.items))
+faultless [] from end h = ap (λ (s : Style). map item_command s.items) (sym h.1) ∙ sym (append-nil (map item_command from.style.items))
 faultless (w ∷ more) from end h =
-    let t : State = h.0 in
-    let rest = map (λ (x : Written). Some (command_of x)) more in
+    let t : StyleState = h.0 in
+    let rest = map (λ (x : Written). Some (command_written x)) more in
     faultless more t end h.3 ∙ ap (λ (xs : Kinds). xs ++ rest) (does_kind w from.style t.style h.2)
-    ∙ append_assoc (map kind_of from.style.items) (Some (command_of w) ∷ []) rest
+    ∙ append_assoc (map item_command from.style.items) (Some (command_written w) ∷ []) rest
 
 pub ruleset written_laws = (written, faultless)

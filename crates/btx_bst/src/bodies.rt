@@ -23,10 +23,10 @@ pub struct Bodies {
 
 impl Model for Bodies {
     ghost use Rattle.std.specs.Prelude.{◌≤◌, List, length, map, All};
-    ghost use Rattle.btx_bst.specs.Bodies.{Body};
-    ghost use Rattle.btx_bst.specs.Ranges.{tokens_in};
+    ghost use Rattle.btx_bst.specs.language.Bodies.{FunctionBody};
+    ghost use Rattle.btx_bst.specs.refinement.Ranges.{tokens_in};
 
-    ghost Value = { List Body };
+    ghost Value = { List FunctionBody };
 
     ghost view = { λ b. map (tokens_in b.tokens.items) b.ranges.items };
 

@@ -1,11 +1,11 @@
 //! The words of a body.
 ghost use Rattle.std.specs.Prelude.{◌≡◌, ◌<◌, ◌^◌, ◌++◌, ◌∷◌, [], IfOk, OnOk, List, ℕ, length};
-ghost use Rattle.btx_bst.specs.BodyText.{body_end, body_turn, closed_inside};
-ghost use Rattle.btx_bst.specs.Names.{named};
-ghost use Rattle.btx_bst.specs.Places.{Place};
-ghost use Rattle.btx_bst.specs.Items as spec;
-ghost use Rattle.btx_bst.specs.Views.{body_turn_view, body_end_view, inside_at, inside_view, texts_view};
-ghost use Rattle.btx_bst.specs.Weights.{body_weight};
+ghost use Rattle.btx_bst.specs.language.BodyText.{body_end, body_turn, closed_inside};
+ghost use Rattle.btx_bst.specs.language.Names.{named};
+ghost use Rattle.btx_bst.specs.language.Places.{Place};
+ghost use Rattle.btx_bst.specs.language.Items as spec;
+ghost use Rattle.btx_bst.specs.refinement.Views.{body_turn_view, body_end_view, inside_of_reader, inside_view, texts_view};
+ghost use Rattle.btx_bst.specs.refinement.Weights.{body_weight};
 
 use crate::bodies::Bodies;
 use crate::callee::Callee;
@@ -53,7 +53,7 @@ pub fn find(alloc: Global, names: &Names<'_>, name: &[u8]) -> Result<Option<Call
 }
 
 // Takes a word.
-#[tactic(auto, unfolding(crate::specs::BodyText::body_turn))]
+#[tactic(auto, unfolding(crate::specs::language::BodyText::body_turn))]
 fn turn<'a>(
     alloc: Global,
     cursor: &mut Cursor<'a>,
@@ -114,7 +114,7 @@ fn turn<'a>(
 // Takes a `}`: the innermost function is defined, if it is a nameless one.
 fn close<'a>(current: &mut Open, bodies: &mut Bodies) -> Result<Turn<'a>, AllocError>
     requires { length bodies.old < 2 ^ 32 }
-    ensures { IfOk result (λ turn. (place : Place) → (texts : List (List ℕ)) → (items : List spec.Item) → body_turn_view turn (inside_at place current.new bodies.new texts items) ≡ closed_inside (inside_at place current.old bodies.old texts items) current.old.around) }
+    ensures { IfOk result (λ turn. (place : Place) → (texts : List (List ℕ)) → (items : List spec.Item) → body_turn_view turn (inside_of_reader place current.new bodies.new texts items) ≡ closed_inside (inside_of_reader place current.old bodies.old texts items) current.old.around) }
 {
     if !current.is_nested() {
         return Ok(Turn::Whole);

@@ -1,6 +1,6 @@
 //! The built-in functions.
 ghost use Rattle.std.specs.Prelude.{◌≡◌};
-ghost use Rattle.btx_bst.specs.BuiltIns.{word_of};
+ghost use Rattle.btx_bst.specs.language.BuiltIns.{built_in_name};
 
 /// One of the 37 built-in functions of styles.
 #[derive(Clone, Copy, Debug, PartialEq, Eq)]
@@ -125,7 +125,7 @@ pub const BUILT_INS: [BuiltIn; 37] = [
 impl BuiltIn {
     /// The word that a style writes.
     pub fn word(self) -> &'static [u8]
-        ensures { result.now ≡ word_of self }
+        ensures { result.now ≡ built_in_name self }
     {
         match self {
             BuiltIn::Equals => b"=",

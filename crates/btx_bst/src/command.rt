@@ -1,6 +1,6 @@
 //! The commands of a style.
 ghost use Rattle.std.specs.Prelude.{◌≡◌};
-ghost use Rattle.btx_bst.specs.CommandWords.{word_of};
+ghost use Rattle.btx_bst.specs.language.CommandWords.{command_word_of};
 
 /// One of the ten commands of a style.
 #[derive(Clone, Copy, Debug, PartialEq, Eq)]
@@ -30,7 +30,7 @@ pub enum Command {
 impl Command {
     /// The command's word, in capitals.
     pub fn word(self) -> &'static [u8]
-        ensures { result.now ≡ word_of self }
+        ensures { result.now ≡ command_word_of self }
     {
         match self {
             Command::Entry => b"ENTRY",

@@ -1,9 +1,9 @@
 //! A place in a style's text, from which words are read.
 ghost use Rattle.std.specs.Prelude.{◌≡◌};
-ghost use Rattle.btx_bst.specs.Places.{Place, beginning, ink, skipped};
-ghost use Rattle.btx_bst.specs.Lists.{brace_in, closing, letters_at, name_at, opening, quoted_at};
-ghost use Rattle.btx_bst.specs.Words.{met_at};
-ghost use Rattle.btx_bst.specs.Views.{complaint_view, read_text, read_unit, word_view};
+ghost use Rattle.btx_bst.specs.language.Places.{Place, beginning, ink, skipped};
+ghost use Rattle.btx_bst.specs.language.Lists.{brace_in, closing, letters_at, next_name, opening, quoted_at};
+ghost use Rattle.btx_bst.specs.language.Words.{met_at};
+ghost use Rattle.btx_bst.specs.refinement.Views.{complaint_view, read_text, read_unit, word_view};
 
 use crate::complaint::Complaint;
 use crate::fronts::{behind_white, letters_len, name_len, quote_len, word_front};
@@ -21,7 +21,7 @@ pub struct Cursor<'a> {
 
 impl<'a> Model for Cursor<'a> {
     ghost use Rattle.std.specs.Prelude.{◌<◌, ◌+◌, ◌^◌, length};
-    ghost use Rattle.btx_bst.specs.Places.{Place, place_at};
+    ghost use Rattle.btx_bst.specs.language.Places.{Place, place_at};
 
     ghost Value = { Place };
 
@@ -133,7 +133,7 @@ impl<'a> Cursor<'a> {
 
     /// Takes a name.
     pub fn name(&mut self) -> Result<&'a [u8], Complaint<'a>>
-        ensures { read_text result self.new ≡ name_at self.old }
+        ensures { read_text result self.new ≡ next_name self.old }
     {
         self.go_to_ink();
         if self.line.is_empty() {

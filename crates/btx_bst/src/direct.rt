@@ -1,6 +1,6 @@
 //! Direct styles.
 ghost use Rattle.std.specs.Prelude.{◌≡◌, ◌↔◌, ◌<◌, IsTrue, length, slice_get};
-ghost use Rattle.btx_bst.specs.Direct as spec;
+ghost use Rattle.btx_bst.specs.language.Direct as spec;
 
 use crate::built_in::BuiltIn;
 use crate::callee::Callee;
@@ -35,7 +35,7 @@ fn is_direct_body(body: &[Token]) -> bool
 }
 
 // Whether what stands at a place of a body is direct.
-#[tactic(auto, unfolding(crate::specs::Direct::is_direct_at))]
+#[tactic(auto, unfolding(crate::specs::language::Direct::is_direct_at))]
 fn is_direct_at(body: &[Token], i: usize) -> bool
     requires { i < length body.now }
     ensures { result ≡ spec.is_direct_at body.now i }
@@ -46,7 +46,7 @@ fn is_direct_at(body: &[Token], i: usize) -> bool
 }
 
 // Whether two function literals begin at a place, directly before an `if$` or a `while$`.
-#[tactic(auto, unfolding(crate::specs::Direct::begins_pair))]
+#[tactic(auto, unfolding(crate::specs::language::Direct::begins_pair))]
 fn begins_pair(body: &[Token], i: usize) -> bool
     requires { i < length body.now }
     ensures { result ≡ spec.begins_pair body.now i }
@@ -57,7 +57,7 @@ fn begins_pair(body: &[Token], i: usize) -> bool
 }
 
 // Whether this is `call.type$`, executed or as a literal.
-#[tactic(auto, unfolding(crate::specs::Direct::is_call_type))]
+#[tactic(auto, unfolding(crate::specs::language::Direct::is_call_type))]
 fn is_call_type(token: Option<Token>) -> bool
     ensures { result ≡ spec.is_call_type token }
 {
@@ -71,7 +71,7 @@ fn is_call_type(token: Option<Token>) -> bool
 }
 
 // Whether this is a literal of a function of the style.
-#[tactic(auto, unfolding(crate::specs::Direct::is_user_literal))]
+#[tactic(auto, unfolding(crate::specs::language::Direct::is_user_literal))]
 fn is_user_literal(token: Option<Token>) -> bool
     ensures { result ≡ spec.is_user_literal token }
 {
@@ -79,7 +79,7 @@ fn is_user_literal(token: Option<Token>) -> bool
 }
 
 // Whether this is a literal of a function, a field or a variable.
-#[tactic(auto, unfolding(crate::specs::Direct::is_literal))]
+#[tactic(auto, unfolding(crate::specs::language::Direct::is_literal))]
 fn is_literal(token: Option<Token>) -> bool
     ensures { result ≡ spec.is_literal token }
 {
@@ -87,7 +87,7 @@ fn is_literal(token: Option<Token>) -> bool
 }
 
 // Whether this is an `if$` or a `while$` that is executed.
-#[tactic(auto, unfolding(crate::specs::Direct::is_choice))]
+#[tactic(auto, unfolding(crate::specs::language::Direct::is_choice))]
 fn is_choice(token: Option<Token>) -> bool
     ensures { result ≡ spec.is_choice token }
 {

@@ -1,15 +1,15 @@
 //! A style as far as it has been read, command by command.
 ghost use Rattle.std.specs.Prelude.{◌≡◌, IfOk, OnOk, None};
-ghost use Rattle.btx_bst.specs.Commands.{command_at, entry, run, sort, declare, macro_command, function, function_ended, function_in, inside_at, read};
-ghost use Rattle.btx_bst.specs.BodyText.{body_end};
+ghost use Rattle.btx_bst.specs.language.Commands.{command_at, entry_command, run_command, sort_command, declare, macro_command, function_command, function_ended, function_in, inside_at, read_command};
+ghost use Rattle.btx_bst.specs.language.BodyText.{body_end};
 ghost use Rattle.btx_bst.specs.declared.callee.Kind.TheVariants as kind;
-ghost use Rattle.btx_bst.specs.Items as item;
-ghost use Rattle.btx_bst.specs.Views.{item_view, run_item};
-ghost use Rattle.btx_bst.specs.Places.{Place};
-ghost use Rattle.btx_bst.specs.StyleText.{start};
-ghost use Rattle.btx_bst.specs.Names.{named_lower};
-ghost use Rattle.btx_bst.specs.DraftViews.{draft_view, outcome_view};
-ghost use Rattle.btx_bst.specs.Weights.{HasRoom};
+ghost use Rattle.btx_bst.specs.language.Items as item;
+ghost use Rattle.btx_bst.specs.refinement.Views.{item_view, run_item};
+ghost use Rattle.btx_bst.specs.language.Places.{Place};
+ghost use Rattle.btx_bst.specs.language.StyleText.{unread_style};
+ghost use Rattle.btx_bst.specs.language.Names.{named_lower};
+ghost use Rattle.btx_bst.specs.refinement.DraftViews.{draft_view, outcome_view};
+ghost use Rattle.btx_bst.specs.refinement.Weights.{HasRoom};
 
 use crate::bodies::Bodies;
 use crate::body_words::{body, find};
@@ -49,7 +49,7 @@ pub struct Draft<'a> {
 impl<'a> Draft<'a> {
     /// Nothing has been read of the file of this name, and these names are known.
     pub fn new(alloc: Global, file_name: &'a [u8], names: Names<'a>) -> Self
-        ensures { draft_view result ≡ start file_name.now names.entry }
+        ensures { draft_view result ≡ unread_style file_name.now names.entry }
     {
         Draft {
             file_name,
@@ -88,14 +88,14 @@ impl<'a> Draft<'a> {
     }
 
     // Takes the rest of an ENTRY.
-    #[tactic(auto, unfolding(crate::specs::Commands::entry))]
+    #[tactic(auto, unfolding(crate::specs::language::Commands::entry_command))]
     fn entry(
         &mut self,
         alloc: Global,
         cursor: &mut Cursor<'a>,
     ) -> Result<Option<Complaint<'a>>, AllocError>
         requires { HasRoom (draft_view self.old) cursor.old }
-        ensures { IfOk result (λ complaint. outcome_view complaint (draft_view self.new) cursor.new ≡ entry (draft_view self.old) cursor.old) }
+        ensures { IfOk result (λ complaint. outcome_view complaint (draft_view self.new) cursor.new ≡ entry_command (draft_view self.old) cursor.old) }
     {
         if self.has_entry {
             return Ok(Some(Complaint::Another(Command::Entry)));
@@ -115,9 +115,9 @@ impl<'a> Draft<'a> {
     }
 
     // Takes a READ.
-    #[tactic(auto, unfolding(crate::specs::Commands::read))]
+    #[tactic(auto, unfolding(crate::specs::language::Commands::read_command))]
     fn read(&mut self) -> Result<Option<Complaint<'a>>, AllocError>
-        ensures { IfOk result (λ complaint. (place : Place) → outcome_view complaint (draft_view self.new) place ≡ read (draft_view self.old) place) }
+        ensures { IfOk result (λ complaint. (place : Place) → outcome_view complaint (draft_view self.new) place ≡ read_command (draft_view self.old) place) }
     {
         if self.before_read.is_some() {
             return Ok(Some(Complaint::Another(Command::Read)));
@@ -131,14 +131,14 @@ impl<'a> Draft<'a> {
     }
 
     // Takes the rest of an EXECUTE, ITERATE or REVERSE.
-    #[tactic(auto, unfolding(crate::specs::Commands::run))]
+    #[tactic(auto, unfolding(crate::specs::language::Commands::run_command))]
     fn run(
         &mut self,
         alloc: Global,
         cursor: &mut Cursor<'a>,
         command: Command,
     ) -> Result<Option<Complaint<'a>>, AllocError>
-        ensures { IfOk result (λ complaint. outcome_view complaint (draft_view self.new) cursor.new ≡ run command (run_item command) (draft_view self.old) cursor.old) }
+        ensures { IfOk result (λ complaint. outcome_view complaint (draft_view self.new) cursor.new ≡ run_command command (run_item command) (draft_view self.old) cursor.old) }
     {
         if self.before_read.is_none() {
             return Ok(Some(Complaint::BeforeRead(command)));
@@ -161,9 +161,9 @@ impl<'a> Draft<'a> {
     }
 
     // Takes a SORT.
-    #[tactic(auto, unfolding(crate::specs::Commands::sort))]
+    #[tactic(auto, unfolding(crate::specs::language::Commands::sort_command))]
     fn sort(&mut self) -> Result<Option<Complaint<'a>>, AllocError>
-        ensures { IfOk result (λ complaint. (place : Place) → outcome_view complaint (draft_view self.new) place ≡ sort (draft_view self.old) place) }
+        ensures { IfOk result (λ complaint. (place : Place) → outcome_view complaint (draft_view self.new) place ≡ sort_command (draft_view self.old) place) }
     {
         if self.before_read.is_none() {
             return Ok(Some(Complaint::BeforeRead(Command::Sort)));
@@ -173,7 +173,7 @@ impl<'a> Draft<'a> {
     }
 
     // Takes the rest of an INTEGERS.
-    #[tactic(auto, unfolding(crate::specs::Commands::declare))]
+    #[tactic(auto, unfolding(crate::specs::language::Commands::declare))]
     fn integers(
         &mut self,
         alloc: Global,
@@ -190,7 +190,7 @@ impl<'a> Draft<'a> {
     }
 
     // Takes the rest of a STRINGS.
-    #[tactic(auto, unfolding(crate::specs::Commands::declare))]
+    #[tactic(auto, unfolding(crate::specs::language::Commands::declare))]
     fn strings(
         &mut self,
         alloc: Global,
@@ -207,7 +207,7 @@ impl<'a> Draft<'a> {
     }
 
     // Takes the rest of a MACRO.
-    #[tactic(auto, unfolding(crate::specs::Commands::macro_command))]
+    #[tactic(auto, unfolding(crate::specs::language::Commands::macro_command))]
     fn take_macro(
         &mut self,
         alloc: Global,
@@ -248,14 +248,14 @@ impl<'a> Draft<'a> {
     }
 
     // Takes the rest of a FUNCTION.
-    #[tactic(auto, unfolding(crate::specs::Commands::function))]
+    #[tactic(auto, unfolding(crate::specs::language::Commands::function_command))]
     fn function(
         &mut self,
         alloc: Global,
         cursor: &mut Cursor<'a>,
     ) -> Result<Option<Complaint<'a>>, AllocError>
         requires { HasRoom (draft_view self.old) cursor.old }
-        ensures { IfOk result (λ complaint. outcome_view complaint (draft_view self.new) cursor.new ≡ function (draft_view self.old) cursor.old) }
+        ensures { IfOk result (λ complaint. outcome_view complaint (draft_view self.new) cursor.new ≡ function_command (draft_view self.old) cursor.old) }
     {
         if let Err(complaint) = cursor.opening() {
             return Ok(Some(complaint));

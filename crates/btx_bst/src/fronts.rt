@@ -1,9 +1,9 @@
 //! Fronts of a line.
 ghost use Rattle.std.specs.Prelude.{◌≡◌, ◌≤◌, ◌∷◌, length};
-ghost use Rattle.btx_bst.specs.Places as places;
-ghost use Rattle.btx_bst.specs.Fronts as spec;
-ghost use Rattle.btx_bst.specs.Words as words;
-ghost use Rattle.btx_bst.specs.Views.{word_view};
+ghost use Rattle.btx_bst.specs.language.Places as places;
+ghost use Rattle.btx_bst.specs.language.Fronts as spec;
+ghost use Rattle.btx_bst.specs.language.Words as words;
+ghost use Rattle.btx_bst.specs.refinement.Views.{word_view};
 
 use crate::complaint::Complaint;
 use crate::integers::integer_at;
@@ -136,7 +136,7 @@ fn string_at(line: &[u8]) -> (Word<'_>, &[u8])
 }
 
 /// The word that a line begins with, and what is left behind it.
-#[tactic(auto, unfolding(crate::specs::Words::word_front))]
+#[tactic(auto, unfolding(crate::specs::language::Words::word_front))]
 pub fn word_front<'a>(first: u8, after: &'a [u8], line: &'a [u8]) -> (Word<'a>, &'a [u8])
     requires line { line.now ≡ first ∷ after.now }
     ensures word { word_view result.0 ≡ (words.word_front first after.now).word }

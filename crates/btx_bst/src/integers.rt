@@ -1,8 +1,8 @@
 //! Integers of a body.
 ghost use Rattle.std.specs.Prelude.{◌≡◌, ◌≤◌, length, min, drop};
-ghost use Rattle.btx_bst.specs.Fronts as fronts;
-ghost use Rattle.btx_bst.specs.Words as spec;
-ghost use Rattle.btx_bst.specs.Views.{word_view};
+ghost use Rattle.btx_bst.specs.language.Fronts as fronts;
+ghost use Rattle.btx_bst.specs.language.Words as spec;
+ghost use Rattle.btx_bst.specs.refinement.Views.{word_view};
 
 use crate::complaint::Complaint;
 use crate::fronts::{is_word_end, word_len};
@@ -25,7 +25,7 @@ fn digits_len(line: &[u8]) -> usize
 // What digits come to, or 4,294,967,296 where they come to more.
 #[tactic(auto, using(crate::proofs::IntegerLemmas::value_steps))]
 fn value_of(digits: &[u8]) -> u64
-    ensures { result ≡ min (spec.value_of digits.now) 4294967296 }
+    ensures { result ≡ min (spec.digits_value digits.now) 4294967296 }
 {
     let mut value: u64 = 0;
     for &digit in digits {
@@ -35,7 +35,7 @@ fn value_of(digits: &[u8]) -> u64
 }
 
 // A number with or without a minus, if it is one of 32 bits.
-#[tactic(auto, unfolding(crate::specs::Words::signed))]
+#[tactic(auto, unfolding(crate::specs::language::Words::signed))]
 fn signed(minus: bool, value: u64) -> Option<i32>
     ensures { result ≡ spec.signed minus value }
 {
@@ -49,7 +49,7 @@ fn signed(minus: bool, value: u64) -> Option<i32>
 }
 
 /// The integer that begins behind a `#`, and what is left behind it.
-#[tactic(auto, unfolding(crate::specs::Words::integer_at))]
+#[tactic(auto, unfolding(crate::specs::language::Words::integer_at))]
 pub fn integer_at(line: &[u8]) -> (Word<'_>, &[u8])
     ensures word { word_view result.0 ≡ (spec.integer_at line.now).word }
     ensures rest { result.1.now ≡ (spec.integer_at line.now).rest }
@@ -88,8 +88,8 @@ fn integer_before<'a>(line: &'a [u8], rest: &'a [u8], value: Option<i32>) -> (Wo
 // The integer of the digits that this text begins with.
 #[tactic(auto, using(crate::proofs::IntegerLemmas::signed_capped))]
 fn integer_of<'a>(line: &'a [u8], minus: bool, rest: &'a [u8]) -> (Word<'a>, &'a [u8])
-    ensures word { word_view result.0 ≡ (spec.integer_of line.now minus rest.now (fronts.digits_len rest.now)).word }
-    ensures rest { result.1.now ≡ (spec.integer_of line.now minus rest.now (fronts.digits_len rest.now)).rest }
+    ensures word { word_view result.0 ≡ (spec.integer_front line.now minus rest.now (fronts.digits_len rest.now)).word }
+    ensures rest { result.1.now ≡ (spec.integer_front line.now minus rest.now (fronts.digits_len rest.now)).rest }
 {
     let len = digits_len(rest);
     if len == 0 {

@@ -1,18 +1,18 @@
 //! Laws over the definition of a style, each the contract of a function that does nothing.
-ghost use Rattle.btx_bst.specs.CommandSpelling.{OneReadingLaw, ReadingLaw};
-ghost use Rattle.btx_bst.specs.Counts.{BeforeReadLaw, CountLaw};
-ghost use Rattle.btx_bst.specs.FirstNames.{FirstNamesLaw};
-ghost use Rattle.btx_bst.specs.ItemSpelling.{GivenLaw, GivingLaw, SkippedLaw, SkippedToEndLaw};
-ghost use Rattle.btx_bst.specs.Macros.{MacroTextsLaw, OneMacroLaw};
-ghost use Rattle.btx_bst.specs.Meanings.{MeaningsLaw, OneMeaningLaw};
-ghost use Rattle.btx_bst.specs.Nexts.{BodyNextLaw, ListNextLaw, StyleNextLaw};
-ghost use Rattle.btx_bst.specs.Order.{MacroLaw, OnceLaw, OrderLaw};
-ghost use Rattle.btx_bst.specs.Passages.{CommandLaw, InkLaw, SkipLaw};
-ghost use Rattle.btx_bst.specs.References.{ReferencesLaw, ItemsLaw, ExecutedLaw};
-ghost use Rattle.btx_bst.specs.Spelling.{SpelledLaw, BrokenLaw, DividedLaw};
-ghost use Rattle.btx_bst.specs.WordSpelling.{TokensLaw};
-ghost use Rattle.btx_bst.specs.WorkedStyles as worked;
-ghost use Rattle.btx_bst.specs.Written.{FaultlessLaw, WrittenLaw};
+ghost use Rattle.btx_bst.specs.laws.CommandSpelling.{OneReadingLaw, ReadingLaw};
+ghost use Rattle.btx_bst.specs.laws.Counts.{BeforeReadLaw, CountLaw};
+ghost use Rattle.btx_bst.specs.laws.FirstNames.{FirstNamesLaw};
+ghost use Rattle.btx_bst.specs.laws.ItemSpelling.{GivenLaw, GivingLaw, SkippedLaw, SkippedToEndLaw};
+ghost use Rattle.btx_bst.specs.laws.Macros.{MacroTextsLaw, OneMacroLaw};
+ghost use Rattle.btx_bst.specs.laws.Meanings.{MeaningsLaw, OneMeaningLaw};
+ghost use Rattle.btx_bst.specs.laws.Nexts.{BodyNextLaw, ListNextLaw, StyleNextLaw};
+ghost use Rattle.btx_bst.specs.laws.Order.{MacroLaw, OnceLaw, OrderLaw};
+ghost use Rattle.btx_bst.specs.laws.Passages.{CommandLaw, InkLaw, SkipLaw};
+ghost use Rattle.btx_bst.specs.laws.References.{ReferencesLaw, ItemsLaw, ExecutedLaw};
+ghost use Rattle.btx_bst.specs.laws.Spelling.{SpelledLaw, BrokenLaw, DividedLaw};
+ghost use Rattle.btx_bst.specs.laws.WordSpelling.{TokensLaw};
+ghost use Rattle.btx_bst.specs.laws.WorkedStyles as worked;
+ghost use Rattle.btx_bst.specs.laws.Written.{FaultlessLaw, WrittenLaw};
 
 /// Each token refers to strings, fields and variables of the style and to functions before its own alone; what each command defines or
 /// executes is a function, built in or of the style; and a function of the style is executed only behind the FUNCTION that defines it.
@@ -107,7 +107,7 @@ pub fn worked_styles_are_read_so()
     ensures faults { worked.AreRead worked.faults }
     ensures bodies { worked.AreBodies worked.bodies }
     ensures words { worked.AreWords worked.words }
-    ensures messages { worked.AreTexts worked.messages }
+    ensures messages { worked.AreTexts worked.complaint_texts }
 {}
 
 /// Nothing of a text is read twice, and nothing is left out: the text at a place is the white before a command, the command's own, what is

@@ -1,9 +1,9 @@
 //! Lists of names.
 ghost use Rattle.std.specs.Prelude.{◌≡◌, ◌<◌, ◌+◌, ◌^◌, IfOk};
-ghost use Rattle.btx_bst.specs.Places.{size};
-ghost use Rattle.btx_bst.specs.Weights.{names_weight};
-ghost use Rattle.btx_bst.specs.Lists.{list_at, list_end, list_turn, listing};
-ghost use Rattle.btx_bst.specs.Views.{listed_view, list_turn_view};
+ghost use Rattle.btx_bst.specs.language.Places.{size};
+ghost use Rattle.btx_bst.specs.refinement.Weights.{names_weight};
+ghost use Rattle.btx_bst.specs.language.Lists.{list_at, list_end, list_turn, listing};
+ghost use Rattle.btx_bst.specs.refinement.Views.{listed_view, list_turn_view};
 
 use crate::callee::Kind;
 use crate::complaint::Complaint;
@@ -50,7 +50,7 @@ fn rest<'a>(
 }
 
 // Takes a name, or the `}`.
-#[tactic(auto, unfolding(crate::specs::Lists::list_turn))]
+#[tactic(auto, unfolding(crate::specs::language::Lists::list_turn))]
 fn turn<'a>(
     alloc: Global,
     cursor: &mut Cursor<'a>,

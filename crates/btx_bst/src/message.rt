@@ -1,8 +1,8 @@
 //! What is wrong in a style, with its place.
 ghost use Rattle.std.specs.Prelude.{◌≡◌, ◌++◌, OnOk, IfOk};
-ghost use Rattle.btx_bst.specs.Items as spec;
-ghost use Rattle.btx_bst.specs.MessageTexts.{after_of, before_of, line_of, shown_of, text_of};
-ghost use Rattle.btx_bst.specs.Views.{complaint_view, item_view};
+ghost use Rattle.btx_bst.specs.language.Items as spec;
+ghost use Rattle.btx_bst.specs.language.MessageTexts.{after_shown, before_shown, complaint_line, shown_of, complaint_text};
+ghost use Rattle.btx_bst.specs.refinement.Views.{complaint_view, item_view};
 
 use crate::complaint::Complaint;
 use crate::item::Item;
@@ -23,7 +23,7 @@ impl<'a> Message<'a> {
     /// The line of the log, with the place of what is wrong in the file of this name.
     #[tactic(auto, using(crate::proofs::LineLemmas::line_steps))]
     pub fn log_line(&self, alloc: Global, file: &[u8]) -> Result<LogLine, AllocError>
-        ensures { IfOk result (λ line. line ≡ line_of (complaint_view self.now.complaint) self.now.line file.now) }
+        ensures { IfOk result (λ line. line ≡ complaint_line (complaint_view self.now.complaint) self.now.line file.now) }
     {
         let mut text = Vec::new(alloc);
         push_mark(&mut text, LineKind::Error)?;
@@ -49,16 +49,16 @@ pub fn told(complaint: Complaint<'_>, line: usize) -> Item<'_>
 // Appends what is wrong.
 #[tactic(auto, using(crate::proofs::LineLemmas::line_steps))]
 fn push_complaint(text: &mut Vec<u8>, complaint: Complaint<'_>) -> Result<(), AllocError>
-    ensures { OnOk result (text.new.items ≡ text.old.items ++ text_of (complaint_view complaint.entry)) }
+    ensures { OnOk result (text.new.items ≡ text.old.items ++ complaint_text (complaint_view complaint.entry)) }
 {
     text.extend_from_slice(before(complaint))?;
     push_two(text, shown(complaint), after(complaint))
 }
 
 // What stands before the name or the command that is shown, or the whole text.
-#[tactic(auto, unfolding(crate::specs::MessageTexts::before_of))]
+#[tactic(auto, unfolding(crate::specs::language::MessageTexts::before_shown))]
 fn before(complaint: Complaint<'_>) -> &'static [u8]
-    ensures { result.now ≡ before_of (complaint_view complaint.entry) }
+    ensures { result.now ≡ before_shown (complaint_view complaint.entry) }
 {
     match complaint {
         Complaint::NoCommand => b"I was expecting a command",
@@ -79,7 +79,7 @@ fn before(complaint: Complaint<'_>) -> &'static [u8]
 }
 
 // The name or the command that is shown.
-#[tactic(auto, unfolding(crate::specs::MessageTexts::shown_of))]
+#[tactic(auto, unfolding(crate::specs::language::MessageTexts::shown_of))]
 fn shown<'a>(complaint: Complaint<'a>) -> &'a [u8]
     ensures { result.now ≡ shown_of (complaint_view complaint.entry) }
 {
@@ -94,9 +94,9 @@ fn shown<'a>(complaint: Complaint<'a>) -> &'a [u8]
 }
 
 // What stands after it.
-#[tactic(auto, unfolding(crate::specs::MessageTexts::after_of))]
+#[tactic(auto, unfolding(crate::specs::language::MessageTexts::after_shown))]
 fn after(complaint: Complaint<'_>) -> &'static [u8]
-    ensures { result.now ≡ after_of (complaint_view complaint.entry) }
+    ensures { result.now ≡ after_shown (complaint_view complaint.entry) }
 {
     match complaint {
         Complaint::NotCommand(_) => b" isn't a command",

@@ -1,7 +1,7 @@
 //! A name of a style in lower case.
 ghost use Rattle.std.specs.Prelude.{◌≡◌, IfOk};
-ghost use Rattle.btx_text.specs.Keys.{folded};
-ghost use Rattle.btx_bst.specs.Spelled.{has_capital};
+ghost use Rattle.btx_text.specs.language.Keys.{folded};
+ghost use Rattle.btx_bst.specs.refinement.Spelled.{has_capital};
 
 use btx_text::fold_key;
 use std::alloc::{AllocError, Global};
@@ -27,7 +27,7 @@ impl<'a> Model for Name<'a> {
 
     ghost Value = { List ℕ };
 
-    ghost use Rattle.btx_bst.specs.KeptNames.{bytes_of};
+    ghost use Rattle.btx_bst.specs.refinement.KeptNames.{bytes_of};
 
     ghost view = { λ name. bytes_of name.kept };
 }

@@ -1,8 +1,8 @@
 //! The table of names.
 ghost use Rattle.std.specs.Prelude.{◌≡◌, ◌++◌, ◌∷◌, [], None, IfOk, OnOk, OnErr, fold};
-ghost use Rattle.btx_bst.specs.Names.{padded};
-ghost use Rattle.btx_bst.specs.BuiltIns.{built_ins};
-ghost use Rattle.btx_bst.specs.NameTables.{found_in, pairs_in, words_in, added, IsPadded};
+ghost use Rattle.btx_bst.specs.language.Names.{padded};
+ghost use Rattle.btx_bst.specs.language.BuiltIns.{built_ins};
+ghost use Rattle.btx_bst.specs.refinement.NameTables.{found_in, pairs_in, words_in, with_built_in, IsPadded};
 
 use crate::built_in::{BUILT_INS, BuiltIn};
 use crate::callee::Callee;
@@ -26,7 +26,7 @@ fn add_words(
     table: &mut IndexMap<Vec<u8>, Callee>,
     built_ins: &[BuiltIn],
 ) -> Result<(), AllocError>
-    ensures { OnOk result (pairs_in table.new.entries ≡ fold added (pairs_in table.old.entries) built_ins.now) }
+    ensures { OnOk result (pairs_in table.new.entries ≡ fold with_built_in (pairs_in table.old.entries) built_ins.now) }
 {
     for built_in in built_ins {
         add_word(alloc, table, *built_in)?;
@@ -41,7 +41,7 @@ fn add_word(
     table: &mut IndexMap<Vec<u8>, Callee>,
     built_in: BuiltIn,
 ) -> Result<(), AllocError>
-    ensures { OnOk result (pairs_in table.new.entries ≡ added (pairs_in table.old.entries) built_in) }
+    ensures { OnOk result (pairs_in table.new.entries ≡ with_built_in (pairs_in table.old.entries) built_in) }
 {
     let word = Vec::from_slice(alloc, built_in.word())?;
     table.insert(word, Callee::BuiltIn(built_in))?;

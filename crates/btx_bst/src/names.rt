@@ -1,6 +1,8 @@
 //! The names that are known, found by a table.
 ghost use Rattle.std.specs.Prelude.{◌≡◌, None, IfOk, OnOk, length, slice_index_or, [], ◌<◌, ◌≤◌, ◌+◌, ◌^◌, List, ℕ};
-ghost use Rattle.btx_bst.specs.Names.{named_lower, name_of, with_name, with_function, no_names, names_of, shown_name};
+ghost use Rattle.btx_bst.specs.language.Names.{named_lower, name_of, with_name, with_function, shown_name};
+ghost use Rattle.btx_bst.specs.laws.Names.{no_names};
+ghost use Rattle.btx_bst.specs.refinement.Names.{names_of_kind};
 ghost use Rattle.btx_bst.specs.declared.callee.Kind.TheVariants as kind;
 
 use crate::callee::{Callee, Kind};
@@ -23,11 +25,11 @@ pub struct Names<'a> {
 }
 
 impl<'a> Model for Names<'a> {
-    ghost use Rattle.btx_bst.specs.Names.{Names as Known};
+    ghost use Rattle.btx_bst.specs.language.Names.{Names as Known};
 
     ghost Value = { Known };
 
-    ghost use Rattle.btx_bst.specs.NameTables.{known_in, IsTable};
+    ghost use Rattle.btx_bst.specs.refinement.NameTables.{known_in, IsTable};
 
     ghost view = { λ n. known_in n.functions.items n.fields.items n.entry_integers.items n.entry_strings.items n.global_integers.items n.global_strings.items };
 
@@ -59,7 +61,7 @@ impl<'a> Names<'a> {
 
     /// How many names of a kind there are.
     pub fn count(&self, kind: Kind) -> usize
-        ensures { result ≡ length (names_of kind self.now) }
+        ensures { result ≡ length (names_of_kind kind self.now) }
     {
         match kind {
             Kind::Field => self.fields.len(),
@@ -88,7 +90,7 @@ impl<'a> Names<'a> {
     /// Adds a name of a kind that isn't known.
     pub fn add(&mut self, alloc: Global, kind: Kind, name: Name<'a>) -> Result<(), AllocError>
         requires new { named_lower self.old name ≡ None }
-        requires room { length (names_of kind self.old) < 2 ^ 32 }
+        requires room { length (names_of_kind kind self.old) < 2 ^ 32 }
         ensures { OnOk result (self.new ≡ with_name kind name.entry self.old) }
     {
         let key = Vec::from_slice(alloc, name.as_bytes())?;

@@ -1,7 +1,7 @@
 //! The functions whose bodies are being read.
 ghost use Rattle.std.specs.Prelude.{◌≡◌, [], ◌∷◌, ◌++◌, OnOk};
-ghost use Rattle.btx_bst.specs.Pending.{is_nested};
-ghost use Rattle.btx_bst.specs.Views.{opened, left_alone};
+ghost use Rattle.btx_bst.specs.refinement.Pending.{is_nested};
+ghost use Rattle.btx_bst.specs.refinement.Views.{open_bodies, left_alone};
 
 use crate::token::Token;
 use std::alloc::{AllocError, Global};
@@ -17,21 +17,21 @@ pub struct Open {
 
 impl Model for Open {
     ghost use Rattle.std.specs.Prelude.{reverse};
-    ghost use Rattle.btx_bst.specs.Views.{Opened};
+    ghost use Rattle.btx_bst.specs.refinement.Views.{OpenBodies};
 
-    ghost Value = { Opened };
+    ghost Value = { OpenBodies };
 
-    ghost use Rattle.btx_bst.specs.Pending.{opened_in, IsCut};
+    ghost use Rattle.btx_bst.specs.refinement.Pending.{opened_in, StartsNest};
 
     ghost view = { λ o. opened_in o.tokens.items (reverse o.starts.items) };
 
-    ghost invariant = { λ o. IsCut o.tokens.items (reverse o.starts.items) };
+    ghost invariant = { λ o. StartsNest o.tokens.items (reverse o.starts.items) };
 }
 
 impl Open {
     /// One function, without tokens.
     pub fn new(alloc: Global) -> Self
-        ensures { result ≡ opened [] [] }
+        ensures { result ≡ open_bodies [] [] }
     {
         Open {
             tokens: Vec::new(alloc),
@@ -48,7 +48,7 @@ impl Open {
 
     /// One more token.
     pub fn push(&mut self, token: Token) -> Result<(), AllocError>
-        ensures { OnOk result (self.new ≡ opened (self.old.tokens ++ token ∷ []) self.old.around) }
+        ensures { OnOk result (self.new ≡ open_bodies (self.old.tokens ++ token ∷ []) self.old.around) }
     {
         self.tokens.push(token)?;
         Ok(())
@@ -56,7 +56,7 @@ impl Open {
 
     /// A function inside the innermost one.
     pub fn open(&mut self) -> Result<(), AllocError>
-        ensures { OnOk result (self.new ≡ opened [] (self.old.tokens ∷ self.old.around)) }
+        ensures { OnOk result (self.new ≡ open_bodies [] (self.old.tokens ∷ self.old.around)) }
     {
         self.starts.push(self.tokens.len())?;
         Ok(())

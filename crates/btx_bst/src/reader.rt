@@ -1,12 +1,12 @@
 //! The reader of a style's items.
 ghost use Rattle.std.specs.Prelude.{◌≡◌, IfOk, OnOk};
-ghost use Rattle.btx_text.specs.Keys.{folded};
-ghost use Rattle.btx_bst.specs.Commands.{command_named};
-ghost use Rattle.btx_bst.specs.Outcomes.{after_read};
-ghost use Rattle.btx_bst.specs.Lists.{letters_at};
-ghost use Rattle.btx_bst.specs.StyleText.{item_turn, state, style_from, word_outcome, resumed_after, command_outcome};
-ghost use Rattle.btx_bst.specs.Weights.{HasRoom};
-ghost use Rattle.btx_bst.specs.DraftViews.{draft_view, item_turn_view, outcome_view};
+ghost use Rattle.btx_text.specs.language.Keys.{folded};
+ghost use Rattle.btx_bst.specs.language.Commands.{command_named};
+ghost use Rattle.btx_bst.specs.language.Outcomes.{after_read};
+ghost use Rattle.btx_bst.specs.language.Lists.{letters_at};
+ghost use Rattle.btx_bst.specs.language.StyleText.{item_turn, style_state, style_from, word_outcome, resumed_after, command_outcome};
+ghost use Rattle.btx_bst.specs.refinement.Weights.{HasRoom};
+ghost use Rattle.btx_bst.specs.refinement.DraftViews.{draft_view, item_turn_view, outcome_view};
 
 use crate::command::Command;
 use crate::complaint::Complaint;
@@ -24,21 +24,21 @@ pub fn items<'a>(
     draft: &mut Draft<'a>,
 ) -> Result<(), AllocError>
     requires { HasRoom (draft_view draft.old) cursor.old }
-    ensures { OnOk result (draft_view draft.new ≡ style_from (state (draft_view draft.old) cursor.old)) }
+    ensures { OnOk result (draft_view draft.new ≡ style_from (style_state (draft_view draft.old) cursor.old)) }
 {
     while item(alloc, cursor, draft)? {}
     Ok(())
 }
 
 // Takes an item, if there is one.
-#[tactic(auto, unfolding(crate::specs::StyleText::item_turn))]
+#[tactic(auto, unfolding(crate::specs::language::StyleText::item_turn))]
 fn item<'a>(
     alloc: Global,
     cursor: &mut Cursor<'a>,
     draft: &mut Draft<'a>,
 ) -> Result<bool, AllocError>
     requires { HasRoom (draft_view draft.old) cursor.old }
-    ensures { IfOk result (λ more. item_turn_view more (draft_view draft.new) cursor.new ≡ item_turn (state (draft_view draft.old) cursor.old)) }
+    ensures { IfOk result (λ more. item_turn_view more (draft_view draft.new) cursor.new ≡ item_turn (style_state (draft_view draft.old) cursor.old)) }
 {
     cursor.go_to_ink();
     if cursor.line().is_empty() {
@@ -72,7 +72,7 @@ fn command<'a>(
 }
 
 // The command of a name in lower case.
-#[tactic(auto, unfolding(crate::specs::Commands::command_named))]
+#[tactic(auto, unfolding(crate::specs::language::Commands::command_named))]
 fn command_named(name: &[u8]) -> Option<Command>
     ensures { result ≡ command_named name.now }
 {

@@ -1,13 +1,13 @@
 //! A style that has been read.
 ghost use Rattle.std.specs.Prelude.{◌≡◌, ◌<◌, ◌≤◌, length, slice_index_or, [], IfOk, option_copied};
-ghost use Rattle.btx_bst.specs.Predefined.{predefined};
-ghost use Rattle.btx_bst.specs.StyleText.{style_of};
-ghost use Rattle.btx_bst.specs.StyleReads.{Reads};
-ghost use Rattle.btx_bst.specs.References.{RefersWithin};
-ghost use Rattle.btx_bst.specs.Names.{named_lower, name_of, macro_lower};
-ghost use Rattle.btx_bst.specs.Style.{field_of, type_of};
-ghost use Rattle.btx_bst.specs.Views.{items_view};
-ghost use Rattle.btx_text.specs.Limits.{greatest_file};
+ghost use Rattle.btx_bst.specs.language.Predefined.{predefined};
+ghost use Rattle.btx_bst.specs.language.StyleText.{style_of};
+ghost use Rattle.btx_bst.specs.refinement.StyleReads.{Reads};
+ghost use Rattle.btx_bst.specs.laws.References.{RefersWithin};
+ghost use Rattle.btx_bst.specs.language.Names.{named_lower, name_of, macro_lower};
+ghost use Rattle.btx_bst.specs.language.Style.{field_of, type_of};
+ghost use Rattle.btx_bst.specs.refinement.Views.{items_view};
+ghost use Rattle.btx_text.specs.language.Limits.{greatest_file};
 
 use crate::callee::{Callee, Kind};
 use crate::cursor::Cursor;
@@ -30,12 +30,12 @@ pub struct Style<'a> {
 }
 
 impl<'a> Model for Style<'a> {
-    ghost use Rattle.btx_bst.specs.Style.{Style as Known};
+    ghost use Rattle.btx_bst.specs.language.Style.{Style as Known};
 
     ghost Value = { Known };
 
-    ghost use Rattle.btx_bst.specs.DraftViews.{draft_view};
-    ghost use Rattle.btx_bst.specs.References.{RefersWithin};
+    ghost use Rattle.btx_bst.specs.refinement.DraftViews.{draft_view};
+    ghost use Rattle.btx_bst.specs.laws.References.{RefersWithin};
 
     ghost view = { λ style. draft_view style.draft };
 
@@ -57,7 +57,7 @@ pub fn read_style<'a>(
 }
 
 // Reads a style.
-#[tactic(auto, unfolding(crate::specs::StyleText::style_of))]
+#[tactic(auto, unfolding(crate::specs::language::StyleText::style_of))]
 fn read_text<'a>(
     alloc: Global,
     file_name: &'a [u8],

@@ -3,20 +3,22 @@ use Rattle.std.proofs.Common.{◌≡◌, ℕ, List, [], ◌++◌, Option, sym, a
 use Rattle.std.specs.Io.KnownBytes.{Appends}
 use Rattle.std.specs.List.{flat_map}
 use Rattle.std.proofs.KnownBytes.{Appends-trans, Appends-nil}
-use Rattle.btx_out.specs.Breaking.{left, sure, wrap}
-use Rattle.btx_out.specs.Breakers.{holding, finished, Finishes, FinishesPart, AppendsPartOfRest}
-use Rattle.btx_out.specs.Pieces.{AppendsAtLeast, AppendsBeginning}
+use Rattle.btx_out.specs.language.Breaking.{sure, wrap}
+use Rattle.btx_out.specs.laws.Breaking.{left}
+use Rattle.btx_out.specs.language.Breakers.{written_at_end}
+use Rattle.btx_out.specs.refinement.Breakers.{holding, Finishes, FinishesPart, AppendsPartOfRest}
+use Rattle.btx_out.specs.language.Pieces.{AppendsAtLeast, AppendsBeginning}
 use Rattle.btx_out.proofs.WrittenLemmas.{written_of-finish, begins-finish}
-use Rattle.btx_machine.specs.Outputs.{Journal, Outputs, Receiver}
+use Rattle.btx_machine.specs.refinement.Outputs.{Journal, Outputs, Receiver}
 use Rattle.btx_machine.specs.declared.ending.Ending.{Ending}
 use Rattle.btx_machine.specs.declared.ending.Ending.TheVariants as ends
-use Rattle.btx_machine.specs.States.{Out}
-use Rattle.btx_machine.specs.Written.{Start, Stands}
-use Rattle.btx_machine.specs.Saying.{ended_line}
+use Rattle.btx_machine.specs.language.States.{Out}
+use Rattle.btx_machine.specs.refinement.Written.{Start, StandsFor}
+use Rattle.btx_machine.specs.language.Saying.{ended_line}
 use Rattle.btx_machine.proofs.LawLemmas.{so_far_begins}
 use Rattle.btx_machine.proofs.OutLemmas.{at_least_less, beginning_more, whole_least, whole_most}
-use Rattle.btx_machine.specs.Product.{so_far, bbl_at}
-use Rattle.btx_machine.specs.Closing.{FinishedAt, FinishedPart, Closing}
+use Rattle.btx_machine.specs.language.Product.{so_far, bbl_at}
+use Rattle.btx_machine.specs.refinement.Closing.{FinishedAt, FinishedPart, Closing}
 
 pub finished_at : (old new : Outputs) → Finishes old.breaker old.bbl.received new.bbl.received → FinishedAt old ends.Finished new
 finished_at old new finishes start out h = written_of-finish start.limit out.lines out.pending old.breaker start.bbl old.bbl.received new.bbl.received h.line h.bbl finishes
@@ -30,7 +32,7 @@ finished_part old new finishes start out h =
     let before = old.bbl.received in
     let after = new.bbl.received in
     let part : FinishesPart (holding start.limit (left start.limit out.pending)) before after = rw h.line at finishes in (
-      part_least start.bbl before after (flat_map (wrap start.limit) out.lines) (sure start.limit out.pending) (finished start.limit out.pending) h.bbl (part out.pending refl),
+      part_least start.bbl before after (flat_map (wrap start.limit) out.lines) (sure start.limit out.pending) (written_at_end start.limit out.pending) h.bbl (part out.pending refl),
       begins-finish start.limit out.lines out.pending old.breaker start.bbl before after h.line h.bbl finishes,
     )
 
@@ -41,7 +43,7 @@ unfinished old (ends.Limit kind) not start out h = h.bbl
 
 -- ---- a part of both ends
 
-module _ (start : Start) (old new : Outputs) (end : Ending) (out : Out) (last : List ℕ) (h : Stands start old out) where
+module _ (start : Start) (old new : Outputs) (end : Ending) (out : Out) (last : List ℕ) (h : StandsFor start old out) where
   -- the pending line could not be ended
   pub closing_bbl : new.log ≡ old.log → FinishedPart old end new → Closing start new out (bbl_at start.limit end out) last
   closing_bbl same part =

@@ -1,16 +1,17 @@
 -- What was written and told goes on.
 use Rattle.std.proofs.Common.{◌≡◌, ℕ, ◌≤◌, List, [], ◌∷◌, ◌++◌, ◌⊎◌, inl, inr, sym, ap, ◌∙◌, refl, append-nil, append_assoc}
-use Rattle.btx_out.specs.Breaking.{written_of, left}
-use Rattle.btx_out.specs.States.{wrap_after, sure_after}
+use Rattle.btx_out.specs.language.Breaking.{written_of}
+use Rattle.btx_out.specs.laws.Breaking.{left}
+use Rattle.btx_out.specs.laws.States.{wrap_after, sure_after}
 use Rattle.btx_out.proofs.WrittenLemmas.{written_of-longer, written_of-more}
-use Rattle.btx_machine.specs.States.{Out}
-use Rattle.btx_machine.specs.Goings.{Begins, Grown, Ended, Starts}
-use Rattle.btx_machine.specs.Product.{so_far}
+use Rattle.btx_machine.specs.language.States.{Out}
+use Rattle.btx_machine.specs.laws.Goings.{IsPrefix, Grown, Ended, Starts}
+use Rattle.btx_machine.specs.language.Product.{so_far}
 
-pub begins_self : (xs : List ℕ) → Begins xs xs
+pub begins_self : (xs : List ℕ) → IsPrefix xs xs
 begins_self xs = ([], sym (append-nil xs))
 
-pub begins_trans : (xs ys zs : List ℕ) → Begins xs ys → Begins ys zs → Begins xs zs
+pub begins_trans : (xs ys zs : List ℕ) → IsPrefix xs ys → IsPrefix ys zs → IsPrefix xs zs
 begins_trans xs ys zs f g = (f.0 ++ g.0, g.1 ∙ ap (λ l. l ++ g.0) f.1 ∙ append_assoc xs f.0 g.0)
 
 grown_self : (s : Out) → Grown s s
@@ -35,7 +36,7 @@ pub starts_trans : (r s t : Out) → Starts r s → Starts s t → Starts r t
 starts_trans r s t f g = (goes_on r s t f.0 g.0, begins_trans r.log s.log t.log f.1 g.1)
 
 -- the list of references goes on too, for each length of a line
-pub written_begins : (limit : ℕ) (s t : Out) → 3 ≤ limit → Grown s t ⊎ Ended s t → Begins (so_far limit s) (so_far limit t)
+pub written_begins : (limit : ℕ) (s t : Out) → 3 ≤ limit → Grown s t ⊎ Ended s t → IsPrefix (so_far limit s) (so_far limit t)
 written_begins limit s t wide (inl f) = (
   sure_after limit (left limit s.pending) f.0,
   ap (λ lines. written_of limit lines t.pending) f.1 ∙ ap (λ text. written_of limit s.lines text) f.2 ∙ written_of-longer limit s.lines s.pending f.0 wide,

@@ -22,6 +22,7 @@ pub mod PlaceLemmas
 pub mod LookLemmas
 pub mod StepLemmas
 pub mod QuickLemmas
+pub mod AtOnceLemmas
 pub mod ExecuteLemmas
 pub mod WithinLemmas
 pub mod VisitLemmas

@@ -4,17 +4,17 @@ use Rattle.std.specs.Prelude.{◌+ℤ◌, ◌-ℤ◌, int_lt, slice_get, slice_i
 use Rattle.std.specs.List.{list_all}
 use Rattle.std.specs.Ordering.{int_eq}
 use Rattle.std.specs.Str.{bytes_eq}
-use Rattle.btx_text.specs.Class.{is_white}
-use Rattle.btx_bib.specs.Library.{key_of, kind_of, value_of}
-use Rattle.btx_names.specs.Answered.{format_name_text, format_name_complaints}
-use Rattle.btx_text.specs.Limits.{greatest_string}
+use Rattle.btx_text.specs.language.Class.{is_white}
+use Rattle.btx_bib.specs.language.Library.{key_of, entry_type, entry_value}
+use Rattle.btx_names.specs.language.Answered.{format_name_text, format_name_complaints}
+use Rattle.btx_text.specs.language.Limits.{greatest_string}
 use Rattle.btx_bst.specs.declared.built_in.BuiltIn.{BuiltIn}
 use Rattle.btx_bst.specs.declared.built_in.BuiltIn.TheVariants as built_in
 use Rattle.btx_bst.specs.declared.callee.Callee.{Callee}
 use Rattle.btx_bst.specs.declared.callee.Callee.TheVariants as callee
 use Rattle.btx_bst.specs.declared.token.Token.{Token}
 use Rattle.btx_bst.specs.declared.token.Token.TheVariants as token
-use Rattle.btx_bst.specs.Direct.{is_choice}
+use Rattle.btx_bst.specs.language.Direct.{is_choice}
 use Rattle.btx_step.specs.declared.calculation.Calculation.{Calculation}
 use Rattle.btx_step.specs.declared.calculation.Calculation.TheVariants as calculation
 use Rattle.btx_stack.specs.declared.literal.Literal.{Literal}
@@ -30,27 +30,27 @@ use Rattle.btx_step.specs.declared.said.Said.{Said}
 use Rattle.btx_step.specs.declared.said.Said.TheVariants as said
 use Rattle.btx_step.specs.declared.stand_in.StandIn.{StandIn}
 use Rattle.btx_step.specs.declared.stand_in.StandIn.TheVariants as stand_in
-use Rattle.btx_step.specs.Jobs.{Job}
-use Rattle.btx_step.specs.Stores.{Store}
-use Rattle.btx_step.specs.Answers.{Answer, answer, quiet, says, with_literals, pushes, pushes_text, complained, complains, refuses, outside, truth}
-use Rattle.btx_step.specs.Operands.{Operand, Does, Push, Back, on_operands}
-use Rattle.btx_step.specs.Table.{row, misses_entry, runs_missing}
+use Rattle.btx_step.specs.language.Jobs.{Job}
+use Rattle.btx_step.specs.language.Stores.{Store}
+use Rattle.btx_step.specs.language.Answers.{Answer, answer, quiet, says, with_literals, pushes, pushes_text, complained, complains, refuses, outside, truth}
+use Rattle.btx_step.specs.language.Operands.{Operand, Does, Push, Back, on_operands}
+use Rattle.btx_step.specs.language.Table.{row, misses_entry, runs_missing}
 use Rattle.btx_step.proofs.RuleLemmas.{Each, Taken, by_rule, pushed_by}
-use Rattle.btx_strings.specs.Positions.{add_period_of, substring_of}
-use Rattle.btx_strings.specs.Case.{change_case_of, case_complaints}
-use Rattle.btx_strings.specs.Purify.{purify_of}
-use Rattle.btx_strings.specs.Lengths.{text_length_of, text_prefix_of}
-use Rattle.btx_strings.specs.Width.{width_of}
-use Rattle.btx_names.specs.NameLists.{names_of}
+use Rattle.btx_strings.specs.language.Positions.{add_period_of, substring_of}
+use Rattle.btx_strings.specs.language.Case.{change_case_of, case_complaints}
+use Rattle.btx_strings.specs.language.Purify.{purify_of}
+use Rattle.btx_strings.specs.language.Lengths.{text_length_of, text_prefix_of}
+use Rattle.btx_strings.specs.language.Width.{width_of}
+use Rattle.btx_names.specs.language.NameLists.{names_of}
 use Rattle.std.specs.Fmt.{signed_decimal}
-use Rattle.btx_step.specs.Arithmetic as arithmetic
-use Rattle.btx_step.specs.Control as control
-use Rattle.btx_step.specs.Entries as entries
-use Rattle.btx_step.specs.Names as names
-use Rattle.btx_step.specs.Stacks as stacks
-use Rattle.btx_step.specs.Strings as strings
-use Rattle.btx_step.specs.Variables as variables
-use Rattle.btx_step.specs.Steps.{built_in_run, run_of, step_of}
+use Rattle.btx_step.specs.language.Arithmetic as arithmetic
+use Rattle.btx_step.specs.language.Control as control
+use Rattle.btx_step.specs.language.Entries as entries
+use Rattle.btx_step.specs.language.Names as names
+use Rattle.btx_step.specs.language.Stacks as stacks
+use Rattle.btx_step.specs.language.Strings as strings
+use Rattle.btx_step.specs.language.Variables as variables
+use Rattle.btx_step.specs.language.Steps.{built_in_run, function_run, step_of}
 
 -- it is so
 abbrev pub So : Bool → Type 0
@@ -230,7 +230,7 @@ module _ (r : ℕ) where
 
   field_low : (job : Job) (i : ℕ) (current : Option ℕ) (s : Store) → Free s.literals → Low r (entries.field_pushed job i current s)
   field_low job i None s h = outside_low s h
-  field_low job i (Some entry) s h = value_low (value_of i (entries.entry_of job entry)) s h
+  field_low job i (Some entry) s h = value_low (entry_value i (entries.entry_of job entry)) s h
 
   cites_low : (job : Job) (current : Option ℕ) (s : Store) → Free s.literals → Low r (entries.cites job current s)
   cites_low job None s h = outside_low s h
@@ -238,7 +238,7 @@ module _ (r : ℕ) where
 
   type_low : (job : Job) (current : Option ℕ) (s : Store) → Free s.literals → Low r (entries.gives_type job current s)
   type_low job None s h = outside_low s h
-  type_low job (Some entry) s h = text_low said.Nothing (entries.type_name job (kind_of (entries.entry_of job entry))) s h
+  type_low job (Some entry) s h = text_low said.Nothing (entries.type_name job (entry_type (entries.entry_of job entry))) s h
 
   without_entry : (xs : List Literal) (s : Store) → Free xs → Low r (misses_entry xs s)
   without_entry [] s f = (tt, tt)
@@ -327,8 +327,8 @@ module _ (r : ℕ) where
   built_in_low job f s c h =
       ruled_low (Under 0) (row f).operands (pushed_by (row f).default) ((row f).does job) (row_low job f c) s.literals s (free_taken (row f).operands s.literals h)
 
-  run_low : (job : Job) (f : Callee) (s : Store) → Below r f → Free s.literals → Low r (run_of job f s)
-  unfolding run_of
+  run_low : (job : Job) (f : Callee) (s : Store) → Below r f → Free s.literals → Low r (function_run job f s)
+  unfolding function_run
   run_low job (callee.BuiltIn f) s b h = built_in_low job f s b h
   run_low job (callee.User i) s b h = (b, h)
   run_low job (callee.Field i) s b h = field_low job i s.current s h
@@ -339,7 +339,7 @@ module _ (r : ℕ) where
 
   -- an `if$` or a `while$`, over two of the first functions
   pub choice_low : (job : Job) (f : BuiltIn) (s : Store) → So (is_choice (Some (token.Run (callee.BuiltIn f)))) → TwoUnder s.literals → Low r (step_of job (token.Run (callee.BuiltIn f)) s)
-  unfolding is_choice step_of run_of built_in_run
+  unfolding is_choice step_of function_run built_in_run
   choice_low job built_in.If s is u =
       ruled_low (Under r) (row built_in.If).operands stand_in.Nothing control.chooses (λ f p g q n t s h. (chosen_below (control.is_positive n) g f q p, h)) s.literals s
       (choice_taken s.literals u)

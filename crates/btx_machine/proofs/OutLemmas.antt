@@ -3,22 +3,23 @@ use Rattle.std.proofs.Common.{◌≡◌, ℕ, ◌≤◌, List, [], ◌++◌, Opt
 use Rattle.std.specs.Io.KnownBytes.{Appends}
 use Rattle.std.proofs.KnownBytes.{Appends-trans}
 use Rattle.std.specs.List.{flat_map}
-use Rattle.btx_out.specs.Breaking.{Collecting, left, sure, wrap}
-use Rattle.btx_out.specs.Breakers.{Held, holding, AppendsPartOfRest, Puts, PutsPart, Ends, EndsPart}
-use Rattle.btx_out.specs.Pieces.{AppendsAtLeast, AppendsBeginning}
+use Rattle.btx_out.specs.language.Breaking.{sure, wrap}
+use Rattle.btx_out.specs.laws.Breaking.{Collecting, left}
+use Rattle.btx_out.specs.refinement.Breakers.{Held, holding, AppendsPartOfRest, Puts, PutsPart, Ends, EndsPart}
+use Rattle.btx_out.specs.language.Pieces.{AppendsAtLeast, AppendsBeginning}
 use Rattle.btx_out.proofs.WrittenLemmas.{written_of-put, begins-put, written_of-newline, begins-newline, left-nil}
-use Rattle.btx_machine.specs.Outputs.{Journal, Outputs, Receiver}
-use Rattle.btx_machine.specs.States.{Out}
-use Rattle.btx_machine.specs.Saying.{wrote, ended}
-use Rattle.btx_machine.specs.Goings.{Begins, Starts}
-use Rattle.btx_machine.specs.Product.{so_far}
-use Rattle.btx_machine.specs.Written.{Start, Stands, Between}
+use Rattle.btx_machine.specs.refinement.Outputs.{Journal, Outputs, Receiver}
+use Rattle.btx_machine.specs.language.States.{Out}
+use Rattle.btx_machine.specs.language.Saying.{wrote, pending_ended}
+use Rattle.btx_machine.specs.laws.Goings.{IsPrefix, Starts}
+use Rattle.btx_machine.specs.language.Product.{so_far}
+use Rattle.btx_machine.specs.refinement.Written.{Start, StandsFor, Between}
 use Rattle.btx_machine.proofs.Goings.{starts_self, written_begins}
 
-pub at_least_less : (a n : Option (List ℕ)) (xs ys : List ℕ) → Begins xs ys → AppendsAtLeast a n ys → AppendsAtLeast a n xs
+pub at_least_less : (a n : Option (List ℕ)) (xs ys : List ℕ) → IsPrefix xs ys → AppendsAtLeast a n ys → AppendsAtLeast a n xs
 at_least_less a n xs ys f h = record { more = f.0 ++ h.more; received = subst (Appends a n) (ap (λ l. l ++ h.more) f.1 ∙ append_assoc xs f.0 h.more) h.received }
 
-pub beginning_more : (a n : Option (List ℕ)) (xs ys : List ℕ) → AppendsBeginning a n xs → Begins xs ys → AppendsBeginning a n ys
+pub beginning_more : (a n : Option (List ℕ)) (xs ys : List ℕ) → AppendsBeginning a n xs → IsPrefix xs ys → AppendsBeginning a n ys
 beginning_more a n xs ys h f = record { front = h.front; rest = h.rest ++ f.0; whole = f.1 ∙ ap (λ l. l ++ f.0) h.whole ∙ append_assoc h.front h.rest f.0; received = h.received }
 
 pub whole_least : (a n : Option (List ℕ)) (xs : List ℕ) → Appends a n xs → AppendsAtLeast a n xs
@@ -37,7 +38,7 @@ wider start outputs a b c d f h g =
     }
 
 -- nothing more was written
-pub nothing_more : (start : Start) (outputs : Outputs) (out : Out) → Stands start outputs out → Between start outputs out out
+pub nothing_more : (start : Start) (outputs : Outputs) (out : Out) → StandsFor start outputs out → Between start outputs out out
 nothing_more start outputs out h = record {
   bbl_least = whole_least start.bbl outputs.bbl.received (so_far start.limit out) h.bbl;
   bbl_most = whole_most start.bbl outputs.bbl.received (so_far start.limit out) h.bbl;
@@ -45,7 +46,7 @@ nothing_more start outputs out h = record {
   log_most = whole_most start.log outputs.log.sink.received out.log h.log;
 }
 
-pub at_most : (start : Start) (outputs : Outputs) (a b : Out) → Stands start outputs a → Starts a b → Between start outputs a b
+pub at_most : (start : Start) (outputs : Outputs) (a b : Out) → StandsFor start outputs a → Starts a b → Between start outputs a b
 at_most start outputs a b h g = wider start outputs a a a b (starts_self a) (nothing_more start outputs a h) g
 
 -- ---- the pending line
@@ -55,7 +56,7 @@ part_least start before after front done whole so_far more =
     record { more = more.received.front; received = Appends-trans start before after (front ++ done) more.received.front so_far more.received.received }
 
 -- the log stayed
-module _ (start : Start) (old new : Outputs) (out : Out) (h : Stands start old out) (same : new.log ≡ old.log) where
+module _ (start : Start) (old new : Outputs) (out : Out) (h : StandsFor start old out) (same : new.log ≡ old.log) where
   log_least : AppendsAtLeast start.log new.log.sink.received out.log
   log_least = subst (λ (log : Journal). AppendsAtLeast start.log log.sink.received out.log) (sym same) (whole_least start.log old.log.sink.received out.log h.log)
 
@@ -71,7 +72,7 @@ module _ (start : Start) (old new : Outputs) (out : Out) (h : Stands start old o
   errors : new.log.errors ≡ out.errors
   errors = ap (λ (log : Journal). log.errors) same ∙ h.errors
 
-  pub put_becomes : (bytes : List ℕ) → Puts old.breaker new.breaker bytes old.bbl.received new.bbl.received → Stands start new (wrote bytes out)
+  pub put_becomes : (bytes : List ℕ) → Puts old.breaker new.breaker bytes old.bbl.received new.bbl.received → StandsFor start new (wrote bytes out)
   put_becomes bytes puts =
       let done = written_of-put start.limit out.lines out.pending bytes old.breaker new.breaker start.bbl old.bbl.received new.bbl.received h.line h.bbl puts in
       record { line = done.0; warnings = warnings; errors = errors; bbl = done.1; log = log_whole }
@@ -86,7 +87,7 @@ module _ (start : Start) (old new : Outputs) (out : Out) (h : Stands start old o
         log_most = log_most;
       }
 
-  pub ended_becomes : Ends old.breaker old.bbl.received new.bbl.received → new.breaker ≡ holding old.breaker.limit (Collecting []) → Stands start new (ended out)
+  pub ended_becomes : Ends old.breaker old.bbl.received new.bbl.received → new.breaker ≡ holding old.breaker.limit (Collecting []) → StandsFor start new (pending_ended out)
   ended_becomes ends fresh =
       record {
         line = fresh ∙ ap (λ (held : Held). holding held.limit (Collecting [])) h.line ∙ ap (holding start.limit) (sym (left-nil start.limit));
@@ -96,7 +97,7 @@ module _ (start : Start) (old new : Outputs) (out : Out) (h : Stands start old o
         log = log_whole;
       }
 
-  pub ended_stops : EndsPart old.breaker old.bbl.received new.bbl.received → Between start new out (ended out)
+  pub ended_stops : EndsPart old.breaker old.bbl.received new.bbl.received → Between start new out (pending_ended out)
   ended_stops ends =
       let ends' : EndsPart (holding start.limit (left start.limit out.pending)) old.bbl.received new.bbl.received = rw h.line at ends in
       record {
@@ -109,12 +110,12 @@ module _ (start : Start) (old new : Outputs) (out : Out) (h : Stands start old o
 -- ---- the log
 
 -- more of the log, with other counts
-module _ (start : Start) (old new : Outputs) (out : Out) (bytes : List ℕ) (w e : ℕ) (h : Stands start old out) (list : new.bbl ≡ old.bbl) where
+module _ (start : Start) (old new : Outputs) (out : Out) (bytes : List ℕ) (w e : ℕ) (h : StandsFor start old out) (list : new.bbl ≡ old.bbl) where
   list_whole : Appends start.bbl new.bbl.received (so_far start.limit out)
   list_whole = subst (λ (bbl : Receiver). Appends start.bbl bbl.received (so_far start.limit out)) (sym list) h.bbl
 
   pub log_becomes : new.breaker ≡ old.breaker → new.log.warnings ≡ w → new.log.errors ≡ e → Appends old.log.sink.received new.log.sink.received bytes
-      → Stands start new (record out { log = out.log ++ bytes; warnings = w; errors = e })
+      → StandsFor start new (record out { log = out.log ++ bytes; warnings = w; errors = e })
   log_becomes same ws es more =
       record { line = same ∙ h.line; warnings = ws; errors = es; bbl = list_whole; log = Appends-trans start.log old.log.sink.received new.log.sink.received out.log bytes h.log more }
 

@@ -1,38 +1,39 @@
 -- What a failure leaves, of a run within runs.
 use Rattle.std.proofs.Common.{◌≡◌, ℕ, zero, suc, ◌+◌, ◌≤◌, ◌⊎◌, inl, inr, sym, ap, subst, ◌∙◌, refl, arith}
-use Rattle.btx_machine.specs.Outputs.{Outputs, Work}
-use Rattle.btx_machine.specs.States.{Out, State, state, Outcome, end_of}
-use Rattle.btx_machine.specs.Meaning.{then_do}
-use Rattle.btx_machine.specs.Commands.{Doing}
-use Rattle.btx_machine.specs.Written.{Between, Within, FailsWithin, Fails, Comes, Start}
+use Rattle.btx_machine.specs.refinement.Outputs.{Outputs, Work}
+use Rattle.btx_machine.specs.language.States.{Out, State, state, Outcome}
+use Rattle.btx_machine.specs.laws.States.{final_state}
+use Rattle.btx_machine.specs.language.Meaning.{then_do}
+use Rattle.btx_machine.specs.language.Commands.{Doing}
+use Rattle.btx_machine.specs.refinement.Written.{Between, Within, FailsWithin, Fails, Comes, Start}
 use Rattle.btx_machine.proofs.Goings.{starts_self}
 use Rattle.btx_machine.proofs.OutLemmas.{wider}
 use Rattle.btx_machine.proofs.Adds.{Adds, adds_self}
 use Rattle.btx_machine.proofs.Tracks.{then_appends}
-use Rattle.btx_machine.specs.Progress.{Reached, FailsInStep}
+use Rattle.btx_machine.specs.refinement.Progress.{Reached, FailsInStep}
 
 -- a step failed
 pub in_step : (old : Work) (budget : ℕ) (c : Outputs) (run : Doing) → FailsWithin old budget c run → FailsInStep old budget c run
 in_step old budget c run fails start out h = inr (fails start out h)
 
 -- something failed that takes no step, and that a run without a step does
-pub without_step : (old : Work) (budget : ℕ) (c : Outputs) (run : Doing) (f : State → State) → ((s : State) → Adds (f s) (end_of (run 0 s))) → Fails old c f → FailsInStep old budget c run
+pub without_step : (old : Work) (budget : ℕ) (c : Outputs) (run : Doing) (f : State → State) → ((s : State) → Adds (f s) (final_state (run 0 s))) → Fails old c f → FailsInStep old budget c run
 without_step old budget c run f adds fails start out h =
     let s = state old.store out in
-    inl (wider start c out out (f s).out (end_of (run 0 s)).out (starts_self out) (fails start out h) (adds s))
+    inl (wider start c out out (f s).out (final_state (run 0 s)).out (starts_self out) (fails start out h) (adds s))
 
 module _ (whole rest next : Doing) (go : ℕ → State → Outcome) (old mid : Work) (c : Outputs) (k left budget : ℕ) (e : left + k ≡ budget)
-    (split : (n : ℕ) (out : Out) → rest n (state mid.store out) ≡ then_do (next n (state mid.store out)) go) (grows : (n : ℕ) (s : State) → Adds s (end_of (go n s))) where
+    (split : (n : ℕ) (out : Out) → rest n (state mid.store out) ≡ then_do (next n (state mid.store out)) go) (grows : (n : ℕ) (s : State) → Adds s (final_state (go n s))) where
   -- with n more steps, the whole run begins with what the next does
-  starts_later : (s t : State) (out : Out) (n m : ℕ) → t ≡ state mid.store out → m ≡ n + k → Reached whole rest k s t → Adds (end_of (next n t)) (end_of (whole m s))
+  starts_later : (s t : State) (out : Out) (n m : ℕ) → t ≡ state mid.store out → m ≡ n + k → Reached whole rest k s t → Adds (final_state (next n t)) (final_state (whole m s))
   starts_later s t out n m is f r =
-      subst (λ o. Adds (end_of (next n t)) (end_of o)) (sym (subst (λ t. rest n t ≡ then_do (next n t) go) (sym is) (split n out)) ∙ r.goes_on n ∙ ap (λ b. whole b s) (sym f))
-      (then_appends (end_of (next n t)) (next n t) go (adds_self (end_of (next n t))) grows)
+      subst (λ o. Adds (final_state (next n t)) (final_state o)) (sym (subst (λ t. rest n t ≡ then_do (next n t) go) (sym is) (split n out)) ∙ r.goes_on n ∙ ap (λ b. whole b s) (sym f))
+      (then_appends (final_state (next n t)) (next n t) go (adds_self (final_state (next n t))) grows)
 
-  at_once : (start : Start) (s t : State) (out : Out) (m : ℕ) → m ≡ k → t ≡ state mid.store out → Reached whole rest k s t → Between start c t.out (end_of (next 0 t)).out → m ≤ budget
-      → Between start c s.out (end_of (whole 0 s)).out ⊎ Within start c budget (λ n. whole n s)
+  at_once : (start : Start) (s t : State) (out : Out) (m : ℕ) → m ≡ k → t ≡ state mid.store out → Reached whole rest k s t → Between start c t.out (final_state (next 0 t)).out → m ≤ budget
+      → Between start c s.out (final_state (whole 0 s)).out ⊎ Within start c budget (λ n. whole n s)
   at_once start s t out zero z is r between le =
-      inl (wider start c s.out t.out (end_of (next 0 t)).out (end_of (whole 0 s)).out r.adds between (starts_later s t out 0 0 is (omega (arith, z)) r))
+      inl (wider start c s.out t.out (final_state (next 0 t)).out (final_state (whole 0 s)).out r.adds between (starts_later s t out 0 0 is (omega (arith, z)) r))
   at_once start s t out (suc m) z is r between le =
       let old = r.before m (sym z) in
       inr (record {
@@ -40,11 +41,11 @@ module _ (whole rest next : Doing) (go : ℕ → State → Outcome) (old mid : W
         fewer = omega (arith, le);
         least = old.least;
         stopped = old.stopped;
-        between = wider start c old.least.out t.out (end_of (next 0 t)).out (end_of (whole (m + 1) s)).out old.starts between (starts_later s t out 0 (m + 1) is (omega (arith, z)) r);
+        between = wider start c old.least.out t.out (final_state (next 0 t)).out (final_state (whole (m + 1) s)).out old.starts between (starts_later s t out 0 (m + 1) is (omega (arith, z)) r);
       })
 
-  later : (start : Start) (s t : State) (out : Out) → t ≡ state mid.store out → Reached whole rest k s t → Between start c t.out (end_of (next 0 t)).out ⊎ Within start c left (λ n. next n t)
-      → Between start c s.out (end_of (whole 0 s)).out ⊎ Within start c budget (λ n. whole n s)
+  later : (start : Start) (s t : State) (out : Out) → t ≡ state mid.store out → Reached whole rest k s t → Between start c t.out (final_state (next 0 t)).out ⊎ Within start c left (λ n. next n t)
+      → Between start c s.out (final_state (whole 0 s)).out ⊎ Within start c budget (λ n. whole n s)
   later start s t out is r (inl between) = at_once start s t out k refl is r between (omega (arith, e))
   later start s t out is r (inr w) =
       let o : w.taken + k + 1 ≡ w.taken + 1 + k = omega arith in
@@ -53,7 +54,7 @@ module _ (whole rest next : Doing) (go : ℕ → State → Outcome) (old mid : W
         fewer = omega (arith, w.fewer, e);
         least = w.least;
         stopped = sym (r.goes_on w.taken) ∙ subst (λ t. rest w.taken t ≡ then_do (next w.taken t) go) (sym is) (split w.taken out) ∙ ap (λ o. then_do o go) w.stopped;
-        between = wider start c w.least.out w.least.out (end_of (next (w.taken + 1) t)).out (end_of (whole (w.taken + k + 1) s)).out (starts_self w.least.out) w.between (starts_later s t out (w.taken + 1) (w.taken + k + 1) is o r);
+        between = wider start c w.least.out w.least.out (final_state (next (w.taken + 1) t)).out (final_state (whole (w.taken + k + 1) s)).out (starts_self w.least.out) w.between (starts_later s t out (w.taken + 1) (w.taken + k + 1) is o r);
       })
 
   -- the next piece of work failed

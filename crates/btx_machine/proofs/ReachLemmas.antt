@@ -2,18 +2,20 @@
 use Rattle.std.proofs.Common.{◌≡◌, ℕ, zero, suc, ◌+◌, sym, ap, subst, ◌∙◌, refl, arith}
 use Rattle.btx_machine.specs.declared.ending.Ending.{Ending}
 use Rattle.btx_machine.specs.declared.ending.Ending.TheVariants as ends
-use Rattle.btx_machine.specs.Outputs.{Work}
-use Rattle.btx_machine.specs.States.{Out, State, state, Outcome, Done, Stopped, Limit, end_of, outcome_of}
-use Rattle.btx_machine.specs.Meaning.{then_do}
-use Rattle.btx_machine.specs.Commands.{Doing}
-use Rattle.btx_machine.specs.Goings.{Starts}
-use Rattle.btx_machine.specs.Written.{Comes, Runs}
+use Rattle.btx_machine.specs.refinement.Outputs.{Work}
+use Rattle.btx_machine.specs.language.States.{Out, State, state, Outcome, Done, Stopped, Limit}
+use Rattle.btx_machine.specs.laws.States.{final_state}
+use Rattle.btx_machine.specs.refinement.States.{outcome_of}
+use Rattle.btx_machine.specs.language.Meaning.{then_do}
+use Rattle.btx_machine.specs.language.Commands.{Doing}
+use Rattle.btx_machine.specs.laws.Goings.{Starts}
+use Rattle.btx_machine.specs.refinement.Written.{Comes, Runs}
 use Rattle.btx_machine.proofs.Goings.{starts_self, starts_trans}
 use Rattle.btx_machine.proofs.Tracks.{Tracks}
 use Rattle.btx_machine.proofs.OrderLemmas.{Lasts, Grows}
 use Rattle.btx_machine.proofs.WithinLemmas.{ends_stay}
 use Rattle.btx_machine.proofs.VisitLemmas.{end_code}
-use Rattle.btx_machine.specs.Progress.{StoppedAt, StoppedBefore, Reached, Ended}
+use Rattle.btx_machine.specs.refinement.Progress.{StoppedAt, StoppedBefore, Reached, RunEnded}
 
 -- the steps left, by which an outcome with more steps is known from one with none left
 abbrev left_in : Outcome → ℕ
@@ -26,7 +28,7 @@ none_left ends.Finished t = refl
 none_left ends.Stopped t = refl
 none_left (ends.Limit kind) t = refl
 
-pub end_is : (end : Ending) (t : State) (n : ℕ) → end_of (outcome_of end t n) ≡ t
+pub end_is : (end : Ending) (t : State) (n : ℕ) → final_state (outcome_of end t n) ≡ t
 end_is ends.Finished t n = refl
 end_is ends.Stopped t n = refl
 end_is (ends.Limit kind) t n = refl
@@ -36,7 +38,7 @@ not_stopped z = let y : 0 ≡ 1 = ap end_code z in omega (arith, y)
 
 before_as : (whole : Doing) (n : ℕ) (end : Ending) (s0 t : State) (o longer : Outcome) → whole n s0 ≡ o → Tracks 0 1 n o longer → outcome_of end t 0 ≡ longer → StoppedAt whole n s0 t
 before_as whole n end s0 t (Done s c) longer is h e = let z : c + 1 ≡ 0 = sym (ap left_in h.1) ∙ sym (ap left_in e) ∙ none_left end t in absurd (omega (arith, z))
-before_as whole n end s0 t (Stopped s) longer is h e = record { least = s; stopped = is; starts = subst (λ (u : State). Starts s.out u.out) (ap end_of (sym e) ∙ end_is end t 0) h.0 }
+before_as whole n end s0 t (Stopped s) longer is h e = record { least = s; stopped = is; starts = subst (λ (u : State). Starts s.out u.out) (ap final_state (sym e) ∙ end_is end t 0) h.0 }
 before_as whole n end s0 t (Limit kind s c) longer is h e = let z : c + 1 ≡ 0 = sym (ap left_in h.1) ∙ sym (ap left_in e) ∙ none_left end t in absurd (omega (arith, z))
 
 -- a run that took all its steps is stopped with one step less
@@ -51,7 +53,7 @@ module _ (whole rest next : Doing) (go : ℕ → State → Outcome) (s t : State
   first_none taken end t' runs = let z : 0 + taken ≡ taken = omega arith in runs 0 (λ e. refl) ∙ ap (λ b. next b t) z
 
   pub later_starts : (taken : ℕ) (end : Ending) (t' : State) → Runs next taken end t t' → Starts t.out t'.out
-  later_starts taken end t' runs = subst (λ (u : State). Starts t.out u.out) (ap end_of (sym (first_none taken end t' runs)) ∙ end_is end t' 0) (grows taken t)
+  later_starts taken end t' runs = subst (λ (u : State). Starts t.out u.out) (ap final_state (sym (first_none taken end t' runs)) ∙ end_is end t' 0) (grows taken t)
 
   pub later_before : (taken k' : ℕ) (end : Ending) (t' : State) → k' ≡ k + taken → Runs next taken end t t' → StoppedBefore whole k' s t'
   later_before zero k' end t' e runs n is =
@@ -70,7 +72,7 @@ module _ (whole rest next : Doing) (go : ℕ → State → Outcome) (s t : State
     adds = starts_trans s.out t.out t'.out r.adds (later_starts taken ends.Finished t' runs);
   }
 
-  pub later_ended : (taken k' : ℕ) (end : Ending) (t' : State) → k' ≡ k + taken → (end ≡ ends.Finished → ⊥) → Runs next taken end t t' → Ended whole k' end s t'
+  pub later_ended : (taken k' : ℕ) (end : Ending) (t' : State) → k' ≡ k + taken → (end ≡ ends.Finished → ⊥) → Runs next taken end t t' → RunEnded whole k' end s t'
   later_ended taken k' end t' e not runs = record {
     runs = λ n h. let z : n + taken + k ≡ n + k' = omega (arith, e) in
         sym (ends_stay end t' n go not) ∙ ap (λ o. then_do o go) (runs n h) ∙ sym (split (n + taken)) ∙ r.goes_on (n + taken) ∙ ap (λ b. whole b s) z;
@@ -98,13 +100,13 @@ module _ (whole rest next : Doing) (go : ℕ → State → Outcome) (old mid new
       let m = second start l.out l.stands in
       record { out = m.out; stands = m.stands; is = later_reached whole rest next go (state old.store out) (state mid.store l.out) k l.is (λ n. split n l.out) lasts grows taken k' (state new.store m.out) e m.is }
 
-  pub reached_ends : (end : Ending) → (end ≡ ends.Finished → ⊥) → Comes mid new (Runs next taken end) → Comes old new (Ended whole k' end)
+  pub reached_ends : (end : Ending) → (end ≡ ends.Finished → ⊥) → Comes mid new (Runs next taken end) → Comes old new (RunEnded whole k' end)
   reached_ends end not second start out h =
       let l = first start out h in
       let m = second start l.out l.stands in
       record { out = m.out; stands = m.stands; is = later_ended whole rest next go (state old.store out) (state mid.store l.out) k l.is (λ n. split n l.out) lasts grows taken k' end (state new.store m.out) e not m.is }
 
-pub reached_all : (whole rest : Doing) (old new : Work) (k : ℕ) → ((n : ℕ) (s : State) → rest n s ≡ Done s n) → Comes old new (Reached whole rest k) → Comes old new (Ended whole k ends.Finished)
+pub reached_all : (whole rest : Doing) (old new : Work) (k : ℕ) → ((n : ℕ) (s : State) → rest n s ≡ Done s n) → Comes old new (Reached whole rest k) → Comes old new (RunEnded whole k ends.Finished)
 reached_all whole rest old new k all first start out h =
     let l = first start out h in
     record { out = l.out; stands = l.stands; is = record { runs = λ n z. sym (all n (state new.store l.out)) ∙ l.is.goes_on n; before = l.is.before } }

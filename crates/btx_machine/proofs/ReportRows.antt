@@ -1,13 +1,13 @@
 -- Worked reports, computed from the definition.
 use Rattle.std.proofs.Common.{refl}
 use Rattle.std.specs.Fmt.{digits}
-use Rattle.btx_machine.specs.Reports.{last_line, word_of}
-use Rattle.btx_machine.specs.WorkedReports.{AreNamed, AreWritten, limits, reports}
+use Rattle.btx_machine.specs.language.Reports.{last_line, end_word}
+use Rattle.btx_machine.specs.laws.WorkedReports.{AreNamed, AreWritten, limits, reports}
 
 pub written : AreWritten reports
-unfolding digits word_of last_line
+unfolding digits end_word last_line
 written = (refl, refl, (refl, refl, (refl, refl, (refl, refl, (refl, refl, (refl, refl, (refl, refl, (refl, refl, (refl, refl, (refl, refl, (refl, refl, (refl, refl, tt))))))))))))
 
 pub named : AreNamed limits
-unfolding word_of
+unfolding end_word
 named = (refl, (refl, (refl, (refl, tt))))

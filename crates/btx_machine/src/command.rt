@@ -1,6 +1,6 @@
 //! The commands that execute a function.
 ghost use Rattle.std.specs.Prelude.{◌≡◌};
-ghost use Rattle.btx_machine.specs.Commands.{command_word};
+ghost use Rattle.btx_machine.specs.language.Commands.{command_word};
 
 /// A command that executes a function.
 #[derive(Clone, Copy, Debug, PartialEq, Eq)]
@@ -12,7 +12,7 @@ pub enum Command {
 
 impl Command {
     /// The command's name, as messages show it.
-    #[tactic(auto, unfolding(crate::specs::Commands::command_word))]
+    #[tactic(auto, unfolding(crate::specs::language::Commands::command_word))]
     pub fn word(self) -> &'static [u8]
         ensures { result.now ≡ command_word self }
     {

@@ -1,11 +1,11 @@
 //! The log of a run.
 ghost use Rattle.std.specs.Prelude.{◌≡◌, IfOk, OnErr, OnOk};
 ghost use Rattle.std.specs.Io.KnownBytes.{Appends};
-ghost use Rattle.btx_out.specs.Pieces.{AppendsBeginning};
-ghost use Rattle.btx_text.specs.LogLines.{is_error, is_warning};
-ghost use Rattle.btx_machine.specs.Faults.{CountsOfLog};
-ghost use Rattle.btx_machine.specs.Reports.{last_line};
-ghost use Rattle.btx_machine.specs.Saying.{counted_if, ended_line};
+ghost use Rattle.btx_out.specs.language.Pieces.{AppendsBeginning};
+ghost use Rattle.btx_text.specs.language.LogLines.{is_error, is_warning};
+ghost use Rattle.btx_machine.specs.refinement.Faults.{CountsOfLog};
+ghost use Rattle.btx_machine.specs.language.Reports.{last_line};
+ghost use Rattle.btx_machine.specs.language.Saying.{counted_if, ended_line};
 
 use crate::last::tell_end;
 use crate::report::{Report, Told};
@@ -23,7 +23,7 @@ pub struct Journal<'s, L: Sink> {
 }
 
 impl<'s, L: Sink> Model for Journal<'s, L> {
-    ghost use Rattle.btx_machine.specs.Outputs.{Journal as Logged};
+    ghost use Rattle.btx_machine.specs.refinement.Outputs.{Journal as Logged};
 
     ghost Value = { Logged };
 

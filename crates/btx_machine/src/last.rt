@@ -1,11 +1,11 @@
 //! What a run writes last.
 ghost use Rattle.std.specs.Prelude.{◌≡◌, ◌++◌, ◌∷◌, [], IfOk, OnOk, OnErr};
 ghost use Rattle.std.specs.Io.KnownBytes.{Appends};
-ghost use Rattle.btx_out.specs.Pieces.{AppendsBeginning};
-ghost use Rattle.btx_machine.specs.Closing.{Closes, ClosesPart, FinishedAt, FinishedPart};
-ghost use Rattle.btx_machine.specs.Faults.{CountsOfBoth, CountsOfLog, Writes};
-ghost use Rattle.btx_machine.specs.Reports.{end_as, last_line, report_of, told_so};
-ghost use Rattle.btx_machine.specs.Saying.{ended_line};
+ghost use Rattle.btx_out.specs.language.Pieces.{AppendsBeginning};
+ghost use Rattle.btx_machine.specs.refinement.Closing.{Closes, ClosesPart, FinishedAt, FinishedPart};
+ghost use Rattle.btx_machine.specs.refinement.Faults.{CountsOfBoth, CountsOfLog, Writes};
+ghost use Rattle.btx_machine.specs.language.Reports.{end_as, last_line, report_of, log_counts};
+ghost use Rattle.btx_machine.specs.language.Saying.{ended_line};
 
 use crate::ending::Ending;
 use crate::outputs::Outputs;
@@ -17,7 +17,7 @@ use itoa::Buffer;
 use std::alloc::{AllocError, Global};
 
 // The last line of each log.
-#[tactic(auto, unfolding(crate::specs::Reports::last_line))]
+#[tactic(auto, unfolding(crate::specs::language::Reports::last_line))]
 fn last_line(alloc: Global, report: &Report) -> Result<Vec<u8>, AllocError>
     ensures { IfOk result (λ line. line.items ≡ last_line report.now) }
 {
@@ -66,7 +66,7 @@ pub fn conclude<W: Sink, L: Sink>(
     steps: u64,
 ) -> Result<Report, Fault>
     requires { Writes work.old.outputs }
-    ensures report { IfOk result (λ report. report ≡ report_of (end_as end) steps work.old.store.deepest (told_so work.old.outputs.log.warnings work.old.outputs.log.errors)) }
+    ensures report { IfOk result (λ report. report ≡ report_of (end_as end) steps work.old.store.deepest (log_counts work.old.outputs.log.warnings work.old.outputs.log.errors)) }
     ensures ok { OnOk result (Closes work.old end steps work.new.outputs) }
     ensures err { OnErr result (ClosesPart work.old end steps work.new.outputs) }
     ensures counts { CountsOfBoth result work.old.outputs work.new.outputs }

@@ -1,11 +1,11 @@
 //! Laws over the meaning of styles, each the contract of a function that does nothing.
-ghost use Rattle.btx_machine.specs.Budgets.{BudgetLaw};
-ghost use Rattle.btx_machine.specs.DirectDepth.{DirectLaw};
-ghost use Rattle.btx_machine.specs.MeaningLaws.{ExistsLaw, LimitsLaw, UniqueLaw};
-ghost use Rattle.btx_machine.specs.ProductLaws.{DepthLaw, RunLaw};
-ghost use Rattle.btx_machine.specs.StepsNeeded.{NeedsLaw, StoppedLaw};
-ghost use Rattle.btx_machine.specs.WorkedBodies.{WorkedBodies};
-ghost use Rattle.btx_machine.specs.WorkedReports.{AreNamed, AreWritten, limits, reports};
+ghost use Rattle.btx_machine.specs.laws.Budgets.{TokenBudgetLaw};
+ghost use Rattle.btx_machine.specs.laws.DirectDepth.{DirectDepthLaw};
+ghost use Rattle.btx_machine.specs.laws.MeaningLaws.{ExistsLaw, LimitsLaw, UniqueLaw};
+ghost use Rattle.btx_machine.specs.laws.ProductLaws.{DepthLaw, RunLaw};
+ghost use Rattle.btx_machine.specs.laws.StepsNeeded.{StepsNeededLaw, StoppedStepsLaw};
+ghost use Rattle.btx_machine.specs.laws.WorkedBodies.{WorkedBodies};
+ghost use Rattle.btx_machine.specs.laws.WorkedReports.{AreNamed, AreWritten, limits, reports};
 
 /// Each style has a meaning: the one that the contracts speak of meets the equations that a style writer knows.
 pub fn meaning_exists()
@@ -25,7 +25,7 @@ pub fn limits_law()
 
 /// With a larger budget a token, and a run, ends alike or, where it was stopped, goes on from what it wrote.
 pub fn budget_law()
-    ensures tokens { BudgetLaw }
+    ensures tokens { TokenBudgetLaw }
     ensures runs { RunLaw }
 {}
 
@@ -37,14 +37,14 @@ pub fn depth_law()
 /// A run that isn't stopped needs just the steps of its report: with fewer it is stopped, and with as many or more it writes and
 /// answers the same. A stopped run took all its steps.
 pub fn steps_law()
-    ensures needed { NeedsLaw }
-    ensures stopped { StoppedLaw }
+    ensures needed { StepsNeededLaw }
+    ensures stopped { StoppedStepsLaw }
 {}
 
 /// Where a direct style refers to nothing outside itself, as one that was read, and the types of the entries are its functions: no run has more
 /// bodies open at once than the style has functions, so with at most 4,096 functions none meets the limit of calls.
 pub fn direct_law()
-    ensures { DirectLaw }
+    ensures { DirectDepthLaw }
 {}
 
 /// What short bodies come to: how many steps they take, how many bodies are open at once, and which limits they meet.

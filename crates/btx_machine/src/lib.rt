@@ -1,6 +1,7 @@
 //! The machine that executes a style, once the files of a job are read: what a style means, both outputs, and the run's report.
 #![tactic(auto)]
 
+pub mod at_once;
 pub mod command;
 pub mod ending;
 pub mod items;

@@ -1,12 +1,12 @@
 //! What is written and logged while a run goes on.
 ghost use Rattle.std.specs.Prelude.{◌≡◌, [], IfOk, IsSome, OnErr, OnOk, map};
 ghost use Rattle.std.specs.Io.KnownBytes.{Appends};
-ghost use Rattle.btx_out.specs.Pieces.{AppendsBeginning};
-ghost use Rattle.btx_bib.specs.MessageTexts.{line_of as message_line};
-ghost use Rattle.btx_step.specs.Answers.{silence};
+ghost use Rattle.btx_out.specs.language.Pieces.{AppendsBeginning};
+ghost use Rattle.btx_bib.specs.language.MessageTexts.{message_line};
+ghost use Rattle.btx_step.specs.refinement.Answers.{silence};
 ghost use Rattle.btx_machine.specs.declared.ending.Ending.TheVariants.{Finished};
-ghost use Rattle.btx_machine.specs.Reports.{last_line};
-ghost use Rattle.btx_machine.specs.Saying.{ended, ended_line, line_told, lines_of, lines_told, said_on, wrote};
+ghost use Rattle.btx_machine.specs.language.Reports.{last_line};
+ghost use Rattle.btx_machine.specs.language.Saying.{pending_ended, ended_line, line_logged, note_lines, lines_logged, said_on, wrote};
 
 use crate::journal::Journal;
 use crate::report::{Report, Told};
@@ -27,7 +27,7 @@ pub struct Outputs<'s, W: Sink, L: Sink> {
 }
 
 impl<'s, W: Sink, L: Sink> Model for Outputs<'s, W, L> {
-    ghost use Rattle.btx_machine.specs.Outputs.{Outputs as Both};
+    ghost use Rattle.btx_machine.specs.refinement.Outputs.{Outputs as Both};
 
     ghost Value = { Both };
 
@@ -39,13 +39,13 @@ impl<'s, W: Sink, L: Sink> Model for Outputs<'s, W, L> {
 }
 
 impl<'s, W: Sink, L: Sink> Outputs<'s, W, L> {
-    ghost use Rattle.btx_out.specs.Breaking.{Collecting};
-    ghost use Rattle.btx_out.specs.Breakers.{holding};
-    ghost use Rattle.btx_out.specs.Lengths.{IsLineLength};
-    ghost use Rattle.btx_machine.specs.Closing.{FinishedAt, FinishedPart};
-    ghost use Rattle.btx_machine.specs.Faults.{CountsOfBoth, Writes};
-    ghost use Rattle.btx_machine.specs.Saying.{key_at};
-    ghost use Rattle.btx_machine.specs.Written.{Becomes, Stops};
+    ghost use Rattle.btx_out.specs.laws.Breaking.{Collecting};
+    ghost use Rattle.btx_out.specs.refinement.Breakers.{holding};
+    ghost use Rattle.btx_out.specs.laws.Lengths.{IsLineLength};
+    ghost use Rattle.btx_machine.specs.refinement.Closing.{FinishedAt, FinishedPart};
+    ghost use Rattle.btx_machine.specs.refinement.Faults.{CountsOfBoth, Writes};
+    ghost use Rattle.btx_machine.specs.language.Saying.{current_key};
+    ghost use Rattle.btx_machine.specs.refinement.Written.{Becomes, Stops};
 
     /// Outputs with nothing pending, for lines of at most this number of bytes, which go on with this log.
     pub fn new(bbl: &'s mut W, line: LineLength, log: Journal<'s, L>) -> Self
@@ -122,8 +122,8 @@ impl<'s, W: Sink, L: Sink> Outputs<'s, W, L> {
     // Ends the pending line.
     fn end_line(&mut self) -> Result<(), Fault>
         requires { Writes self.old }
-        ensures ok { OnOk result (Becomes self.old self.new (λ out. ended out)) }
-        ensures err { OnErr result (Stops self.old self.new (λ out. ended out)) }
+        ensures ok { OnOk result (Becomes self.old self.new (λ out. pending_ended out)) }
+        ensures err { OnErr result (Stops self.old self.new (λ out. pending_ended out)) }
         ensures writes { OnOk result (Writes self.new) }
         ensures counts { CountsOfBoth result self.old self.new }
     {
@@ -139,8 +139,8 @@ impl<'s, W: Sink, L: Sink> Outputs<'s, W, L> {
         current: Option<usize>,
         notes: &[Note<'_>],
     ) -> Result<(), Fault>
-        ensures ok { OnOk result (Becomes self.old self.new (λ out. lines_told (lines_of job.now executed.now current notes.now) out)) }
-        ensures err { OnErr result (Stops self.old self.new (λ out. lines_told (lines_of job.now executed.now current notes.now) out)) }
+        ensures ok { OnOk result (Becomes self.old self.new (λ out. lines_logged (note_lines job.now executed.now current notes.now) out)) }
+        ensures err { OnErr result (Stops self.old self.new (λ out. lines_logged (note_lines job.now executed.now current notes.now) out)) }
         ensures breaker { self.new.breaker ≡ self.old.breaker }
         ensures counts { CountsOfBoth result self.old self.new }
     {
@@ -154,8 +154,8 @@ impl<'s, W: Sink, L: Sink> Outputs<'s, W, L> {
 
     /// Tells messages of the databases, one after another; no more than one's line is held at a time.
     pub fn tell_messages(&mut self, alloc: Global, messages: &[Message<'_>]) -> Result<(), Fault>
-        ensures ok { OnOk result (Becomes self.old self.new (λ out. lines_told (map message_line messages.now) out)) }
-        ensures err { OnErr result (Stops self.old self.new (λ out. lines_told (map message_line messages.now) out)) }
+        ensures ok { OnOk result (Becomes self.old self.new (λ out. lines_logged (map message_line messages.now) out)) }
+        ensures err { OnErr result (Stops self.old self.new (λ out. lines_logged (map message_line messages.now) out)) }
         ensures breaker { self.new.breaker ≡ self.old.breaker }
         ensures counts { CountsOfBoth result self.old self.new }
     {
@@ -168,8 +168,8 @@ impl<'s, W: Sink, L: Sink> Outputs<'s, W, L> {
 
     /// Tells a line of the log.
     pub fn tell(&mut self, line: &LogLine) -> Result<(), Fault>
-        ensures ok { OnOk result (Becomes self.old self.new (λ out. line_told line.now out)) }
-        ensures err { OnErr result (Stops self.old self.new (λ out. line_told line.now out)) }
+        ensures ok { OnOk result (Becomes self.old self.new (λ out. line_logged line.now out)) }
+        ensures err { OnErr result (Stops self.old self.new (λ out. line_logged line.now out)) }
         ensures breaker { self.new.breaker ≡ self.old.breaker }
         ensures counts { CountsOfBoth result self.old self.new }
     {
@@ -200,11 +200,11 @@ impl<'s, W: Sink, L: Sink> Outputs<'s, W, L> {
 }
 
 ghost use Rattle.std.specs.Option.{option_copied};
-ghost use Rattle.btx_machine.specs.Saying.{key_at};
+ghost use Rattle.btx_machine.specs.language.Saying.{current_key};
 
 // The key of the current entry, if there is one.
 fn key_at<'a>(job: &Job<'a>, current: Option<usize>) -> Option<&'a [u8]>
-    ensures { option_copied result ≡ key_at job.now current }
+    ensures { option_copied result ≡ current_key job.now current }
 {
     match current {
         Some(entry) => Some(job.key(entry)),

@@ -1,6 +1,6 @@
 //! What a run answers.
 ghost use Rattle.std.specs.Prelude.{◌≡◌};
-ghost use Rattle.btx_machine.specs.Reports.{end_as, report_of, status_of, word_of};
+ghost use Rattle.btx_machine.specs.language.Reports.{end_as, report_of, status_of, end_word};
 
 use crate::ending::{Ending, Limit};
 
@@ -53,9 +53,9 @@ impl End {
     }
 
     /// The word of the log for this end.
-    #[tactic(auto, unfolding(crate::specs::Reports::word_of))]
+    #[tactic(auto, unfolding(crate::specs::language::Reports::end_word))]
     pub fn word(self) -> &'static str
-        ensures { result.now ≡ word_of self }
+        ensures { result.now ≡ end_word self }
     {
         match self {
             End::Finished => "finished",

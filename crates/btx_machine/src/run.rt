@@ -1,14 +1,14 @@
 //! A run whose files are read.
 ghost use Rattle.std.specs.Prelude.{◌≡◌, ◌≤◌, [], IfOk, OnErr};
-ghost use Rattle.btx_out.specs.Breaking.{Collecting};
-ghost use Rattle.btx_out.specs.Breakers.{holding};
-ghost use Rattle.btx_out.specs.Lengths.{IsLineLength};
-ghost use Rattle.btx_step.specs.Starts.{first_store};
-ghost use Rattle.btx_machine.specs.Faults.{CountsOfBoth, CountsOfOutputs};
-ghost use Rattle.btx_machine.specs.KeepingStep.{AtFault, Completes};
-ghost use Rattle.btx_machine.specs.Product.{product};
-ghost use Rattle.btx_machine.specs.Reports.{told_so};
-ghost use Rattle.btx_machine.specs.Written.{received};
+ghost use Rattle.btx_out.specs.laws.Breaking.{Collecting};
+ghost use Rattle.btx_out.specs.refinement.Breakers.{holding};
+ghost use Rattle.btx_out.specs.laws.Lengths.{IsLineLength};
+ghost use Rattle.btx_step.specs.language.Starts.{first_store};
+ghost use Rattle.btx_machine.specs.refinement.Faults.{CountsOfBoth, CountsOfOutputs};
+ghost use Rattle.btx_machine.specs.language.KeepingStep.{AtFault, Completes};
+ghost use Rattle.btx_machine.specs.language.Product.{style_product};
+ghost use Rattle.btx_machine.specs.language.Reports.{log_counts};
+ghost use Rattle.btx_machine.specs.refinement.Written.{received};
 
 use crate::items::do_items;
 use crate::journal::Journal;
@@ -33,10 +33,10 @@ pub fn execute_style<'a, W: Sink, L: Sink>(
     log: &mut L,
 ) -> Result<Report, Fault>
     ensures ok { IfOk result (λ report. Completes report (W.received bbl.old, L.received log.old) (W.received bbl.new, L.received log.new)
-        (product job.now told line budget)) }
+        (style_product job.now told line budget)) }
     ensures bound { IfOk result (λ report. report.steps ≤ budget) }
     ensures err { OnErr result (AtFault (W.received bbl.old, L.received log.old) (W.received bbl.new, L.received log.new)
-        (product job.now told line) budget) }
+        (style_product job.now told line) budget) }
     ensures counts { CountsOfOutputs result (W.failures bbl.old, W.failures bbl.new) (L.failures log.old, L.failures log.new) }
 {
     let store = Store::new(alloc, job)?;
@@ -63,10 +63,10 @@ fn do_all<'a, W: Sink, L: Sink>(
     requires fresh { work.old.outputs.breaker ≡ holding work.old.outputs.breaker.limit (Collecting []) }
     requires range { IsLineLength work.old.outputs.breaker.limit }
     ensures ok { IfOk result (λ report. Completes report (received work.old.outputs) (received work.new.outputs)
-        (product job.now (told_so work.old.outputs.log.warnings work.old.outputs.log.errors) work.old.outputs.breaker.limit budget)) }
+        (style_product job.now (log_counts work.old.outputs.log.warnings work.old.outputs.log.errors) work.old.outputs.breaker.limit budget)) }
     ensures bound { IfOk result (λ report. report.steps ≤ budget) }
     ensures err { OnErr result (AtFault (received work.old.outputs) (received work.new.outputs)
-        (product job.now (told_so work.old.outputs.log.warnings work.old.outputs.log.errors) work.old.outputs.breaker.limit) budget) }
+        (style_product job.now (log_counts work.old.outputs.log.warnings work.old.outputs.log.errors) work.old.outputs.breaker.limit) budget) }
     ensures counts { CountsOfBoth result work.old.outputs work.new.outputs }
 {
     let mut left = budget;

@@ -5,11 +5,11 @@ use Rattle.std.proofs.lemmas.List.{take_at, drop_at, get_or_at}
 use Rattle.std.specs.Prelude.{filter, nat_lt}
 use Rattle.std.specs.List.{range_with_len}
 use Rattle.std.specs.Option.{is_some}
-use Rattle.btx_text.specs.Elements.{depth_after, depth_of}
+use Rattle.btx_text.specs.language.Elements.{depth_after, depth_of}
 use Rattle.btx_names.specs.declared.runs.Stop.TheVariants.{Comma}
-use Rattle.btx_names.specs.Runs.{is_break, run_len}
-use Rattle.btx_names.specs.NameParts.{is_all_breaks, split_at_comma, cut_first, cut_again, sections_of, has_third_comma}
-use Rattle.btx_names.specs.Commas.{is_comma_at, counts_at, commas_of, commas_in}
+use Rattle.btx_names.specs.language.Runs.{is_break, run_len}
+use Rattle.btx_names.specs.language.NameParts.{is_all_breaks, split_at_comma, cut_first, cut_again, sections_of, has_third_comma}
+use Rattle.btx_names.specs.laws.Commas.{is_comma_at, counts_at, commas_of, commas_in}
 use Rattle.btx_names.proofs.SeparatorLemmas.{depth_push}
 
 -- ---- a place, by what stands before and behind it

@@ -2,12 +2,12 @@
 use Rattle.std.proofs.Common.{◌≡◌, ℕ, suc, ◌+◌, ◌-◌, ◌<◌, ◌≤◌, Bool, true, false, cond, ltb, List, [], ◌∷◌, ◌++◌, length, get_or, take, drop, refl, ◌∙◌, ap, arith}
 use Rattle.std.proofs.lemmas.Bool.{lt-ltb}
 use Rattle.std.proofs.lemmas.List.{drop_all, drop_more, take_more, take-map, length-map, take_rest, length-take-le}
-use Rattle.btx_names.specs.Tokens.{Token}
-use Rattle.btx_names.specs.Steps.{passes}
+use Rattle.btx_names.specs.language.Tokens.{NameToken as Token}
+use Rattle.btx_names.specs.refinement.Steps.{passes}
 use Rattle.btx_names.specs.declared.name_token.NameToken.{NameToken}
 use Rattle.btx_names.specs.declared.token_counts.TokenTest.{TokenTest}
-use Rattle.btx_names.specs.NameParts.{before_final, up_to_last, before_first}
-use Rattle.btx_names.specs.NameTokens.{token_of, tokens_in}
+use Rattle.btx_names.specs.language.NameParts.{before_final, up_to_last, before_first}
+use Rattle.btx_names.specs.refinement.NameTokens.{token_of, tokens_in}
 
 -- ---- the first, of a list whose first tokens were seen
 

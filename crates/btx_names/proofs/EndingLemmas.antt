@@ -6,11 +6,11 @@ use Rattle.std.proofs.lemmas.List.Folds.{find-append}
 use Rattle.std.specs.Prelude.{filter, find, fold, nat_lt}
 use Rattle.std.specs.List.{range_with_len}
 use Rattle.std.specs.Option.{option_map_or, option_or}
-use Rattle.btx_text.specs.Class.{is_white, is_sep}
-use Rattle.btx_text.specs.Elements.{depth_after, depth_of}
-use Rattle.btx_names.specs.Runs.{is_break}
-use Rattle.btx_names.specs.NameParts.{is_all_breaks, is_ink, last_ink, ends_in_comma}
-use Rattle.btx_names.specs.Commas.{ends_at, final_commas_of}
+use Rattle.btx_text.specs.language.Class.{is_white, is_sep}
+use Rattle.btx_text.specs.language.Elements.{depth_after, depth_of}
+use Rattle.btx_names.specs.language.Runs.{is_break}
+use Rattle.btx_names.specs.language.NameParts.{is_all_breaks, is_ink, last_ink, ends_in_comma}
+use Rattle.btx_names.specs.laws.Commas.{ends_at, final_commas_of}
 use Rattle.btx_names.proofs.SplitLemmas.{never}
 use Rattle.btx_names.proofs.SeparatorLemmas.{depth_push}
 use Rattle.btx_names.proofs.CommaLemmas.{comma_here, behind}

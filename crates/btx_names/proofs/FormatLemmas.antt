@@ -3,9 +3,9 @@ use Rattle.std.proofs.Common.{◌≡◌, ℕ, zero, suc, ◌+◌, ◌-◌, ◌<�
 use Rattle.std.proofs.lemmas.List.{drop_all, drop-drop, length-drop, nil_from_length, take_rest}
 use Rattle.std.proofs.lemmas.Bool.{ne_eqb, eq-eqb}
 use Rattle.btx_names.specs.declared.runs.Stop.TheVariants.{Closing, Brace}
-use Rattle.btx_names.specs.Runs.{run_len}
-use Rattle.btx_names.specs.Formats.{Item, Literal, Illegal, group_item, inside_item, item_at, item_rest, items_from, items_of}
-use Rattle.btx_text.specs.Elements.{depth_after}
+use Rattle.btx_names.specs.language.Runs.{run_len}
+use Rattle.btx_names.specs.language.Formats.{FormatItem, Literal, Illegal, group_item, inside_item, item_at, item_rest, items_from, items_of}
+use Rattle.btx_text.specs.language.Elements.{depth_after}
 use Rattle.btx_names.proofs.RunLemmas.{run_len-le}
 
 items_from-skip : (skip : ℕ) (s : List ℕ) → items_from skip s ≡ items_from 0 (drop skip s)
@@ -16,7 +16,7 @@ items_from-skip (suc skip) (b ∷ bs) = items_from-skip skip bs
 
 items_of-cons : (b : ℕ) (bs : List ℕ) → items_of (b ∷ bs) ≡ item_at b bs ∷ items_of (drop (item_rest b bs) bs)
 unfolding items_of items_from
-items_of-cons b bs = ap (λ (items : List Item). item_at b bs ∷ items) (items_from-skip (item_rest b bs) bs)
+items_of-cons b bs = ap (λ (items : List FormatItem). item_at b bs ∷ items) (items_from-skip (item_rest b bs) bs)
 
 pub items_of-nil : (s : List ℕ) → length s ≡ 0 → items_of s ≡ []
 unfolding items_of items_from

@@ -1,17 +1,19 @@
 -- Lemmas on a name in a format.
-use Rattle.std.proofs.Common.{Err, Bool, true, false, ◌≡◌, ℕ, zero, suc, ◌-◌, ℤ, pos, Some, None, List, [], refl, sym, arith}
-use Rattle.std.specs.Prelude.{slice_get}
-use Rattle.btx_names.specs.NameLists.{names_of}
+use Rattle.std.proofs.Common.{Ok, Err, Result, cond, Bool, true, false, ◌≡◌, ℕ, zero, suc, ◌-◌, ◌≤◌, ◌∙◌, ap, length, ℤ, pos, Some, None, List, [], refl, sym, arith}
+use Rattle.std.specs.Prelude.{slice_get, IfOk, IsTrue, ◌||◌}
+use Rattle.btx_names.specs.language.NameLists.{names_of}
 use Rattle.btx_text.specs.declared.element_kind.TextMode.{TextMode}
 use Rattle.btx_text.specs.declared.fault.Fault.{Fault}
 use Rattle.btx_text.specs.declared.fault.Fault.TheVariants.{Memory, Device, FileLimit, StringLimit}
 use Rattle.btx_strings.specs.declared.answers.Complaints.{Complaints}
-use Rattle.btx_strings.specs.Answers.{Answers}
-use Rattle.btx_names.specs.Becomes.{WritesLegal}
-use Rattle.btx_names.specs.NameParts.{NameParts, Sections, sections_of, ends_in_comma, has_third_comma, parts_by}
-use Rattle.btx_names.specs.Formats.{is_legal}
-use Rattle.btx_names.specs.FormattedNames.{formatted}
-use Rattle.btx_names.specs.Answered.{names_before, nth_name, one_name_text, one_name_complaints, complaints_with}
+use Rattle.btx_strings.specs.refinement.Answers.{Answers}
+use Rattle.btx_names.specs.refinement.Becomes.{WritesLegal}
+use Rattle.btx_names.specs.language.NameParts.{NameParts, Sections, sections_of, ends_in_comma, has_third_comma, parts_by, parts_of}
+use Rattle.btx_names.specs.language.Formats.{is_legal}
+use Rattle.btx_names.specs.language.FormattedNames.{formatted}
+use Rattle.btx_names.specs.refinement.Right.{IsWritten, IsText}
+use Rattle.btx_strings.specs.language.Answers.{no_complaints}
+use Rattle.btx_names.specs.language.Answered.{format_name_text, format_name_complaints, names_before, nth_name, one_name_text, one_name_complaints, complaints_with, text_of_answer, complaints_of_answer}
 
 pub nth_name_none : (names : List ℕ) (number : ℤ) → names_before number ≡ None → nth_name names number ≡ None
 unfolding nth_name
@@ -54,3 +56,28 @@ answers_fault mode name format text sections parts Memory cut made h = tt
 answers_fault mode name format text sections parts StringLimit cut made h = rw (h.0, sym cut, sym made) h.1
 answers_fault mode name format text sections parts Device cut made h = h
 answers_fault mode name format text sections parts FileLimit cut made h = h
+
+-- ---- where nothing is wrong
+
+right_with : (comma third legal : Bool) → (comma || third) ≡ false → legal ≡ true → complaints_with comma third legal ≡ no_complaints
+right_with false false true w l = refl
+right_with false true legal w l = cc
+right_with true third legal w l = cc
+right_with false false false w l = cc
+
+pub written_right : (r : Result Bool Fault) (mode : TextMode) (name format text : List ℕ) (parts : NameParts) (wrong : Bool) → WritesLegal 1000000 (is_legal format) r text (formatted mode parts format) → parts ≡ parts_of name → wrong ≡ (ends_in_comma name || has_third_comma (sections_of name)) → wrong ≡ false →
+    IfOk r (λ written. IsTrue written → IsWritten mode name format text)
+unfolding one_name_text one_name_complaints
+written_right (Ok true) mode name format text parts wrong w p is f = λ t. record {
+  text_is = w.1 ∙ (ap (λ ps. formatted mode ps format) p ∙ sym (ap (λ b. cond b (formatted mode (parts_of name) format) []) w.0));
+  right = right_with (ends_in_comma name) (has_third_comma (sections_of name)) (is_legal format) (sym is ∙ f) w.0;
+}
+written_right (Ok false) mode name format text parts wrong w p is f = λ t. cc
+written_right (Err e) mode name format text parts wrong w p is f = tt
+
+pub text_right : (mode : TextMode) (names format text name : List ℕ) (number : ℤ) → nth_name names number ≡ Some name → IsWritten mode name format text → length text ≤ 1000000 → IsText mode names number format text
+text_right mode names format text name number n w l = record {
+  text_is = w.text_is ∙ sym (ap (λ o. text_of_answer mode o format) n);
+  right = ap (λ o. complaints_of_answer o format) n ∙ w.right;
+  within = l;
+}

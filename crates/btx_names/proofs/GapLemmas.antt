@@ -4,13 +4,15 @@ use Rattle.std.proofs.lemmas.Bool.{eqb-true, and_parts, and_right, lt-ltb}
 use Rattle.std.proofs.lemmas.List.{take_at, drop_at, append-nil, get_or_at}
 use Rattle.std.specs.Prelude.{filter, slice_range}
 use Rattle.std.specs.List.{range_with_len}
-use Rattle.btx_text.specs.Elements.{depth_after, depth_of}
-use Rattle.btx_text.specs.Lines.{in_front}
+use Rattle.btx_text.specs.language.Elements.{depth_after, depth_of}
+use Rattle.btx_text.specs.language.Lines.{in_front}
 use Rattle.btx_names.specs.declared.runs.Stop.TheVariants.{Break}
-use Rattle.btx_names.specs.Runs.{is_break, run_len}
-use Rattle.btx_names.specs.Tokens.{Token, tokens_from, tokens_of, breaks_at, breaks_of, is_some_text}
-use Rattle.btx_names.specs.NameLists.{is_separator, separators_of, pieces_from, names_of}
-use Rattle.btx_names.specs.Gaps.{pieces_between, and_gap, byte_gap}
+use Rattle.btx_names.specs.language.Runs.{is_break, run_len}
+use Rattle.btx_names.specs.language.Tokens.{NameToken, tokens_from, tokens_of}
+use Rattle.btx_names.specs.laws.Tokens.{breaks_at, breaks_of, is_some_text}
+use Rattle.btx_names.specs.language.NameLists.{is_separator, pieces_from, names_of}
+use Rattle.btx_names.specs.laws.NameLists.{separators_of}
+use Rattle.btx_names.specs.laws.Gaps.{pieces_between, and_gap, byte_gap}
 use Rattle.btx_names.proofs.SplitLemmas.{break_keeps}
 use Rattle.btx_names.proofs.SeparatorLemmas.{IsInk, separator_is_ink, separator_is_white, ink_separates_nothing, white_keeps, places_from, depth_push, filter_places}
 
@@ -153,7 +155,7 @@ filter_breaks string before (b ∷ bs) is =
     let more = filter_breaks string (before ++ b ∷ []) bs (is ∙ sym (append_assoc before (b ∷ []) bs)) in
     rw (test, sym next, more) refl
 
-abbrev texts_of : List Token → List (List ℕ)
+abbrev texts_of : List NameToken → List (List ℕ)
 texts_of tokens = map (λ token. token.text) tokens
 
 -- the texts of the tokens to come, of which one has begun

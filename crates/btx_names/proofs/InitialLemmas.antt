@@ -2,10 +2,10 @@
 use Rattle.std.proofs.Common.{◌≡◌, ℕ, ◌+◌, ◌<◌, ◌≤◌, true, false, cond, List, [], ◌∷◌, length, drop, refl}
 use Rattle.std.proofs.lemmas.List.{drop_all, drop_more, take_rest}
 use Rattle.btx_text.specs.declared.element_kind.TextMode.{TextMode}
-use Rattle.btx_text.specs.Elements.{elements_of}
-use Rattle.btx_text.specs.Elements as Elements
-use Rattle.btx_names.specs.FormattedNames.{begins_initial, first_text, initial_of}
-use Rattle.btx_names.specs.Lettered.{lettered_of}
+use Rattle.btx_text.specs.language.Elements.{elements_of}
+use Rattle.btx_text.specs.language.Elements as Elements
+use Rattle.btx_names.specs.language.FormattedNames.{begins_initial, first_text, initial_of}
+use Rattle.btx_names.specs.refinement.Lettered.{lettered_of}
 
 -- ---- where it begins
 

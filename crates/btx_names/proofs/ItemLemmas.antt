@@ -6,14 +6,14 @@ use Rattle.std.proofs.lemmas.List.Sums.{fold-append}
 use Rattle.std.specs.Prelude.{map, fold, filter, slice_index}
 use Rattle.std.specs.List.{list_any, range_with_len}
 use Rattle.std.specs.Char.{to_ascii_lowercase}
-use Rattle.btx_text.specs.Elements.{depth_after, depth_of}
+use Rattle.btx_text.specs.language.Elements.{depth_after, depth_of}
 use Rattle.btx_names.specs.declared.format_items.PartName.{PartName}
 use Rattle.btx_names.specs.declared.format_items.PartName.TheVariants.{First, Von, Last, Jr}
 use Rattle.btx_names.specs.declared.runs.Stop.{Stop}
 use Rattle.btx_names.specs.declared.runs.Stop.TheVariants.{Letter, Closing, Brace}
-use Rattle.btx_names.specs.Runs.{stops, run_len}
-use Rattle.btx_names.specs.Formats.{Piece, Item, Literal, Name, Illegal, part_named, is_doubled, behind_letters, between_of, after_of, has_no_letter, piece_item, lettered_item, split_item, inside_item, group_item, item_at, item_rest, items_from, items_of, is_illegal, is_legal}
-use Rattle.btx_names.specs.FormatTexts.{in_braces, letter_of, letters_of_part, text_of_between, text_of_piece, text_of_item, text_of_items, in_lower_case, literal_of, literals_of, is_brace, copies_at, copied_of}
+use Rattle.btx_names.specs.language.Runs.{stops, run_len}
+use Rattle.btx_names.specs.language.Formats.{FormatPiece, FormatItem, Literal, Name, Illegal, part_named, is_doubled, behind_letters, between_of, behind_between, has_no_letter, piece_item, lettered_item, split_item, inside_item, group_item, item_at, item_rest, items_from, items_of, is_illegal, is_legal}
+use Rattle.btx_names.specs.laws.FormatTexts.{in_braces, letter_of, letters_of_part, text_of_between, text_of_piece, text_of_item, text_of_items, in_lower_case, literal_bytes, literals_bytes, is_brace, copies_at, copied_of}
 use Rattle.btx_names.proofs.RunLemmas.{run_len-le}
 use Rattle.btx_names.proofs.SeparatorLemmas.{depth_push}
 use Rattle.btx_names.proofs.SplitLemmas.{never}
@@ -70,7 +70,7 @@ closes depth (b ∷ bs) low = at (eqb depth 0 && eqb b 125) refl (closes (depth_
 -- ---- a piece
 
 -- the string between tokens and what follows it
-between_joined : (s : List ℕ) → fold depth_after 0 s ≡ 0 → text_of_between (between_of s) ++ after_of s ≡ s
+between_joined : (s : List ℕ) → fold depth_after 0 s ≡ 0 → text_of_between (between_of s) ++ behind_between s ≡ s
 between_joined [] low = refl
 between_joined (b ∷ bs) low = at (eqb b 123) refl where
   size : ℕ
@@ -119,7 +119,7 @@ pub same_head : (a b : ℕ) (xs ys : List ℕ) → a ≡ b → xs ≡ ys → a �
 same_head a b xs ys head tail = rw (head, tail) refl
 
 abbrev tail_text : List ℕ → List ℕ
-tail_text behind = text_of_between (between_of behind) ++ after_of behind
+tail_text behind = text_of_between (between_of behind) ++ behind_between behind
 
 from_letter : (part : PartName) (letter : ℕ) (rest : List ℕ) → to_ascii_lowercase letter ≡ letter_of part → fold depth_after 0 rest ≡ 0 →
     in_lower_case (letters_of_part part (is_doubled letter rest) ++ tail_text (behind_letters letter rest)) ≡ in_lower_case (letter ∷ rest)
@@ -136,7 +136,7 @@ from_letter part letter (second ∷ rest) is low = at (eqb (to_ascii_lowercase s
 
 -- ---- a group
 
-abbrev IsWritten : Item → List ℕ → Type 0
+abbrev IsWritten : FormatItem → List ℕ → Type 0
 IsWritten item text = is_illegal item ≡ false → in_lower_case (text_of_item item) ≡ in_lower_case text
 
 lower_append : (xs ys : List ℕ) → in_lower_case (xs ++ ys) ≡ in_lower_case xs ++ in_lower_case ys
@@ -152,9 +152,9 @@ behind_lower before xs ys same = lower_append before xs ∙ ap (λ zs. in_lower_
 piece_written : (before : List ℕ) (letter : ℕ) (rest : List ℕ) (part : PartName) → part_named letter ≡ Some part → fold depth_after 0 (letter ∷ rest) ≡ 0 →
     IsWritten (piece_item before letter rest part) (in_braces (before ++ letter ∷ rest))
 unfolding piece_item
-piece_written before letter rest part is low = at (has_no_letter (after_of (behind_letters letter rest))) where
-  piece : Piece
-  piece = record { before = before; part = part; is_full = is_doubled letter rest; between = between_of (behind_letters letter rest); after = after_of (behind_letters letter rest) }
+piece_written before letter rest part is low = at (has_no_letter (behind_between (behind_letters letter rest))) where
+  piece : FormatPiece
+  piece = record { before = before; part = part; is_full = is_doubled letter rest; between = between_of (behind_letters letter rest); after = behind_between (behind_letters letter rest) }
 
   lower : to_ascii_lowercase letter ≡ letter_of part
   lower = named letter part is
@@ -319,37 +319,37 @@ run_copied (b ∷ bs) = at (eqb b 123) (eqb b 125) refl refl (run_copied bs) whe
   at false true is_open is_close on = rw (is_open, is_close) refl
   at false false is_open is_close on = ap (λ xs. b ∷ xs) on
 
-lettered_copies_nothing : (before : List ℕ) (letter : ℕ) (rest : List ℕ) (part : Option PartName) → literal_of (lettered_item before letter rest part) ≡ []
+lettered_copies_nothing : (before : List ℕ) (letter : ℕ) (rest : List ℕ) (part : Option PartName) → literal_bytes (lettered_item before letter rest part) ≡ []
 unfolding piece_item
 lettered_copies_nothing before letter rest None = refl
 lettered_copies_nothing before letter rest (Some part) =
-    at (has_no_letter (after_of (behind_letters letter rest))) (record { before = before; part = part; is_full = is_doubled letter rest; between = between_of (behind_letters letter rest); after = after_of (behind_letters letter rest) }) where
-      at : (t : Bool) (piece : Piece) → literal_of (cond t (Name piece) Illegal) ≡ []
+    at (has_no_letter (behind_between (behind_letters letter rest))) (record { before = before; part = part; is_full = is_doubled letter rest; between = between_of (behind_letters letter rest); after = behind_between (behind_letters letter rest) }) where
+      at : (t : Bool) (piece : FormatPiece) → literal_bytes (cond t (Name piece) Illegal) ≡ []
       at true piece = refl
       at false piece = refl
 
-split_copies_nothing : (before rest : List ℕ) → literal_of (split_item before rest) ≡ []
+split_copies_nothing : (before rest : List ℕ) → literal_bytes (split_item before rest) ≡ []
 split_copies_nothing before [] = refl
 split_copies_nothing before (letter ∷ rest) = lettered_copies_nothing before letter rest (part_named letter)
 
-group_copies_nothing : (rest : List ℕ) → literal_of (group_item rest) ≡ []
+group_copies_nothing : (rest : List ℕ) → literal_bytes (group_item rest) ≡ []
 unfolding group_item inside_item
 group_copies_nothing rest = at (eqb (run_len Closing 0 rest) (length rest)) where
   inside : List ℕ
   inside = take (run_len Closing 0 rest) rest
 
-  at : (t : Bool) → literal_of (cond t Illegal (inside_item inside)) ≡ []
+  at : (t : Bool) → literal_bytes (cond t Illegal (inside_item inside)) ≡ []
   at true = refl
   at false = split_copies_nothing (take (run_len Letter 0 inside) inside) (drop (run_len Letter 0 inside) inside)
 
-item_copied : (b : ℕ) (bs : List ℕ) → literal_of (item_at b bs) ++ copied_from 0 (drop (item_rest b bs) bs) ≡ copied_from 0 (b ∷ bs)
+item_copied : (b : ℕ) (bs : List ℕ) → literal_bytes (item_at b bs) ++ copied_from 0 (drop (item_rest b bs) bs) ≡ copied_from 0 (b ∷ bs)
 unfolding copied_from run_len
 item_copied b bs = at (eqb b 123) (eqb b 125) refl refl where
   size : ℕ
   size = run_len Brace 0 (b ∷ bs)
 
   at : (t u : Bool) → eqb b 123 ≡ t → eqb b 125 ≡ u →
-      literal_of (cond t (group_item bs) (cond u Illegal (Literal (take size (b ∷ bs))))) ++ copied_from 0 (drop (cond t (suc (run_len Closing 0 bs)) (cond u 0 (size - 1))) bs)
+      literal_bytes (cond t (group_item bs) (cond u Illegal (Literal (take size (b ∷ bs))))) ++ copied_from 0 (drop (cond t (suc (run_len Closing 0 bs)) (cond u 0 (size - 1))) bs)
       ≡ copied_from 0 (b ∷ bs)
   at true u is_open is_close = rw (group_copies_nothing bs) (sym (past_group 0 bs) ∙ rw (is_open) refl)
   at false true is_open is_close = rw (is_open, is_close) refl
@@ -360,14 +360,14 @@ item_copied b bs = at (eqb b 123) (eqb b 125) refl refl where
       let rest : drop (size - 1) bs ≡ drop size (b ∷ bs) = rw more (rw less refl) in
       ap (λ xs. take size (b ∷ bs) ++ copied_from 0 xs) rest ∙ run_copied (b ∷ bs)
 
-items_copied : (skip : ℕ) (s : List ℕ) → literals_of (items_from skip s) ≡ copied_from 0 (drop skip s)
+items_copied : (skip : ℕ) (s : List ℕ) → literals_bytes (items_from skip s) ≡ copied_from 0 (drop skip s)
 unfolding items_from copied_from
 items_copied zero [] = refl
 items_copied (suc skip) [] = refl
 items_copied (suc skip) (b ∷ bs) = items_copied skip bs
-items_copied zero (b ∷ bs) = ap (λ xs. literal_of (item_at b bs) ++ xs) (items_copied (item_rest b bs) bs) ∙ item_copied b bs
+items_copied zero (b ∷ bs) = ap (λ xs. literal_bytes (item_at b bs) ++ xs) (items_copied (item_rest b bs) bs) ∙ item_copied b bs
 
-pub copied : (format : List ℕ) → literals_of (items_of format) ≡ copied_of format
+pub copied : (format : List ℕ) → literals_bytes (items_of format) ≡ copied_of format
 unfolding items_of
 copied format = items_copied 0 format ∙ sym (copied_places format [] format refl)
 

@@ -4,12 +4,12 @@ use Rattle.std.proofs.lemmas.Bool.{eqb-true, ne_eqb}
 use Rattle.btx_names.specs.declared.name_tokens.Joint.{Joint}
 use Rattle.std.specs.List.{join_by}
 use Rattle.btx_text.specs.declared.element_kind.TextMode.{TextMode}
-use Rattle.btx_names.specs.Tokens.{Token}
-use Rattle.btx_names.specs.Formats.{Piece}
-use Rattle.btx_names.specs.FormattedNames.{shown, piece_text, finished, with_tokens, between_text, joined_by, period_of, tie_of}
+use Rattle.btx_names.specs.language.Tokens.{NameToken}
+use Rattle.btx_names.specs.language.Formats.{FormatPiece}
+use Rattle.btx_names.specs.language.FormattedNames.{shown, piece_text, finished, with_tokens, between_text, joined_by, period_of, tie_of}
 use Rattle.btx_names.proofs.PieceLemmas.{joined, with_tokens_cons}
 
-pub tokens_joined : (mode : TextMode) (piece : Piece) (between : List ℕ) (token : Token) (tokens : List Token) → piece.between ≡ Some between →
+pub tokens_joined : (mode : TextMode) (piece : FormatPiece) (between : List ℕ) (token : NameToken) (tokens : List NameToken) → piece.between ≡ Some between →
     piece_text mode piece (token ∷ tokens)
     ≡ finished mode (piece.before ++ join_by (λ token. shown mode piece.is_full token.text) between (token ∷ tokens) ++ piece.after)
 unfolding piece_text
@@ -18,7 +18,7 @@ tokens_joined mode piece between token tokens is = ap (λ text. finished mode (t
 -- ---- without a string between
 
 -- what stands behind a token with others left is a period, if the token is abbreviated, and a tie
-behind_token : (mode : TextMode) (piece : Piece) (so_far : List ℕ) (joint : Joint) (left : ℕ) (is_last : Bool) → piece.between ≡ None → 0 < left → eqb left 1 ≡ is_last →
+behind_token : (mode : TextMode) (piece : FormatPiece) (so_far : List ℕ) (joint : Joint) (left : ℕ) (is_last : Bool) → piece.between ≡ None → 0 < left → eqb left 1 ≡ is_last →
     between_text mode piece so_far joint left ≡ period_of piece.is_full ++ tie_of mode (so_far ++ period_of piece.is_full) joint is_last ∷ []
 unfolding between_text
 behind_token mode piece so_far joint left is_last is some last = at (eqb left 0) refl where
@@ -31,7 +31,7 @@ last_left : (n : ℕ) → eqb (suc n) 1 ≡ eqb n 0
 last_left zero = refl
 last_left (suc n) = ne_eqb (suc (suc n)) 1 (λ e. absurd (omega arith)) ∙ sym (ne_eqb (suc n) 0 (λ e. absurd (omega arith)))
 
-pub tokens_tied : (mode : TextMode) (piece : Piece) (so_far : List ℕ) (token next : Token) (tokens : List Token) → piece.between ≡ None →
+pub tokens_tied : (mode : TextMode) (piece : FormatPiece) (so_far : List ℕ) (token next : NameToken) (tokens : List NameToken) → piece.between ≡ None →
     let text = so_far ++ shown mode piece.is_full token.text ++ period_of piece.is_full in
     with_tokens mode piece so_far (token ∷ next ∷ tokens) ≡ with_tokens mode piece (text ++ tie_of mode text token.joint (eqb (length tokens) 0) ∷ []) (next ∷ tokens)
 tokens_tied mode piece so_far token next tokens is =

@@ -4,9 +4,9 @@ use Rattle.std.proofs.lemmas.List.{drop_all, drop_more, take_rest}
 use Rattle.std.specs.List.{list_any}
 use Rattle.btx_text.specs.declared.fault.Fault.{Fault}
 use Rattle.btx_text.specs.declared.fault.Fault.TheVariants.{Memory, Device, FileLimit, StringLimit}
-use Rattle.btx_names.specs.Becomes.{Becomes, WritesLegal}
-use Rattle.btx_names.specs.Formats.{Item, is_illegal, is_legal, items_of}
-use Rattle.btx_names.specs.KeptItems.{kept_view, items_in}
+use Rattle.btx_names.specs.refinement.Becomes.{Becomes, WritesLegal}
+use Rattle.btx_names.specs.language.Formats.{FormatItem, is_illegal, is_legal, items_of}
+use Rattle.btx_names.specs.refinement.KeptItems.{kept_view, items_in}
 use Rattle.btx_names.specs.declared.kept_item.KeptItem.{KeptItem}
 use Rattle.btx_names.specs.declared.kept_item.KeptItem.TheVariants.{Literal, Plain, Name}
 
@@ -33,7 +33,7 @@ pub ruleset kept_items = (kept_is_legal, items_at, no_items_left, take_rest)
 
 pub items_pushed : (items : List KeptItem) (item : KeptItem) → items_in (items ++ item ∷ []) ≡ items_in items ++ kept_view item ∷ []
 items_pushed [] item = refl
-items_pushed (first ∷ items) item = ap (λ (others : List Item). kept_view first ∷ others) (items_pushed items item)
+items_pushed (first ∷ items) item = ap (λ (others : List FormatItem). kept_view first ∷ others) (items_pushed items item)
 
 pub ruleset item_pushed = (items_pushed)
 

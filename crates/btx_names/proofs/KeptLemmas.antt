@@ -3,9 +3,9 @@ use Rattle.std.proofs.Common.{◌≡◌, ℕ, zero, suc, ◌+◌, ◌-◌, ◌<�
 use Rattle.std.proofs.lemmas.List.{drop-drop, length-drop, take_all}
 use Rattle.std.proofs.lemmas.Bool.{ne_eqb, true≢false}
 use Rattle.std.specs.Prelude.{slice_get}
-use Rattle.btx_names.specs.NamesFrom.{names_from}
-use Rattle.btx_names.specs.NameLists.{names_of, pieces_from}
-use Rattle.btx_names.specs.Steps.{name_len}
+use Rattle.btx_names.specs.refinement.NamesFrom.{names_from}
+use Rattle.btx_names.specs.language.NameLists.{names_of, pieces_from}
+use Rattle.btx_names.specs.refinement.Steps.{first_name_len}
 use Rattle.btx_names.proofs.NameLemmas.{Splits, first_piece, pieces_more, pieces_last}
 
 -- ---- places in a list of names
@@ -37,32 +37,32 @@ later_in_rest (name ∷ names) (suc known) n = let e : suc known + n ≡ suc (kn
 -- ---- the name at a place
 
 -- the first of the names from a place on
-pub name_at : (names : List ℕ) (from : ℕ) → (rest : List (List ℕ)) × (names_from names from ≡ take (name_len 0 (drop from names)) (drop from names) ∷ rest)
+pub name_at : (names : List ℕ) (from : ℕ) → (rest : List (List ℕ)) × (names_from names from ≡ take (first_name_len 0 (drop from names)) (drop from names) ∷ rest)
 name_at names from = at (first_piece 0 (drop from names)) where
-  at : Splits 0 (drop from names) (name_len 0 (drop from names)) →
-      (rest : List (List ℕ)) × (names_from names from ≡ take (name_len 0 (drop from names)) (drop from names) ∷ rest)
+  at : Splits 0 (drop from names) (first_name_len 0 (drop from names)) →
+      (rest : List (List ℕ)) × (names_from names from ≡ take (first_name_len 0 (drop from names)) (drop from names) ∷ rest)
   at (inl h) = ([], rw (h.0, take_all (length (drop from names)) (drop from names) (omega arith)) h.1)
-  at (inr h) = (pieces_from 0 0 (drop (suc (suc (suc (name_len 0 (drop from names))))) (drop from names)), h.1)
+  at (inr h) = (pieces_from 0 0 (drop (suc (suc (suc (first_name_len 0 (drop from names))))) (drop from names)), h.1)
 
 -- the names behind it
-pub names_behind : (names : List ℕ) (start len next : ℕ) → start ≤ length names → len ≡ name_len 0 (drop start names) → 3 ≤ length (drop start names) - len →
+pub names_behind : (names : List ℕ) (start len next : ℕ) → start ≤ length names → len ≡ first_name_len 0 (drop start names) → 3 ≤ length (drop start names) - len →
     next ≡ start + len + 3 → (next ≤ length names) × (drop 1 (names_from names start) ≡ names_from names next)
 names_behind names start len next le is long to =
     let s = drop start names in
-    let after = drop (name_len 0 s) s in
-    let size : length after ≡ length s - len = length-drop (name_len 0 s) s ∙ ap (λ n. length s - n) (sym is) in
+    let after = drop (first_name_len 0 s) s in
+    let size : length after ≡ length s - len = length-drop (first_name_len 0 s) s ∙ ap (λ n. length s - n) (sym is) in
     let more = pieces_more s after refl (omega (arith, long, size)) in
-    let e : start + name_len 0 s + 3 ≡ next = omega (arith, is, to) in (
+    let e : start + first_name_len 0 s + 3 ≡ next = omega (arith, is, to) in (
       omega (arith, le, long, to, length-drop start names),
-      ap (drop 1) more ∙ ap (pieces_from 0 0) (ap (drop 3) (drop-drop (name_len 0 s) start names) ∙ drop-drop 3 (start + name_len 0 s) names ∙ ap (λ n. drop n names) e),
+      ap (drop 1) more ∙ ap (pieces_from 0 0) (ap (drop 3) (drop-drop (first_name_len 0 s) start names) ∙ drop-drop 3 (start + first_name_len 0 s) names ∙ ap (λ n. drop n names) e),
     )
 
 -- there are none behind the last
-pub none_behind : (names : List ℕ) (start len : ℕ) → len ≡ name_len 0 (drop start names) → length (drop start names) - len < 3 → drop 1 (names_from names start) ≡ []
+pub none_behind : (names : List ℕ) (start len : ℕ) → len ≡ first_name_len 0 (drop start names) → length (drop start names) - len < 3 → drop 1 (names_from names start) ≡ []
 none_behind names start len is short =
     let s = drop start names in
-    let after = drop (name_len 0 s) s in
-    let size : length after ≡ length s - len = length-drop (name_len 0 s) s ∙ ap (λ n. length s - n) (sym is) in
+    let after = drop (first_name_len 0 s) s in
+    let size : length after ≡ length s - len = length-drop (first_name_len 0 s) s ∙ ap (λ n. length s - n) (sym is) in
     ap (drop 1) (pieces_last s after refl (omega (arith, short, size)))
 
 -- ---- passing over names
@@ -93,10 +93,10 @@ found_rest names rest found known before is le more =
     ap (λ n. drop n names) (sym e) ∙ sym (drop-drop (before - known) known names) ∙ ap (drop (before - known)) is ∙ more
 
 pub found_name : (names : List ℕ) (all : List (List ℕ)) (from before : ℕ) → drop before all ≡ names_from names from →
-    slice_get all before ≡ Some (take (name_len 0 (drop from names)) (drop from names))
+    slice_get all before ≡ Some (take (first_name_len 0 (drop from names)) (drop from names))
 found_name names all from before is =
     let first = name_at names from in
-    first_of_rest all first.0 (take (name_len 0 (drop from names)) (drop from names)) before (is ∙ first.1)
+    first_of_rest all first.0 (take (first_name_len 0 (drop from names)) (drop from names)) before (is ∙ first.1)
 
 -- a list that isn't empty has the names from its beginning
 pub names_from_start : (names : List ℕ) (test : Bool) → test ≡ eqb (length names) 0 → test ≡ false → drop 0 (names_of names) ≡ names_from names 0

@@ -5,25 +5,25 @@ use Rattle.std.proofs.lemmas.Bool.{and_parts, leb-true, ne_eqb}
 use Rattle.std.proofs.lemmas.Bool.Decides.{nat_tests}
 use Rattle.std.proofs.Math.Bool.{and-false}
 use Rattle.std.specs.Prelude.{nat_le, slice_index}
-use Rattle.btx_text.specs.Class.{is_between, is_white}
-use Rattle.btx_text.specs.Elements.{depth_after}
-use Rattle.btx_text.specs.Lines.{in_front}
-use Rattle.btx_names.specs.NameLists.{is_letter, is_separator, pieces_from, names_of}
-use Rattle.btx_names.specs.Steps.{name_len}
+use Rattle.btx_text.specs.language.Class.{is_between, is_white}
+use Rattle.btx_text.specs.language.Elements.{depth_after}
+use Rattle.btx_text.specs.language.Lines.{in_front}
+use Rattle.btx_names.specs.language.NameLists.{is_letter, is_separator, pieces_from, names_of}
+use Rattle.btx_names.specs.refinement.Steps.{first_name_len}
 
 -- ---- the length of the first name
 
-pub name_len_here : (depth : ℕ) (s : List ℕ) (i : ℕ) → i < length s → (eqb depth 0 && is_separator (drop i s)) ≡ true → name_len depth (drop i s) ≡ 1
-unfolding name_len
+pub name_len_here : (depth : ℕ) (s : List ℕ) (i : ℕ) → i < length s → (eqb depth 0 && is_separator (drop i s)) ≡ true → first_name_len depth (drop i s) ≡ 1
+unfolding first_name_len
 name_len_here depth s i h test = let split = drop_more s i 0 h in rw split (rw (rw split at test) refl)
 
 pub name_len_next : (depth : ℕ) (s : List ℕ) (i : ℕ) → i < length s → (eqb depth 0 && is_separator (drop i s)) ≡ false →
-    name_len depth (drop i s) ≡ suc (name_len (depth_after depth (get_or s i 0)) (drop (i + 1) s))
-unfolding name_len
+    first_name_len depth (drop i s) ≡ suc (first_name_len (depth_after depth (get_or s i 0)) (drop (i + 1) s))
+unfolding first_name_len
 name_len_next depth s i h test = let split = drop_more s i 0 h in rw split (rw (rw split at test) refl)
 
-pub name_len_all : (depth : ℕ) (s : List ℕ) (i : ℕ) → length s ≤ i → name_len depth (drop i s) ≡ 0
-unfolding name_len
+pub name_len_all : (depth : ℕ) (s : List ℕ) (i : ℕ) → length s ≤ i → first_name_len depth (drop i s) ≡ 0
+unfolding first_name_len
 name_len_all depth s i h = rw (drop_all i s h) refl
 
 -- a byte from `!` to `z` is neither white nor a brace
@@ -44,10 +44,10 @@ is_separator-plain b bs plain = at (nat_le 5 (length (b ∷ bs))) where
   at false = refl
 
 pub name_len_plain : (depth : ℕ) (s : List ℕ) (i : ℕ) → i < length s → is_plain (get_or s i 0) ≡ true →
-    name_len depth (drop i s) ≡ suc (name_len depth (drop (i + 1) s))
+    first_name_len depth (drop i s) ≡ suc (first_name_len depth (drop (i + 1) s))
 name_len_plain depth s i h plain =
     let none : (eqb depth 0 && is_separator (drop i s)) ≡ false = rw (drop_more s i 0 h, is_separator-plain (get_or s i 0) (drop (i + 1) s) plain) (and-false (eqb depth 0)) in
-    name_len_next depth s i h none ∙ ap (λ d. suc (name_len d (drop (i + 1) s))) (depth_after-plain depth (get_or s i 0) plain)
+    name_len_next depth s i h none ∙ ap (λ d. suc (first_name_len d (drop (i + 1) s))) (depth_after-plain depth (get_or s i 0) plain)
 
 pub ruleset name_len_steps = (name_len_here, name_len_next, name_len_plain, name_len_all, take_rest)
 
@@ -70,12 +70,12 @@ Splits depth s n =
     ((n ≡ length s) × (pieces_from 0 depth s ≡ s ∷ []))
     ⊎ ((n + 4 ≤ length s) × (pieces_from 0 depth s ≡ take n s ∷ pieces_from 0 0 (drop (suc (suc (suc n))) s)))
 
-pub first_piece : (depth : ℕ) (s : List ℕ) → Splits depth s (name_len depth s)
-unfolding pieces_from name_len
+pub first_piece : (depth : ℕ) (s : List ℕ) → Splits depth s (first_name_len depth s)
+unfolding pieces_from first_name_len
 first_piece depth [] = inl (refl, refl)
 first_piece depth (b ∷ bs) = at (eqb depth 0 && is_separator (b ∷ bs)) refl (first_piece (depth_after depth b) bs) where
-  at : (t : Bool) → (eqb depth 0 && is_separator (b ∷ bs)) ≡ t → Splits (depth_after depth b) bs (name_len (depth_after depth b) bs) →
-      Splits depth (b ∷ bs) (cond t 1 (suc (name_len (depth_after depth b) bs)))
+  at : (t : Bool) → (eqb depth 0 && is_separator (b ∷ bs)) ≡ t → Splits (depth_after depth b) bs (first_name_len (depth_after depth b) bs) →
+      Splits depth (b ∷ bs) (cond t 1 (suc (first_name_len (depth_after depth b) bs)))
   at true is h = let fits = separator_fits depth (b ∷ bs) is in inr (omega arith, rw is (ap (λ ps. (b ∷ []) ∷ ps) (pieces_from-skip 3 0 bs)))
   at false is (inl h) = inl (omega arith, rw is (ap (in_front b) h.1))
   at false is (inr h) = inr (omega arith, rw is (ap (in_front b) h.1))
@@ -105,31 +105,31 @@ length-names_when s false = length-pieces_from 0 0 s
 
 pub ruleset names_start = (names_of-when, length-names_when)
 
-pub name_len-le : (depth : ℕ) (s : List ℕ) → name_len depth s ≤ length s
+pub name_len-le : (depth : ℕ) (s : List ℕ) → first_name_len depth s ≤ length s
 name_len-le depth s = at (first_piece depth s) where
-  at : Splits depth s (name_len depth s) → name_len depth s ≤ length s
+  at : Splits depth s (first_name_len depth s) → first_name_len depth s ≤ length s
   at (inl h) = omega arith
   at (inr h) = omega arith
 
 drop_three : (n : ℕ) (s : List ℕ) → drop (suc (suc (suc n))) s ≡ drop 3 (drop n s)
 drop_three n s = let e : n + 3 ≡ suc (suc (suc n)) = omega arith in rw (drop-drop 3 n s, e) refl
 
-pub pieces_more : (s after : List ℕ) → after ≡ drop (name_len 0 s) s → 3 ≤ length after →
-    pieces_from 0 0 s ≡ take (name_len 0 s) s ∷ pieces_from 0 0 (drop 3 after)
+pub pieces_more : (s after : List ℕ) → after ≡ drop (first_name_len 0 s) s → 3 ≤ length after →
+    pieces_from 0 0 s ≡ take (first_name_len 0 s) s ∷ pieces_from 0 0 (drop 3 after)
 pieces_more s after is long = at (first_piece 0 s) where
-  len : length after + name_len 0 s ≡ length s
-  len = omega (arith, ap length is, length-drop (name_len 0 s) s, name_len-le 0 s)
+  len : length after + first_name_len 0 s ≡ length s
+  len = omega (arith, ap length is, length-drop (first_name_len 0 s) s, name_len-le 0 s)
 
-  at : Splits 0 s (name_len 0 s) → pieces_from 0 0 s ≡ take (name_len 0 s) s ∷ pieces_from 0 0 (drop 3 after)
+  at : Splits 0 s (first_name_len 0 s) → pieces_from 0 0 s ≡ take (first_name_len 0 s) s ∷ pieces_from 0 0 (drop 3 after)
   at (inl h) = absurd (omega (arith, len))
-  at (inr h) = h.1 ∙ ap (λ t. take (name_len 0 s) s ∷ pieces_from 0 0 t) (drop_three (name_len 0 s) s ∙ ap (drop 3) (sym is))
+  at (inr h) = h.1 ∙ ap (λ t. take (first_name_len 0 s) s ∷ pieces_from 0 0 t) (drop_three (first_name_len 0 s) s ∙ ap (drop 3) (sym is))
 
-pub pieces_last : (s after : List ℕ) → after ≡ drop (name_len 0 s) s → length after < 3 →
-    pieces_from 0 0 s ≡ take (name_len 0 s) s ∷ []
+pub pieces_last : (s after : List ℕ) → after ≡ drop (first_name_len 0 s) s → length after < 3 →
+    pieces_from 0 0 s ≡ take (first_name_len 0 s) s ∷ []
 pieces_last s after is short = at (first_piece 0 s) where
-  len : length after + name_len 0 s ≡ length s
-  len = omega (arith, ap length is, length-drop (name_len 0 s) s, name_len-le 0 s)
+  len : length after + first_name_len 0 s ≡ length s
+  len = omega (arith, ap length is, length-drop (first_name_len 0 s) s, name_len-le 0 s)
 
-  at : Splits 0 s (name_len 0 s) → pieces_from 0 0 s ≡ take (name_len 0 s) s ∷ []
+  at : Splits 0 s (first_name_len 0 s) → pieces_from 0 0 s ≡ take (first_name_len 0 s) s ∷ []
   at (inl h) = rw (h.0, take_all (length s) s (omega arith)) h.1
   at (inr h) = absurd (omega (arith, len))

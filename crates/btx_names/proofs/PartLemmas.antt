@@ -5,13 +5,14 @@ use Rattle.std.proofs.lemmas.List.{take-map, drop-map, length-map, drop_all, tak
 use Rattle.std.proofs.lemmas.List.Elements.{All-take, All-drop, All-get_or, All-head, All-tail}
 use Rattle.std.specs.List.{All, flat_map}
 use Rattle.btx_text.specs.declared.element_kind.TextMode.{TextMode}
-use Rattle.btx_names.specs.FormattedNames.{initial_of}
-use Rattle.btx_names.specs.Tokens.{Token, tokens_of}
-use Rattle.btx_names.specs.NameParts.{NameParts, Sections, One, Two, Three, surname_of, parts_by, unsplit, von_end}
-use Rattle.btx_names.specs.NameTokens.{Hold, token_of, tokens_in, lettered_in, lettered_of_bare}
-use Rattle.btx_names.specs.Places.{bytes_at}
-use Rattle.btx_names.specs.SectionViews.{has_commas, jr_of, first_of}
-use Rattle.btx_names.specs.TokenLists.{IsListOf}
+use Rattle.btx_names.specs.language.FormattedNames.{initial_of}
+use Rattle.btx_names.specs.language.Tokens.{NameToken as Token, tokens_of}
+use Rattle.btx_names.specs.language.NameParts.{NameParts, Sections, One, Two, Three, parts_by, unsplit, von_end}
+use Rattle.btx_names.specs.laws.NameParts.{surname_of}
+use Rattle.btx_names.specs.refinement.NameTokens.{Hold, token_of, tokens_in, lettered_in, lettered_of_bare}
+use Rattle.btx_names.specs.refinement.Places.{bytes_at}
+use Rattle.btx_names.specs.refinement.SectionViews.{has_commas, jr_of, first_section}
+use Rattle.btx_names.specs.refinement.TokenLists.{IsListOf}
 use Rattle.btx_names.specs.declared.name_token.NameToken.{NameToken}
 use Rattle.btx_names.specs.declared.name_tokens.Joint.TheVariants.{Space}
 use Rattle.btx_names.specs.declared.token_list.TokenList.{TokenList}
@@ -190,11 +191,11 @@ one_turn_more mode bytes tokens place next default lt held none is =
 
 pub sections_split : (list : TokenList) (sections : Sections) (all surname others jr first : List Token) → IsListOf list sections → all ≡ tokens_in list.bytes.items list.tokens.items →
     surname ≡ take list.surname all → others ≡ drop list.surname all → jr ≡ take list.jr others → first ≡ drop list.jr others →
-    (surname ≡ tokens_of (surname_of sections)) × (jr ≡ tokens_of (jr_of sections)) × (first ≡ tokens_of (first_of sections))
+    (surname ≡ tokens_of (surname_of sections)) × (jr ≡ tokens_of (jr_of sections)) × (first ≡ tokens_of (first_section sections))
 sections_split list sections all surname others jr first is kept one two three four =
     let a = tokens_of (surname_of sections) in
     let b = tokens_of (jr_of sections) in
-    let d = tokens_of (first_of sections) in
+    let d = tokens_of (first_section sections) in
     let whole : all ≡ a ++ (b ++ d) = kept ∙ is.tokens in
     let rest : others ≡ b ++ d = rw (two, whole) (drop_at a (b ++ d) list.surname (sym is.surname)) in (
       rw (one, whole) (take_at a (b ++ d) list.surname (sym is.surname)),
@@ -216,7 +217,7 @@ abbrev pub AreSplit : Sections → Type 0
 AreSplit (One name) = ⊥
 AreSplit _ = Unit {0}
 
-pub first_when_split : (sections : Sections) → AreSplit sections → (parts_by sections).first ≡ tokens_of (first_of sections)
+pub first_when_split : (sections : Sections) → AreSplit sections → (parts_by sections).first ≡ tokens_of (first_section sections)
 first_when_split (One name) none = absurd none
 first_when_split (Two surname first) split = refl
 first_when_split (Three surname jr first) split = refl

@@ -1,14 +1,14 @@
 -- Lemmas on the ranges of the parts of a name.
 use Rattle.std.proofs.Common.{◌≡◌, ℕ, zero, suc, ◌<◌, ◌≤◌, Bool, true, false, cond, ltb, List, [], ◌∷◌, length, refl, arith}
 use Rattle.std.proofs.lemmas.Bool.{ltb-true, lt-ltb}
-use Rattle.btx_names.specs.Tokens.{Token, tokens_of, tokens_from}
-use Rattle.btx_names.specs.Steps.{passes}
+use Rattle.btx_names.specs.language.Tokens.{NameToken, tokens_of, tokens_from}
+use Rattle.btx_names.specs.refinement.Steps.{passes}
 use Rattle.btx_names.specs.declared.token_counts.TokenTest.{TokenTest}
 use Rattle.btx_names.specs.declared.token_counts.TokenTest.TheVariants.{Von, Apart}
-use Rattle.btx_names.specs.NameParts.{before_final, up_to_last, before_first, von_end, last_start, von_start}
+use Rattle.btx_names.specs.language.NameParts.{before_final, up_to_last, before_first, von_end, last_start, von_start}
 
 -- up to the last before the final token: fewer than all
-pub up_to_last-lt : (test : TokenTest) (token : Token) (tokens : List Token) → up_to_last (passes test) (before_final (token ∷ tokens)) < length (token ∷ tokens)
+pub up_to_last-lt : (test : TokenTest) (token : NameToken) (tokens : List NameToken) → up_to_last (passes test) (before_final (token ∷ tokens)) < length (token ∷ tokens)
 unfolding up_to_last before_final
 up_to_last-lt test token [] = omega arith
 up_to_last-lt test token (next ∷ tokens) =
@@ -20,13 +20,13 @@ up_to_last-lt test token (next ∷ tokens) =
         low false = omega arith
       at t (suc n) h = let some : ltb 0 (suc n) ≡ true = lt-ltb 0 (suc n) (omega arith) in rw some (omega arith)
 
-pub up_to_last-le : (test : TokenTest) (tokens : List Token) → up_to_last (passes test) (before_final tokens) ≤ length tokens
+pub up_to_last-le : (test : TokenTest) (tokens : List NameToken) → up_to_last (passes test) (before_final tokens) ≤ length tokens
 unfolding up_to_last before_final
 up_to_last-le test [] = omega arith
 up_to_last-le test (token ∷ tokens) = let h = up_to_last-lt test token tokens in omega arith
 
 -- where a von token stands before the final one, the first von token does
-pub before_first-le : (test : TokenTest) (tokens : List Token) → 0 < up_to_last (passes test) (before_final tokens) →
+pub before_first-le : (test : TokenTest) (tokens : List NameToken) → 0 < up_to_last (passes test) (before_final tokens) →
     before_first (passes test) tokens ≤ up_to_last (passes test) (before_final tokens)
 unfolding up_to_last before_final before_first
 before_first-le test [] some = absurd (omega arith)
@@ -44,14 +44,14 @@ before_first-le test (token ∷ next ∷ tokens) some =
 
 -- ---- the ranges of a name without commas
 
-pub last_start-le : (tokens : List Token) → last_start tokens ≤ length tokens
+pub last_start-le : (tokens : List NameToken) → last_start tokens ≤ length tokens
 last_start-le tokens = at (ltb 0 (von_end tokens)) (up_to_last-le Von tokens) (up_to_last-le Apart tokens) where
   at : (t : Bool) → von_end tokens ≤ length tokens → up_to_last (passes Apart) (before_final tokens) ≤ length tokens →
       cond t (von_end tokens) (up_to_last (passes Apart) (before_final tokens)) ≤ length tokens
   at true h g = h
   at false h g = g
 
-pub von_start-le : (tokens : List Token) → von_start tokens ≤ last_start tokens
+pub von_start-le : (tokens : List NameToken) → von_start tokens ≤ last_start tokens
 von_start-le tokens = at (ltb 0 (von_end tokens)) refl where
   at : (t : Bool) → ltb 0 (von_end tokens) ≡ t →
       cond t (before_first (passes Von) tokens) (cond t (von_end tokens) (up_to_last (passes Apart) (before_final tokens)))

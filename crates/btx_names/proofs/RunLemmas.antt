@@ -4,12 +4,12 @@ use Rattle.std.proofs.lemmas.List.{drop_all, drop_more}
 use Rattle.std.proofs.lemmas.Bool.{false≢true}
 use Rattle.std.proofs.lemmas.Bool.Decides.{nat_tests}
 use Rattle.std.proofs.Math.Bool.{and-false}
-use Rattle.btx_text.specs.Class.{is_between}
-use Rattle.btx_text.specs.Elements.{depth_after}
+use Rattle.btx_text.specs.language.Class.{is_between}
+use Rattle.btx_text.specs.language.Elements.{depth_after}
 use Rattle.btx_names.specs.declared.runs.Stop.{Stop}
 use Rattle.btx_names.specs.declared.runs.Stop.TheVariants.{Break, Comma, Letter, Closing, Brace}
-use Rattle.btx_names.specs.Runs.{stops, run_len}
-use Rattle.btx_names.specs.Steps.{is_passed}
+use Rattle.btx_names.specs.language.Runs.{stops, run_len}
+use Rattle.btx_names.specs.refinement.Steps.{is_passed}
 
 pub run_len_here : (stop : Stop) (depth : ℕ) (s : List ℕ) (i : ℕ) → i < length s → (eqb depth 0 && stops stop (get_or s i 0)) ≡ true → run_len stop depth (drop i s) ≡ 0
 unfolding run_len

@@ -2,8 +2,8 @@
 use Rattle.std.proofs.Common.{◌≡◌, ℕ, ◌+◌, ◌-◌, true, false, List, [], Some, None, length, take, drop, refl, sym, ◌∙◌, ap, arith}
 use Rattle.std.proofs.lemmas.List.{drop_all, drop-drop, take_rest}
 use Rattle.btx_names.specs.declared.runs.Stop.TheVariants.{Comma}
-use Rattle.btx_names.specs.Runs.{run_len}
-use Rattle.btx_names.specs.NameParts.{split_at_comma, is_all_breaks}
+use Rattle.btx_names.specs.language.Runs.{run_len}
+use Rattle.btx_names.specs.language.NameParts.{split_at_comma, is_all_breaks}
 
 -- what follows the comma
 after_comma : (text rest : List ℕ) → rest ≡ drop (run_len Comma 0 text) text → take (length rest - 1) (drop 1 rest) ≡ drop (run_len Comma 0 text + 1) text

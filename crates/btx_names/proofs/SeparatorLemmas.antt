@@ -5,10 +5,11 @@ use Rattle.std.proofs.lemmas.List.{take_at, drop_at}
 use Rattle.std.proofs.lemmas.List.Sums.{fold-append}
 use Rattle.std.specs.Prelude.{filter}
 use Rattle.std.specs.List.{range_with_len}
-use Rattle.btx_text.specs.Class.{is_white}
-use Rattle.btx_text.specs.Elements.{depth_after, depth_of}
-use Rattle.btx_text.specs.Lines.{in_front}
-use Rattle.btx_names.specs.NameLists.{is_letter, is_separator, separates_at, separators_of, pieces_from, names_of}
+use Rattle.btx_text.specs.language.Class.{is_white}
+use Rattle.btx_text.specs.language.Elements.{depth_after, depth_of}
+use Rattle.btx_text.specs.language.Lines.{in_front}
+use Rattle.btx_names.specs.language.NameLists.{is_letter, is_separator, pieces_from, names_of}
+use Rattle.btx_names.specs.laws.NameLists.{separates_at, separators_of}
 use Rattle.btx_names.proofs.SplitLemmas.{never}
 
 -- ---- the bytes of a separator

@@ -8,11 +8,11 @@ use Rattle.std.proofs.lemmas.List.Sums.{sum_by-cons}
 use Rattle.btx_text.specs.declared.element_kind.Kind.{Kind}
 use Rattle.btx_text.specs.declared.element_kind.Kind.TheVariants.{Byte, Open, Close, Special, Wide}
 use Rattle.btx_text.specs.declared.element_kind.TextMode.{TextMode}
-use Rattle.btx_text.specs.Sequences.{is_further, sequence_size, second_fits, is_sequence, begins_sequence}
-use Rattle.btx_text.specs.Elements.{Part, depth_after, begins_special, is_utf8, kind_at, kind_of, extent, element_at, group_len, elements_from, elements_of, is_character}
+use Rattle.btx_text.specs.language.Sequences.{is_further, sequence_size, second_fits, is_sequence, begins_sequence}
+use Rattle.btx_text.specs.language.Elements.{Element, depth_after, begins_special, is_utf8, kind_at, kind_of, extent, element_at, group_len, elements_from, elements_of, is_character}
 use Rattle.btx_names.specs.declared.name_tokens.Joint.{Joint}
 use Rattle.btx_names.specs.declared.name_tokens.Joint.TheVariants.{Space, Tie, Hyphen}
-use Rattle.btx_names.specs.FormattedNames.{is_short, tie_of}
+use Rattle.btx_names.specs.language.FormattedNames.{is_short, tie_of}
 
 -- ---- a sequence of UTF-8
 
@@ -112,7 +112,7 @@ group_fits depth (x ∷ xs) = at (eqb (depth_after depth x) 0) _ (group_fits (de
 -- ---- how many characters begin in the rest of a text
 
 abbrev characters : TextMode → ℕ → ℕ → ℕ → List ℕ → ℕ
-characters mode skip start depth text = count_by (λ (part : Part). is_character part.kind) (elements_from mode skip start depth text)
+characters mode skip start depth text = count_by (λ (part : Element). is_character part.kind) (elements_from mode skip start depth text)
 
 no_characters : (mode : TextMode) (skip start depth : ℕ) (xs : List ℕ) → length xs ≤ skip → characters mode skip start depth xs ≡ 0
 unfolding elements_from
@@ -190,7 +190,7 @@ characters-cons : (mode : TextMode) (start depth x : ℕ) (xs : List ℕ) →
     ≡ cond (is_character (kind_at mode depth (x ∷ xs))) 1 0 + characters mode (more_of (kind_at mode depth (x ∷ xs)) (x ∷ xs)) (start + 1) (depth_after depth x) xs
 unfolding elements_from
 characters-cons mode start depth x xs =
-    sum_by-cons (λ (part : Part). cond (is_character part.kind) 1 0) (element_at mode start depth (x ∷ xs)) (elements_from mode (more_of (kind_at mode depth (x ∷ xs)) (x ∷ xs)) (start + 1) (depth_after depth x) xs)
+    sum_by-cons (λ (part : Element). cond (is_character part.kind) 1 0) (element_at mode start depth (x ∷ xs)) (elements_from mode (more_of (kind_at mode depth (x ∷ xs)) (x ∷ xs)) (start + 1) (depth_after depth x) xs)
 
 characters_grow : (mode : TextMode) (skip start depth : ℕ) (xs : List ℕ) (b : ℕ) (ys : List ℕ) → b < 128 →
     characters mode skip start depth xs ≤ characters mode skip start depth (xs ++ b ∷ ys)

@@ -1,11 +1,11 @@
 -- The tokens of a name are those of its sections.
 use Rattle.std.proofs.Common.{◌≡◌, ℕ, suc, ◌-◌, ◌<◌, Bool, true, false, eqb, ◌&&◌, List, [], ◌∷◌, ◌++◌, length, take, drop, refl, sym, ◌∙◌, ap, subst, arith}
 use Rattle.std.proofs.lemmas.Bool.{eqb-true, and_parts, and_from, false_from_ne_true, true≢false}
-use Rattle.btx_text.specs.Elements.{depth_after}
+use Rattle.btx_text.specs.language.Elements.{depth_after}
 use Rattle.btx_names.specs.declared.name_tokens.Joint.{Joint}
 use Rattle.btx_names.specs.declared.runs.Stop.TheVariants.{Break, Comma}
-use Rattle.btx_names.specs.Runs.{is_break, run_len}
-use Rattle.btx_names.specs.Tokens.{Token, joint_of, tokens_from, tokens_of}
+use Rattle.btx_names.specs.language.Runs.{is_break, run_len}
+use Rattle.btx_names.specs.language.Tokens.{NameToken, joint_of, tokens_from, tokens_of}
 
 -- ---- tests
 
@@ -57,11 +57,11 @@ Inside depth s =
     tokens_from (run_len Break depth s) s ≡ tokens_from (run_len Break depth (take size s)) (take size s) ++ tokens_from 0 (drop (suc size) s)
 
 same_token_at : (b : ℕ) (bs front : List ℕ) (k m : ℕ) → take k bs ≡ take m front → joint_of (drop k bs) ≡ joint_of (drop m front) →
-    let one : Token = record { text = b ∷ take k bs; joint = joint_of (drop k bs) } in
-    let other : Token = record { text = b ∷ take m front; joint = joint_of (drop m front) } in
+    let one : NameToken = record { text = b ∷ take k bs; joint = joint_of (drop k bs) } in
+    let other : NameToken = record { text = b ∷ take m front; joint = joint_of (drop m front) } in
     one ≡ other
 same_token_at b bs front k m text joint =
-    let make = λ (text : List ℕ) (joint : Joint). let token : Token = record { text = text; joint = joint } in token in
+    let make = λ (text : List ℕ) (joint : Joint). let token : NameToken = record { text = text; joint = joint } in token in
     ap (λ t. make (b ∷ t) (joint_of (drop k bs))) text ∙ ap (λ j. make (b ∷ take m front) j) joint
 
 skip_break : (b : ℕ) (bs : List ℕ) → is_break b ≡ true → tokens_from 0 (b ∷ bs) ≡ tokens_from 0 bs
@@ -81,7 +81,7 @@ zero_break b bs breaks is more =
     rw (comma_later b bs breaks is)
     (λ less. rw (run_here b bs breaks, run_here b (take (run_len Comma 0 bs) bs) breaks, skip_break b bs breaks, skip_break b (take (run_len Comma 0 bs) bs) breaks) (more (omega arith)))
 
-same_list : {one other : Token} {tokens others : List Token} → one ≡ other → tokens ≡ others → one ∷ tokens ≡ other ∷ others
+same_list : {one other : NameToken} {tokens others : List NameToken} → one ≡ other → tokens ≡ others → one ∷ tokens ≡ other ∷ others
 same_list head tail = rw (head, tail) refl
 
 both : (s : List ℕ) → Outside s × ((depth : ℕ) → Inside depth s)

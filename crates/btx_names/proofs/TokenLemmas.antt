@@ -1,11 +1,11 @@
 -- Lemmas on the tokens of a name.
 use Rattle.std.proofs.Common.{◌≡◌, ℕ, zero, suc, ◌+◌, ◌-◌, ◌<◌, ◌≤◌, Bool, true, false, cond, List, [], ◌∷◌, length, drop, get_or, refl, sym, ◌∙◌, ap, arith}
 use Rattle.std.proofs.lemmas.List.{drop_all, drop_more, take_rest}
-use Rattle.btx_text.specs.Elements.{depth_after}
+use Rattle.btx_text.specs.language.Elements.{depth_after}
 use Rattle.btx_names.specs.declared.runs.Stop.TheVariants.{Break}
-use Rattle.btx_names.specs.Steps.{skip_breaks}
-use Rattle.btx_names.specs.Runs.{is_break, run_len}
-use Rattle.btx_names.specs.Tokens.{Token, token_at, tokens_from, tokens_of}
+use Rattle.btx_names.specs.refinement.Steps.{skip_breaks}
+use Rattle.btx_names.specs.language.Runs.{is_break, run_len}
+use Rattle.btx_names.specs.language.Tokens.{NameToken, token_at, tokens_from, tokens_of}
 
 -- ---- what stands before the first token
 
@@ -50,7 +50,7 @@ pub tokens_of-cons : (s : List ℕ) → 0 < length (skip_breaks s) →
 unfolding tokens_of tokens_from skip_breaks
 tokens_of-cons [] h = absurd (omega arith)
 tokens_of-cons (b ∷ bs) h = at (is_break b) refl h (tokens_of-cons bs) where
-  Split : List ℕ → List Token → Type 0
+  Split : List ℕ → List NameToken → Type 0
   Split rest tokens = tokens ≡ token_at rest ∷ tokens_from 0 (drop (run_len Break 0 rest) rest)
 
   at : (t : Bool) → is_break b ≡ t → 0 < length (cond t (skip_breaks bs) (b ∷ bs)) →
@@ -61,7 +61,7 @@ tokens_of-cons (b ∷ bs) h = at (is_break b) refl h (tokens_of-cons bs) where
   at false is some more =
       let size = run_len Break (depth_after 0 b) bs in
       let e : suc size - 1 ≡ size = omega arith in
-      ap (λ (tokens : List Token). token_at (b ∷ bs) ∷ tokens)
+      ap (λ (tokens : List NameToken). token_at (b ∷ bs) ∷ tokens)
       (ap (λ n. tokens_from (n - 1) bs) (run_more b bs is) ∙ ap (λ n. tokens_from n bs) e ∙ tokens_from-skip size bs ∙ sym (ap (λ n. tokens_from 0 (drop n (b ∷ bs))) (run_more b bs is)))
 
 pub length-tokens_from : (skip : ℕ) (s : List ℕ) → length (tokens_from skip s) ≤ length s

@@ -3,11 +3,11 @@ use Rattle.std.proofs.Common.{◌≡◌, ℕ, suc, ◌+◌, ◌-◌, ◌≤◌, 
 use Rattle.std.proofs.lemmas.List.{take-append-le, drop-append-le, length-drop, drop-drop, drop_at, take_all}
 use Rattle.std.proofs.lemmas.List.Elements.{All-append, All-head, All-tail, All-cons, All-nil}
 use Rattle.std.specs.List.{All}
-use Rattle.btx_names.specs.FormattedNames.{begins_initial}
-use Rattle.btx_names.specs.Lettered.{lettered_of}
-use Rattle.btx_names.specs.NameTokens.{Hold, token_of, tokens_in}
-use Rattle.btx_names.specs.Places.{bytes_at}
-use Rattle.btx_names.specs.Tokens.{Token}
+use Rattle.btx_names.specs.language.FormattedNames.{begins_initial}
+use Rattle.btx_names.specs.refinement.Lettered.{lettered_of}
+use Rattle.btx_names.specs.refinement.NameTokens.{Hold, token_of, tokens_in}
+use Rattle.btx_names.specs.refinement.Places.{bytes_at}
+use Rattle.btx_names.specs.language.Tokens.{NameToken as Token}
 use Rattle.btx_names.specs.declared.name_token.NameToken.{NameToken}
 use Rattle.btx_names.specs.declared.place.Place.{Place}
 

@@ -4,17 +4,18 @@ use Rattle.std.proofs.lemmas.Bool.{true≢false, eqb-true, and_parts, or_parts, 
 use Rattle.std.proofs.lemmas.List.{nil_from_length}
 use Rattle.std.proofs.lemmas.List.Sums.{take_while-cons}
 use Rattle.std.specs.Prelude.{take_while, slice_index}
-use Rattle.btx_text.specs.Class.{is_alpha, is_lower}
+use Rattle.btx_text.specs.language.Class.{is_alpha, is_lower}
 use Rattle.btx_text.specs.declared.element_kind.Kind.TheVariants.{Byte, Open, Close, Special, Wide}
 use Rattle.btx_text.specs.declared.element_kind.TextMode.{TextMode}
 use Rattle.btx_text.specs.declared.element_kind.TextMode.TheVariants.{Bytes}
-use Rattle.btx_text.specs.Elements.{Part as Element, begins_special, is_utf8, kind_at, group_len, extent, element_at, elements_from, elements_of, depth_after}
-use Rattle.btx_text.specs.Sequences.{begins_sequence}
-use Rattle.btx_strings.specs.Controls.{control_name, lone, is_brace, glyphs_from, glyphs_of, glyphs_text, letters_of}
+use Rattle.btx_text.specs.language.Elements.{Element, begins_special, is_utf8, kind_at, group_len, extent, element_at, elements_from, elements_of, depth_after}
+use Rattle.btx_text.specs.language.Sequences.{begins_sequence}
+use Rattle.btx_strings.specs.language.Controls.{control_name, lone, is_brace, glyphs_from, glyphs_of, letters_of}
+use Rattle.btx_strings.specs.laws.Controls.{glyphs_text}
 use Rattle.btx_strings.proofs.ControlLemmas.{glyphs_from-skip}
 use Rattle.btx_strings.proofs.ReadingLemmas.{glyphs_of-reads}
-use Rattle.btx_names.specs.VonTokens.{is_foreign, is_cased, begins_lower, is_lower_special, casing_of, casing}
-use Rattle.btx_names.specs.VonGlyphs.{are_lower}
+use Rattle.btx_names.specs.language.VonTokens.{is_foreign, is_cased, begins_lower, is_lower_special, casing_of, casing}
+use Rattle.btx_names.specs.laws.VonGlyphs.{are_lower}
 use Rattle.btx_names.proofs.SplitLemmas.{never}
 
 -- ---- the text of a special character

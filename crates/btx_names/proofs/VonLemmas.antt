@@ -1,13 +1,13 @@
 -- Lemmas on von tokens.
 use Rattle.std.proofs.Common.{◌≡◌, false, Bool, Some, None, List, [], ◌∷◌, refl}
-use Rattle.btx_text.specs.Elements.{Part}
-use Rattle.btx_names.specs.VonTokens.{casing, first_is_lower}
+use Rattle.btx_text.specs.language.Elements.{Element}
+use Rattle.btx_names.specs.language.VonTokens.{casing, first_is_lower}
 
-pub first_is_lower_here : (part : Part) (parts : List Part) (answer : Bool) → casing part ≡ Some answer → first_is_lower (part ∷ parts) ≡ answer
+pub first_is_lower_here : (part : Element) (parts : List Element) (answer : Bool) → casing part ≡ Some answer → first_is_lower (part ∷ parts) ≡ answer
 unfolding first_is_lower
 first_is_lower_here part parts answer is = rw is refl
 
-pub first_is_lower_next : (part : Part) (parts : List Part) → casing part ≡ None → first_is_lower (part ∷ parts) ≡ first_is_lower parts
+pub first_is_lower_next : (part : Element) (parts : List Element) → casing part ≡ None → first_is_lower (part ∷ parts) ≡ first_is_lower parts
 unfolding first_is_lower
 first_is_lower_next part parts is = rw is refl
 

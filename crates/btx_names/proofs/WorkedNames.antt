@@ -1,21 +1,21 @@
 -- Worked names, by computation.
 use Rattle.std.specs.Prelude.{◌≡◌, pos, true, [], ◌∷◌, ◌++◌, length, codes, refl}
 use Rattle.btx_text.specs.declared.element_kind.TextMode.TheVariants.{Bytes, Utf8}
-use Rattle.btx_text.specs.Elements.{kind_at, group_len, elements_from, elements_of}
-use Rattle.btx_text.specs.Sequences.{sequence_size, second_fits, is_sequence, begins_sequence}
-use Rattle.btx_strings.specs.Answers.{no_complaints}
-use Rattle.btx_names.specs.NameLists.{is_separator, pieces_from, names_of}
-use Rattle.btx_names.specs.Runs.{run_len}
-use Rattle.btx_names.specs.Tokens.{tokens_from, tokens_of}
-use Rattle.btx_strings.specs.Controls.{letters_of}
-use Rattle.btx_names.specs.VonTokens.{is_lower_special, first_is_lower, is_von}
-use Rattle.btx_names.specs.NameParts.{split_at_comma, sections_of, ends_in_comma, before_final, up_to_last, before_first}
-use Rattle.btx_names.specs.Commas.{commas_of, commas_in}
-use Rattle.btx_names.specs.Formats.{part_named, piece_item, inside_item, group_item, items_from, items_of}
-use Rattle.btx_names.specs.FormatTexts.{text_of_items, copied_of}
-use Rattle.btx_names.specs.WrittenFormats.{are_items}
-use Rattle.btx_names.specs.FormattedNames.{initial_of, between_text, with_tokens, finished, piece_text}
-use Rattle.btx_names.specs.Answered.{names_before, nth_name, one_name_text, one_name_complaints, format_name_text, format_name_complaints}
+use Rattle.btx_text.specs.language.Elements.{kind_at, group_len, elements_from, elements_of}
+use Rattle.btx_text.specs.language.Sequences.{sequence_size, second_fits, is_sequence, begins_sequence}
+use Rattle.btx_strings.specs.language.Answers.{no_complaints}
+use Rattle.btx_names.specs.language.NameLists.{is_separator, pieces_from, names_of}
+use Rattle.btx_names.specs.language.Runs.{run_len}
+use Rattle.btx_names.specs.language.Tokens.{tokens_from, tokens_of}
+use Rattle.btx_strings.specs.language.Controls.{letters_of}
+use Rattle.btx_names.specs.language.VonTokens.{is_lower_special, first_is_lower, is_von}
+use Rattle.btx_names.specs.language.NameParts.{split_at_comma, sections_of, ends_in_comma, before_final, up_to_last, before_first}
+use Rattle.btx_names.specs.laws.Commas.{commas_of, commas_in}
+use Rattle.btx_names.specs.language.Formats.{part_named, piece_item, inside_item, group_item, items_from, items_of}
+use Rattle.btx_names.specs.laws.FormatTexts.{text_of_items, copied_of}
+use Rattle.btx_names.specs.laws.WrittenFormats.{are_items}
+use Rattle.btx_names.specs.language.FormattedNames.{initial_of, between_text, with_tokens, finished, piece_text}
+use Rattle.btx_names.specs.language.Answered.{names_before, nth_name, one_name_text, one_name_complaints, format_name_text, format_name_complaints}
 
 -- an `and` inside braces separates nothing, and case says nothing
 names_counted : length (names_of (codes "A and {B and C} AND D")) ≡ 3

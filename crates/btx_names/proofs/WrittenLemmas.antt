@@ -6,16 +6,16 @@ use Rattle.std.proofs.lemmas.List.Sums.{fold-append}
 use Rattle.std.specs.Prelude.{fold, slice_index}
 use Rattle.std.specs.List.{list_all, list_any}
 use Rattle.std.specs.Char.{to_ascii_lowercase}
-use Rattle.btx_text.specs.Class.{is_alpha}
-use Rattle.btx_text.specs.Elements.{depth_after, depth_of}
+use Rattle.btx_text.specs.language.Class.{is_alpha}
+use Rattle.btx_text.specs.language.Elements.{depth_after, depth_of}
 use Rattle.btx_names.specs.declared.format_items.PartName.{PartName}
 use Rattle.btx_names.specs.declared.format_items.PartName.TheVariants.{First, Von, Last, Jr}
 use Rattle.btx_names.specs.declared.runs.Stop.{Stop}
 use Rattle.btx_names.specs.declared.runs.Stop.TheVariants.{Letter, Closing, Brace}
-use Rattle.btx_names.specs.Runs.{stops, run_len}
-use Rattle.btx_names.specs.Formats.{Piece, Item, Literal, Plain, Name, Illegal, part_named, is_doubled, behind_letters, between_of, after_of, has_no_letter, legal_piece, piece_item, lettered_item, split_item, inside_item, items_of, is_illegal, is_legal}
-use Rattle.btx_names.specs.FormatTexts.{in_braces, is_brace, letter_of, letters_of_part, text_of_between, in_lower_case}
-use Rattle.btx_names.specs.WrittenFormats.{is_balanced, is_outer, is_between, is_piece, is_item, begin_literal, are_items, IsTextOf, IsFormatOf}
+use Rattle.btx_names.specs.language.Runs.{stops, run_len}
+use Rattle.btx_names.specs.language.Formats.{FormatPiece, FormatItem, Literal, Plain, Name, Illegal, part_named, is_doubled, behind_letters, between_of, behind_between, has_no_letter, legal_piece, piece_item, lettered_item, split_item, inside_item, items_of, is_illegal, is_legal}
+use Rattle.btx_names.specs.laws.FormatTexts.{in_braces, is_brace, letter_of, letters_of_part, text_of_between, in_lower_case}
+use Rattle.btx_names.specs.laws.WrittenFormats.{is_balanced, is_outer, can_be_between, is_piece, is_item, begin_literal, are_items, IsTextOf, IsFormatOf}
 use Rattle.btx_names.proofs.FormatLemmas.{items_of-nil, items_of-literal, items_of-group}
 use Rattle.btx_names.proofs.ItemLemmas.{deeper}
 use Rattle.btx_names.proofs.SplitLemmas.{never}
@@ -214,8 +214,8 @@ letters_read part true (x ∷ y ∷ z ∷ more) tail are single = let none : ⊥
 
 -- ---- a piece
 
-between_read : (between : Option (List ℕ)) (after : List ℕ) → is_between between after ≡ true →
-    (between_of (text_of_between between ++ after) ≡ between) × (after_of (text_of_between between ++ after) ≡ after)
+between_read : (between : Option (List ℕ)) (after : List ℕ) → can_be_between between after ≡ true →
+    (between_of (text_of_between between ++ after) ≡ between) × (behind_between (text_of_between between ++ after) ≡ after)
 between_read None after is = let other : eqb (slice_index after 0) 123 ≡ false = not-true _ is in (rw other refl, rw other refl)
 between_read (Some text) after is =
     let level = balanced text is in
@@ -225,7 +225,7 @@ between_read (Some text) after is =
     let back : drop (length text + 1) ((text ++ 125 ∷ []) ++ after) ≡ after = drop_at (text ++ 125 ∷ []) after (length text + 1) (length-append text (125 ∷ [])) in
     (rw (size, front) refl, rw size back)
 
-between_level : (between : Option (List ℕ)) (after : List ℕ) → is_between between after ≡ true → IsBalanced (text_of_between between)
+between_level : (between : Option (List ℕ)) (after : List ℕ) → can_be_between between after ≡ true → IsBalanced (text_of_between between)
 between_level None after is = balanced_nothing
 between_level (Some text) after is = balanced_braces text (balanced text is)
 
@@ -245,19 +245,19 @@ outer text is =
     let parts = and_parts (is_balanced text) (has_no_letter text) is in
     record { level = balanced text parts.0; no_letter = parts.1; all = eqb-true _ _ parts.1 }
 
-abbrev piece_text_of : Piece → List ℕ → List ℕ
+abbrev piece_text_of : FormatPiece → List ℕ → List ℕ
 piece_text_of piece letters = piece.before ++ letters ++ text_of_between piece.between ++ piece.after
 
-record IsPieceRead (piece : Piece) (inside : List ℕ) : Type 0 where
+record IsPieceRead (piece : FormatPiece) (inside : List ℕ) : Type 0 where
   item : inside_item inside ≡ Name piece
   level : IsBalanced inside
 
-piece_read : (piece : Piece) (letters : List ℕ) → is_piece piece ≡ true → in_lower_case letters ≡ letters_of_part piece.part piece.is_full →
+piece_read : (piece : FormatPiece) (letters : List ℕ) → is_piece piece ≡ true → in_lower_case letters ≡ letters_of_part piece.part piece.is_full →
     IsPieceRead piece (piece_text_of piece letters)
 unfolding inside_item piece_item
 piece_read piece letters is are =
-    let parts = and_parts (is_outer piece.before) (is_between piece.between piece.after && is_outer piece.after) is in
-    let more = and_parts (is_between piece.between piece.after) (is_outer piece.after) parts.1 in
+    let parts = and_parts (is_outer piece.before) (can_be_between piece.between piece.after && is_outer piece.after) is in
+    let more = and_parts (can_be_between piece.between piece.after) (is_outer piece.after) parts.1 in
     let front = outer piece.before parts.0 in
     let back = outer piece.after more.1 in
     let between = text_of_between piece.between in
@@ -276,7 +276,7 @@ piece_read piece letters is are =
     ∙ ap (λ named_part. lettered_item piece.before read.letter read.rest named_part) (named piece.part read.letter read.is_letter) in
     record {
       item = ap inside_item whole ∙ item ∙ legal_read piece.before piece.part _ piece.is_full _ piece.between _ piece.after
-          read.doubled (ap between_of read.behind ∙ strings.0) (ap after_of read.behind ∙ strings.1) back.no_letter;
+          read.doubled (ap between_of read.behind ∙ strings.0) (ap behind_between read.behind ∙ strings.1) back.no_letter;
       level = balanced_append (piece.before ++ letters ++ between) piece.after
           (balanced_append (piece.before ++ letters) between (balanced_append piece.before letters front.level read.level) (between_level piece.between piece.after more.0)) back.level;
     }
@@ -324,7 +324,7 @@ literal_read (b ∷ bs) rest some none ends =
     ∙ ap (λ xs. Literal xs ∷ items_of (drop (length (b ∷ bs)) ((b ∷ bs) ++ rest))) (take_at (b ∷ bs) rest (length (b ∷ bs)) refl)
     ∙ ap (λ xs. Literal (b ∷ bs) ∷ items_of xs) (drop_at (b ∷ bs) rest (length (b ∷ bs)) refl)
 
-item_read : (item : Item) (text rest : List ℕ) → is_item item ≡ true → IsTextOf item text → (begin_literal (item ∷ []) ≡ true → run_len Brace 0 rest ≡ 0) →
+item_read : (item : FormatItem) (text rest : List ℕ) → is_item item ≡ true → IsTextOf item text → (begin_literal (item ∷ []) ≡ true → run_len Brace 0 rest ≡ 0) →
     items_of (text ++ rest) ≡ item ∷ items_of rest
 item_read (Literal literal) text rest is same ends =
     let parts = and_parts (ltb 0 (length literal)) (list_all (λ b. not (is_brace b)) literal) is in
@@ -340,7 +340,7 @@ item_read Illegal text rest is same ends = absurd same
 -- ---- items
 
 -- items that begin with no literal begin with a brace, or there is none
-run_starts : (items : List Item) (format : List ℕ) → begin_literal items ≡ false → IsFormatOf items format → run_len Brace 0 format ≡ 0
+run_starts : (items : List FormatItem) (format : List ℕ) → begin_literal items ≡ false → IsFormatOf items format → run_len Brace 0 format ≡ 0
 unfolding run_len IsFormatOf
 run_starts [] format other is = rw is refl
 run_starts (Literal text ∷ items) format other is = absurd (true≢false other)
@@ -348,7 +348,7 @@ run_starts (Plain text ∷ items) format other is = rw (is.4, is.2) refl
 run_starts (Name piece ∷ items) format other is = rw (is.4, is.2.2) refl
 run_starts (Illegal ∷ items) format other is = absurd is.2
 
-pub written_items : (items : List Item) (format : List ℕ) → are_items items ≡ true → IsFormatOf items format → items_of format ≡ items
+pub written_items : (items : List FormatItem) (format : List ℕ) → are_items items ≡ true → IsFormatOf items format → items_of format ≡ items
 unfolding are_items IsFormatOf
 written_items [] format are is = items_of-nil format (ap length is)
 written_items (item ∷ items) format are is =
@@ -359,13 +359,13 @@ written_items (item ∷ items) format are is =
     λ literal. run_starts items is.1 (ap (λ t. t && begin_literal items) (sym literal) ∙ apart) is.3 in
     ap items_of is.4 ∙ item_read item is.0 is.1 parts.0 is.2 ends ∙ ap (λ xs. item ∷ xs) (written_items items is.1 more.1 is.3)
 
-item_legal : (item : Item) → is_item item ≡ true → is_illegal item ≡ false
+item_legal : (item : FormatItem) → is_item item ≡ true → is_illegal item ≡ false
 item_legal (Literal text) is = refl
 item_legal (Plain text) is = refl
 item_legal (Name piece) is = refl
 item_legal Illegal is = absurd (true≢false (sym is))
 
-items_legal : (items : List Item) → are_items items ≡ true → list_any is_illegal items ≡ false
+items_legal : (items : List FormatItem) → are_items items ≡ true → list_any is_illegal items ≡ false
 unfolding are_items
 items_legal [] are = refl
 items_legal (item ∷ items) are =
@@ -373,7 +373,7 @@ items_legal (item ∷ items) are =
     let more = and_parts (not (begin_literal (item ∷ []) && begin_literal items)) (are_items items) parts.1 in
     rw (item_legal item parts.0) (items_legal items more.1)
 
-pub written_legal : (items : List Item) (format : List ℕ) → are_items items ≡ true → IsFormatOf items format → is_legal format ≡ true
+pub written_legal : (items : List FormatItem) (format : List ℕ) → are_items items ≡ true → IsFormatOf items format → is_legal format ≡ true
 written_legal items format are is =
     ap (λ xs. not (list_any is_illegal xs)) (written_items items format are is) ∙ ap not (items_legal items are)
 

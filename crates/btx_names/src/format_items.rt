@@ -1,6 +1,6 @@
 //! The items of a name's format, one at a time.
 ghost use Rattle.std.specs.Prelude.{◌≡◌, not};
-ghost use Rattle.btx_names.specs.Formats as spec;
+ghost use Rattle.btx_names.specs.language.Formats as spec;
 
 use crate::format_pieces::inside_item;
 use crate::runs::{Stop, run_len};
@@ -55,7 +55,7 @@ pub struct Items<'a> {
 
 impl<'a> Model for Items<'a> {
     ghost use Rattle.std.specs.Prelude.{List};
-    ghost use Rattle.btx_names.specs.Formats.{Item as SpecItem, items_of};
+    ghost use Rattle.btx_names.specs.language.Formats.{FormatItem as SpecItem, items_of};
 
     ghost Value = { List SpecItem };
 
@@ -73,7 +73,7 @@ impl<'a> Items<'a> {
 
 impl<'a> Iterator for Items<'a> {
     ghost use Rattle.std.specs.Iterator.{YieldsFirstBy, item_count};
-    ghost use Rattle.btx_names.specs.ItemViews.{item_view};
+    ghost use Rattle.btx_names.specs.refinement.ItemViews.{item_view};
 
     type Item = Item<'a>;
 

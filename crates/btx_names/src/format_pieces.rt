@@ -1,14 +1,14 @@
 //! The groups of a name's format.
 ghost use Rattle.std.specs.Prelude.{◌≡◌, drop, if◌then◌else◌};
 ghost use Rattle.std.specs.Option.{option_copied};
-ghost use Rattle.btx_names.specs.Formats as spec;
-ghost use Rattle.btx_names.specs.ItemViews.{item_view};
+ghost use Rattle.btx_names.specs.language.Formats as spec;
+ghost use Rattle.btx_names.specs.refinement.ItemViews.{item_view};
 
 use crate::format_items::{Item, PartName, Piece};
 use crate::runs::{Stop, run_len};
 
 /// The item that a group is, of what stands in its braces.
-#[tactic(auto, unfolding(crate::specs::Formats::inside_item))]
+#[tactic(auto, unfolding(crate::specs::language::Formats::inside_item))]
 pub fn inside_item(inside: &[u8]) -> Item<'_>
     ensures { item_view result ≡ spec.inside_item inside.now }
 {
@@ -23,7 +23,7 @@ pub fn inside_item(inside: &[u8]) -> Item<'_>
 }
 
 // The part that a letter names.
-#[tactic(auto, unfolding(crate::specs::Formats::part_named))]
+#[tactic(auto, unfolding(crate::specs::language::Formats::part_named))]
 fn part_named(letter: u8) -> Option<PartName>
     ensures { result ≡ spec.part_named letter }
 {
@@ -37,7 +37,7 @@ fn part_named(letter: u8) -> Option<PartName>
 }
 
 // A piece with a part, of what follows its letter.
-#[tactic(auto, unfolding(crate::specs::Formats::piece_item))]
+#[tactic(auto, unfolding(crate::specs::language::Formats::piece_item))]
 fn piece_item<'a>(before: &'a [u8], letter: u8, rest: &'a [u8], part: PartName) -> Item<'a>
     ensures { item_view result ≡ spec.piece_item before.now letter rest.now part }
 {
@@ -89,7 +89,7 @@ fn between_of(text: &[u8]) -> Option<&[u8]>
 
 // What follows that string.
 fn after_of(text: &[u8]) -> &[u8]
-    ensures { result.now ≡ spec.after_of text.now }
+    ensures { result.now ≡ spec.behind_between text.now }
 {
     match text {
         [b'{', inside @ ..] => match &inside[run_len(inside, Stop::Closing)..] {

@@ -1,14 +1,15 @@
 //! A name in a format.
-ghost use Rattle.std.specs.Prelude.{◌≡◌, ◌++◌, []};
-ghost use Rattle.btx_strings.specs.Answers.{Answers};
-ghost use Rattle.btx_text.specs.Limits.{greatest_string};
-ghost use Rattle.btx_names.specs.Becomes.{Becomes, WritesLegal, WritesUntilIllegal};
-ghost use Rattle.btx_names.specs.Formats.{is_legal};
-ghost use Rattle.btx_names.specs.Answered as spec;
-ghost use Rattle.btx_names.specs.FormattedNames.{formatted, item_text, tokens_of_part};
-ghost use Rattle.btx_names.specs.ItemViews.{item_view};
-ghost use Rattle.btx_names.specs.KeptNames.{name_in};
-ghost use Rattle.btx_names.specs.PartViews.{part_tokens, parts_view};
+ghost use Rattle.std.specs.Prelude.{◌≡◌, ◌++◌, [], IfOk, IsTrue};
+ghost use Rattle.btx_names.specs.refinement.Right.{IsWritten};
+ghost use Rattle.btx_strings.specs.refinement.Answers.{Answers};
+ghost use Rattle.btx_text.specs.language.Limits.{greatest_string};
+ghost use Rattle.btx_names.specs.refinement.Becomes.{Becomes, WritesLegal, WritesUntilIllegal};
+ghost use Rattle.btx_names.specs.language.Formats.{is_legal};
+ghost use Rattle.btx_names.specs.language.Answered as spec;
+ghost use Rattle.btx_names.specs.language.FormattedNames.{formatted, item_text, tokens_of_part};
+ghost use Rattle.btx_names.specs.refinement.ItemViews.{item_view};
+ghost use Rattle.btx_names.specs.refinement.KeptNames.{kept_bytes};
+ghost use Rattle.btx_names.specs.refinement.PartViews.{part_tokens, parts_view};
 
 use crate::format_items::{Item, Items, PartName, is_legal};
 use crate::kept_formats::{KeptFormat, KeptFormats};
@@ -30,7 +31,7 @@ pub fn format_one(
     format: &[u8],
     mode: TextMode,
 ) -> Result<Answer, Fault>
-    ensures { Answers result (spec.one_name_text mode (name_in name.now) format.now) (spec.one_name_complaints (name_in name.now) format.now) }
+    ensures { Answers result (spec.one_name_text mode (kept_bytes name.now) format.now) (spec.one_name_complaints (kept_bytes name.now) format.now) }
 {
     writer.begin(mode);
     if write_format(writer, name.parts(), formats, format)? {
@@ -38,6 +39,23 @@ pub fn format_one(
     } else {
         Answer::new(Vec::new(alloc), name.complaints(false))
     }
+}
+
+/// Writes a name in a format by `writer`, where nothing is wrong with them; else answers false. What `formats` keeps of the format is used.
+pub fn write_one(
+    name: &KeptName,
+    formats: &mut KeptFormats,
+    writer: &mut Writer,
+    format: &[u8],
+    mode: TextMode,
+) -> Result<bool, Fault>
+    ensures { IfOk result (λ written. IsTrue written → IsWritten mode (kept_bytes name.now) format.now writer.new.text.items) }
+{
+    if name.is_wrong() {
+        return Ok(false);
+    }
+    writer.begin(mode);
+    write_format(writer, name.parts(), formats, format)
 }
 
 // Writes the parts of a name in a format, whether that is kept or not; false where the format is illegal.

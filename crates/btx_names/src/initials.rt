@@ -1,9 +1,9 @@
 //! Tokens, abbreviated.
 ghost use Rattle.std.specs.Prelude.{◌≡◌};
-ghost use Rattle.btx_names.specs.FormattedNames as spec;
-ghost use Rattle.btx_names.specs.Lettered.{lettered_of};
-ghost use Rattle.btx_names.specs.NameTokens.{Hold};
-ghost use Rattle.btx_names.specs.Places.{bytes_at};
+ghost use Rattle.btx_names.specs.language.FormattedNames as spec;
+ghost use Rattle.btx_names.specs.refinement.Lettered.{lettered_of};
+ghost use Rattle.btx_names.specs.refinement.NameTokens.{Hold};
+ghost use Rattle.btx_names.specs.refinement.Places.{bytes_at};
 
 use crate::name_token::NameToken;
 use btx_text::classify::is_alpha;

@@ -1,8 +1,8 @@
 //! Formats of names, kept as they were read.
 ghost use Rattle.std.specs.Prelude.{◌≡◌, ◌++◌, IfOk, IfSome, OnOk, IsTrue, true};
 ghost use Rattle.std.specs.List.{flat_map};
-ghost use Rattle.btx_names.specs.Formats.{is_legal, items_of};
-ghost use Rattle.btx_names.specs.KeptItems.{items_in};
+ghost use Rattle.btx_names.specs.language.Formats.{is_legal, items_of};
+ghost use Rattle.btx_names.specs.refinement.KeptItems.{items_in};
 
 use crate::format_items::Items;
 use crate::kept_item::KeptItem;

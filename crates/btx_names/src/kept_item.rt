@@ -1,8 +1,8 @@
 //! Items of a format that own their bytes.
 ghost use Rattle.std.specs.Prelude.{◌≡◌, IfOk, MatchOption};
-ghost use Rattle.btx_names.specs.Formats as spec;
-ghost use Rattle.btx_names.specs.ItemViews.{item_view, piece_view};
-ghost use Rattle.btx_names.specs.KeptItems.{kept_view, kept_piece_view};
+ghost use Rattle.btx_names.specs.language.Formats as spec;
+ghost use Rattle.btx_names.specs.refinement.ItemViews.{item_view, piece_view};
+ghost use Rattle.btx_names.specs.refinement.KeptItems.{kept_view, kept_piece_view};
 
 use crate::format_items::{Item, PartName, Piece};
 use std::alloc::{AllocError, Global};

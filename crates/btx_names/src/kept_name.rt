@@ -1,10 +1,10 @@
 //! A name with the list that it stands in.
-ghost use Rattle.std.specs.Prelude.{◌≡◌, ◌≤◌, drop, length, slice_get, IfOk, MatchOption, None, Some, [], IsTrue};
-ghost use Rattle.btx_names.specs.NamesFrom.{names_from};
-ghost use Rattle.btx_names.specs.NameLists.{names_of};
-ghost use Rattle.btx_names.specs.NameParts as spec;
-ghost use Rattle.btx_names.specs.Places.{bytes_at};
-ghost use Rattle.btx_names.specs.TokenLists.{IsListOf};
+ghost use Rattle.std.specs.Prelude.{◌≡◌, ◌≤◌, ◌||◌, drop, length, slice_get, IfOk, MatchOption, None, Some, [], IsTrue};
+ghost use Rattle.btx_names.specs.refinement.NamesFrom.{names_from};
+ghost use Rattle.btx_names.specs.language.NameLists.{names_of};
+ghost use Rattle.btx_names.specs.language.NameParts as spec;
+ghost use Rattle.btx_names.specs.refinement.Places.{bytes_at};
+ghost use Rattle.btx_names.specs.refinement.TokenLists.{IsListOf};
 
 use crate::name_parts::NameParts;
 use crate::name_sections::{Sections, ends_in_comma};
@@ -36,9 +36,9 @@ pub struct KeptName {
 }
 
 impl KeptName {
-    ghost use Rattle.btx_names.specs.Answered.{complaints_with};
-    ghost use Rattle.btx_names.specs.KeptNames.{IsFound, name_in};
-    ghost use Rattle.btx_names.specs.PartViews.{parts_view};
+    ghost use Rattle.btx_names.specs.language.Answered.{complaints_with};
+    ghost use Rattle.btx_names.specs.refinement.KeptNames.{IsFound, kept_bytes};
+    ghost use Rattle.btx_names.specs.refinement.PartViews.{parts_view};
 
     /// The name of a list that `before` others precede, if there is one.
     pub fn find(alloc: Global, names: &[u8], before: usize) -> Result<Option<KeptName>, AllocError>
@@ -49,7 +49,7 @@ impl KeptName {
 
     /// Whether this is the name of a list that `before` others precede.
     pub fn is(&self, names: &[u8], before: usize) -> bool
-        ensures { IsTrue result → slice_get (names_of names.now) before ≡ Some (name_in self.now) }
+        ensures { IsTrue result → slice_get (names_of names.now) before ≡ Some (kept_bytes self.now) }
     {
         self.before == before && self.names.as_slice() == names
     }
@@ -120,14 +120,21 @@ impl KeptName {
 
     /// Its parts.
     pub fn parts(&self) -> NameParts<'_>
-        ensures { parts_view result ≡ spec.parts_of (name_in self.now) }
+        ensures { parts_view result ≡ spec.parts_of (kept_bytes self.now) }
     {
         NameParts::of(&self.list)
     }
 
+    /// Whether something is wrong with it.
+    pub fn is_wrong(&self) -> bool
+        ensures { result ≡ (spec.ends_in_comma (kept_bytes self.now) || spec.has_third_comma (spec.sections_of (kept_bytes self.now))) }
+    {
+        self.ends_in_comma || self.has_third_comma
+    }
+
     /// What is wrong with it, and with a format that is legal or not.
     pub fn complaints(&self, is_legal: bool) -> Complaints
-        ensures { result ≡ complaints_with (spec.ends_in_comma (name_in self.now)) (spec.has_third_comma (spec.sections_of (name_in self.now))) is_legal }
+        ensures { result ≡ complaints_with (spec.ends_in_comma (kept_bytes self.now)) (spec.has_third_comma (spec.sections_of (kept_bytes self.now))) is_legal }
     {
         Complaints {
             x9: false,

@@ -1,22 +1,25 @@
 //! Laws over the definitions. Each function has an empty body, and its contract is the law.
 ghost use Rattle.std.specs.Prelude.{◌≡◌, ℕ, List, [], ◌∷◌, ◌++◌, ◌+◌, ◌==◌, None, Some, length, map, filter, min, nat_lt, false, not, true};
 ghost use Rattle.std.specs.List.{join_by, list_all};
-ghost use Rattle.btx_names.specs.VonTokens.{casing, is_von};
-ghost use Rattle.btx_names.specs.VonGlyphs.{are_lower};
-ghost use Rattle.btx_strings.specs.Controls.{glyphs_of};
-ghost use Rattle.btx_text.specs.Elements.{Part as Element, elements_of};
+ghost use Rattle.btx_names.specs.language.VonTokens.{casing, is_von};
+ghost use Rattle.btx_names.specs.laws.VonGlyphs.{are_lower};
+ghost use Rattle.btx_strings.specs.language.Controls.{glyphs_of};
+ghost use Rattle.btx_text.specs.language.Elements.{Element, elements_of};
 ghost use Rattle.btx_text.specs.declared.element_kind.Kind.TheVariants.{Special};
 ghost use Rattle.btx_text.specs.declared.element_kind.TextMode.{TextMode};
 ghost use Rattle.btx_text.specs.declared.element_kind.TextMode.TheVariants.{Bytes};
-ghost use Rattle.btx_names.specs.NameLists.{names_of, separators_of};
-ghost use Rattle.btx_names.specs.Commas.{commas_in, commas_of, final_commas_of};
-ghost use Rattle.btx_names.specs.NameParts.{HasJrByForm, before_last, ends_in_comma, final_of, has_third_comma, in_order, is_hyphen, One, before_final, parts_of, sections_of, surname_of};
-ghost use Rattle.btx_names.specs.Gaps.{and_gap, byte_gap, pieces_between};
-ghost use Rattle.btx_names.specs.Formats.{Item, Piece, is_legal, items_of};
-ghost use Rattle.btx_names.specs.FormattedNames.{finished, period_of, piece_text, shown, tie_of, with_tokens};
-ghost use Rattle.btx_names.specs.WrittenFormats.{IsFormatOf, are_items};
-ghost use Rattle.btx_names.specs.FormatTexts.{copied_of, in_lower_case, literals_of, text_of_items};
-ghost use Rattle.btx_names.specs.Tokens.{Token, breaks_of, is_some_text, tokens_of};
+ghost use Rattle.btx_names.specs.language.NameLists.{names_of};
+ghost use Rattle.btx_names.specs.laws.NameLists.{separators_of};
+ghost use Rattle.btx_names.specs.laws.Commas.{commas_in, commas_of, final_commas_of};
+ghost use Rattle.btx_names.specs.language.NameParts.{ends_in_comma, has_third_comma, is_hyphen, One, before_final, parts_of, sections_of};
+ghost use Rattle.btx_names.specs.laws.NameParts.{HasJrByForm, before_last, final_of, parts_in_order, surname_of};
+ghost use Rattle.btx_names.specs.laws.Gaps.{and_gap, byte_gap, pieces_between};
+ghost use Rattle.btx_names.specs.language.Formats.{FormatItem, FormatPiece, is_legal, items_of};
+ghost use Rattle.btx_names.specs.language.FormattedNames.{finished, period_of, piece_text, shown, tie_of, with_tokens};
+ghost use Rattle.btx_names.specs.laws.WrittenFormats.{IsFormatOf, are_items};
+ghost use Rattle.btx_names.specs.laws.FormatTexts.{copied_of, in_lower_case, literals_bytes, text_of_items};
+ghost use Rattle.btx_names.specs.language.Tokens.{NameToken, tokens_of};
+ghost use Rattle.btx_names.specs.laws.Tokens.{breaks_of, is_some_text};
 
 /// A string that isn't empty has one more name than separators.
 #[tactic(auto, using(crate::proofs::SeparatorLemmas::counted))]
@@ -37,7 +40,7 @@ pub fn pieces_between_separators()
 /// The parts of a name cover its tokens without overlap, in the order of its form: First von Last; von Last, First; von Last, Jr, First.
 #[tactic(auto, using(crate::proofs::LawLemmas::part_laws))]
 pub fn parts_cover_the_tokens()
-    ensures covers { (name : List ℕ) → in_order (sections_of name) (parts_of name) ≡ tokens_of name }
+    ensures covers { (name : List ℕ) → parts_in_order (sections_of name) (parts_of name) ≡ tokens_of name }
     ensures jr { (name : List ℕ) → HasJrByForm (sections_of name) (parts_of name) }
 {}
 
@@ -46,15 +49,15 @@ pub fn parts_cover_the_tokens()
 #[tactic(auto, using(crate::proofs::LawLemmas::part_laws))]
 pub fn final_token_is_last()
     ensures last { (name : List ℕ) → final_of (parts_of name).last ≡ final_of (tokens_of (surname_of (sections_of name))) }
-    ensures never_von { (name : List ℕ) (front : List Token) (final : Token) → tokens_of (surname_of (sections_of name)) ≡ front ++ final ∷ [] →
-        (rest : List Token) × (front ≡ before_last (sections_of name) (parts_of name) ++ rest) }
+    ensures never_von { (name : List ℕ) (front : List NameToken) (final : NameToken) → tokens_of (surname_of (sections_of name)) ≡ front ++ final ∷ [] →
+        (rest : List NameToken) × (front ≡ before_last (sections_of name) (parts_of name) ++ rest) }
 {}
 
 /// Von ends in a von token. Where a name has no comma, von begins in one too, and First has none.
 #[tactic(auto, using(crate::proofs::VonLawLemmas::von_laws))]
 pub fn von_between_von_tokens()
-    ensures ends { (name : List ℕ) (front : List Token) (final : Token) → (parts_of name).von ≡ front ++ final ∷ [] → is_von final.text ≡ true }
-    ensures begins { (name : List ℕ) (token : Token) (tokens : List Token) → sections_of name ≡ One name → (parts_of name).von ≡ token ∷ tokens →
+    ensures ends { (name : List ℕ) (front : List NameToken) (final : NameToken) → (parts_of name).von ≡ front ++ final ∷ [] → is_von final.text ≡ true }
+    ensures begins { (name : List ℕ) (token : NameToken) (tokens : List NameToken) → sections_of name ≡ One name → (parts_of name).von ≡ token ∷ tokens →
         is_von token.text ≡ true }
     ensures first { (name : List ℕ) → sections_of name ≡ One name → list_all (λ token. not (is_von token.text)) (parts_of name).first ≡ true }
 {}
@@ -65,7 +68,7 @@ pub fn von_between_von_tokens()
 pub fn hyphens_join_to_last()
     ensures joined { (name : List ℕ) → sections_of name ≡ One name → list_all (λ token. not (is_von token.text)) (before_final (tokens_of name)) ≡ true →
         list_all (λ token. is_hyphen token.joint) (before_final (parts_of name).last) ≡ true }
-    ensures apart { (name : List ℕ) (front : List Token) (final : Token) → sections_of name ≡ One name →
+    ensures apart { (name : List ℕ) (front : List NameToken) (final : NameToken) → sections_of name ≡ One name →
         list_all (λ token. not (is_von token.text)) (before_final (tokens_of name)) ≡ true → (parts_of name).first ≡ front ++ final ∷ [] →
         is_hyphen final.joint ≡ false }
 {}
@@ -92,7 +95,7 @@ pub fn commas_give_the_form()
 /// what stands after the letter, finished.
 #[tactic(auto, using(crate::proofs::JoinLemmas::tokens_joined))]
 pub fn tokens_joined_by_the_string_between()
-    ensures { (mode : TextMode) (piece : Piece) (between : List ℕ) (token : Token) (tokens : List Token) → piece.between ≡ Some between →
+    ensures { (mode : TextMode) (piece : FormatPiece) (between : List ℕ) (token : NameToken) (tokens : List NameToken) → piece.between ≡ Some between →
         piece_text mode piece (token ∷ tokens)
         ≡ finished mode (piece.before ++ join_by (λ token. shown mode piece.is_full token.text) between (token ∷ tokens) ++ piece.after) }
 {}
@@ -101,7 +104,7 @@ pub fn tokens_joined_by_the_string_between()
 /// a `~` before the part's last token and where the piece's text is still short, its beginning and that period included; else a space.
 #[tactic(auto, using(crate::proofs::JoinLemmas::tokens_tied))]
 pub fn tokens_tied_without_a_string()
-    ensures { (mode : TextMode) (piece : Piece) (so_far : List ℕ) (token next : Token) (tokens : List Token) → piece.between ≡ None →
+    ensures { (mode : TextMode) (piece : FormatPiece) (so_far : List ℕ) (token next : NameToken) (tokens : List NameToken) → piece.between ≡ None →
         let text = so_far ++ shown mode piece.is_full token.text ++ period_of piece.is_full in
         with_tokens mode piece so_far (token ∷ next ∷ tokens)
         ≡ with_tokens mode piece (text ++ tie_of mode text token.joint (length tokens == 0) ∷ []) (next ∷ tokens) }
@@ -114,13 +117,13 @@ pub fn tokens_tied_without_a_string()
 pub fn items_joined_are_the_format()
     ensures written { (format : List ℕ) →
         is_legal format ≡ true → in_lower_case (text_of_items (items_of format)) ≡ in_lower_case format }
-    ensures copied { (format : List ℕ) → literals_of (items_of format) ≡ copied_of format }
+    ensures copied { (format : List ℕ) → literals_bytes (items_of format) ≡ copied_of format }
 {}
 
 /// Which formats are legal, in the format's own words: literals, groups without a letter at their own level, and pieces with a part's letter,
 /// once or twice and in either case, between texts without one. Such items, written one after another, are a legal format, and its items.
 #[tactic(auto, using(crate::proofs::WrittenLemmas::written_laws))]
 pub fn written_items_are_legal()
-    ensures items { (items : List Item) (format : List ℕ) → are_items items ≡ true → IsFormatOf items format → items_of format ≡ items }
-    ensures legal { (items : List Item) (format : List ℕ) → are_items items ≡ true → IsFormatOf items format → is_legal format ≡ true }
+    ensures items { (items : List FormatItem) (format : List ℕ) → are_items items ≡ true → IsFormatOf items format → items_of format ≡ items }
+    ensures legal { (items : List FormatItem) (format : List ℕ) → are_items items ≡ true → IsFormatOf items format → is_legal format ≡ true }
 {}

@@ -1,16 +1,17 @@
 //! Names in formats, one after another.
 ghost use Rattle.std.specs.Prelude.{◌≡◌, slice_get, IfOk, OnOk, IsSomeAnd, IsTrue, MatchOption, None, Some};
-ghost use Rattle.btx_strings.specs.Answers.{Answers};
-ghost use Rattle.btx_names.specs.Answered as spec;
-ghost use Rattle.btx_names.specs.KeptNames.{IsFound, name_in};
-ghost use Rattle.btx_names.specs.NameLists.{names_of};
+ghost use Rattle.btx_names.specs.refinement.Right.{IsText};
+ghost use Rattle.btx_strings.specs.refinement.Answers.{Answers};
+ghost use Rattle.btx_names.specs.language.Answered as spec;
+ghost use Rattle.btx_names.specs.refinement.KeptNames.{IsFound, kept_bytes};
+ghost use Rattle.btx_names.specs.language.NameLists.{names_of};
 
-use crate::formatted::format_one;
+use crate::formatted::{format_one, write_one};
 use crate::kept_formats::KeptFormats;
 use crate::kept_name::KeptName;
 use crate::writer::Writer;
 use btx_strings::{Answer, Complaints};
-use btx_text::{Fault, TextMode};
+use btx_text::{Fault, GREATEST_STRING, TextMode};
 use std::alloc::{AllocError, Global};
 
 // How many formats are kept at most. A style mostly has fewer.
@@ -81,10 +82,42 @@ impl NameFormatter {
         answer
     }
 
+    /// Writes a name of a string in a format, as [`NameFormatter::format`] does, where nothing is wrong with them, and answers true: the text is
+    /// what [`NameFormatter::text`] answers then. Answers false where something is wrong, or the list or the text is long.
+    #[tactic(auto, using(crate::proofs::FormattedLemmas::text_right))]
+    pub fn write(
+        &mut self,
+        names: &[u8],
+        number: i32,
+        format: &[u8],
+        mode: TextMode,
+    ) -> Result<bool, Fault>
+        ensures { IfOk result (λ written. IsTrue written → IsText mode names.now number format.now self.new.writer.text.items) }
+    {
+        if names.len() > LONGEST_LIST {
+            return Ok(false);
+        }
+        self.go_to(names, number)?;
+        let Some(name) = &self.name else {
+            return Ok(false);
+        };
+        if !write_one(name, &mut self.formats, &mut self.writer, format, mode)? {
+            return Ok(false);
+        }
+        Ok(self.writer.text().len() <= GREATEST_STRING)
+    }
+
+    /// The text that was written last.
+    pub fn text(&self) -> &[u8]
+        ensures { result.now ≡ self.now.writer.text.items }
+    {
+        self.writer.text()
+    }
+
     // Goes to a name of a string, by its number from 1 on. Where there is none, none is kept.
     #[tactic(auto, using(crate::proofs::FormattedLemmas::nth_steps))]
     fn go_to(&mut self, names: &[u8], number: i32) -> Result<(), AllocError>
-        ensures { OnOk result (MatchOption self.new.name (spec.nth_name names.now number ≡ None) (λ kept. spec.nth_name names.now number ≡ Some (name_in kept))) }
+        ensures { OnOk result (MatchOption self.new.name (spec.nth_name names.now number ≡ None) (λ kept. spec.nth_name names.now number ≡ Some (kept_bytes kept))) }
     {
         let Some(before) = names_before(number) else {
             self.name = None;
@@ -99,7 +132,7 @@ impl NameFormatter {
 
     // Whether the name that is kept is the one of a list that `before` others precede.
     fn is_at(&self, names: &[u8], before: usize) -> bool
-        ensures { IsTrue result → IsSomeAnd self.now.name (λ kept. slice_get (names_of names.now) before ≡ Some (name_in kept)) }
+        ensures { IsTrue result → IsSomeAnd self.now.name (λ kept. slice_get (names_of names.now) before ≡ Some (kept_bytes kept)) }
     {
         match &self.name {
             Some(name) => name.is(names, before),
@@ -132,7 +165,7 @@ pub fn format_name(
 }
 
 // How many names stand before the one of a number.
-#[tactic(auto, using(crate::proofs::FormattedLemmas::before_steps), unfolding(crate::specs::Answered::names_before))]
+#[tactic(auto, using(crate::proofs::FormattedLemmas::before_steps), unfolding(crate::specs::language::Answered::names_before))]
 fn names_before(number: i32) -> Option<usize>
     ensures { result ≡ spec.names_before number }
 {

@@ -1,7 +1,7 @@
 //! The names of a string, one at a time.
 ghost use Rattle.std.specs.Prelude.{◌≡◌, ◌≤◌, ◌+◌, length, pos};
-ghost use Rattle.btx_text.specs.Limits.{greatest_string};
-ghost use Rattle.btx_names.specs.NameLists.{names_of};
+ghost use Rattle.btx_text.specs.language.Limits.{greatest_string};
+ghost use Rattle.btx_names.specs.language.NameLists.{names_of};
 
 use crate::separators::name_len;
 use std::marker::Model;
@@ -15,7 +15,7 @@ pub struct Names<'a> {
 
 impl<'a> Model for Names<'a> {
     ghost use Rattle.std.specs.Prelude.{List, ℕ, [], if◌then◌else◌};
-    ghost use Rattle.btx_names.specs.NameLists.{pieces_from};
+    ghost use Rattle.btx_names.specs.language.NameLists.{pieces_from};
 
     ghost Value = { List (List ℕ) };
 

@@ -19,9 +19,9 @@ pub struct NameParts<'t> {
 }
 
 impl<'t> NameParts<'t> {
-    ghost use Rattle.btx_names.specs.NameParts as spec;
-    ghost use Rattle.btx_names.specs.PartViews.{part_tokens, parts_view};
-    ghost use Rattle.btx_names.specs.TokenLists.{IsListOf};
+    ghost use Rattle.btx_names.specs.language.NameParts as spec;
+    ghost use Rattle.btx_names.specs.refinement.PartViews.{part_tokens, parts_view};
+    ghost use Rattle.btx_names.specs.refinement.TokenLists.{IsListOf};
 
     /// The parts of a name, of the list of its tokens.
     pub fn of(list: &'t TokenList) -> NameParts<'t>

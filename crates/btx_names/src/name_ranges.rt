@@ -1,7 +1,7 @@
 //! Where the parts of a name begin and end in the list of its tokens.
 ghost use Rattle.std.specs.Prelude.{◌≡◌, ◌≤◌, length};
-ghost use Rattle.btx_names.specs.PartViews.{part_tokens};
-ghost use Rattle.btx_names.specs.NameParts as spec;
+ghost use Rattle.btx_names.specs.refinement.PartViews.{part_tokens};
+ghost use Rattle.btx_names.specs.language.NameParts as spec;
 
 use crate::part::Part;
 use crate::token_counts::{TokenTest, before_first, up_to_last_before_final};

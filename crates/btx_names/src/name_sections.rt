@@ -1,6 +1,7 @@
 //! The sections of a name, which commas part.
 ghost use Rattle.std.specs.Prelude.{◌≡◌, MatchOption, None, Some};
-ghost use Rattle.btx_names.specs.NameParts as spec;
+ghost use Rattle.btx_names.specs.language.NameParts as spec;
+ghost use Rattle.btx_names.specs.laws.NameParts as law;
 
 use crate::runs::{Stop, is_break, run_len};
 use btx_text::classify::is_white;
@@ -18,10 +19,10 @@ pub enum Sections<'a> {
 }
 
 impl<'a> Sections<'a> {
-    ghost use Rattle.btx_names.specs.SectionViews.{first_of, has_commas, jr_of, sections_view};
+    ghost use Rattle.btx_names.specs.refinement.SectionViews.{first_section, has_commas, jr_of, sections_view};
 
     /// The sections of a name.
-    #[tactic(auto, unfolding(crate::specs::NameParts::sections_of))]
+    #[tactic(auto, unfolding(crate::specs::language::NameParts::sections_of))]
     pub fn of(name: &'a [u8]) -> Sections<'a>
         ensures { sections_view result ≡ spec.sections_of name.now }
     {
@@ -37,9 +38,9 @@ impl<'a> Sections<'a> {
     /// Its texts: the section of the surname, which is the whole name where there is but one, that of a Jr, and that of First behind a comma.
     /// What isn't there is empty.
     pub fn texts(self) -> (&'a [u8], &'a [u8], &'a [u8])
-        ensures surname { result.0.now ≡ spec.surname_of (sections_view self.entry) }
+        ensures surname { result.0.now ≡ law.surname_of (sections_view self.entry) }
         ensures jr { result.1.now ≡ jr_of (sections_view self.entry) }
-        ensures first { result.2.now ≡ first_of (sections_view self.entry) }
+        ensures first { result.2.now ≡ first_section (sections_view self.entry) }
     {
         match self {
             Sections::One(name) => (name, &[], &[]),
@@ -67,7 +68,7 @@ impl<'a> Sections<'a> {
 }
 
 // The texts before and after the first comma at depth 0, if a token follows it.
-#[tactic(auto, unfolding(crate::specs::NameParts::split_at_comma), using(crate::proofs::SectionLemmas::comma_steps))]
+#[tactic(auto, unfolding(crate::specs::language::NameParts::split_at_comma), using(crate::proofs::SectionLemmas::comma_steps))]
 fn split_at_comma(text: &[u8]) -> Option<(&[u8], &[u8])>
     ensures { MatchOption result (spec.split_at_comma text.now ≡ None) (λ cut. spec.split_at_comma text.now ≡ Some (cut.0.now, cut.1.now)) }
 {
@@ -90,7 +91,7 @@ fn is_all_breaks(text: &[u8]) -> bool
 }
 
 /// Whether the last byte of a name that is neither white nor `~` nor `-` is a comma, at depth 0.
-#[tactic(auto, unfolding(crate::specs::NameParts::ends_in_comma))]
+#[tactic(auto, unfolding(crate::specs::language::NameParts::ends_in_comma))]
 pub fn ends_in_comma(name: &[u8]) -> bool
     ensures { result ≡ spec.ends_in_comma name.now }
 {

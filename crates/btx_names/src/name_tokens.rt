@@ -1,7 +1,7 @@
 //! The tokens of a name, one at a time.
 ghost use Rattle.std.specs.Prelude.{◌≡◌};
-ghost use Rattle.btx_names.specs.Tokens.{joint_of, tokens_of};
-ghost use Rattle.btx_names.specs.Steps.{skip_breaks};
+ghost use Rattle.btx_names.specs.language.Tokens.{joint_of, tokens_of};
+ghost use Rattle.btx_names.specs.refinement.Steps.{skip_breaks};
 
 use crate::runs::{Stop, is_break, run_len};
 use std::marker::Model;
@@ -34,7 +34,7 @@ pub struct Tokens<'a> {
 
 impl<'a> Model for Tokens<'a> {
     ghost use Rattle.std.specs.Prelude.{List};
-    ghost use Rattle.btx_names.specs.Tokens.{Token as SpecToken, tokens_of};
+    ghost use Rattle.btx_names.specs.language.Tokens.{NameToken as SpecToken, tokens_of};
 
     ghost Value = { List SpecToken };
 
@@ -52,7 +52,7 @@ impl<'a> Tokens<'a> {
 
 impl<'a> Iterator for Tokens<'a> {
     ghost use Rattle.std.specs.Iterator.{YieldsFirstBy, item_count};
-    ghost use Rattle.btx_names.specs.TokenViews.{token_of};
+    ghost use Rattle.btx_names.specs.refinement.TokenViews.{token_of};
 
     type Item = Token<'a>;
 

@@ -1,7 +1,7 @@
 //! Ranges of the tokens of a name.
 ghost use Rattle.std.specs.Prelude.{◌≡◌, ◌≤◌, length, take, drop};
 ghost use Rattle.std.specs.List.{All};
-ghost use Rattle.btx_names.specs.NameTokens.{Hold, lettered_of_bare};
+ghost use Rattle.btx_names.specs.refinement.NameTokens.{Hold, lettered_of_bare};
 
 use crate::name_token::NameToken;
 
@@ -17,7 +17,7 @@ pub struct Part<'t> {
 }
 
 impl<'t> Part<'t> {
-    ghost use Rattle.btx_names.specs.PartViews.{part_tokens};
+    ghost use Rattle.btx_names.specs.refinement.PartViews.{part_tokens};
 
     /// Its first tokens, and the others.
     #[tactic(auto, using(crate::proofs::PartLemmas::split_steps))]

@@ -1,13 +1,13 @@
 //! The pieces of a formatted name.
 ghost use Rattle.std.specs.Prelude.{◌≡◌, ◌++◌, ◌+◌, drop, take};
 ghost use Rattle.std.specs.List.{flat_map};
-ghost use Rattle.btx_text.specs.Limits.{greatest_string};
-ghost use Rattle.btx_names.specs.Becomes.{Becomes};
-ghost use Rattle.btx_names.specs.FormattedNames as spec;
-ghost use Rattle.btx_names.specs.ItemViews.{has_nothing_between, piece_view};
-ghost use Rattle.btx_names.specs.NameTokens.{Hold};
-ghost use Rattle.btx_names.specs.PartViews.{part_tokens};
-ghost use Rattle.btx_names.specs.Places.{bytes_at};
+ghost use Rattle.btx_text.specs.language.Limits.{greatest_string};
+ghost use Rattle.btx_names.specs.refinement.Becomes.{Becomes};
+ghost use Rattle.btx_names.specs.language.FormattedNames as spec;
+ghost use Rattle.btx_names.specs.refinement.ItemViews.{has_nothing_between, piece_view};
+ghost use Rattle.btx_names.specs.refinement.NameTokens.{Hold};
+ghost use Rattle.btx_names.specs.refinement.PartViews.{part_tokens};
+ghost use Rattle.btx_names.specs.refinement.Places.{bytes_at};
 
 use crate::format_items::Piece;
 use crate::initials::initial_of;
@@ -113,7 +113,7 @@ fn push_shown(
 }
 
 // Adds what stands behind a token, with how many are left.
-#[tactic(auto, unfolding(crate::specs::FormattedNames::between_text))]
+#[tactic(auto, unfolding(crate::specs::language::FormattedNames::between_text))]
 fn push_between(
     writer: &mut Writer,
     piece: Piece<'_>,

@@ -1,6 +1,6 @@
 //! Places in bytes that are kept.
 ghost use Rattle.std.specs.Prelude.{◌≡◌, ◌≤◌, ◌+◌, length};
-ghost use Rattle.btx_names.specs.Places.{bytes_at};
+ghost use Rattle.btx_names.specs.refinement.Places.{bytes_at};
 
 /// Some bytes among others: where they begin, and how many they are.
 #[derive(Clone, Copy, Debug)]

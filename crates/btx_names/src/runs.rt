@@ -1,7 +1,7 @@
 //! Runs: the beginnings of a text before a byte of some kind at depth 0.
 ghost use Rattle.std.specs.Prelude.{◌≡◌, ◌≤◌, ◌==◌, ◌&&◌, length};
-ghost use Rattle.btx_names.specs.Runs as spec;
-ghost use Rattle.btx_names.specs.Steps as steps;
+ghost use Rattle.btx_names.specs.language.Runs as spec;
+ghost use Rattle.btx_names.specs.refinement.Steps as steps;
 
 use btx_text::classify::{is_alpha, is_white};
 use btx_text::depths::depth_after;

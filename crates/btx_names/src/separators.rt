@@ -1,14 +1,14 @@
 //! What stands between two names.
 ghost use Rattle.std.specs.Prelude.{◌≡◌, ◌==◌, ◌&&◌};
-ghost use Rattle.btx_text.specs.Class.{is_between};
-ghost use Rattle.btx_names.specs.NameLists as spec;
-ghost use Rattle.btx_names.specs.Steps as steps;
+ghost use Rattle.btx_text.specs.language.Class.{is_between};
+ghost use Rattle.btx_names.specs.language.NameLists as spec;
+ghost use Rattle.btx_names.specs.refinement.Steps as steps;
 
 use btx_text::classify::is_white;
 use btx_text::depths::depth_after;
 
 // Whether a separator stands where the brace depth is given: a white byte, `and` in any case, and a white byte, at depth 0.
-#[tactic(auto, unfolding(crate::specs::NameLists::is_separator))]
+#[tactic(auto, unfolding(crate::specs::language::NameLists::is_separator))]
 fn separates(depth: usize, text: &[u8]) -> bool
     ensures { result ≡ (depth == 0 && spec.is_separator text.now) }
 {
@@ -31,7 +31,7 @@ fn is_plain(byte: u8) -> bool
 /// How long the first piece of a text is: to the white byte before the first `and` that separates, this byte included, or to the end.
 #[tactic(auto, using(crate::proofs::NameLemmas::name_len_steps))]
 pub(crate) fn name_len(text: &[u8]) -> usize
-    ensures { result ≡ steps.name_len 0 text.now }
+    ensures { result ≡ steps.first_name_len 0 text.now }
 {
     let mut depth = 0;
     for (place, &byte) in text.iter().enumerate() {

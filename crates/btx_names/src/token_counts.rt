@@ -1,9 +1,9 @@
 //! Places in the list of a name's tokens.
 ghost use Rattle.std.specs.Prelude.{◌≡◌};
-ghost use Rattle.btx_names.specs.NameTokens.{token_of};
-ghost use Rattle.btx_names.specs.PartViews.{part_tokens};
-ghost use Rattle.btx_names.specs.NameParts as spec;
-ghost use Rattle.btx_names.specs.Steps as steps;
+ghost use Rattle.btx_names.specs.refinement.NameTokens.{token_of};
+ghost use Rattle.btx_names.specs.refinement.PartViews.{part_tokens};
+ghost use Rattle.btx_names.specs.language.NameParts as spec;
+ghost use Rattle.btx_names.specs.refinement.Steps as steps;
 
 use crate::name_token::NameToken;
 use crate::name_tokens::Joint;

@@ -1,9 +1,9 @@
 //! The tokens of a name, kept in one list.
 ghost use Rattle.std.specs.Prelude.{◌≡◌, ◌++◌, ◌≤◌, ◌+◌, ℕ, List, [], ◌∷◌, length, vec_len, IfOk, OnOk};
 ghost use Rattle.std.specs.List.{All};
-ghost use Rattle.btx_names.specs.Tokens.{tokens_of};
-ghost use Rattle.btx_names.specs.NameTokens.{Hold, lettered_of_bare, tokens_in};
-ghost use Rattle.btx_names.specs.TokenViews.{token_of};
+ghost use Rattle.btx_names.specs.language.Tokens.{tokens_of};
+ghost use Rattle.btx_names.specs.refinement.NameTokens.{Hold, lettered_of_bare, tokens_in};
+ghost use Rattle.btx_names.specs.refinement.TokenViews.{token_of};
 
 use crate::initials::lettered_of;
 use crate::name_sections::Sections;
@@ -34,8 +34,8 @@ pub struct TokenList {
 }
 
 impl TokenList {
-    ghost use Rattle.btx_names.specs.TokenLists.{IsListOf};
-    ghost use Rattle.btx_names.specs.SectionViews.{sections_view};
+    ghost use Rattle.btx_names.specs.refinement.TokenLists.{IsListOf};
+    ghost use Rattle.btx_names.specs.refinement.SectionViews.{sections_view};
 
     /// Without any.
     pub fn new(alloc: Global) -> TokenList {

@@ -1,15 +1,15 @@
 //! Which tokens of a name are von.
 ghost use Rattle.std.specs.Prelude.{◌≡◌, find, take_while, length, IfSome};
-ghost use Rattle.btx_text.specs.Class.{is_alpha};
-ghost use Rattle.btx_text.specs.Parts.{part_of};
-ghost use Rattle.btx_names.specs.VonTokens as spec;
+ghost use Rattle.btx_text.specs.language.Class.{is_alpha};
+ghost use Rattle.btx_text.specs.refinement.Parts.{part_of};
+ghost use Rattle.btx_names.specs.language.VonTokens as spec;
 
 use btx_strings::controls::letters;
 use btx_text::classify::is_alpha;
 use btx_text::{Element, Elements, Kind};
 
 /// Whether a token is von: its first cased thing is lower case.
-#[tactic(auto, using(crate::proofs::VonLemmas::von_steps), unfolding(crate::specs::VonTokens::is_von))]
+#[tactic(auto, using(crate::proofs::VonLemmas::von_steps), unfolding(crate::specs::language::VonTokens::is_von))]
 pub fn is_von(token: &[u8]) -> bool
     ensures { result ≡ spec.is_von token.now }
 {
@@ -36,7 +36,7 @@ fn casing(element: Element<'_>) -> Option<bool>
 }
 
 // Whether a special character is lower case.
-#[tactic(auto, unfolding(crate::specs::VonTokens::is_lower_special))]
+#[tactic(auto, unfolding(crate::specs::language::VonTokens::is_lower_special))]
 fn is_lower_special(text: &[u8]) -> bool
     ensures { result ≡ spec.is_lower_special text.now }
 {

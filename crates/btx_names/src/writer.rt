@@ -1,8 +1,8 @@
 //! The text of a name while it is written, piece by piece.
 ghost use Rattle.std.specs.Prelude.{◌≡◌, ◌++◌, ◌+◌, ◌<◌, ◌≤◌, ℕ, List, [], ◌∷◌, false, length, drop, take, IsTrue};
-ghost use Rattle.btx_text.specs.Limits.{greatest_string};
-ghost use Rattle.btx_names.specs.FormattedNames as spec;
-ghost use Rattle.btx_names.specs.Becomes.{Becomes};
+ghost use Rattle.btx_text.specs.language.Limits.{greatest_string};
+ghost use Rattle.btx_names.specs.language.FormattedNames as spec;
+ghost use Rattle.btx_names.specs.refinement.Becomes.{Becomes};
 
 use crate::name_tokens::Joint;
 use btx_text::{Elements, Fault, GREATEST_STRING, TextMode};

@@ -3,10 +3,11 @@ use Rattle.std.proofs.Common.{◌≡◌, ℕ, zero, suc, ◌+◌, ◌-◌, ◌<�
 use Rattle.std.proofs.lemmas.List.{append-nil, get_or_append_left, drop-append-le, take-append-le, drop_all, get_or-drop, take-append-drop}
 use Rattle.std.proofs.lemmas.Bool.{le-leb, lt-leb, lt-ltb, le-ltb, leb-true, leb-false, cases_lt, and_parts}
 use Rattle.std.specs.List.{flat_map}
-use Rattle.btx_text.specs.Class.{is_white}
-use Rattle.btx_text.specs.Lines.{white_before, trimmed}
-use Rattle.btx_out.specs.Breaking.{skip_white, till_white, from_white, line, last_white, Break, Unbroken, Broken, break_past, break_at, break_of, indented, Last, Short, Long, Nothing, Cut, only, after, cut_at, cut_within, cut_of, written_last, sure_last, wrap, sure, Collecting, Swallowing, Passing, left_last, left}
-use Rattle.btx_out.specs.States.{break_full, Step, step, left_after, sure_after, end_of, wrap_after}
+use Rattle.btx_text.specs.language.Class.{is_white}
+use Rattle.btx_text.specs.language.Lines.{white_before, trimmed}
+use Rattle.btx_out.specs.language.Breaking.{skip_white, till_white, from_white, written_line, last_white, Break, Unbroken, Broken, break_past, break_at, break_of, indented, Last, Short, Long, Nothing, Cut, only, with_head, cut_at, cut_within, cut_of, written_last, sure_last, wrap, sure}
+use Rattle.btx_out.specs.laws.Breaking.{Collecting, Swallowing, Passing, left_last, left}
+use Rattle.btx_out.specs.laws.States.{break_full, ByteStep, step, left_after, sure_after, end_written, wrap_after}
 
 -- ---- where a line is broken
 
@@ -117,7 +118,7 @@ trimmed_ink (b ∷ c ∷ bs) some ink =
       at true kept e = rw e refl
       at false kept e = rw e refl
 
-line_ink : (t : List ℕ) → 0 < length t → is_white (get_or t (length t - 1) 0) ≡ false → line t ≡ t ++ 10 ∷ []
+line_ink : (t : List ℕ) → 0 < length t → is_white (get_or t (length t - 1) 0) ≡ false → written_line t ≡ t ++ 10 ∷ []
 line_ink [] some ink = absurd (omega arith)
 line_ink (b ∷ bs) some ink = rw (trimmed_ink (b ∷ bs) some ink) refl
 
@@ -145,7 +146,7 @@ break_of-shrinks limit text wide long = at (last_white (limit + 1) text) refl wh
 cut_same : (cut cut' : List ℕ → Cut) (text : List ℕ) (broken : Break) → ((rest : List ℕ) → length rest < length text → cut rest ≡ cut' rest) → Shrinks text broken → cut_at cut text broken ≡ cut_at cut' text broken
 cut_same cut cut' text Unbroken same shrinks = refl
 cut_same cut cut' text (Broken past head []) same shrinks = refl
-cut_same cut cut' text (Broken past head (b ∷ rest)) same shrinks = ap (λ c. after head c) (same (indented (b ∷ rest)) (omega arith))
+cut_same cut cut' text (Broken past head (b ∷ rest)) same shrinks = ap (λ c. with_head head c) (same (indented (b ∷ rest)) (omega arith))
 
 cut_within-enough : (n m limit : ℕ) (text : List ℕ) → 3 ≤ limit → length text ≤ n → length text ≤ m → cut_within n limit text ≡ cut_within m limit text
 unfolding cut_within
@@ -236,7 +237,7 @@ unbroken_ink limit text wide long is = at (last_white (limit + 1) text) refl is 
 -- ---- the pieces of a text with one byte more
 
 abbrev sure_cut : Cut → List ℕ
-sure_cut cut = flat_map line cut.heads ++ sure_last cut.last
+sure_cut cut = flat_map written_line cut.heads ++ sure_last cut.last
 
 -- a cut goes on to another by one step
 abbrev Goes : ℕ → ℕ → Cut → Cut → Type 0
@@ -262,7 +263,7 @@ goes_full limit text b wide full =
     rw (cut_short limit text fits, cut_long limit (text ++ b ∷ []) wide long, le-ltb (length text) limit none_left)
     (at (text ++ b ∷ []) len (last_white (limit + 1) (text ++ b ∷ [])) refl) where
       inside : (x head rest : List ℕ) → length rest + 2 ≤ limit →
-          (left_last (cut_at (cut_of limit) x (Broken false head rest)).last ≡ Collecting (indented rest)) × (sure_cut (cut_at (cut_of limit) x (Broken false head rest)) ≡ line head)
+          (left_last (cut_at (cut_of limit) x (Broken false head rest)).last ≡ Collecting (indented rest)) × (sure_cut (cut_at (cut_of limit) x (Broken false head rest)) ≡ written_line head)
       inside x head [] h = (refl, rw (append-nil, append-nil) refl)
       inside x head (c ∷ rest) h =
           let fits : length (indented (c ∷ rest)) ≤ limit = omega arith in
@@ -276,32 +277,32 @@ goes_full limit text b wide full =
           let le : length x ≤ limit + 1 = omega arith in
           rw (drop_all (limit + 1) x le) (refl, refl)
 
-goes_long : (limit : ℕ) (text : List ℕ) (b : ℕ) (broken broken' : Break) → 3 ≤ limit → Grows text b broken broken' → (broken ≡ Unbroken → line text ≡ text ++ 10 ∷ []) →
+goes_long : (limit : ℕ) (text : List ℕ) (b : ℕ) (broken broken' : Break) → 3 ≤ limit → Grows text b broken broken' → (broken ≡ Unbroken → written_line text ≡ text ++ 10 ∷ []) →
     ((rest : List ℕ) → length rest < length text → Goes limit b (cut_of limit rest) (cut_of limit (rest ++ b ∷ []))) → Shrinks text broken →
     Goes limit b (cut_at (cut_of limit) text broken) (cut_at (cut_of limit) (text ++ b ∷ []) broken')
 unfolding skip_white
 goes_long limit text b Unbroken broken' wide is ink more shrinks = rw is (at (is_white b)) where
   at : (t : Bool) →
-      (left_last (cut_at (cut_of limit) (text ++ b ∷ []) (cond t (Broken true text []) Unbroken)).last ≡ (cond {A = Step} t (Swallowing, 10 ∷ []) (Passing, b ∷ [])).0)
-      × (sure_cut (cut_at (cut_of limit) (text ++ b ∷ []) (cond t (Broken true text []) Unbroken)) ≡ text ++ (cond {A = Step} t (Swallowing, 10 ∷ []) (Passing, b ∷ [])).1)
+      (left_last (cut_at (cut_of limit) (text ++ b ∷ []) (cond t (Broken true text []) Unbroken)).last ≡ (cond {A = ByteStep} t (Swallowing, 10 ∷ []) (Passing, b ∷ [])).0)
+      × (sure_cut (cut_at (cut_of limit) (text ++ b ∷ []) (cond t (Broken true text []) Unbroken)) ≡ text ++ (cond {A = ByteStep} t (Swallowing, 10 ∷ []) (Passing, b ∷ [])).1)
   at true = (refl, rw (append-nil, append-nil) (ink refl))
   at false = (refl, refl)
 goes_long limit text b (Broken past head (c ∷ rest)) broken' wide is ink more shrinks =
     let h = more (indented (c ∷ rest)) (omega arith) in
     let cut = cut_of limit (indented (c ∷ rest)) in
-    rw is (h.0, rw (append_assoc, append_assoc, append_assoc) (ap (λ xs. line head ++ xs) (h.1 ∙ append_assoc (flat_map line cut.heads) (sure_last cut.last) (step limit (left_last cut.last) b).1)))
+    rw is (h.0, rw (append_assoc, append_assoc, append_assoc) (ap (λ xs. written_line head ++ xs) (h.1 ∙ append_assoc (flat_map written_line cut.heads) (sure_last cut.last) (step limit (left_last cut.last) b).1)))
 goes_long limit text b (Broken false head []) broken' wide is ink more shrinks =
     let fits : length (indented (b ∷ [])) ≤ limit = omega arith in
     let room : length (indented []) < limit = omega arith in
-    rw (is, cut_short limit (indented (b ∷ [])) fits, lt-ltb (length (indented [])) limit room) (refl, sym (append-nil (line head ++ [] ++ [])))
+    rw (is, cut_short limit (indented (b ∷ [])) fits, lt-ltb (length (indented [])) limit room) (refl, sym (append-nil (written_line head ++ [] ++ [])))
 goes_long limit text b (Broken true head []) broken' wide is ink more shrinks = rw is (at (is_white b)) where
   at : (t : Bool) →
-      (left_last (cut_at (cut_of limit) (text ++ b ∷ []) (Broken true head (cond t [] (b ∷ [])))).last ≡ (cond {A = Step} t (Swallowing, []) (Collecting (indented (b ∷ [])), [])).0)
-      × (sure_cut (cut_at (cut_of limit) (text ++ b ∷ []) (Broken true head (cond t [] (b ∷ [])))) ≡ (line head ++ [] ++ []) ++ (cond {A = Step} t (Swallowing, []) (Collecting (indented (b ∷ [])), [])).1)
-  at true = (refl, sym (append-nil (line head ++ [] ++ [])))
+      (left_last (cut_at (cut_of limit) (text ++ b ∷ []) (Broken true head (cond t [] (b ∷ [])))).last ≡ (cond {A = ByteStep} t (Swallowing, []) (Collecting (indented (b ∷ [])), [])).0)
+      × (sure_cut (cut_at (cut_of limit) (text ++ b ∷ []) (Broken true head (cond t [] (b ∷ [])))) ≡ (written_line head ++ [] ++ []) ++ (cond {A = ByteStep} t (Swallowing, []) (Collecting (indented (b ∷ [])), [])).1)
+  at true = (refl, sym (append-nil (written_line head ++ [] ++ [])))
   at false =
       let fits : length (indented (b ∷ [])) ≤ limit = omega arith in
-      rw (cut_short limit (indented (b ∷ [])) fits) (refl, sym (append-nil (line head ++ [] ++ [])))
+      rw (cut_short limit (indented (b ∷ [])) fits) (refl, sym (append-nil (written_line head ++ [] ++ [])))
 
 goes : (n limit : ℕ) (text : List ℕ) (b : ℕ) → 3 ≤ limit → length text ≤ n → Goes limit b (cut_of limit text) (cut_of limit (text ++ b ∷ []))
 goes zero limit text b wide h = goes_short limit text b (omega arith)
@@ -325,10 +326,10 @@ go_on limit (b ∷ bs) t wide =
     let more = rw (append_assoc t (b ∷ []) bs, here.0, here.1) at (go_on limit bs (t ++ b ∷ []) wide) in
     (more.0, more.1 ∙ append_assoc (sure limit t) (step limit (left limit t) b).1 (sure_after limit (step limit (left limit t) b).0 bs))
 
-pub wrap_is : (limit : ℕ) (t : List ℕ) → wrap limit t ≡ sure limit t ++ end_of (left limit t)
+pub wrap_is : (limit : ℕ) (t : List ℕ) → wrap limit t ≡ sure limit t ++ end_written (left limit t)
 unfolding trimmed
-wrap_is limit t = at (flat_map line (cut_of limit t).heads) (cut_of limit t).last where
-  at : (written : List ℕ) (last : Last) → written ++ written_last last ≡ (written ++ sure_last last) ++ end_of (left_last last)
+wrap_is limit t = at (flat_map written_line (cut_of limit t).heads) (cut_of limit t).last where
+  at : (written : List ℕ) (last : Last) → written ++ written_last last ≡ (written ++ sure_last last) ++ end_written (left_last last)
   at written (Short text) = rw append-nil refl
   at written (Long text) = rw append_assoc refl
   at written (Nothing true) = sym (append-nil (written ++ []))
@@ -337,24 +338,24 @@ wrap_is limit t = at (flat_map line (cut_of limit t).heads) (cut_of limit t).las
 pub wrap_on : (limit : ℕ) (t u : List ℕ) → 3 ≤ limit → wrap limit (t ++ u) ≡ sure limit t ++ wrap_after limit (left limit t) u
 wrap_on limit t u wide =
     let more = go_on limit u t wide in
-    wrap_is limit (t ++ u) ∙ rw (more.0, more.1) (append_assoc (sure limit t) (sure_after limit (left limit t) u) (end_of (left_after limit (left limit t) u)))
+    wrap_is limit (t ++ u) ∙ rw (more.0, more.1) (append_assoc (sure limit t) (sure_after limit (left limit t) u) (end_written (left_after limit (left limit t) u)))
 
 -- ---- row by row
 
 pub table_ends : (limit : ℕ) (t head : List ℕ) (past : Bool) → 3 ≤ limit → limit < length t → break_of limit t ≡ Broken past head [] →
-    (wrap limit t ≡ line head) × (sure limit t ≡ line head) × (left limit t ≡ cond past Swallowing (Collecting (indented [])))
+    (wrap limit t ≡ written_line head) × (sure limit t ≡ written_line head) × (left limit t ≡ cond past Swallowing (Collecting (indented [])))
 table_ends limit t head past wide long is = rw (cut_long limit t wide long, is) (at past) where
-  whole : line head ++ [] ++ [] ≡ line head
+  whole : written_line head ++ [] ++ [] ≡ written_line head
   whole = rw (append-nil, append-nil) refl
 
-  at : (past : Bool) → (line head ++ [] ++ [] ≡ line head) × (line head ++ [] ++ [] ≡ line head) × (left_last (Nothing past) ≡ cond past Swallowing (Collecting (indented [])))
+  at : (past : Bool) → (written_line head ++ [] ++ [] ≡ written_line head) × (written_line head ++ [] ++ [] ≡ written_line head) × (left_last (Nothing past) ≡ cond past Swallowing (Collecting (indented [])))
   at true = (whole, whole, refl)
   at false = (whole, whole, refl)
 
 pub table_more : (limit : ℕ) (t head rest : List ℕ) (b : ℕ) (past : Bool) → 3 ≤ limit → limit < length t → break_of limit t ≡ Broken past head (b ∷ rest) →
     let more = indented (b ∷ rest) in
-    (wrap limit t ≡ line head ++ wrap limit more) × (sure limit t ≡ line head ++ sure limit more) × (left limit t ≡ left limit more)
+    (wrap limit t ≡ written_line head ++ wrap limit more) × (sure limit t ≡ written_line head ++ sure limit more) × (left limit t ≡ left limit more)
 table_more limit t head rest b past wide long is =
     let cut = cut_of limit (indented (b ∷ rest)) in
     rw (cut_long limit t wide long, is)
-    (append_assoc (line head) (flat_map line cut.heads) (written_last cut.last), append_assoc (line head) (flat_map line cut.heads) (sure_last cut.last), refl)
+    (append_assoc (written_line head) (flat_map written_line cut.heads) (written_last cut.last), append_assoc (written_line head) (flat_map written_line cut.heads) (sure_last cut.last), refl)

@@ -2,12 +2,14 @@
 use Rattle.std.proofs.Common.{◌≡◌, ℕ, ◌+◌, ◌≤◌, Bool, true, false, cond, ltb, List, [], ◌∷◌, ◌++◌, length, Option, Some, None, refl, sym, ◌∙◌, ap, arith}
 use Rattle.std.specs.Io.KnownBytes.{Appends}
 use Rattle.std.proofs.KnownBytes.{Appends-nil}
-use Rattle.btx_text.specs.Class.{is_white}
-use Rattle.btx_out.specs.Lengths.{IsLineLength}
-use Rattle.btx_out.specs.Breaking.{Left, Collecting, Passing, Swallowing, last_white, indented, cut_of, cut_within, left, sure, wrap}
-use Rattle.btx_out.specs.Breakers.{Held, holding, AppendsRest, AppendsPartOfRest, finished, is_fresh}
-use Rattle.btx_out.specs.Pieces.{AppendsBeginning}
-use Rattle.btx_out.specs.States.{Step, break_full, step, left_after, sure_after, end_of}
+use Rattle.btx_text.specs.language.Class.{is_white}
+use Rattle.btx_out.specs.laws.Lengths.{IsLineLength}
+use Rattle.btx_out.specs.language.Breaking.{last_white, indented, cut_of, cut_within, sure, wrap}
+use Rattle.btx_out.specs.laws.Breaking.{Left, Collecting, Passing, Swallowing, left}
+use Rattle.btx_out.specs.language.Breakers.{written_at_end}
+use Rattle.btx_out.specs.refinement.Breakers.{Held, holding, AppendsRest, AppendsPartOfRest, is_fresh}
+use Rattle.btx_out.specs.language.Pieces.{AppendsBeginning}
+use Rattle.btx_out.specs.laws.States.{ByteStep, break_full, step, left_after, sure_after, end_written}
 use Rattle.btx_out.proofs.BreakLemmas.{go_on, wrap_is}
 
 same_some : (a b : Left) → Some a ≡ Some b → a ≡ b
@@ -43,18 +45,18 @@ puts_part limit state old text bytes before after view range held begins =
 -- ---- the end of the line
 
 pub ends_all : (limit : ℕ) (state : Left) (old : Held) (text : List ℕ) (before after : Option (List ℕ)) → holding limit state ≡ old →
-    old.pending ≡ Some (left old.limit text) → Appends before after (end_of state) → AppendsRest before after (sure old.limit text) (wrap old.limit text)
+    old.pending ≡ Some (left old.limit text) → Appends before after (end_written state) → AppendsRest before after (sure old.limit text) (wrap old.limit text)
 ends_all limit state old text before after view held received =
     let state_is = holds_left limit state old text view held in
     let received' = rw state_is at received in
-    rw (← view) (record { written = end_of (left limit text); joined = sym (wrap_is limit text); received = received' })
+    rw (← view) (record { written = end_written (left limit text); joined = sym (wrap_is limit text); received = received' })
 
 pub ends_part : (limit : ℕ) (state : Left) (old : Held) (text : List ℕ) (before after : Option (List ℕ)) → holding limit state ≡ old →
-    old.pending ≡ Some (left old.limit text) → AppendsBeginning before after (end_of state) → AppendsPartOfRest before after (sure old.limit text) (wrap old.limit text)
+    old.pending ≡ Some (left old.limit text) → AppendsBeginning before after (end_written state) → AppendsPartOfRest before after (sure old.limit text) (wrap old.limit text)
 ends_part limit state old text before after view held begins =
     let state_is = holds_left limit state old text view held in
     let begins' = rw state_is at begins in
-    rw (← view) (record { written = end_of (left limit text); joined = sym (wrap_is limit text); received = begins' })
+    rw (← view) (record { written = end_written (left limit text); joined = sym (wrap_is limit text); received = begins' })
 
 -- ---- a text of which nothing is left is empty
 
@@ -68,16 +70,16 @@ more_not_fresh (c ∷ text) b = tt
 
 step_not_fresh : (limit : ℕ) (state : Left) (b : ℕ) → NotFresh (step limit state b).0
 step_not_fresh limit (Collecting text) b = at (ltb (length text) limit) (last_white (limit + 1) (text ++ b ∷ [])) where
-  at : (t : Bool) (o : Option ℕ) → NotFresh (cond {A = Step} t (Collecting (text ++ b ∷ []), []) (break_full (text ++ b ∷ []) o)).0
+  at : (t : Bool) (o : Option ℕ) → NotFresh (cond {A = ByteStep} t (Collecting (text ++ b ∷ []), []) (break_full (text ++ b ∷ []) o)).0
   at true o = more_not_fresh text b
   at false (Some i) = tt
   at false None = tt
 step_not_fresh limit Passing b = at (is_white b) where
-  at : (t : Bool) → NotFresh (cond {A = Step} t (Swallowing, 10 ∷ []) (Passing, b ∷ [])).0
+  at : (t : Bool) → NotFresh (cond {A = ByteStep} t (Swallowing, 10 ∷ []) (Passing, b ∷ [])).0
   at true = tt
   at false = tt
 step_not_fresh limit Swallowing b = at (is_white b) where
-  at : (t : Bool) → NotFresh (cond {A = Step} t (Swallowing, []) (Collecting (indented (b ∷ [])), [])).0
+  at : (t : Bool) → NotFresh (cond {A = ByteStep} t (Swallowing, []) (Collecting (indented (b ∷ [])), [])).0
   at true = tt
   at false = tt
 
@@ -106,7 +108,7 @@ fresh_is_empty limit v (b ∷ bs) wide is fresh = absurd (none (left limit (b �
 
 -- nothing is pending, and nothing is written
 pub finish_fresh : (old : Held) (text : List ℕ) (received : Option (List ℕ)) → IsLineLength old.limit → old.pending ≡ Some (left old.limit text) → is_fresh old.pending ≡ true →
-    AppendsRest received received (sure old.limit text) (finished old.limit text)
+    AppendsRest received received (sure old.limit text) (written_at_end old.limit text)
 unfolding cut_of cut_within
 finish_fresh old text received range held fresh =
     let wide : 3 ≤ old.limit = omega arith in
@@ -124,15 +126,15 @@ fresh_is_new old fresh = at old.pending refl fresh where
   at None is fresh = cc
 
 -- something is pending
-some_pending : (limit : ℕ) (v : Option Left) (text : List ℕ) → v ≡ Some (left limit text) → is_fresh v ≡ false → finished limit text ≡ wrap limit text
+some_pending : (limit : ℕ) (v : Option Left) (text : List ℕ) → v ≡ Some (left limit text) → is_fresh v ≡ false → written_at_end limit text ≡ wrap limit text
 unfolding cut_of cut_within
 some_pending limit v [] held fresh = let fresh' : is_fresh (Some (left limit [])) ≡ false = rw held at fresh in cc
 some_pending limit v (b ∷ bs) held fresh = refl
 
 pub finish_ends : (old : Held) (text : List ℕ) (before after : Option (List ℕ)) → is_fresh old.pending ≡ false → old.pending ≡ Some (left old.limit text) →
-    AppendsRest before after (sure old.limit text) (wrap old.limit text) → AppendsRest before after (sure old.limit text) (finished old.limit text)
+    AppendsRest before after (sure old.limit text) (wrap old.limit text) → AppendsRest before after (sure old.limit text) (written_at_end old.limit text)
 finish_ends old text before after fresh held h = rw (some_pending old.limit old.pending text held fresh) h
 
 pub finish_part : (old : Held) (text : List ℕ) (before after : Option (List ℕ)) → is_fresh old.pending ≡ false → old.pending ≡ Some (left old.limit text) →
-    AppendsPartOfRest before after (sure old.limit text) (wrap old.limit text) → AppendsPartOfRest before after (sure old.limit text) (finished old.limit text)
+    AppendsPartOfRest before after (sure old.limit text) (wrap old.limit text) → AppendsPartOfRest before after (sure old.limit text) (written_at_end old.limit text)
 finish_part old text before after fresh held h = rw (some_pending old.limit old.pending text held fresh) h

@@ -1,8 +1,9 @@
 -- Worked lines, by computation.
 use Rattle.std.specs.Prelude.{◌≡◌, [], ◌∷◌, ◌++◌, replicate, codes, refl}
-use Rattle.btx_text.specs.Lines.{trimmed}
-use Rattle.btx_out.specs.Breakers.{finished}
-use Rattle.btx_out.specs.Breaking.{wrap, sure, left, Collecting, Passing, Swallowing, skip_white, till_white, from_white, last_white, break_of, cut_within, cut_of}
+use Rattle.btx_text.specs.language.Lines.{trimmed}
+use Rattle.btx_out.specs.language.Breakers.{written_at_end}
+use Rattle.btx_out.specs.language.Breaking.{wrap, sure, skip_white, till_white, from_white, last_white, break_of, cut_within, cut_of}
+use Rattle.btx_out.specs.laws.Breaking.{left, Collecting, Passing, Swallowing}
 
 -- the white behind a full line breaks it
 broken_at_limit : wrap 79 (replicate 79 97 ++ codes " b") ≡ replicate 79 97 ++ 10 ∷ codes "  b" ++ 10 ∷ []
@@ -42,10 +43,10 @@ unfolding trimmed skip_white till_white from_white last_white break_of cut_withi
 long_white = refl
 
 -- at the very end neither of them is
-empty_at_end : finished 79 [] ≡ []
+empty_at_end : written_at_end 79 [] ≡ []
 empty_at_end = refl
 
-white_at_end : finished 79 (codes " ") ≡ []
+white_at_end : written_at_end 79 (codes " ") ≡ []
 unfolding trimmed cut_within cut_of
 white_at_end = refl
 

@@ -4,11 +4,12 @@ use Rattle.std.proofs.lemmas.List.{append-nil}
 use Rattle.std.proofs.lemmas.Bool.{lt-ltb, le-ltb}
 use Rattle.std.specs.Io.KnownBytes.{Appends}
 use Rattle.std.proofs.KnownBytes.{Appends-trans, Appends-nil}
-use Rattle.btx_text.specs.Class.{is_white}
-use Rattle.btx_out.specs.Breaking.{Left, Collecting, Passing, Swallowing, skip_white, till_white, from_white, indented, last_white}
-use Rattle.btx_out.specs.States.{break_full, step, left_after, sure_after}
-use Rattle.btx_out.specs.Parts.{GoesOn}
-use Rattle.btx_out.specs.Pieces.{AppendsBeginning}
+use Rattle.btx_text.specs.language.Class.{is_white}
+use Rattle.btx_out.specs.language.Breaking.{skip_white, till_white, from_white, indented, last_white}
+use Rattle.btx_out.specs.laws.Breaking.{Left, Collecting, Passing, Swallowing}
+use Rattle.btx_out.specs.laws.States.{break_full, step, left_after, sure_after}
+use Rattle.btx_out.specs.refinement.Parts.{Advances}
+use Rattle.btx_out.specs.language.Pieces.{AppendsBeginning}
 use Rattle.btx_out.proofs.PieceLemmas.{beginning-after, beginning-longer}
 
 -- ---- some bytes, and then others
@@ -28,11 +29,11 @@ sure_after-append limit state (x ∷ xs) ys =
 -- ---- one part after another
 
 -- nothing has been done yet
-pub goes_nowhere : (limit : ℕ) (state : Left) (bytes : List ℕ) (received : Option (List ℕ)) → GoesOn limit state bytes state bytes received received
+pub goes_nowhere : (limit : ℕ) (state : Left) (bytes : List ℕ) (received : Option (List ℕ)) → Advances limit state bytes state bytes received received
 goes_nowhere limit state bytes received = record { written = []; lefts = refl; sures = refl; received = Appends-nil received }
 
 -- a part after the parts before
-pub goes_further : (limit : ℕ) (s t u : Left) (xs ys zs : List ℕ) (a b c : Option (List ℕ)) → GoesOn limit s xs t ys a b → GoesOn limit t ys u zs b c → GoesOn limit s xs u zs a c
+pub goes_further : (limit : ℕ) (s t u : Left) (xs ys zs : List ℕ) (a b c : Option (List ℕ)) → Advances limit s xs t ys a b → Advances limit t ys u zs b c → Advances limit s xs u zs a c
 goes_further limit s t u xs ys zs a b c p q = record {
   written = p.written ++ q.written;
   lefts = p.lefts ∙ q.lefts;
@@ -41,13 +42,13 @@ goes_further limit s t u xs ys zs a b c p q = record {
 }
 
 -- all parts
-pub goes_all : (limit : ℕ) (s t : Left) (xs ys : List ℕ) (a b : Option (List ℕ)) → length ys ≡ 0 → GoesOn limit s xs t ys a b → (t ≡ left_after limit s xs) × Appends a b (sure_after limit s xs)
+pub goes_all : (limit : ℕ) (s t : Left) (xs ys : List ℕ) (a b : Option (List ℕ)) → length ys ≡ 0 → Advances limit s xs t ys a b → (t ≡ left_after limit s xs) × Appends a b (sure_after limit s xs)
 unfolding left_after sure_after
 goes_all limit s t xs [] a b none p = (sym p.lefts, subst (Appends a b) (sym (p.sures ∙ append-nil p.written)) p.received)
 goes_all limit s t xs (c ∷ zs) a b none p = absurd (omega arith)
 
 -- a part that fails
-pub goes_partly : (limit : ℕ) (s t : Left) (xs ys : List ℕ) (a b c : Option (List ℕ)) → GoesOn limit s xs t ys a b → AppendsBeginning b c (sure_after limit t ys) → AppendsBeginning a c (sure_after limit s xs)
+pub goes_partly : (limit : ℕ) (s t : Left) (xs ys : List ℕ) (a b c : Option (List ℕ)) → Advances limit s xs t ys a b → AppendsBeginning b c (sure_after limit t ys) → AppendsBeginning a c (sure_after limit s xs)
 goes_partly limit s t xs ys a b c p q = subst (AppendsBeginning a c) (sym p.sures) (beginning-after a b c p.written (sure_after limit t ys) p.received q)
 
 -- ---- collecting
@@ -100,7 +101,7 @@ collect_full limit kept bytes short full =
 
 -- all the bytes fit
 pub goes_collected : (limit : ℕ) (kept kept' bytes : List ℕ) (received : Option (List ℕ)) → length kept ≤ limit → length bytes < limit + 1 - length kept → kept' ≡ kept ++ bytes →
-    GoesOn limit (Collecting kept) bytes (Collecting kept') [] received received
+    Advances limit (Collecting kept) bytes (Collecting kept') [] received received
 unfolding left_after sure_after
 goes_collected limit kept kept' bytes received short fits is =
     let some = collect_some limit kept bytes (omega arith) in
@@ -109,7 +110,7 @@ goes_collected limit kept kept' bytes received short fits is =
 -- the line is full
 pub goes_full : (limit : ℕ) (kept full bytes first rest : List ℕ) (next : Left) (before after : Option (List ℕ)) → length kept ≤ limit → bytes ≡ first ++ rest → length first ≡ limit + 1 - length kept → full ≡ kept ++ first →
     next ≡ (break_full full (last_white (length full) full)).0 → Appends before after (break_full full (last_white (length full) full)).1 →
-    GoesOn limit (Collecting kept) bytes next rest before after
+    Advances limit (Collecting kept) bytes next rest before after
 goes_full limit kept full bytes first rest next before after short cut room is state received =
     let len : length full ≡ limit + 1 = rw is (omega (arith, length-append kept first)) in
     let all = rw (← is, ← len) at (collect_full limit kept first short (omega arith)) in
@@ -164,12 +165,12 @@ from_white-white (c ∷ cs) b bs is = at (is_white c) refl is (λ h. from_white-
   at false test is more = more is
 
 -- no white comes
-pub goes_passed : (limit : ℕ) (bytes : List ℕ) (before after : Option (List ℕ)) → length (from_white bytes) ≡ 0 → Appends before after (till_white bytes) → GoesOn limit Passing bytes Passing [] before after
+pub goes_passed : (limit : ℕ) (bytes : List ℕ) (before after : Option (List ℕ)) → length (from_white bytes) ≡ 0 → Appends before after (till_white bytes) → Advances limit Passing bytes Passing [] before after
 unfolding left_after sure_after
 goes_passed limit bytes before after none received =
     let ink = goes_ink limit bytes in
     at (from_white bytes) none (till_from bytes) where
-      at : (rest : List ℕ) → length rest ≡ 0 → bytes ≡ till_white bytes ++ rest → GoesOn limit Passing bytes Passing [] before after
+      at : (rest : List ℕ) → length rest ≡ 0 → bytes ≡ till_white bytes ++ rest → Advances limit Passing bytes Passing [] before after
       at [] none is =
           let ink = goes_ink limit bytes in
           let all : bytes ≡ till_white bytes = is ∙ append-nil (till_white bytes) in
@@ -196,7 +197,7 @@ passed_ended limit bytes b others is =
     (ap (left_after limit Passing) all ∙ lefts', ap (sure_after limit Passing) all ∙ sures' ∙ sym (append_assoc (till_white bytes) (10 ∷ []) (sure_after limit Swallowing others)))
 
 pub goes_ended : (limit : ℕ) (bytes : List ℕ) (b : ℕ) (others : List ℕ) (before mid after : Option (List ℕ)) → from_white bytes ≡ b ∷ others → Appends before mid (till_white bytes) → Appends mid after (10 ∷ []) →
-    GoesOn limit Passing bytes Swallowing others before after
+    Advances limit Passing bytes Swallowing others before after
 goes_ended limit bytes b others before mid after is first second =
     let all = passed_ended limit bytes b others is in
     record { written = till_white bytes ++ 10 ∷ []; lefts = all.0; sures = all.1; received = Appends-trans before mid after _ _ first second }
@@ -236,17 +237,17 @@ goes_white limit (b ∷ bs) = at (is_white b) refl (goes_white limit bs) where
   at false test more = (refl, refl)
 
 -- all of it is white
-pub goes_swallowed : (limit : ℕ) (bytes : List ℕ) (received : Option (List ℕ)) → length (skip_white bytes) ≡ 0 → GoesOn limit Swallowing bytes Swallowing [] received received
+pub goes_swallowed : (limit : ℕ) (bytes : List ℕ) (received : Option (List ℕ)) → length (skip_white bytes) ≡ 0 → Advances limit Swallowing bytes Swallowing [] received received
 goes_swallowed limit bytes received none =
     let all = goes_white limit bytes in
     at (skip_white bytes) none all where
-      at : (rest : List ℕ) → length rest ≡ 0 → (left_after limit Swallowing bytes ≡ left_after limit Swallowing rest) × (sure_after limit Swallowing bytes ≡ sure_after limit Swallowing rest) → GoesOn limit Swallowing bytes Swallowing [] received received
+      at : (rest : List ℕ) → length rest ≡ 0 → (left_after limit Swallowing bytes ≡ left_after limit Swallowing rest) × (sure_after limit Swallowing bytes ≡ sure_after limit Swallowing rest) → Advances limit Swallowing bytes Swallowing [] received received
       at [] none all = record { written = []; lefts = all.0; sures = all.1; received = Appends-nil received }
       at (c ∷ cs) none all = absurd (omega arith)
 
 -- something follows it
 pub goes_begun : (limit : ℕ) (bytes : List ℕ) (b : ℕ) (others kept : List ℕ) (received : Option (List ℕ)) → skip_white bytes ≡ b ∷ others → kept ≡ indented (b ∷ []) →
-    GoesOn limit Swallowing bytes (Collecting kept) others received received
+    Advances limit Swallowing bytes (Collecting kept) others received received
 unfolding left_after sure_after
 goes_begun limit bytes b others kept received is begun =
     let all = rw is at (goes_white limit bytes) in

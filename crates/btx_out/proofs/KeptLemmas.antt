@@ -6,9 +6,10 @@ use Rattle.std.proofs.lemmas.List.Sums.{take_while-cons}
 use Rattle.std.proofs.lemmas.List.Edits.{take-paste}
 use Rattle.std.proofs.Math.Seq.{drop-cons}
 use Rattle.std.specs.List.{copy_within, take_while}
-use Rattle.btx_text.specs.Class.{is_white}
-use Rattle.btx_text.specs.Lines.{trimmed, white_before}
-use Rattle.btx_out.specs.Breaking.{line, ended, last_white, indented, is_ink, skip_white, till_white, from_white}
+use Rattle.btx_text.specs.language.Class.{is_white}
+use Rattle.btx_text.specs.language.Lines.{trimmed, white_before}
+use Rattle.btx_out.specs.language.Breaking.{written_line, with_line_feed, last_white, indented, skip_white, till_white, from_white}
+use Rattle.btx_out.specs.refinement.Breaking.{is_not_white}
 
 -- ---- the last white
 
@@ -40,23 +41,23 @@ trimmed_front (b ∷ bs) = at (is_white b) (trimmed bs) (trimmed_front bs) where
   at false kept h = (omega (arith, h.0), ap (λ xs. b ∷ xs) h.1)
 
 -- a line of white alone is nothing
-pub line_gone : (text : List ℕ) → 0 < length text → length (trimmed text) ≡ 0 → line text ≡ []
+pub line_gone : (text : List ℕ) → 0 < length text → length (trimmed text) ≡ 0 → written_line text ≡ []
 line_gone [] some h = absurd (omega arith)
 line_gone (b ∷ bs) some h = at (trimmed (b ∷ bs)) h where
-  at : (kept : List ℕ) → length kept ≡ 0 → ended kept ≡ []
+  at : (kept : List ℕ) → length kept ≡ 0 → with_line_feed kept ≡ []
   at [] h = refl
   at (c ∷ cs) h = absurd (omega arith)
 
 -- any other is what is kept of it, and byte 10
-pub line_kept : (text : List ℕ) → (length text ≡ 0 → ⊥) → (length (trimmed text) ≡ 0 → ⊥) → line text ≡ trimmed text ++ 10 ∷ []
+pub line_kept : (text : List ℕ) → (length text ≡ 0 → ⊥) → (length (trimmed text) ≡ 0 → ⊥) → written_line text ≡ trimmed text ++ 10 ∷ []
 unfolding trimmed
 line_kept [] some h = absurd (some refl)
 line_kept (b ∷ bs) some h = at (trimmed (b ∷ bs)) h where
-  at : (kept : List ℕ) → (length kept ≡ 0 → ⊥) → ended kept ≡ kept ++ 10 ∷ []
+  at : (kept : List ℕ) → (length kept ≡ 0 → ⊥) → with_line_feed kept ≡ kept ++ 10 ∷ []
   at [] h = absurd (h refl)
   at (c ∷ cs) h = refl
 
-pub line_empty : (text : List ℕ) → length text ≡ 0 → line text ≡ trimmed text ++ 10 ∷ []
+pub line_empty : (text : List ℕ) → length text ≡ 0 → written_line text ≡ trimmed text ++ 10 ∷ []
 unfolding trimmed
 line_empty [] h = refl
 line_empty (b ∷ bs) h = absurd (omega arith)
@@ -70,7 +71,7 @@ kept_within text kept at inside is =
 
 -- it and byte 10 are the line as it is written
 pub kept_line : (text kept : List ℕ) (at : ℕ) → at < length text → kept ≡ trimmed (take at text) → ((length kept ≡ 0) × (at ≤ 0)) ⊎ (length kept ≡ 0 → ⊥) →
-    take (length kept + 1) (set text (length kept) 10) ≡ line (take at text)
+    take (length kept + 1) (set text (length kept) 10) ≡ written_line (take at text)
 kept_line text kept at inside is either =
     let within = kept_within text kept at inside is in
     let front = trimmed_front (take at text) in
@@ -86,7 +87,7 @@ pub kept_rest : (text kept : List ℕ) (at : ℕ) → at < length text → kept 
 kept_rest text kept at inside is = let within = kept_within text kept at inside is in drop-set-lt (at + 1) text (length kept) 10 (omega arith)
 
 -- a line of white alone is not written
-pub kept_none : (text kept : List ℕ) (at : ℕ) → at < length text → kept ≡ trimmed (take at text) → length kept ≡ 0 → 0 < at → line (take at text) ≡ []
+pub kept_none : (text kept : List ℕ) (at : ℕ) → at < length text → kept ≡ trimmed (take at text) → length kept ≡ 0 → 0 < at → written_line (take at text) ≡ []
 kept_none text kept at inside is none some =
     let len : length (take at text) ≡ at = length-take-le at text (omega arith) in
     line_gone (take at text) (omega arith) (rw is at none)
@@ -131,38 +132,38 @@ carried text moved at some inside is len = carried_from (at - 1) (omega arith) (
 -- ---- the first white
 
 -- the front without white is what stands before the first white, and the rest what stands from it on
-ink_within : (bytes : List ℕ) → length (take_while is_ink bytes) ≤ length bytes
+ink_within : (bytes : List ℕ) → length (take_while is_not_white bytes) ≤ length bytes
 ink_within [] = omega arith
-ink_within (b ∷ bs) = rw (take_while-cons is_ink b bs) (at (is_white b) (ink_within bs)) where
-  at : (white : Bool) → length (take_while is_ink bs) ≤ length bs → length (cond (not white) (b ∷ take_while is_ink bs) []) ≤ suc (length bs)
+ink_within (b ∷ bs) = rw (take_while-cons is_not_white b bs) (at (is_white b) (ink_within bs)) where
+  at : (white : Bool) → length (take_while is_not_white bs) ≤ length bs → length (cond (not white) (b ∷ take_while is_not_white bs) []) ≤ suc (length bs)
   at true h = omega arith
   at false h = omega (arith, h)
 
-ink_front : (bytes : List ℕ) → take (length (take_while is_ink bytes)) bytes ≡ till_white bytes
+ink_front : (bytes : List ℕ) → take (length (take_while is_not_white bytes)) bytes ≡ till_white bytes
 unfolding till_white
 ink_front [] = refl
-ink_front (b ∷ bs) = rw (take_while-cons is_ink b bs) (at (is_white b) (ink_front bs)) where
-  at : (white : Bool) → take (length (take_while is_ink bs)) bs ≡ till_white bs →
-      take (length (cond (not white) (b ∷ take_while is_ink bs) [])) (b ∷ bs) ≡ (if white then [] else b ∷ till_white bs)
+ink_front (b ∷ bs) = rw (take_while-cons is_not_white b bs) (at (is_white b) (ink_front bs)) where
+  at : (white : Bool) → take (length (take_while is_not_white bs)) bs ≡ till_white bs →
+      take (length (cond (not white) (b ∷ take_while is_not_white bs) [])) (b ∷ bs) ≡ (if white then [] else b ∷ till_white bs)
   at true h = refl
   at false h = ap (λ xs. b ∷ xs) h
 
-ink_rest : (bytes : List ℕ) → drop (length (take_while is_ink bytes)) bytes ≡ from_white bytes
+ink_rest : (bytes : List ℕ) → drop (length (take_while is_not_white bytes)) bytes ≡ from_white bytes
 unfolding from_white
 ink_rest [] = refl
-ink_rest (b ∷ bs) = rw (take_while-cons is_ink b bs) (at (is_white b) (ink_rest bs)) where
-  at : (white : Bool) → drop (length (take_while is_ink bs)) bs ≡ from_white bs →
-      drop (length (cond (not white) (b ∷ take_while is_ink bs) [])) (b ∷ bs) ≡ (if white then b ∷ bs else from_white bs)
+ink_rest (b ∷ bs) = rw (take_while-cons is_not_white b bs) (at (is_white b) (ink_rest bs)) where
+  at : (white : Bool) → drop (length (take_while is_not_white bs)) bs ≡ from_white bs →
+      drop (length (cond (not white) (b ∷ take_while is_not_white bs) [])) (b ∷ bs) ≡ (if white then b ∷ bs else from_white bs)
   at true h = refl
   at false h = h
 
-pub split_within : (bytes : List ℕ) (n : ℕ) → n ≡ length (take_while is_ink bytes) → n ≤ length bytes
+pub split_within : (bytes : List ℕ) (n : ℕ) → n ≡ length (take_while is_not_white bytes) → n ≤ length bytes
 split_within bytes n is = rw is (ink_within bytes)
 
-pub split_front : (bytes : List ℕ) (n : ℕ) → n ≡ length (take_while is_ink bytes) → take n bytes ≡ till_white bytes
+pub split_front : (bytes : List ℕ) (n : ℕ) → n ≡ length (take_while is_not_white bytes) → take n bytes ≡ till_white bytes
 split_front bytes n is = rw is (ink_front bytes)
 
-pub split_rest : (bytes : List ℕ) (n : ℕ) → n ≡ length (take_while is_ink bytes) → drop n bytes ≡ from_white bytes
+pub split_rest : (bytes : List ℕ) (n : ℕ) → n ≡ length (take_while is_not_white bytes) → drop n bytes ≡ from_white bytes
 split_rest bytes n is = rw is (ink_rest bytes)
 
 -- ---- the white at the front

@@ -5,9 +5,9 @@ use Rattle.std.proofs.lemmas.List.Elements.{All-nil, All-cons}
 use Rattle.std.proofs.Math.Seq.{drop-cons}
 use Rattle.std.proofs.lemmas.Bool.{le-leb, cases_lt, and_parts}
 use Rattle.std.specs.List.{All}
-use Rattle.btx_text.specs.Class.{is_white}
-use Rattle.btx_out.specs.Breaking.{skip_white, till_white, from_white, last_white, Unbroken, Broken, break_past, break_at, break_of}
-use Rattle.btx_out.specs.Places.{HasInk, IsBreakInside, IsBreakPast, IsUnbroken}
+use Rattle.btx_text.specs.language.Class.{is_white}
+use Rattle.btx_out.specs.language.Breaking.{skip_white, till_white, from_white, last_white, Unbroken, Broken, break_past, break_at, break_of}
+use Rattle.btx_out.specs.laws.Places.{HasInk, IsBreakInside, IsBreakPast, IsUnbroken}
 use Rattle.btx_out.proofs.BreakLemmas.{last_white-some, last_white-none, no_white_at, past_none}
 use Rattle.btx_out.proofs.GoingOnLemmas.{from_white-white, skip_white-ink, till_from}
 

@@ -5,10 +5,12 @@ use Rattle.std.proofs.lemmas.List.Concat.{flat_map-append}
 use Rattle.std.specs.List.{flat_map}
 use Rattle.std.specs.Io.KnownBytes.{Appends}
 use Rattle.std.proofs.KnownBytes.{Appends-trans}
-use Rattle.btx_out.specs.Breaking.{Collecting, cut_of, cut_within, left, sure, wrap, written_of}
-use Rattle.btx_out.specs.Breakers.{Held, holding, AppendsRest, AppendsPartOfRest, Puts, PutsPart, Ends, EndsPart, Finishes, FinishesPart, finished}
-use Rattle.btx_out.specs.Pieces.{AppendsBeginning}
-use Rattle.btx_out.specs.States.{sure_after, wrap_after}
+use Rattle.btx_out.specs.language.Breaking.{cut_of, cut_within, sure, wrap, written_of}
+use Rattle.btx_out.specs.laws.Breaking.{Collecting, left}
+use Rattle.btx_out.specs.language.Breakers.{written_at_end}
+use Rattle.btx_out.specs.refinement.Breakers.{Held, holding, AppendsRest, AppendsPartOfRest, Puts, PutsPart, Ends, EndsPart, Finishes, FinishesPart}
+use Rattle.btx_out.specs.language.Pieces.{AppendsBeginning}
+use Rattle.btx_out.specs.laws.States.{sure_after, wrap_after}
 use Rattle.btx_out.proofs.BreakLemmas.{go_on, wrap_on}
 use Rattle.btx_out.proofs.PieceLemmas.{beginning-after}
 
@@ -67,16 +69,16 @@ begins-newline limit lines text old start before after held so_far ends =
 -- ---- the very end
 
 pub written_of-finish : (limit : ℕ) (lines : List (List ℕ)) (text : List ℕ) (old : Held) (start before after : Option (List ℕ)) → old ≡ holding limit (left limit text) →
-    Appends start before (written_of limit lines text) → Finishes old before after → Appends start after (flat_map (wrap limit) lines ++ finished limit text)
+    Appends start before (written_of limit lines text) → Finishes old before after → Appends start after (flat_map (wrap limit) lines ++ written_at_end limit text)
 written_of-finish limit lines text old start before after held so_far ends =
     let ends' : Finishes (holding limit (left limit text)) before after = rw held at ends in
-    rest_written start before after (flat_map (wrap limit) lines) (sure limit text) (finished limit text) so_far (ends' text refl)
+    rest_written start before after (flat_map (wrap limit) lines) (sure limit text) (written_at_end limit text) so_far (ends' text refl)
 
 pub begins-finish : (limit : ℕ) (lines : List (List ℕ)) (text : List ℕ) (old : Held) (start before after : Option (List ℕ)) → old ≡ holding limit (left limit text) →
-    Appends start before (written_of limit lines text) → FinishesPart old before after → AppendsBeginning start after (flat_map (wrap limit) lines ++ finished limit text)
+    Appends start before (written_of limit lines text) → FinishesPart old before after → AppendsBeginning start after (flat_map (wrap limit) lines ++ written_at_end limit text)
 begins-finish limit lines text old start before after held so_far ends =
     let ends' : FinishesPart (holding limit (left limit text)) before after = rw held at ends in
-    part_written start before after (flat_map (wrap limit) lines) (sure limit text) (finished limit text) so_far (ends' text refl)
+    part_written start before after (flat_map (wrap limit) lines) (sure limit text) (written_at_end limit text) so_far (ends' text refl)
 
 -- ---- what was written begins what more of the same lines writes
 
@@ -101,7 +103,7 @@ ended_longer limit lines t u wide =
     (more, ap (λ xs. front ++ xs) (wrap_on limit t u wide) ∙ sym (append_assoc front (sure limit t) more))
 
 -- at the very end
-pub finished-longer : (limit : ℕ) (lines : List (List ℕ)) (t u : List ℕ) → 3 ≤ limit → (more : List ℕ) × (flat_map (wrap limit) lines ++ finished limit (t ++ u) ≡ written_of limit lines t ++ more)
+pub finished-longer : (limit : ℕ) (lines : List (List ℕ)) (t u : List ℕ) → 3 ≤ limit → (more : List ℕ) × (flat_map (wrap limit) lines ++ written_at_end limit (t ++ u) ≡ written_of limit lines t ++ more)
 unfolding cut_of cut_within
 finished-longer limit lines [] [] wide = ([], sym (append-nil (written_of limit lines [])))
 finished-longer limit lines [] (b ∷ bs) wide = ended_longer limit lines [] (b ∷ bs) wide

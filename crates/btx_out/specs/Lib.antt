@@ -1,8 +1,3 @@
-pub mod Writes
-pub mod Pieces
-pub mod Lengths
-pub mod Breaking
-pub mod Places
-pub mod States
-pub mod Breakers
-pub mod Parts
+pub mod language
+pub mod laws
+pub mod refinement

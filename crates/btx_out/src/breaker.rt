@@ -2,14 +2,16 @@
 ghost use Rattle.std.specs.Prelude.{◌≡◌, ◌+◌, ◌<◌, ◌≤◌, [], ℕ, List, Option, length, drop, take, Some, None, IfOk, IfErr, IfSome, IsSome, OnOk, OnErr, Err, is_err, take_while};
 ghost use Rattle.std.specs.Io.KnownBytes.{Appends};
 ghost use Rattle.arrayvec.specs.ArrayVec.{array_vec_len};
-ghost use Rattle.btx_text.specs.Class.{is_white};
-ghost use Rattle.btx_text.specs.Counts.{count_after};
-ghost use Rattle.btx_out.specs.Breakers.{Ends, EndsPart, Finishes, FinishesPart, Puts, PutsPart, failed, holding, is_fresh};
-ghost use Rattle.btx_out.specs.Breaking.{Collecting, Passing, Swallowing, from_white, indented, last_white, line as line_of, is_ink, skip_white, till_white};
-ghost use Rattle.btx_out.specs.Lengths.{IsLineLength};
-ghost use Rattle.btx_out.specs.Parts.{GoesOn, left_of};
-ghost use Rattle.btx_out.specs.Pieces.{AppendsBeginning};
-ghost use Rattle.btx_out.specs.States.{break_full, end_of, left_after, sure_after};
+ghost use Rattle.btx_text.specs.language.Class.{is_white};
+ghost use Rattle.btx_text.specs.language.Counts.{count_after};
+ghost use Rattle.btx_out.specs.refinement.Breakers.{Ends, EndsPart, Finishes, FinishesPart, Puts, PutsPart, failed, holding, is_fresh};
+ghost use Rattle.btx_out.specs.language.Breaking.{from_white, indented, last_white, written_line as line_of, skip_white, till_white};
+ghost use Rattle.btx_out.specs.laws.Breaking.{Collecting, Passing, Swallowing};
+ghost use Rattle.btx_out.specs.refinement.Breaking.{is_not_white};
+ghost use Rattle.btx_out.specs.laws.Lengths.{IsLineLength};
+ghost use Rattle.btx_out.specs.refinement.Parts.{Advances, left_of};
+ghost use Rattle.btx_out.specs.language.Pieces.{AppendsBeginning};
+ghost use Rattle.btx_out.specs.laws.States.{break_full, end_written, left_after, sure_after};
 
 use crate::line_length::LineLength;
 use crate::log::write_whole;
@@ -120,7 +122,7 @@ fn break_full<W: Sink>(line: &mut Kept, sink: &mut W) -> Result<State, Fault>
 
 // How many bytes stand before the first white.
 fn ink_len(bytes: &[u8]) -> usize
-    ensures { result ≡ length (take_while is_ink bytes.now) }
+    ensures { result ≡ length (take_while is_not_white bytes.now) }
 {
     bytes.iter().take_while(|byte| !is_white(**byte)).count()
 }
@@ -157,7 +159,7 @@ fn collect<'a, W: Sink>(
     requires some { 0 < length bytes.now }
     requires kept { array_vec_len line.old ≤ limit }
     requires range { IsLineLength limit }
-    ensures goes_on { IfOk result (λ next. GoesOn limit (Collecting line.old.items) bytes.now (left_of next.state line.new.items) next.rest.now
+    ensures goes_on { IfOk result (λ next. Advances limit (Collecting line.old.items) bytes.now (left_of next.state line.new.items) next.rest.now
         (W.received sink.old) (W.received sink.new)) }
     ensures fewer { IfOk result (λ next. length next.rest.now < length bytes.now) }
     ensures fits { OnOk result (array_vec_len line.new ≤ limit) }
@@ -184,7 +186,7 @@ fn collect<'a, W: Sink>(
 // Passes on what stands before the first white, which ends the line. Answers what is done with the bytes that are left.
 fn pass<'a, W: Sink>(bytes: &'a [u8], sink: &mut W) -> Result<Next<'a>, Fault>
     requires { 0 < length bytes.now }
-    ensures goes_on { IfOk result (λ next. (limit : ℕ) (kept : List ℕ) → GoesOn limit Passing bytes.now (left_of next.state kept) next.rest.now
+    ensures goes_on { IfOk result (λ next. (limit : ℕ) (kept : List ℕ) → Advances limit Passing bytes.now (left_of next.state kept) next.rest.now
         (W.received sink.old) (W.received sink.new)) }
     ensures fewer { IfOk result (λ next. length next.rest.now < length bytes.now) }
     ensures err { OnErr result ((limit : ℕ) → AppendsBeginning (W.received sink.old) (W.received sink.new) (sure_after limit Passing bytes.now)) }
@@ -210,7 +212,7 @@ fn pass<'a, W: Sink>(bytes: &'a [u8], sink: &mut W) -> Result<Next<'a>, Fault>
 fn swallow<'a>(line: &mut Kept, bytes: &'a [u8]) -> Next<'a>
     requires some { 0 < length bytes.now }
     ensures goes_on { (limit : ℕ) (received : Option (List ℕ)) →
-        GoesOn limit Swallowing bytes.now (left_of result.state line.new.items) result.rest.now received received }
+        Advances limit Swallowing bytes.now (left_of result.state line.new.items) result.rest.now received received }
     ensures fewer { length result.rest.now < length bytes.now }
     ensures fits { (limit : ℕ) → IsLineLength limit → array_vec_len line.old ≤ limit → array_vec_len line.new ≤ limit }
 {
@@ -241,7 +243,7 @@ fn take_some<'a, W: Sink>(
     requires some { 0 < length bytes.now }
     requires kept { array_vec_len line.old ≤ limit }
     requires range { IsLineLength limit }
-    ensures goes_on { IfOk result (λ next. GoesOn limit (left_of state line.old.items) bytes.now (left_of next.state line.new.items) next.rest.now
+    ensures goes_on { IfOk result (λ next. Advances limit (left_of state line.old.items) bytes.now (left_of next.state line.new.items) next.rest.now
         (W.received sink.old) (W.received sink.new)) }
     ensures fewer { IfOk result (λ next. length next.rest.now < length bytes.now) }
     ensures fits { OnOk result (array_vec_len line.new ≤ limit) }
@@ -289,8 +291,8 @@ fn take_all<W: Sink>(
 // Writes what the end of the pending line writes.
 fn write_end<W: Sink>(state: State, line: &mut Kept, sink: &mut W) -> Result<(), Fault>
     requires { array_vec_len line.old ≤ 1000 }
-    ensures ok { OnOk result (Appends (W.received sink.old) (W.received sink.new) (end_of (left_of state line.old.items))) }
-    ensures err { OnErr result (AppendsBeginning (W.received sink.old) (W.received sink.new) (end_of (left_of state line.old.items))) }
+    ensures ok { OnOk result (Appends (W.received sink.old) (W.received sink.new) (end_written (left_of state line.old.items))) }
+    ensures err { OnErr result (AppendsBeginning (W.received sink.old) (W.received sink.new) (end_written (left_of state line.old.items))) }
     ensures fault { IfErr result (λ fault. fault ≡ Fault.Device) }
     ensures counts { W.failures sink.new ≡ count_after (is_err result) (W.failures sink.old) }
 {
@@ -319,12 +321,12 @@ pub struct Breaker {
 impl Model for Breaker {
     ghost use Rattle.std.specs.Prelude.{◌≤◌};
     ghost use Rattle.arrayvec.specs.ArrayVec.{array_vec_len};
-    ghost use Rattle.btx_out.specs.Breakers.{Held};
-    ghost use Rattle.btx_out.specs.Lengths.{IsLineLength};
+    ghost use Rattle.btx_out.specs.refinement.Breakers.{Held};
+    ghost use Rattle.btx_out.specs.laws.Lengths.{IsLineLength};
 
     ghost Value = { Held };
 
-    ghost use Rattle.btx_out.specs.Parts.{held_of};
+    ghost use Rattle.btx_out.specs.refinement.Parts.{held_of};
 
     ghost view = { λ breaker. held_of breaker.limit breaker.state breaker.line.items };
 

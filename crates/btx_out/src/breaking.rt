@@ -1,9 +1,10 @@
 //! The law of line breaking.
 ghost use Rattle.std.specs.Prelude.{◌≡◌, ◌<◌, ◌≤◌, ◌∷◌, ◌++◌, [], Bool, true, false, List, ℕ, length, if◌then◌else◌};
-ghost use Rattle.btx_out.specs.Breaking.{Broken, Collecting, Passing, Swallowing, Unbroken, break_of, indented, left, line, sure, wrap};
-ghost use Rattle.btx_out.specs.Lengths.{IsLineLength};
-ghost use Rattle.btx_out.specs.Places.{IsBreakInside, IsBreakPast, IsUnbroken};
-ghost use Rattle.btx_out.specs.States.{left_after, sure_after, wrap_after};
+ghost use Rattle.btx_out.specs.language.Breaking.{Broken, Unbroken, break_of, indented, written_line, sure, wrap};
+ghost use Rattle.btx_out.specs.laws.Breaking.{Collecting, Passing, Swallowing, left};
+ghost use Rattle.btx_out.specs.laws.Lengths.{IsLineLength};
+ghost use Rattle.btx_out.specs.laws.Places.{IsBreakInside, IsBreakPast, IsUnbroken};
+ghost use Rattle.btx_out.specs.laws.States.{left_after, sure_after, wrap_after};
 
 /// A law of the definitions, for every length of a line: what is sure of a pending line begins all that may come of it, and what
 /// follows it depends on what is left of the pending line and on the bytes that come, and on nothing else.
@@ -20,17 +21,17 @@ pub fn one_way_to_go_on()
 pub fn table()
     // A text that fits a line.
     ensures short { (limit : ℕ) (t : List ℕ) → IsLineLength limit → length t ≤ limit →
-        (wrap limit t ≡ line t) × (sure limit t ≡ []) × (left limit t ≡ Collecting t) }
+        (wrap limit t ≡ written_line t) × (sure limit t ≡ []) × (left limit t ≡ Collecting t) }
     // A longer one that ends with its break.
     ensures ends { (limit : ℕ) (t head : List ℕ) (is_past : Bool) → IsLineLength limit → limit < length t →
         break_of limit t ≡ Broken is_past head [] →
-        (wrap limit t ≡ line head) × (sure limit t ≡ line head)
+        (wrap limit t ≡ written_line head) × (sure limit t ≡ written_line head)
         × (left limit t ≡ (if is_past then Swallowing else Collecting (indented []))) }
     // A longer one that goes on after its break, behind two spaces.
     ensures goes_on { (limit : ℕ) (t head rest : List ℕ) (b : ℕ) (is_past : Bool) → IsLineLength limit → limit < length t →
         break_of limit t ≡ Broken is_past head (b ∷ rest) →
         let more = indented (b ∷ rest) in
-        (wrap limit t ≡ line head ++ wrap limit more) × (sure limit t ≡ line head ++ sure limit more)
+        (wrap limit t ≡ written_line head ++ wrap limit more) × (sure limit t ≡ written_line head ++ sure limit more)
         × (left limit t ≡ left limit more) }
     // A longer one without a break.
     ensures unbroken { (limit : ℕ) (t : List ℕ) → IsLineLength limit → limit < length t → break_of limit t ≡ Unbroken →

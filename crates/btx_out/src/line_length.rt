@@ -1,7 +1,7 @@
 //! The greatest length of a line.
 ghost use Rattle.std.specs.Prelude.{◌≡◌};
 ghost use Rattle.std.specs.Option.{SomeIff};
-ghost use Rattle.btx_out.specs.Lengths.{IsLineLength};
+ghost use Rattle.btx_out.specs.laws.Lengths.{IsLineLength};
 
 use std::marker::Model;
 
@@ -13,7 +13,7 @@ pub struct LineLength {
 
 impl Model for LineLength {
     ghost use Rattle.std.specs.Prelude.{ℕ};
-    ghost use Rattle.btx_out.specs.Lengths.{IsLineLength};
+    ghost use Rattle.btx_out.specs.laws.Lengths.{IsLineLength};
 
     ghost Value = { ℕ };
 

@@ -1,8 +1,8 @@
 //! The lines of a log.
 ghost use Rattle.std.specs.Prelude.{◌≡◌, ◌∷◌, ◌++◌, [], IfErr, OnOk, OnErr, is_err};
 ghost use Rattle.std.specs.Io.KnownBytes.{Appends};
-ghost use Rattle.btx_text.specs.Counts.{count_after};
-ghost use Rattle.btx_out.specs.Pieces.{AppendsBeginning};
+ghost use Rattle.btx_text.specs.language.Counts.{count_after};
+ghost use Rattle.btx_out.specs.language.Pieces.{AppendsBeginning};
 
 use crate::sink::Sink;
 use btx_text::Fault;

@@ -1,8 +1,8 @@
 //! Receivers of bytes.
 ghost use Rattle.std.specs.Prelude.{◌≡◌, ℕ, ◌≤◌, Option, List, IfOk, length};
 ghost use Rattle.std.specs.Io.KnownBytes.{WriteAppends};
-ghost use Rattle.btx_text.specs.Counts.{count_after};
-ghost use Rattle.btx_out.specs.Writes.{is_failed_write};
+ghost use Rattle.btx_text.specs.language.Counts.{count_after};
+ghost use Rattle.btx_out.specs.language.Writes.{is_failed_write};
 
 use std::io::Write;
 use thiserror::Error;

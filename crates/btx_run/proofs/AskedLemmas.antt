@@ -6,16 +6,16 @@ use Rattle.std.specs.Str.{bytes_eq}
 use Rattle.std.proofs.lemmas.List.{map-append, take-append-drop}
 use Rattle.std.proofs.lemmas.Map.Keys.{IsDistinct-cons, IsDistinct-head, IsDistinct-tail}
 use Rattle.std.proofs.lemmas.Slice.Eq.{bytes_eq-Decides}
-use Rattle.btx_aux.specs.Answers.{AsksTop, ByAnswers}
-use Rattle.btx_aux.specs.Entries.{Bytes, texts_of}
-use Rattle.btx_aux.specs.Files.{Files}
-use Rattle.btx_aux.specs.Job.{Job, job_of_files}
-use Rattle.btx_aux.specs.Names.{has_ending}
+use Rattle.btx_aux.specs.refinement.Answers.{AsksTop, ByAnswers}
+use Rattle.btx_aux.specs.refinement.Entries.{Bytes, texts_of}
+use Rattle.btx_aux.specs.language.Files.{Files}
+use Rattle.btx_aux.specs.language.Job.{AuxJob, job_of_files}
+use Rattle.btx_aux.specs.language.Names.{has_ending}
 use Rattle.btx_aux.proofs.AnswerLemmas.{all-both, by_both, by_map, some_files}
 use Rattle.btx_aux.proofs.NameEndings.{distinct-both, job_databases_end, job_databases_once, job_style_ends, one_ending, with_ending-ends}
-use Rattle.btx_run.specs.Files.Asked.{AreAmong, names_in, style_name}
-use Rattle.btx_run.specs.Files.Names.{top_name}
-use Rattle.btx_run.specs.Files.Readings.{job_named}
+use Rattle.btx_run.specs.refinement.Files.Asked.{AreAmong, names_in, style_name}
+use Rattle.btx_run.specs.language.Files.Names.{top_name}
+use Rattle.btx_run.specs.language.Files.Readings.{job_named}
 use Rattle.btx_run.proofs.ReadingLemmas.{names_more}
 
 abbrev Names : Type 0
@@ -48,7 +48,7 @@ among-one name names is = subst (λ (names : Names). AreAmong names (name ∷ []
 pub among-first : (name : List ℕ) (all : Names) (xs ys : Names) → xs ≡ name ∷ [] → AreAmong ys all → AreAmong (xs ++ ys) (name ∷ all)
 among-first name all xs ys is among = among-both xs ys (name ∷ []) all (among-one name xs is) among
 
-pub among-named : (job : Job) (name : List ℕ) → job.style ≡ Some name → (names : Names) → AreAmong names (name ∷ job.databases) → AreAmong names (names_in job)
+pub among-named : (job : AuxJob) (name : List ℕ) → job.style ≡ Some name → (names : Names) → AreAmong names (name ∷ job.databases) → AreAmong names (names_in job)
 among-named job name is names among = subst (λ (style : Option (List ℕ)). AreAmong names (style_name style ++ job.databases)) (sym is) among
 
 -- the name of one database more
@@ -116,15 +116,15 @@ unfolding IsDistinct
 style-once None = tt
 style-once (Some name) = (tt, tt)
 
-module _ (files : Files) (top : List ℕ) (job : Job) (is : job ≡ job_of_files files top) where
+module _ (files : Files) (top : List ℕ) (job : AuxJob) (is : job ≡ job_of_files files top) where
   style_ends : AllByRecursion (λ name. has_ending (codes ".bst") name ≡ true) (style_name job.style)
-  style_ends = style-end job.style (λ name named. job_style_ends files top name (sym (ap (λ (job : Job). job.style) is) ∙ named))
+  style_ends = style-end job.style (λ name named. job_style_ends files top name (sym (ap (λ (job : AuxJob). job.style) is) ∙ named))
 
   databases_end : AllByRecursion (λ name. has_ending (codes ".bib") name ≡ true) job.databases
-  databases_end = subst (λ (job : Job). AllByRecursion (λ name. has_ending (codes ".bib") name ≡ true) job.databases) (sym is) (job_databases_end files top)
+  databases_end = subst (λ (job : AuxJob). AllByRecursion (λ name. has_ending (codes ".bib") name ≡ true) job.databases) (sym is) (job_databases_end files top)
 
   databases_once : IsDistinct bytes_eq job.databases
-  databases_once = subst (λ (job : Job). IsDistinct bytes_eq job.databases) (sym is) (job_databases_once files top)
+  databases_once = subst (λ (job : AuxJob). IsDistinct bytes_eq job.databases) (sym is) (job_databases_once files top)
 
   names_once : IsDistinct bytes_eq (names_in job)
   names_once =
@@ -142,14 +142,14 @@ top-ends : (name : List ℕ) → has_ending (codes ".aux") (top_name name) ≡ t
 top-ends name = with_ending-ends (codes ".aux") name
 
 -- the names that a job's `.aux` files are asked for by, and then those of its style and its databases
-asked-once : (files : Files) (name : List ℕ) (job : Job) → job ≡ job_named files name → (xs ys : Names) → AsksTop (top_name name) xs → AreAmong ys (names_in job) → IsDistinct bytes_eq (xs ++ ys)
+asked-once : (files : Files) (name : List ℕ) (job : AuxJob) → job ≡ job_named files name → (xs ys : Names) → AsksTop (top_name name) xs → AreAmong ys (names_in job) → IsDistinct bytes_eq (xs ++ ys)
 asked-once files name job is xs ys top among =
     distinct-both (has_ending (codes ".aux")) xs ys
     (subst (λ (names : Names). AllByRecursion (λ name. has_ending (codes ".aux") name ≡ true) names) (sym top.is) (top-ends name, top.endings))
     (all-among _ ys (names_in job) among (none_aux files (top_name name) job is)) top.once (distinct-among ys (names_in job) among (names_once files (top_name name) job is))
 
 -- what holds of all files that answer so, in the whole of a run, holds of some files
-pub some_of_run : {content later : Option Files} (name : List ℕ) (job : Job) {Claim : Files → Type 0} {Whole : Files → Type 0} → later ≡ content
+pub some_of_run : {content later : Option Files} (name : List ℕ) (job : AuxJob) {Claim : Files → Type 0} {Whole : Files → Type 0} → later ≡ content
     → ByAnswers content (AsksTop (top_name name)) (λ files. job ≡ job_named files name) → ByAnswers later (λ asked. AreAmong asked (names_in job)) Claim
     → ((files : Files) → job ≡ job_named files name → Claim files → Whole files) → (files : Files) × Whole files
 some_of_run {content} name job {Claim} {Whole} same first second holds =

@@ -1,28 +1,29 @@
 -- How many bodies are open at once in a whole run with a direct style.
 use Rattle.std.proofs.Common.{◌≡◌, ℕ, List, length, map, sym, subst}
-use Rattle.btx_aux.specs.Files.{Files}
-use Rattle.btx_aux.specs.Job.{Job}
-use Rattle.btx_bst.specs.Direct.{IsDirect}
-use Rattle.btx_bst.specs.References.{RefersWithin}
-use Rattle.btx_bst.specs.Style.{type_of}
+use Rattle.btx_aux.specs.language.Files.{Files}
+use Rattle.btx_aux.specs.language.Job.{AuxJob}
+use Rattle.btx_bst.specs.language.Direct.{IsDirect}
+use Rattle.btx_bst.specs.laws.References.{RefersWithin}
+use Rattle.btx_bst.specs.language.Style.{type_of}
 use Rattle.btx_bst.proofs.ReferenceLemmas.{style-refers_within}
-use Rattle.btx_bib.specs.Requests.{asked}
+use Rattle.btx_bib.specs.language.Requests.{asked}
 use Rattle.btx_machine.specs.declared.report.Report.{Report}
 use Rattle.btx_machine.specs.declared.report.Told.{Told}
-use Rattle.btx_machine.specs.DirectDepth.{KindsRefer, StaysWithin}
+use Rattle.btx_machine.specs.language.DirectDepth.{StaysWithin}
+use Rattle.btx_machine.specs.laws.DirectDepth.{KindsRefer}
 use Rattle.btx_machine.proofs.DirectRuns as machine
 use Rattle.btx_run.specs.declared.files.found.FilesRead.{FilesRead}
 use Rattle.btx_run.specs.declared.files.found.FilesRead.TheVariants.{Ends, Found}
 use Rattle.btx_run.specs.declared.files.found.JobFiles.{JobFiles}
 use Rattle.btx_run.specs.declared.options.Options.{Options}
-use Rattle.btx_run.specs.Contents.{database_of, style_in, library_in}
-use Rattle.btx_run.specs.DirectStyles.{WhereDirect}
-use Rattle.btx_run.specs.Files.Readings.{job_named, reading_of}
-use Rattle.btx_run.specs.Laws.{DirectLaw}
-use Rattle.btx_run.specs.Product.{product, product_of_files, told_in, work_in}
+use Rattle.btx_run.specs.language.Contents.{database_of, style_in, library_in}
+use Rattle.btx_run.specs.language.DirectStyles.{WhereDirect}
+use Rattle.btx_run.specs.language.Files.Readings.{job_named, reading_of}
+use Rattle.btx_run.specs.laws.Laws.{DirectLaw}
+use Rattle.btx_run.specs.language.Product.{product, product_of_files, counts_in, work_in}
 use Rattle.btx_run.proofs.KindLemmas.{databases_fit, kind_fits, types_first}
 
-module _ (job : Job) (found : JobFiles) (options : Options) where
+module _ (job : AuxJob) (found : JobFiles) (options : Options) where
   within : RefersWithin (style_in found)
   within = style-refers_within found.style.name found.style.bytes
 
@@ -36,12 +37,12 @@ module _ (job : Job) (found : JobFiles) (options : Options) where
   found_within : (told : Told) (budget : ℕ) → IsDirect (style_in found) → StaysWithin (length (style_in found).bodies) (product_of_files job (Found found) options told budget).report
   found_within told budget direct = machine.holds (work_in job found options) told options.line budget within kinds direct
 
-files_within : (job : Job) (read : FilesRead) (options : Options) (told : Told) (budget : ℕ) → WhereDirect read (λ functions. StaysWithin functions (product_of_files job read options told budget).report)
+files_within : (job : AuxJob) (read : FilesRead) (options : Options) (told : Told) (budget : ℕ) → WhereDirect read (λ functions. StaysWithin functions (product_of_files job read options told budget).report)
 files_within job (Ends end) options told budget = tt
 files_within job (Found found) options told budget = found_within job found options told budget
 
 pub holds : DirectLaw
-holds files name options budget = let read = reading_of files name in files_within (job_named files name) read.gives options (told_in read.told) budget
+holds files name options budget = let read = reading_of files name in files_within (job_named files name) read.gives options (counts_in read.told) budget
 
 -- so is the report of a run
 pub report_stays : (files : Files) (name : List ℕ) (options : Options) (report : Report) → report ≡ (product files name options).report → WhereDirect (reading_of files name).gives (λ functions. StaysWithin functions report)

@@ -2,22 +2,22 @@
 use Rattle.std.proofs.Common.{◌≡◌, ℕ, zero, suc, ◌<◌, List, [], ◌∷◌, ◌++◌, Option, None, Some, Bool, true, false, cond, option_map, subst, refl}
 use Rattle.std.specs.Prelude.{map, slice_get}
 use Rattle.std.specs.List.{flat_map}
-use Rattle.btx_text.specs.Keys.{folded}
+use Rattle.btx_text.specs.language.Keys.{folded}
 use Rattle.btx_bib.specs.declared.end.End.{End}
 use Rattle.btx_bib.specs.declared.end.End.TheVariants as end
 use Rattle.btx_bib.specs.declared.entry.Entry.{Entry}
 use Rattle.btx_bib.specs.declared.message.Message.{Message}
 use Rattle.btx_bib.specs.declared.slots.Body.{Body}
 use Rattle.btx_bib.specs.declared.slots.Slot.{Slot}
-use Rattle.btx_bib.specs.Databases.{library_by, library_of, read_all}
-use Rattle.btx_bib.specs.Entries.{Given, body_of}
-use Rattle.btx_bib.specs.Known.{Known}
-use Rattle.btx_bib.specs.Library.{kind_of}
-use Rattle.btx_bib.specs.Listing.{slot_of, slots_of, keys_of}
-use Rattle.btx_bib.specs.Passes.{with_values, passed, slot_at, parent_at, parent_slot, inherited_from, inherited, is_parent, cut, checked_by, checked, entry_by, entry_at, after_first, after_second, entries_of}
-use Rattle.btx_bib.specs.Stored.{entry_of}
-use Rattle.btx_bib.specs.Told.{Database}
-use Rattle.btx_bib.specs.Wanted.{Wanted}
+use Rattle.btx_bib.specs.language.Databases.{library_by, library_of, read_all}
+use Rattle.btx_bib.specs.language.Entries.{Given, body_of}
+use Rattle.btx_bib.specs.language.Known.{Known}
+use Rattle.btx_bib.specs.language.Library.{entry_type}
+use Rattle.btx_bib.specs.language.Listing.{slot_of, slots_of, list_keys}
+use Rattle.btx_bib.specs.language.Passes.{with_field_values, passed, slot_at, parent_at, parent_slot, inherited_from, inherited, is_parent, without_crossref, checked_by, checked, entry_by, entry_at, after_first, after_second, entries_of}
+use Rattle.btx_bib.specs.language.Stored.{entry_with_key}
+use Rattle.btx_bib.specs.language.Told.{Database}
+use Rattle.btx_bib.specs.language.Wanted.{Request}
 
 module _ (n : ℕ) where
   -- one of the first n functions, or none
@@ -48,7 +48,7 @@ module _ (n : ℕ) where
   pass_fits judge each done (slot ∷ slots) h k =
       pass_fits judge each (done ++ judge (done ++ slot ∷ slots) slot ∷ []) slots (slots_more done (judge (done ++ slot ∷ slots) slot ∷ []) h (each (done ++ slot ∷ slots) slot k.0, tt)) k.1
 
-  values_fit : (body : Option Body) (values : List (Option (List ℕ))) → BodyFits body → BodyFits (with_values body values)
+  values_fit : (body : Option Body) (values : List (Option (List ℕ))) → BodyFits body → BodyFits (with_field_values body values)
   values_fit None values h = h
   values_fit (Some body) values h = h
 
@@ -64,7 +64,7 @@ module _ (n : ℕ) where
   unfolding checked
   checked_fits slots slot h = by (parent_at slot)
     where
-      one_of : (b : Bool) → BodyFits (cond b slot (cut slot)).body
+      one_of : (b : Bool) → BodyFits (cond b slot (without_crossref slot)).body
       one_of true = h
       one_of false = values_fit slot.body _ h
 
@@ -93,7 +93,7 @@ module _ (n : ℕ) where
 
   -- ---- the list
 
-  module _ (wanted : Wanted) (kinds : (name : List ℕ) → IsFirst (wanted.kind name)) where
+  module _ (wanted : Request) (kinds : (name : List ℕ) → IsFirst (wanted.kind name)) where
     stored_fits : (given : Option Given) → BodyFits (option_map (body_of wanted) given)
     unfolding body_of
     stored_fits None = tt
@@ -101,14 +101,14 @@ module _ (n : ℕ) where
 
     slot_fits : (stored : List Given) (key : List ℕ) → BodyFits (slot_of wanted stored key).body
     unfolding slot_of
-    slot_fits stored key = stored_fits (entry_of stored key)
+    slot_fits stored key = stored_fits (entry_with_key stored key)
 
     slots_fit : (stored : List Given) (keys : List (List ℕ)) → SlotsFit (map (slot_of wanted stored) keys)
     slots_fit stored [] = tt
     slots_fit stored (key ∷ keys) = (slot_fits stored key, slots_fit stored keys)
 
     library_fits : (end : End) (known : Known) (messages : List Message) → EntriesFit (library_by end wanted known messages).entries
-    library_fits end.Whole known messages = entries_fit (slots_of wanted known.stored) (slots_fit known.stored (keys_of wanted known.stored))
+    library_fits end.Whole known messages = entries_fit (slots_of wanted known.stored) (slots_fit known.stored (list_keys wanted known.stored))
     library_fits end.FileLimit known messages = tt
     library_fits end.StringLimit known messages = tt
 
@@ -116,7 +116,7 @@ module _ (n : ℕ) where
     unfolding library_of
     databases_fit macros databases = let reading = read_all wanted macros databases in library_fits reading.known.ending reading.known reading.messages
 
-  pub kind_fits : (entries : List Entry) (place number : ℕ) → EntriesFit entries → kind_of (slice_get entries place) ≡ Some number → number < n
+  pub kind_fits : (entries : List Entry) (place number : ℕ) → EntriesFit entries → entry_type (slice_get entries place) ≡ Some number → number < n
   kind_fits [] place number h e = absurd (cc)
   kind_fits (entry ∷ entries) zero number h e = subst IsFirst e h.0
   kind_fits (entry ∷ entries) (suc place) number h e = kind_fits entries place number h.1 e

@@ -1,33 +1,33 @@
 -- What a larger budget changes of a whole run.
 use Rattle.std.proofs.Common.{ℕ, ◌≤◌, List, [], ◌++◌, refl, sym, ap, ◌∙◌, append_assoc, append-nil}
-use Rattle.btx_text.specs.LogLines.{Line}
-use Rattle.btx_aux.specs.Job.{Job}
-use Rattle.btx_out.specs.Lengths.{IsLineLength}
+use Rattle.btx_text.specs.language.LogLines.{Line}
+use Rattle.btx_aux.specs.language.Job.{AuxJob}
+use Rattle.btx_out.specs.laws.Lengths.{IsLineLength}
 use Rattle.btx_machine.specs.declared.report.Told.{Told}
-use Rattle.btx_machine.specs.Product.{Product}
-use Rattle.btx_machine.specs.ProductLaws.{Foretells}
+use Rattle.btx_machine.specs.language.Product.{Product}
+use Rattle.btx_machine.specs.laws.ProductLaws.{Foretells}
 use Rattle.btx_machine.proofs.LawLemmas as machine
 use Rattle.btx_run.specs.declared.files.found.FilesRead.{FilesRead}
 use Rattle.btx_run.specs.declared.files.found.FilesRead.TheVariants.{Ends, Found}
 use Rattle.btx_run.specs.declared.options.Options.{Options}
-use Rattle.btx_run.specs.Files.Readings.{job_named, reading_of}
-use Rattle.btx_run.specs.Laws.{BudgetLaw}
-use Rattle.btx_run.specs.Product.{product_of_files, told_before, told_in, work_in}
-use Rattle.btx_run.specs.Files.Telling.{bytes_of_lines}
+use Rattle.btx_run.specs.language.Files.Readings.{job_named, reading_of}
+use Rattle.btx_run.specs.laws.Laws.{BudgetLaw}
+use Rattle.btx_run.specs.language.Product.{product_of_files, logged_before, counts_in, work_in}
+use Rattle.btx_run.specs.language.Files.Telling.{bytes_of_lines}
 
 -- the same lines before both
-behind_lines : (lines : List Line) (shorter longer : Product) → Foretells shorter longer → Foretells (told_before lines shorter) (told_before lines longer)
+behind_lines : (lines : List Line) (shorter longer : Product) → Foretells shorter longer → Foretells (logged_before lines shorter) (logged_before lines longer)
 behind_lines lines shorter longer law = record {
   bbl = law.bbl;
   log = (law.log.0, append_assoc (bytes_of_lines lines) longer.told _ ∙ ap (λ bytes. bytes_of_lines lines ++ bytes) law.log.1 ∙ sym (append_assoc (bytes_of_lines lines) shorter.told law.log.0));
-  same = λ ended. ap (told_before lines) (law.same ended);
+  same = λ ended. ap (logged_before lines) (law.same ended);
 }
 
 -- one product, whatever the budget
 always : (product : Product) → Foretells product product
 always product = record { bbl = ([], sym (append-nil product.bbl)); log = (_, refl); same = λ ended. refl }
 
-after : (job : Job) (read : FilesRead) (options : Options) (told : Told) → IsLineLength options.line → (few many : ℕ) → few ≤ many
+after : (job : AuxJob) (read : FilesRead) (options : Options) (told : Told) → IsLineLength options.line → (few many : ℕ) → few ≤ many
     → Foretells (product_of_files job read options told few) (product_of_files job read options told many)
 after job (Ends end) options told line few many le = always _
 after job (Found found) options told line few many le = machine.holds (work_in job found options) told options.line line few many le
@@ -35,4 +35,4 @@ after job (Found found) options told line few many le = machine.holds (work_in j
 pub holds : BudgetLaw
 holds = λ files name options line few many le.
     let read = reading_of files name in
-    behind_lines read.told _ _ (after (job_named files name) read.gives options (told_in read.told) line few many le)
+    behind_lines read.told _ _ (after (job_named files name) read.gives options (counts_in read.told) line few many le)

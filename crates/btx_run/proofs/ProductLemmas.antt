@@ -4,26 +4,26 @@ use Rattle.std.specs.Io.KnownBytes.{Appends}
 use Rattle.std.proofs.KnownBytes.{Appends-trans, Appends-nil}
 use Rattle.btx_text.specs.declared.fault.Fault.{Fault}
 use Rattle.btx_text.specs.declared.fault.Fault.TheVariants.{Memory, Device, FileLimit, StringLimit}
-use Rattle.btx_text.specs.Counts.{Change}
-use Rattle.btx_text.specs.Limits.{greatest_file}
-use Rattle.btx_text.specs.LogLines.{Line}
-use Rattle.btx_aux.specs.Files.{Files}
-use Rattle.btx_aux.specs.Job.{Job}
-use Rattle.btx_out.specs.Pieces.{AppendsBeginning}
+use Rattle.btx_text.specs.language.Counts.{Change}
+use Rattle.btx_text.specs.language.Limits.{greatest_file}
+use Rattle.btx_text.specs.language.LogLines.{Line}
+use Rattle.btx_aux.specs.language.Files.{Files}
+use Rattle.btx_aux.specs.language.Job.{AuxJob}
+use Rattle.btx_out.specs.language.Pieces.{AppendsBeginning}
 use Rattle.btx_out.proofs.PieceLemmas.{beginning-after, beginning-longer, beginning-none_same}
-use Rattle.btx_bst.specs.Style.{Style}
-use Rattle.btx_bst.specs.StyleReads.{Reads}
-use Rattle.btx_bib.specs.Databases.{library_of}
-use Rattle.btx_bib.specs.Library.{Library}
-use Rattle.btx_bib.specs.Requests.{asked}
-use Rattle.btx_step.specs.Jobs.{Job as StyleJob}
-use Rattle.btx_machine.specs.Faults.{CountsOfLog, CountsOfOutputs}
-use Rattle.btx_machine.specs.KeepingStep.{AtFault, BothBegin, BothExtend, Completes, KeepsStep, LastLineBehindList}
-use Rattle.btx_machine.specs.Product.{Product, product_early, product_of, executed as outcome_of_style, product as executed}
-use Rattle.btx_machine.specs.Reports.{last_line, told_so}
-use Rattle.btx_machine.specs.Saying.{ended_line}
-use Rattle.btx_machine.specs.States.{Outcome, Done, Stopped, Limit}
-use Rattle.btx_machine.specs.Written.{Received}
+use Rattle.btx_bst.specs.language.Style.{Style}
+use Rattle.btx_bst.specs.refinement.StyleReads.{Reads}
+use Rattle.btx_bib.specs.language.Databases.{library_of}
+use Rattle.btx_bib.specs.language.Library.{Library}
+use Rattle.btx_bib.specs.language.Requests.{asked}
+use Rattle.btx_step.specs.language.Jobs.{Job}
+use Rattle.btx_machine.specs.refinement.Faults.{CountsOfLog, CountsOfOutputs}
+use Rattle.btx_machine.specs.language.KeepingStep.{AtFault, BothBegin, BothExtend, Completes, KeepsStep, LastLineBehindList}
+use Rattle.btx_machine.specs.language.Product.{Product, product_early, product_of, executed, style_product}
+use Rattle.btx_machine.specs.language.Reports.{last_line, log_counts}
+use Rattle.btx_machine.specs.language.Saying.{ended_line}
+use Rattle.btx_machine.specs.language.States.{Outcome, Done, Stopped, Limit}
+use Rattle.btx_machine.specs.language.Written.{Received}
 use Rattle.btx_machine.specs.declared.report.End.TheVariants.{NoTopFile}
 use Rattle.btx_machine.specs.declared.report.Report.{Report}
 use Rattle.btx_machine.specs.declared.report.Told.{Told}
@@ -32,15 +32,17 @@ use Rattle.btx_machine.proofs.DeepLemmas as depth
 use Rattle.btx_run.specs.declared.files.found.FilesRead.{FilesRead}
 use Rattle.btx_run.specs.declared.files.found.JobFiles.{JobFiles}
 use Rattle.btx_run.specs.declared.options.Options.{Options}
-use Rattle.btx_run.specs.Files.Counts.{Counts, counts_of}
-use Rattle.btx_run.specs.Files.Readings.{IsRead, Reading, files_read, job_named}
-use Rattle.btx_run.specs.Files.Telling.{Tells, bytes_of_lines}
-use Rattle.btx_run.specs.Contents.{database_of, style_in}
-use Rattle.btx_run.specs.Product.{product, product_of_files, product_of_reading, product_with, told_before, told_in, work_in, work_of}
+use Rattle.btx_run.specs.language.Files.Counts.{Counts, counts_of}
+use Rattle.btx_run.specs.language.Files.Readings.{Logged, files_read, job_named}
+use Rattle.btx_run.specs.refinement.Files.Readings.{IsRead}
+use Rattle.btx_run.specs.language.Files.Telling.{bytes_of_lines}
+use Rattle.btx_run.specs.refinement.Files.Telling.{Tells}
+use Rattle.btx_run.specs.language.Contents.{database_of, style_in}
+use Rattle.btx_run.specs.language.Product.{product, product_of_files, product_of_reading, product_with, logged_before, counts_in, work_in, work_of}
 
 -- ---- what the style works on
 
-pub found_is : (job : Job) (found : JobFiles) (options : Options) (style : Style) (library : Library)
+pub found_is : (job : AuxJob) (found : JobFiles) (options : Options) (style : Style) (library : Library)
     → style ≡ style_in found
     → library ≡ library_of (asked style job options.min_crossrefs) style.macros (map database_of found.databases)
     → work_of style library options ≡ work_in job found options
@@ -48,17 +50,17 @@ found_is job found options style library is_style is_library =
     ap (λ (library : Library). work_of style library options) is_library
     ∙ ap (λ (style : Style). work_of style (library_of (asked style job options.min_crossrefs) style.macros (map database_of found.databases)) options) is_style
 
-pub completes_of : (a b : Received) (told : Told) (limit budget : ℕ) (here there : StyleJob) → here ≡ there → (r : Result Report Fault)
-    → IfOk r (λ report. Completes report a b (executed here told limit budget)) → IfOk r (λ report. Completes report a b (executed there told limit budget))
-completes_of a b told limit budget here there is r h = subst (λ work. IfOk r (λ report. Completes report a b (executed work told limit budget))) is h
+pub completes_of : (a b : Received) (told : Told) (limit budget : ℕ) (here there : Job) → here ≡ there → (r : Result Report Fault)
+    → IfOk r (λ report. Completes report a b (style_product here told limit budget)) → IfOk r (λ report. Completes report a b (style_product there told limit budget))
+completes_of a b told limit budget here there is r h = subst (λ work. IfOk r (λ report. Completes report a b (style_product work told limit budget))) is h
 
-pub fails_of : (a b : Received) (told : Told) (limit budget : ℕ) (here there : StyleJob) → here ≡ there → (r : Result Report Fault)
-    → OnErr r (AtFault a b (executed here told limit) budget) → OnErr r (AtFault a b (executed there told limit) budget)
-fails_of a b told limit budget here there is r h = subst (λ work. OnErr r (AtFault a b (executed work told limit) budget)) is h
+pub fails_of : (a b : Received) (told : Told) (limit budget : ℕ) (here there : Job) → here ≡ there → (r : Result Report Fault)
+    → OnErr r (AtFault a b (style_product here told limit) budget) → OnErr r (AtFault a b (style_product there told limit) budget)
+fails_of a b told limit budget here there is r h = subst (λ work. OnErr r (AtFault a b (style_product work told limit) budget)) is h
 
 -- no more than 4,096 bodies are open at once
-pub never_deeper : (a b : Received) (work : StyleJob) (told : Told) (limit budget : ℕ) (r : Result Report Fault)
-    → IfOk r (λ report. Completes report a b (executed work told limit budget)) → IfOk r (λ report. report.deepest ≤ 4096)
+pub never_deeper : (a b : Received) (work : Job) (told : Told) (limit budget : ℕ) (r : Result Report Fault)
+    → IfOk r (λ report. Completes report a b (style_product work told limit budget)) → IfOk r (λ report. report.deepest ≤ 4096)
 never_deeper a b work told limit budget =
     ok_map (λ report completes. subst (λ (report : Report). report.deepest ≤ 4096) (sym completes.report_is) (depth.holds work told limit budget))
 
@@ -68,10 +70,10 @@ had_top_file limit budget (Done s left) is = cc
 had_top_file limit budget (Stopped s) is = cc
 had_top_file limit budget (Limit kind s left) is = cc
 
-pub touched_with_top_file : {W : Type 0} (bbl after : W) (a b : Received) (work : StyleJob) (told : Told) (limit budget : ℕ) (r : Result Report Fault)
-    → IfOk r (λ report. Completes report a b (executed work told limit budget)) → IfOk r (λ report. report.end ≡ NoTopFile → after ≡ bbl)
+pub touched_with_top_file : {W : Type 0} (bbl after : W) (a b : Received) (work : Job) (told : Told) (limit budget : ℕ) (r : Result Report Fault)
+    → IfOk r (λ report. Completes report a b (style_product work told limit budget)) → IfOk r (λ report. report.end ≡ NoTopFile → after ≡ bbl)
 touched_with_top_file bbl after a b work told limit budget =
-    ok_map (λ report completes is. absurd (had_top_file limit budget (outcome_of_style work told budget) (sym (ap (λ (report : Report). report.end) completes.report_is) ∙ is)))
+    ok_map (λ report completes is. absurd (had_top_file limit budget (executed work told budget) (sym (ap (λ (report : Report). report.end) completes.report_is) ∙ is)))
 
 -- ---- a run that ends at once
 
@@ -95,24 +97,24 @@ fails_early b l m told report budget is part = record { beginnings = begins; las
 -- ---- behind the lines that were told before
 
 module _ (lines : List Line) (b c l m n : Option (List ℕ)) (told : Appends l m (bytes_of_lines lines)) where
-  pub completes_behind : (report : Report) (whole : Product) → Completes report (b, m) (c, n) whole → Completes report (b, l) (c, n) (told_before lines whole)
+  pub completes_behind : (report : Report) (whole : Product) → Completes report (b, m) (c, n) whole → Completes report (b, l) (c, n) (logged_before lines whole)
   completes_behind report whole completes = record {
     report_is = completes.report_is;
     bbl_whole = completes.bbl_whole;
     log_whole = subst (Appends l n) (sym (append_assoc (bytes_of_lines lines) whole.told _)) (Appends-trans l m n _ _ told completes.log_whole);
   }
 
-  begins_behind : (whole : Product) → BothBegin (b, m) (c, n) whole → BothBegin (b, l) (c, n) (told_before lines whole)
+  begins_behind : (whole : Product) → BothBegin (b, m) (c, n) whole → BothBegin (b, l) (c, n) (logged_before lines whole)
   begins_behind whole begins = record {
     bbl_begins = begins.bbl_begins;
     log_begins = subst (AppendsBeginning l n) (sym (append_assoc (bytes_of_lines lines) whole.told _)) (beginning-after l m n _ _ told begins.log_begins);
   }
 
-  last_behind : (whole : Product) → LastLineBehindList (b, m) (c, n) whole → LastLineBehindList (b, l) (c, n) (told_before lines whole)
+  last_behind : (whole : Product) → LastLineBehindList (b, m) (c, n) whole → LastLineBehindList (b, l) (c, n) (logged_before lines whole)
   last_behind whole (inl list) = inl list
   last_behind whole (inr part) = inr (beginning-after l m n _ _ told part)
 
-  extends_behind : (whole : Product) → BothExtend (b, m) (c, n) whole → BothExtend (b, l) (c, n) (told_before lines whole)
+  extends_behind : (whole : Product) → BothExtend (b, m) (c, n) whole → BothExtend (b, l) (c, n) (logged_before lines whole)
   extends_behind whole extends = record {
     bbl_extends = extends.bbl_extends;
     log_extends = record {
@@ -121,7 +123,7 @@ module _ (lines : List Line) (b c l m n : Option (List ℕ)) (told : Appends l m
     };
   }
 
-  keeps_behind : (make : ℕ → Product) (budget : ℕ) → KeepsStep (b, m) (c, n) make budget → KeepsStep (b, l) (c, n) (λ steps. told_before lines (make steps)) budget
+  keeps_behind : (make : ℕ → Product) (budget : ℕ) → KeepsStep (b, m) (c, n) make budget → KeepsStep (b, l) (c, n) (λ steps. logged_before lines (make steps)) budget
   keeps_behind make budget (inl begins) = inl (begins_behind (make 0) begins)
   keeps_behind make budget (inr within) = inr (record {
     steps = within.steps;
@@ -130,53 +132,53 @@ module _ (lines : List Line) (b c l m n : Option (List ℕ)) (told : Appends l m
     begins = begins_behind (make (within.steps + 1)) within.begins;
   })
 
-  pub fails_behind : (make : ℕ → Product) (budget : ℕ) → AtFault (b, m) (c, n) make budget → AtFault (b, l) (c, n) (λ steps. told_before lines (make steps)) budget
+  pub fails_behind : (make : ℕ → Product) (budget : ℕ) → AtFault (b, m) (c, n) make budget → AtFault (b, l) (c, n) (λ steps. logged_before lines (make steps)) budget
   fails_behind make budget fault = record { beginnings = begins_behind (make budget) fault.beginnings; last_line = last_behind (make budget) fault.last_line; step = keeps_behind make budget fault.step }
 
 -- a fault while these lines were told
 pub fails_in_lines : (lines : List Line) (b l m : Option (List ℕ)) (make : ℕ → Product) (budget : ℕ) → AppendsBeginning l m (bytes_of_lines lines)
-    → AtFault (b, l) (b, m) (λ steps. told_before lines (make steps)) budget
+    → AtFault (b, l) (b, m) (λ steps. logged_before lines (make steps)) budget
 fails_in_lines lines b l m make budget part = record { beginnings = begins budget; last_line = inr (beginning-longer l m _ _ part); step = inl (begins 0) }
   where
-    begins : (steps : ℕ) → BothBegin (b, l) (b, m) (told_before lines (make steps))
+    begins : (steps : ℕ) → BothBegin (b, l) (b, m) (logged_before lines (make steps))
     begins steps = record { bbl_begins = beginning-none_same b _; log_begins = beginning-longer l m _ _ (beginning-longer l m _ _ part) }
 
 -- ---- behind the reading of the files
 
 -- what was told, by the counts of its lines
 pub told_is : (warnings errors : ℕ) (first counts : Counts) (log : Received) (lines : List Line)
-    → warnings ≡ counts.warnings → errors ≡ counts.errors → first ≡ counts_of [] → Tells (first, counts) log lines → told_so warnings errors ≡ told_in lines
+    → warnings ≡ counts.warnings → errors ≡ counts.errors → first ≡ counts_of [] → Tells (first, counts) log lines → log_counts warnings errors ≡ counts_in lines
 told_is warnings errors first counts log lines is_warnings is_errors new told =
-    ap (λ warnings. told_so warnings errors) is_warnings
-    ∙ ap (told_so counts.warnings) is_errors
-    ∙ ap (λ (counts : Counts). told_so counts.warnings counts.errors) (told.counts [] new)
+    ap (λ warnings. log_counts warnings errors) is_warnings
+    ∙ ap (log_counts counts.warnings) is_errors
+    ∙ ap (λ (counts : Counts). log_counts counts.warnings counts.errors) (told.counts [] new)
 
-module _ (job : Job) (options : Options) (read : FilesRead) (told : Told) (first counts : Counts) (b c l m n : Option (List ℕ)) (is_told : told ≡ told_so counts.warnings counts.errors) (new : first ≡ counts_of []) where
+module _ (job : AuxJob) (options : Options) (read : FilesRead) (told : Told) (first counts : Counts) (b c l m n : Option (List ℕ)) (is_told : told ≡ log_counts counts.warnings counts.errors) (new : first ≡ counts_of []) where
   -- what follows is what follows the reading
-  follows : (part : Reading FilesRead) → IsRead read (first, counts) (l, m) part → product_of_files job read options told ≡ product_of_files job part.gives options (told_in part.told)
+  follows : (part : Logged FilesRead) → IsRead read (first, counts) (l, m) part → product_of_files job read options told ≡ product_of_files job part.gives options (counts_in part.told)
   follows part is_read =
       ap (λ read. product_of_files job read options told) is_read.gives
       ∙ ap (product_of_files job part.gives options) (is_told ∙ told_is counts.warnings counts.errors first counts (l, m) part.told refl refl new is_read.tells)
 
-  pub completes_reading : (report : Report) (budget : ℕ) (part : Reading FilesRead) → IsRead read (first, counts) (l, m) part
+  pub completes_reading : (report : Report) (budget : ℕ) (part : Logged FilesRead) → IsRead read (first, counts) (l, m) part
       → Completes report (b, m) (c, n) (product_of_files job read options told budget) → Completes report (b, l) (c, n) (product_of_reading job part options budget)
   completes_reading report budget part is_read completes =
       completes_behind part.told b c l m n is_read.tells.received report _ (subst (λ (make : ℕ → Product). Completes report (b, m) (c, n) (make budget)) (follows part is_read) completes)
 
-  pub fails_reading : (budget : ℕ) (part : Reading FilesRead) → IsRead read (first, counts) (l, m) part
+  pub fails_reading : (budget : ℕ) (part : Logged FilesRead) → IsRead read (first, counts) (l, m) part
       → AtFault (b, m) (c, n) (product_of_files job read options told) budget → AtFault (b, l) (c, n) (product_of_reading job part options) budget
   fails_reading budget part is_read fault =
       fails_behind part.told b c l m n is_read.tells.received _ budget (subst (λ (make : ℕ → Product). AtFault (b, m) (c, n) make budget) (follows part is_read) fault)
 
 -- ---- behind the `.aux` files
 
-module _ (name : List ℕ) (options : Options) (a z : Received) (job : Job) where
+module _ (name : List ℕ) (options : Options) (a z : Received) (job : AuxJob) where
   pub completes_named : (report : Report) (files : Files) → job ≡ job_named files name → Completes report a z (product_of_reading job (files_read files job) options options.budget)
       → Completes report a z (product files name options)
-  completes_named report files is completes = subst (λ (job : Job). Completes report a z (product_of_reading job (files_read files job) options options.budget)) is completes
+  completes_named report files is completes = subst (λ (job : AuxJob). Completes report a z (product_of_reading job (files_read files job) options options.budget)) is completes
 
   pub fails_named : (files : Files) → job ≡ job_named files name → AtFault a z (product_of_reading job (files_read files job) options) options.budget → AtFault a z (product_with files name options) options.budget
-  fails_named files is fails = subst (λ (job : Job). AtFault a z (product_of_reading job (files_read files job) options) options.budget) is fails
+  fails_named files is fails = subst (λ (job : AuxJob). AtFault a z (product_of_reading job (files_read files job) options) options.budget) is fails
 
 -- ---- counts of failures
 

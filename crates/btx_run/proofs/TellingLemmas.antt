@@ -4,12 +4,13 @@ use Rattle.std.proofs.lemmas.Grind.{flat_map-append}
 use Rattle.std.proofs.lemmas.List.{take-append-drop, take_more}
 use Rattle.std.specs.Io.KnownBytes.{Appends}
 use Rattle.std.proofs.KnownBytes.{Appends-trans, Appends-nil}
-use Rattle.btx_text.specs.LogLines.{Line}
-use Rattle.btx_out.specs.Pieces.{AppendsBeginning}
+use Rattle.btx_text.specs.language.LogLines.{Line}
+use Rattle.btx_out.specs.language.Pieces.{AppendsBeginning}
 use Rattle.btx_out.proofs.PieceLemmas.{beginning-after, beginning-all, beginning-longer}
-use Rattle.btx_run.specs.Files.Counts.{Counts, counts_of}
-use Rattle.btx_run.specs.Files.Telling.{Tells, bytes_of_lines}
-use Rattle.btx_machine.specs.Saying.{ended_line}
+use Rattle.btx_run.specs.language.Files.Counts.{Counts, counts_of}
+use Rattle.btx_run.specs.language.Files.Telling.{bytes_of_lines}
+use Rattle.btx_run.specs.refinement.Files.Telling.{Tells}
+use Rattle.btx_machine.specs.language.Saying.{ended_line}
 
 -- the bytes of lines and further lines
 pub bytes_of_both : (xs ys : List Line) → bytes_of_lines (xs ++ ys) ≡ bytes_of_lines xs ++ bytes_of_lines ys

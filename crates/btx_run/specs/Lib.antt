@@ -1,8 +1,3 @@
-pub mod Files
-pub mod Contents
-pub mod DirectStyles
-pub mod Product
-pub mod Answered
-pub mod Laws
-pub mod WorkedJobs
-pub mod RunFaults
+pub mod language
+pub mod laws
+pub mod refinement

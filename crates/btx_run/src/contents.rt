@@ -1,9 +1,9 @@
 //! What the databases that were found hold.
 ghost use Rattle.std.specs.Prelude.{◌≡◌, IfErr, IfOk, map};
-ghost use Rattle.btx_bib.specs.Databases.{library_of};
-ghost use Rattle.btx_bib.specs.Requests.{asked};
-ghost use Rattle.btx_bib.specs.Sources.{databases_of};
-ghost use Rattle.btx_run.specs.Contents.{database_of};
+ghost use Rattle.btx_bib.specs.language.Databases.{library_of};
+ghost use Rattle.btx_bib.specs.language.Requests.{asked};
+ghost use Rattle.btx_bib.specs.refinement.Sources.{source_databases};
+ghost use Rattle.btx_run.specs.language.Contents.{database_of};
 
 use crate::files::found::FoundFiles;
 use btx_aux::AuxJob;
@@ -14,7 +14,7 @@ use std::alloc::{AllocError, Global};
 
 // The databases that were found, as they are read: nothing of them is copied.
 fn sources<'f>(alloc: Global, found: &'f FoundFiles<'_>) -> Result<Vec<Source<'f>>, AllocError>
-    ensures { IfOk result (λ sources. databases_of sources.items ≡ map database_of found.entry.now) }
+    ensures { IfOk result (λ sources. source_databases sources.items ≡ map database_of found.entry.now) }
 {
     let mut sources = Vec::new(alloc);
     for file in found.as_slice() {

@@ -1,20 +1,21 @@
 //! A whole run: the files of a job are read, then what its style and its databases hold, and then the style is executed.
 ghost use Rattle.std.specs.Prelude.{◌≡◌, ◌≤◌, IfOk, IfSome, OnErr, OnOk, length};
 ghost use Rattle.std.specs.Io.KnownBytes.{Appends};
-ghost use Rattle.btx_text.specs.Limits.{greatest_file};
-ghost use Rattle.btx_aux.specs.Answers.{ByAnswers};
-ghost use Rattle.btx_machine.specs.DirectDepth.{StaysWithin};
-ghost use Rattle.btx_machine.specs.Faults.{CountsOfOutputs};
-ghost use Rattle.btx_machine.specs.KeepingStep.{AtFault, Completes};
-ghost use Rattle.btx_machine.specs.Product.{log_of, product as executed};
+ghost use Rattle.btx_text.specs.language.Limits.{greatest_file};
+ghost use Rattle.btx_aux.specs.refinement.Answers.{ByAnswers};
+ghost use Rattle.btx_machine.specs.language.DirectDepth.{StaysWithin};
+ghost use Rattle.btx_machine.specs.refinement.Faults.{CountsOfOutputs};
+ghost use Rattle.btx_machine.specs.language.KeepingStep.{AtFault, Completes};
+ghost use Rattle.btx_machine.specs.language.Product.{log_of, style_product as executed};
 ghost use Rattle.btx_machine.specs.declared.report.End.TheVariants.{NoTopFile};
-ghost use Rattle.btx_run.specs.Answered.{CompletesAsAnswered, FailsAsAnswered};
-ghost use Rattle.btx_run.specs.DirectStyles.{WhereDirect};
-ghost use Rattle.btx_run.specs.Files.Asked.{AreAmong, names_in};
-ghost use Rattle.btx_run.specs.Files.Faults.{CountsOfThree};
-ghost use Rattle.btx_run.specs.Files.Readings.{StyleFits, files_read, reading_of};
-ghost use Rattle.btx_run.specs.Product.{product, product_of_files, product_of_reading, product_with, work_in, work_of};
-ghost use Rattle.btx_run.specs.RunFaults.{CountsOfRun};
+ghost use Rattle.btx_run.specs.language.Answered.{CompletesAsAnswered, FailsAsAnswered};
+ghost use Rattle.btx_run.specs.language.DirectStyles.{WhereDirect};
+ghost use Rattle.btx_run.specs.refinement.Files.Asked.{AreAmong, names_in};
+ghost use Rattle.btx_run.specs.refinement.Files.Faults.{CountsOfThree};
+ghost use Rattle.btx_run.specs.language.Files.Readings.{files_read, reading_of};
+ghost use Rattle.btx_run.specs.refinement.Files.Readings.{StyleFits};
+ghost use Rattle.btx_run.specs.language.Product.{product, product_of_files, product_of_reading, product_with, work_in, work_of};
+ghost use Rattle.btx_run.specs.language.RunFaults.{CountsOfRun};
 
 use crate::contents::read_library;
 use crate::files::{FilesRead, JobFiles, Journal, read_files, read_job};

@@ -3,14 +3,14 @@ use Rattle.std.proofs.Common.{ℕ, ℤ, ◌≡◌, ◌≤◌, ◌<◌, ◌+◌, 
 use Rattle.std.specs.Str.{bytes_eq}
 use Rattle.std.specs.Ordering.{int_eq}
 use Rattle.std.proofs.lemmas.List.{take_all, drop_all, drop-set, append-nil, length-take-le}
-use Rattle.btx_code.specs.Ops.{callee_of, Runs}
+use Rattle.btx_code.specs.refinement.Ops.{callee_of, Runs}
 use Rattle.btx_stack.specs.declared.slot.Kind.{Kind}
 use Rattle.btx_stack.specs.declared.slot.Kind.TheVariants as kind
 use Rattle.btx_stack.specs.declared.slot.Slot.{Slot}
-use Rattle.btx_stack.specs.Content.{Content}
-use Rattle.btx_stack.specs.Content as content
-use Rattle.btx_stack.specs.Slots.{HasBytes, Fits, content_of, content_as, contents_of, Stand, is_large_kind, is_text_kind, text_as, text_of}
-use Rattle.btx_stack.specs.Steps.{compared, put_for_integers, replaced, below_choice, one_if, is_large}
+use Rattle.btx_stack.specs.refinement.Content.{Content}
+use Rattle.btx_stack.specs.refinement.Content as content
+use Rattle.btx_stack.specs.refinement.Slots.{HasBytes, SlotFits, content_of, content_as, contents_of, Stand, is_large_kind, is_text_kind, text_as, slot_text}
+use Rattle.btx_stack.specs.refinement.Steps.{compared, put_for_integers, replaced, below_choice, one_if, is_large}
 use Rattle.btx_stack.proofs.Opens.{from_here, opens_two, two_fit, large_as}
 use Rattle.btx_stack.proofs.Pushes.{put_on}
 
@@ -69,12 +69,12 @@ pub integer_off_stands : (slots : List Slot) (top : ℕ) (a : Slot) (pool : List
 integer_off_stands slots top a pool s l e k = (alone_integer slots top a pool s l e k).stand
 
 -- the two on top are integers
-record TwoIntegers (slots : List Slot) (top : ℕ) (a b : Slot) (pool : List ℕ) (old : List Content) : Type 0 where
-  shown : old ≡ content.Integer a.integer ∷ content.Integer b.integer ∷ contents_of (drop (top + 1 + 1) slots) pool
-  stand : Stand (drop (top + 1 + 1) slots) (length pool)
-  start : b.start ≡ length pool
+pub record TwoIntegers (slots : List Slot) (top : ℕ) (a b : Slot) (pool : List ℕ) (old : List Content) : Type 0 where
+  pub shown : old ≡ content.Integer a.integer ∷ content.Integer b.integer ∷ contents_of (drop (top + 1 + 1) slots) pool
+  pub stand : Stand (drop (top + 1 + 1) slots) (length pool)
+  pub start : b.start ≡ length pool
 
-two_integers : (slots : List Slot) (top : ℕ) (a b : Slot) (pool : List ℕ) (old : List Content) → contents_of (drop top slots) pool ≡ old → Stand (drop top slots) (length pool) → top + 1 < length slots → a ≡ get_or slots top a → b ≡ get_or slots (top + 1) b → a.kind ≡ kind.Integer → b.kind ≡ kind.Integer → TwoIntegers slots top a b pool old
+pub two_integers : (slots : List Slot) (top : ℕ) (a b : Slot) (pool : List ℕ) (old : List Content) → contents_of (drop top slots) pool ≡ old → Stand (drop top slots) (length pool) → top + 1 < length slots → a ≡ get_or slots top a → b ≡ get_or slots (top + 1) b → a.kind ≡ kind.Integer → b.kind ≡ kind.Integer → TwoIntegers slots top a b pool old
 two_integers slots top a b pool old o s l e f ka kb =
     let one = alone_integer slots top a pool s (omega (arith, l)) e ka in
     let two = alone_integer slots (top + 1) b pool one.stand l f kb in
@@ -85,13 +85,13 @@ two_integers slots top a b pool old o s l e f ka kb =
     }
 
 -- a slot without bytes in the place of another
-put_alone : (slots : List Slot) (at : ℕ) (v : Slot) (x : Content) (pool : List ℕ) → at < length slots → v.start ≡ length pool → ((made : List ℕ) → content_of v made ≡ x) →
+pub put_alone : (slots : List Slot) (at : ℕ) (v : Slot) (x : Content) (pool : List ℕ) → at < length slots → v.start ≡ length pool → ((made : List ℕ) → content_of v made ≡ x) →
     contents_of (drop at (set slots at v)) pool ≡ x ∷ contents_of (drop (at + 1) slots) pool
 put_alone slots at v x pool l b e = ap (contents_of (drop at (set slots at v))) (sym (append-nil pool)) ∙ put_on slots at v x pool [] l b (e [])
 
-put_stands : (slots : List Slot) (at : ℕ) (v : Slot) (n : ℕ) → at < length slots → v.start ≡ n → HasBytes v.kind v 0 → Stand (drop (at + 1) slots) n → Stand (drop at (set slots at v)) n
+pub put_stands : (slots : List Slot) (at : ℕ) (v : Slot) (n : ℕ) → at < length slots → v.start ≡ n → HasBytes v.kind v 0 → Stand (drop (at + 1) slots) n → Stand (drop at (set slots at v)) n
 put_stands slots at v n l b h s =
-    let fit : Fits v n = record { start = omega (arith, b); bytes = subst (λ k. HasBytes v.kind v k) (omega (arith, b)) h } in
+    let fit : SlotFits v n = record { start = omega (arith, b); bytes = subst (λ k. HasBytes v.kind v k) (omega (arith, b)) h } in
     let t : Stand (v ∷ drop (at + 1) slots) n = (fit, subst (λ k. Stand (drop (at + 1) slots) k) (sym b) s) in
     subst (λ vs. Stand vs n) (sym (drop-set slots at v l)) t
 
@@ -121,14 +121,14 @@ text_shown kind.Lent v made e = refl
 text_shown kind.Made v made e = refl
 text_shown kind.Large v made e = cc
 
-pub texts_compared : (slots : List Slot) (top : ℕ) (a b v : Slot) (pool : List ℕ) (old : List Content) (r : Bool) (n : ℤ) → contents_of (drop top slots) pool ≡ old → Stand (drop top slots) (length pool) → top + 1 < length slots → a ≡ get_or slots top a → b ≡ get_or slots (top + 1) b → is_text_kind a.kind ≡ true → is_text_kind b.kind ≡ true → r ≡ bytes_eq (text_of b (drop b.start (take a.start pool))) (text_of a (drop a.start pool)) → v.start ≡ b.start → ((made : List ℕ) → content_of v made ≡ content.Integer n) → n ≡ one_if r →
+pub texts_compared : (slots : List Slot) (top : ℕ) (a b v : Slot) (pool : List ℕ) (old : List Content) (r : Bool) (n : ℤ) → contents_of (drop top slots) pool ≡ old → Stand (drop top slots) (length pool) → top + 1 < length slots → a ≡ get_or slots top a → b ≡ get_or slots (top + 1) b → is_text_kind a.kind ≡ true → is_text_kind b.kind ≡ true → r ≡ bytes_eq (slot_text b (drop b.start (take a.start pool))) (slot_text a (drop a.start pool)) → v.start ≡ b.start → ((made : List ℕ) → content_of v made ≡ content.Integer n) → n ≡ one_if r →
     compared old ≡ Some (contents_of (drop (top + 1) (set slots (top + 1) v)) (take b.start pool))
 texts_compared slots top a b v pool old r n o s l e f ka kb q g c i =
     let fit = two_fit slots top a b (length pool) s l e f in
     let low : b.start ≤ a.start = fit.0.below.start in
     let high : b.start ≤ length pool = omega (arith, low, fit.0.top.start) in
-    let y = text_of a (drop a.start pool) in
-    let x = text_of b (drop b.start (take a.start pool)) in
+    let y = slot_text a (drop a.start pool) in
+    let x = slot_text b (drop b.start (take a.start pool)) in
     let rest = contents_of (drop (top + 2) slots) (take b.start pool) in
     let shown : old ≡ content.Text y ∷ content.Text x ∷ rest =
     opens_two slots top a b pool old o l e f low ∙ (ap (λ z. z ∷ content_of b (drop b.start (take a.start pool)) ∷ rest) (text_shown a.kind a (drop a.start pool) ka) ∙ ap (λ z. content.Text y ∷ z ∷ rest) (text_shown b.kind b (drop b.start (take a.start pool)) kb)) in

@@ -1,14 +1,14 @@
 -- What stands below the top.
 use Rattle.std.proofs.Common.{ℕ, zero, suc, ◌≡◌, ◌≤◌, ◌<◌, ◌+◌, ◌-◌, List, [], ◌∷◌, false, length, take, drop, get_or, Some, None, refl, sym, ap, subst, ◌∙◌, arith, true}
 use Rattle.std.proofs.lemmas.List.{take_all, take-take, drop_all, drop_more, drop-drop, length-take-le}
-use Rattle.btx_code.specs.Ops.{callee_of, Runs}
+use Rattle.btx_code.specs.refinement.Ops.{callee_of, Runs}
 use Rattle.btx_stack.specs.declared.slot.Kind.{Kind}
 use Rattle.btx_stack.specs.declared.slot.Kind.TheVariants as kind
 use Rattle.btx_stack.specs.declared.slot.Slot.{Slot}
-use Rattle.btx_stack.specs.Content.{Content}
-use Rattle.btx_stack.specs.Content as content
-use Rattle.btx_stack.specs.Slots.{HasBytes, content_of, content_as, contents_of, Stand, is_text_kind}
-use Rattle.btx_stack.specs.Steps.{has_text, is_text, large_on, integer_on, has_function, has_missing}
+use Rattle.btx_stack.specs.refinement.Content.{Content}
+use Rattle.btx_stack.specs.refinement.Content as content
+use Rattle.btx_stack.specs.refinement.Slots.{HasBytes, content_of, content_as, contents_of, Stand, is_text_kind}
+use Rattle.btx_stack.specs.refinement.Steps.{has_text, is_text, large_on, integer_on, has_function, has_missing}
 use Rattle.btx_stack.proofs.Opens.{from_here, no_large_kind}
 use Rattle.btx_stack.proofs.Pushes.{count_is}
 

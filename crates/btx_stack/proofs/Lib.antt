@@ -9,3 +9,4 @@ pub mod Depths
 pub mod LongDepths
 pub mod Alone
 pub mod PartlyLemmas
+pub mod Cuts

@@ -1,15 +1,15 @@
 -- Long strings below the top.
 use Rattle.std.proofs.Common.{ℕ, zero, suc, ◌≡◌, ◌≤◌, ◌<◌, ◌+◌, List, [], ◌∷◌, true, false, length, take, drop, get_or, Some, None, refl, sym, ap, subst, ◌∙◌, arith}
 use Rattle.std.proofs.lemmas.List.{take_all, take-take, length-take-le, get_or-take, get_or_default}
-use Rattle.btx_stack.specs.Content.{Content}
-use Rattle.btx_stack.specs.Content as content
+use Rattle.btx_stack.specs.refinement.Content.{Content}
+use Rattle.btx_stack.specs.refinement.Content as content
 use Rattle.btx_stack.specs.declared.literal.Literal.{Literal}
 use Rattle.btx_stack.specs.declared.literal.Literal.TheVariants as literal
-use Rattle.btx_stack.specs.Steps.{large_on}
-use Rattle.btx_stack.specs.Steps as steps
-use Rattle.btx_stack.specs.LongStrings.{filled, Owns}
-use Rattle.btx_stack.specs.Stacks.{has_text}
-use Rattle.btx_stack.specs.Stacks as stacks
+use Rattle.btx_stack.specs.refinement.Steps.{large_on}
+use Rattle.btx_stack.specs.refinement.Steps as steps
+use Rattle.btx_stack.specs.refinement.LongStrings.{filled, Owns}
+use Rattle.btx_stack.specs.refinement.Stacks.{has_text}
+use Rattle.btx_stack.specs.refinement.Stacks as stacks
 use Rattle.btx_bst.specs.declared.callee.Callee.{Callee}
 use Rattle.btx_stack.proofs.Depths.{rest_is}
 use Rattle.btx_stack.proofs.LongStrings.{no_text, large_within}

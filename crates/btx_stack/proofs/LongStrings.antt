@@ -4,22 +4,22 @@ use Rattle.std.specs.Prelude.{nat_lt, nat_le, IsTrue}
 use Rattle.std.proofs.lemmas.Bool.Decides.{nat_tests}
 use Rattle.std.proofs.lemmas.List.{take_at, length-append}
 use Rattle.std.proofs.Math.Seq.{get_or-append_seam}
-use Rattle.btx_stack.specs.Content.{Content}
-use Rattle.btx_stack.specs.Content as content
+use Rattle.btx_stack.specs.refinement.Content.{Content}
+use Rattle.btx_stack.specs.refinement.Content as content
 use Rattle.btx_stack.specs.declared.literal.Literal.{Literal}
 use Rattle.btx_stack.specs.declared.literal.Literal.TheVariants as literal
-use Rattle.btx_stack.specs.Steps.{Steps, pushed, is_large, are_large, large_on, plain_on, plain_off, joined, swapped, duplicated}
-use Rattle.btx_stack.specs.Steps as steps
-use Rattle.btx_stack.specs.LongStrings.{shown, before, filled, Owns}
-use Rattle.btx_stack.specs.Stacks.{Pushes, has_text, top, below_top}
-use Rattle.btx_stack.specs.Stacks as stacks
+use Rattle.btx_stack.specs.refinement.Steps.{Steps, with_pushed, is_large, are_large, large_on, plain_on, plain_off, top_joined, swapped, duplicated}
+use Rattle.btx_stack.specs.refinement.Steps as steps
+use Rattle.btx_stack.specs.refinement.LongStrings.{shown_literal, before, filled, Owns}
+use Rattle.btx_stack.specs.refinement.Stacks.{Pushes, has_text, top, below_top}
+use Rattle.btx_stack.specs.refinement.Stacks as stacks
 
 pub length_filled : (xs : List Content) (large : List (List ℕ)) → length (filled xs large) ≡ length xs
 length_filled [] large = refl
 length_filled (x ∷ xs) large = ap suc (length_filled xs (before x large))
 
 -- what is none of the long strings
-plain_shown : (x : Content) (large : List (List ℕ)) → is_large x ≡ false → shown x large ≡ shown x []
+plain_shown : (x : Content) (large : List (List ℕ)) → is_large x ≡ false → shown_literal x large ≡ shown_literal x []
 plain_shown (content.Integer n) large p = refl
 plain_shown (content.Text t) large p = refl
 plain_shown (content.Function f) large p = refl
@@ -47,8 +47,8 @@ owns_off (content.Function f) xs n p o = o
 owns_off content.Missing xs n p o = o
 owns_off (content.Large i) xs n p o = cc
 
-filled_plain : (x : Content) (xs : List Content) (large : List (List ℕ)) → is_large x ≡ false → filled (x ∷ xs) large ≡ shown x [] ∷ filled xs large
-filled_plain x xs large p = ap (λ y. y ∷ filled xs (before x large)) (plain_shown x large p) ∙ ap (λ ys. shown x [] ∷ filled xs ys) (plain_before x large p)
+filled_plain : (x : Content) (xs : List Content) (large : List (List ℕ)) → is_large x ≡ false → filled (x ∷ xs) large ≡ shown_literal x [] ∷ filled xs large
+filled_plain x xs large p = ap (λ y. y ∷ filled xs (before x large)) (plain_shown x large p) ∙ ap (λ ys. shown_literal x [] ∷ filled xs ys) (plain_before x large p)
 
 -- a test that was passed
 pub record Passed (b : Bool) (old new : List Content) : Type 0 where
@@ -90,17 +90,17 @@ longer : (n : ℕ) → nat_le n 1024 ≡ true → nat_le n 1000000 ≡ true
 longer n e = grind (arith, nat_tests)
 
 -- pushes
-push_same : (r : Bool) (x : Content) (old new : List Content) (large : List (List ℕ)) → is_large x ≡ false → Steps r old (pushed x old) new → Pushes r (shown x []) (filled old large) (filled new large)
+push_same : (r : Bool) (x : Content) (old new : List Content) (large : List (List ℕ)) → is_large x ≡ false → Steps r old (with_pushed x old) new → Pushes r (shown_literal x []) (filled old large) (filled new large)
 push_same true x old new large p e =
     let was = passed (nat_lt (length old) 1000) (x ∷ old) new e in
     (ap (λ xs. filled xs large) (sym was.same) ∙ filled_plain x old large p, omega (arith, length_filled old large, below_limit (length old) was.test))
 push_same false x old new large p e =
     (ap (λ xs. filled xs large) e.0, omega (arith, length_filled old large, at_limit (length old) (failed (nat_lt (length old) 1000) (x ∷ old) e.1)))
 
-pub push_plain : (r : Bool) (x : Content) (old new : List Content) (large : List (List ℕ)) (was : List Literal) (y : Literal) → Steps r old (pushed x old) new → filled old large ≡ was → is_large x ≡ false → shown x [] ≡ y → Pushes r y was (filled new large)
-push_plain r x old new large was y e o p s = subst (λ z. Pushes r z was (filled new large)) s (subst (λ xs. Pushes r (shown x []) xs (filled new large)) o (push_same r x old new large p e))
+pub push_plain : (r : Bool) (x : Content) (old new : List Content) (large : List (List ℕ)) (was : List Literal) (y : Literal) → Steps r old (with_pushed x old) new → filled old large ≡ was → is_large x ≡ false → shown_literal x [] ≡ y → Pushes r y was (filled new large)
+push_plain r x old new large was y e o p s = subst (λ z. Pushes r z was (filled new large)) s (subst (λ xs. Pushes r (shown_literal x []) xs (filled new large)) o (push_same r x old new large p e))
 
-pub push_owns : (r : Bool) (x : Content) (old new : List Content) (n : ℕ) → is_large x ≡ false → Steps r old (pushed x old) new → Owns old n → Owns new n
+pub push_owns : (r : Bool) (x : Content) (old new : List Content) (n : ℕ) → is_large x ≡ false → Steps r old (with_pushed x old) new → Owns old n → Owns new n
 push_owns true x old new n p e o =
     subst (λ xs. Owns xs n) (passed (nat_lt (length old) 1000) (x ∷ old) new e).same (owns_put x old n p o)
 push_owns false x old new n p e o = subst (λ xs. Owns xs n) (sym e.0) o
@@ -117,7 +117,7 @@ few_owned (content.Large i ∷ xs) n o = omega (arith, o.0, few_owned xs i o.1)
 pub large_small : (xs : List Content) (n : ℕ) → Owns xs n → length xs ≤ 1000 → n < 2 ^ 32
 large_small xs n o l = omega (arith, few_owned xs n o)
 
-true_step : (r : Bool) (x : Content) (old new : List Content) → Steps r old (pushed x old) new → (length old < 1000 → IsTrue r) → length old < 1000 → x ∷ old ≡ new
+true_step : (r : Bool) (x : Content) (old new : List Content) → Steps r old (with_pushed x old) new → (length old < 1000 → IsTrue r) → length old < 1000 → x ∷ old ≡ new
 true_step true x old new e room l = (passed (nat_lt (length old) 1000) (x ∷ old) new e).same
 true_step false x old new e room l = let t : false ≡ true = room l in cc
 
@@ -127,7 +127,7 @@ filled_large old large text =
     ap (λ t. literal.Text t ∷ filled old (take (length large) (large ++ text ∷ []))) (get_or-append_seam large text [] [])
     ∙ ap (λ ys. literal.Text text ∷ filled old ys) (take_at large (text ∷ []) (length large) refl)
 
-pub push_large : (r : Bool) (old new : List Content) (large now : List (List ℕ)) (was : List Literal) (text : List ℕ) (count number : ℕ) → Steps r old (pushed (content.Large number) old) new → (length old < 1000 → IsTrue r) → filled old large ≡ was → now ≡ large ++ text ∷ [] → number ≡ length large → count ≡ length old → length old ≤ 1000 → (count ≡ 1000 → ⊥) →
+pub push_large : (r : Bool) (old new : List Content) (large now : List (List ℕ)) (was : List Literal) (text : List ℕ) (count number : ℕ) → Steps r old (with_pushed (content.Large number) old) new → (length old < 1000 → IsTrue r) → filled old large ≡ was → now ≡ large ++ text ∷ [] → number ≡ length large → count ≡ length old → length old ≤ 1000 → (count ≡ 1000 → ⊥) →
     filled new now ≡ literal.Text text ∷ was
 push_large r old new large now was text count number e room o i m c w n =
     let l : length old < 1000 = omega (arith, c, w, n) in
@@ -136,7 +136,7 @@ push_large r old new large now was text count number e room o i m c w n =
 pub large_under : (old : List Content) (large : List (List ℕ)) (was : List Literal) (count : ℕ) → filled old large ≡ was → count ≡ length old → length old ≤ 1000 → (count ≡ 1000 → ⊥) → length was < 1000
 large_under old large was count o c w n = omega (arith, c, w, n, length_filled old large, ap length o)
 
-pub large_owns : (r : Bool) (old new : List Content) (large now : List (List ℕ)) (text : List ℕ) (count number : ℕ) → Steps r old (pushed (content.Large number) old) new → (length old < 1000 → IsTrue r) → now ≡ large ++ text ∷ [] → number ≡ length large → count ≡ length old → length old ≤ 1000 → (count ≡ 1000 → ⊥) → Owns old (length large) → Owns new (length now)
+pub large_owns : (r : Bool) (old new : List Content) (large now : List (List ℕ)) (text : List ℕ) (count number : ℕ) → Steps r old (with_pushed (content.Large number) old) new → (length old < 1000 → IsTrue r) → now ≡ large ++ text ∷ [] → number ≡ length large → count ≡ length old → length old ≤ 1000 → (count ≡ 1000 → ⊥) → Owns old (length large) → Owns new (length now)
 large_owns r old new large now text count number e room i m c w n o =
     let l : length old < 1000 = omega (arith, c, w, n) in
     subst (λ xs. Owns xs (length now)) (true_step r (content.Large number) old new e room l) (omega (arith, ap length i, length-append large (text ∷ []), m), subst (λ k. Owns old k) (sym m) o)
@@ -230,23 +230,23 @@ by_length n xs new ys large e f =
     let was = passed (nat_le n 1024) xs new e in
     ap (λ b. cond b (Some ys) None) (longer n was.test) ∙ ap Some (sym f ∙ ap (λ vs. filled vs large) was.same)
 
-joined_is : (old new : List Content) (large : List (List ℕ)) → joined old ≡ Some new → stacks.joined (filled old large) ≡ Some (filled new large)
+joined_is : (old new : List Content) (large : List (List ℕ)) → top_joined old ≡ Some new → stacks.top_joined (filled old large) ≡ Some (filled new large)
 joined_is [] new large e = cc
 joined_is (x ∷ []) new large e = cc
 joined_is (content.Text b ∷ content.Text a ∷ xs) new large e = by_length (length (a ++ b)) (content.Text (a ++ b) ∷ xs) new (literal.Text (a ++ b) ∷ filled xs large) large e refl
 joined_is (x ∷ y ∷ xs) new large e = cc
 
-joined_owns : (old new : List Content) (n : ℕ) → joined old ≡ Some new → Owns old n → Owns new n
+joined_owns : (old new : List Content) (n : ℕ) → top_joined old ≡ Some new → Owns old n → Owns new n
 joined_owns [] new n e o = cc
 joined_owns (x ∷ []) new n e o = cc
 joined_owns (content.Text b ∷ content.Text a ∷ xs) new n e o = subst (λ vs. Owns vs n) (passed (nat_le (length (a ++ b)) 1024) (content.Text (a ++ b) ∷ xs) new e).same o
 joined_owns (x ∷ y ∷ xs) new n e o = cc
 
-pub join_done : (r : Bool) (old new : List Content) (large : List (List ℕ)) (was : List Literal) → Steps r old (joined old) new → r ≡ true → filled old large ≡ was → stacks.joined was ≡ Some (filled new large)
-join_done true old new large was e t o = sym (ap stacks.joined o) ∙ joined_is old new large e
+pub join_done : (r : Bool) (old new : List Content) (large : List (List ℕ)) (was : List Literal) → Steps r old (top_joined old) new → r ≡ true → filled old large ≡ was → stacks.top_joined was ≡ Some (filled new large)
+join_done true old new large was e t o = sym (ap stacks.top_joined o) ∙ joined_is old new large e
 join_done false old new large was e t o = cc
 
-pub join_owns : (r : Bool) (old new : List Content) (n : ℕ) → Steps r old (joined old) new → Owns old n → Owns new n
+pub join_owns : (r : Bool) (old new : List Content) (n : ℕ) → Steps r old (top_joined old) new → Owns old n → Owns new n
 join_owns true old new n e o = joined_owns old new n e o
 join_owns false old new n e o = subst (λ xs. Owns xs n) (sym e.0) o
 
@@ -301,7 +301,7 @@ pub record Doubled (x : Content) (xs new : List Content) : Type 0 where
   pub room : length (x ∷ xs) < 1000
   pub same : x ∷ x ∷ xs ≡ new
 
-doubled : (b : Bool) (x : Content) (xs new : List Content) → is_large x ≡ b → cond b None (pushed x (x ∷ xs)) ≡ Some new → Doubled x xs new
+doubled : (b : Bool) (x : Content) (xs new : List Content) → is_large x ≡ b → cond b None (with_pushed x (x ∷ xs)) ≡ Some new → Doubled x xs new
 doubled true x xs new p e = cc
 doubled false x xs new p e =
     let was = passed (nat_lt (length (x ∷ xs)) 1000) (x ∷ x ∷ xs) new e in
@@ -311,11 +311,11 @@ duplicated_is : (old new : List Content) (large : List (List ℕ)) → duplicate
 duplicated_is [] new large e = cc
 duplicated_is (x ∷ xs) new large e =
     let was = doubled (is_large x) x xs new refl e in
-    let one : filled (x ∷ xs) large ≡ shown x [] ∷ filled xs large = filled_plain x xs large was.plain in
-    let two : filled new large ≡ shown x [] ∷ shown x [] ∷ filled xs large =
-    ap (λ vs. filled vs large) (sym was.same) ∙ (filled_plain x (x ∷ xs) large was.plain ∙ ap (λ ys. shown x [] ∷ ys) one) in
-    let room : nat_lt (length (shown x [] ∷ filled xs large)) 1000 ≡ true = is_below (length (shown x [] ∷ filled xs large)) (omega (arith, was.room, length_filled xs large)) in
-    ap stacks.duplicated one ∙ (ap (λ b. cond b (Some (shown x [] ∷ shown x [] ∷ filled xs large)) None) room ∙ ap Some (sym two))
+    let one : filled (x ∷ xs) large ≡ shown_literal x [] ∷ filled xs large = filled_plain x xs large was.plain in
+    let two : filled new large ≡ shown_literal x [] ∷ shown_literal x [] ∷ filled xs large =
+    ap (λ vs. filled vs large) (sym was.same) ∙ (filled_plain x (x ∷ xs) large was.plain ∙ ap (λ ys. shown_literal x [] ∷ ys) one) in
+    let room : nat_lt (length (shown_literal x [] ∷ filled xs large)) 1000 ≡ true = is_below (length (shown_literal x [] ∷ filled xs large)) (omega (arith, was.room, length_filled xs large)) in
+    ap stacks.duplicated one ∙ (ap (λ b. cond b (Some (shown_literal x [] ∷ shown_literal x [] ∷ filled xs large)) None) room ∙ ap Some (sym two))
 
 pub duplicate_done : (r : Bool) (old new : List Content) (large : List (List ℕ)) (was : List Literal) → Steps r old (duplicated old) new → r ≡ true → filled old large ≡ was → stacks.duplicated was ≡ Some (filled new large)
 duplicate_done true old new large was e t o = sym (ap stacks.duplicated o) ∙ duplicated_is old new large e
@@ -332,17 +332,17 @@ duplicate_owns true (x ∷ xs) new n e o =
 gives_off : (old new : List Content) (large : List (List ℕ)) (text : List ℕ) → old ≡ content.Text text ∷ new → filled old large ≡ literal.Text text ∷ filled new large
 gives_off old new large text e = ap (λ xs. filled xs large) e
 
-pub given : (most : ℕ) (old new : List Content) (large : List (List ℕ)) (was : List Literal) (before after : List ℕ) → steps.Gives true most old new before after → filled old large ≡ was → was ≡ literal.Text after ∷ filled new large
+pub given : (most : ℕ) (old new : List Content) (large : List (List ℕ)) (was : List Literal) (before after : List ℕ) → steps.GivesString true most old new before after → filled old large ≡ was → was ≡ literal.Text after ∷ filled new large
 given most old new large was before after g o = sym o ∙ gives_off old new large after g.0
 
-pub not_given : (r : Bool) (most : ℕ) (old new : List Content) (large : List (List ℕ)) (was : List Literal) (before after : List ℕ) → steps.Gives r most old new before after → r ≡ false → filled old large ≡ was → filled new large ≡ was
+pub not_given : (r : Bool) (most : ℕ) (old new : List Content) (large : List (List ℕ)) (was : List Literal) (before after : List ℕ) → steps.GivesString r most old new before after → r ≡ false → filled old large ≡ was → filled new large ≡ was
 not_given false most old new large was before after g e o = ap (λ xs. filled xs large) g.0 ∙ o
 not_given true most old new large was before after g e o = cc
 
 pub too_long : (n most : ℕ) → most < n → nat_le n most ≡ false
 too_long n most l = grind (arith, nat_tests)
 
-pub give_owns : (r : Bool) (most n : ℕ) (old new : List Content) (before after : List ℕ) → steps.Gives r most old new before after → Owns old n → Owns new n
+pub give_owns : (r : Bool) (most n : ℕ) (old new : List Content) (before after : List ℕ) → steps.GivesString r most old new before after → Owns old n → Owns new n
 give_owns true most n old new before after g o = let p : Owns (content.Text after ∷ new) n = subst (λ xs. Owns xs n) g.0 o in p
 give_owns false most n old new before after g o = subst (λ xs. Owns xs n) (sym g.0) o
 
@@ -406,8 +406,8 @@ pushed_again false x (y ∷ ys) new e p =
     (p.0 ∙ ap (λ z. z ∷ ys) (sym s), ap (λ b. cond b (Some (y ∷ y ∷ ys)) None) (not_below (length (y ∷ ys)) p.1))
 
 -- what can't be joined
-pub not_joined : (a b : List ℕ) (xs : List Literal) → 1000000 < length a + length b → stacks.joined (literal.Text b ∷ literal.Text a ∷ xs) ≡ None
+pub not_joined : (a b : List ℕ) (xs : List Literal) → 1000000 < length a + length b → stacks.top_joined (literal.Text b ∷ literal.Text a ∷ xs) ≡ None
 not_joined a b xs l = ap (λ t. cond t (Some (literal.Text (a ++ b) ∷ xs)) None) (too_long (length (a ++ b)) 1000000 (omega (arith, l, length-append a b)))
 
-pub now_joined : (a b text : List ℕ) (xs : List Literal) → length a + length b ≤ 1000000 → text ≡ a ++ b → stacks.joined (literal.Text b ∷ literal.Text a ∷ xs) ≡ Some (literal.Text text ∷ xs)
+pub now_joined : (a b text : List ℕ) (xs : List Literal) → length a + length b ≤ 1000000 → text ≡ a ++ b → stacks.top_joined (literal.Text b ∷ literal.Text a ∷ xs) ≡ Some (literal.Text text ∷ xs)
 now_joined a b text xs l e = ap (λ t. cond t (Some (literal.Text (a ++ b) ∷ xs)) None) (not_long (length (a ++ b)) 1000000 (omega (arith, l, length-append a b))) ∙ ap (λ t. Some (literal.Text t ∷ xs)) (sym e)

@@ -5,9 +5,9 @@ use Rattle.std.proofs.lemmas.Slice.{between_is}
 use Rattle.btx_stack.specs.declared.slot.Kind.{Kind}
 use Rattle.btx_stack.specs.declared.slot.Kind.TheVariants as kind
 use Rattle.btx_stack.specs.declared.slot.Slot.{Slot}
-use Rattle.btx_stack.specs.Content.{Content}
-use Rattle.btx_stack.specs.Slots.{content_of, content_as, contents_of, Stand, Fits, is_large_kind}
-use Rattle.btx_stack.specs.Steps.{is_large, large_on}
+use Rattle.btx_stack.specs.refinement.Content.{Content}
+use Rattle.btx_stack.specs.refinement.Slots.{content_of, content_as, contents_of, Stand, SlotFits, is_large_kind}
+use Rattle.btx_stack.specs.refinement.Steps.{is_large, large_on}
 
 -- the slots from a place on
 pub from_here : (slots : List Slot) (at : ℕ) (v : Slot) → at < length slots → v ≡ get_or slots at v → drop at slots ≡ v ∷ drop (at + 1) slots
@@ -45,8 +45,8 @@ opens_two slots top a b pool old o l e f h =
 
 -- where the two on top begin
 pub record TwoFit (a b : Slot) (size : ℕ) : Type 0 where
-  pub top : Fits a size
-  pub below : Fits b a.start
+  pub top : SlotFits a size
+  pub below : SlotFits b a.start
 
 pub two_fit : (slots : List Slot) (top : ℕ) (a b : Slot) (n : ℕ) → Stand (drop top slots) n → top + 1 < length slots → a ≡ get_or slots top a → b ≡ get_or slots (top + 1) b → TwoFit a b n × Stand (drop (top + 2) slots) b.start
 two_fit slots top a b n s l e f =

@@ -1,15 +1,15 @@
 -- Steps that may be left to a slower way, with the long strings.
 use Rattle.std.proofs.Common.{ℕ, ℤ, ◌≡◌, Bool, true, false, cond, List, [], ◌∷◌, Option, Some, None, refl, sym, ap, subst, ◌∙◌}
 use Rattle.btx_bst.specs.declared.callee.Callee.{Callee}
-use Rattle.btx_stack.specs.Content.{Content}
-use Rattle.btx_stack.specs.Content as content
+use Rattle.btx_stack.specs.refinement.Content.{Content}
+use Rattle.btx_stack.specs.refinement.Content as content
 use Rattle.btx_stack.specs.declared.literal.Literal.{Literal}
 use Rattle.btx_stack.specs.declared.literal.Literal.TheVariants as literal
-use Rattle.btx_stack.specs.Steps.{Partly, compared, put_for_integers, replaced, below_choice, is_large, one_if}
-use Rattle.btx_stack.specs.LongStrings.{filled, before, Owns}
+use Rattle.btx_stack.specs.refinement.Steps.{Partly, compared, put_for_integers, replaced, below_choice, is_large, one_if}
+use Rattle.btx_stack.specs.refinement.LongStrings.{filled, before, Owns}
 use Rattle.std.specs.Prelude.{IfSome, IfNone}
-use Rattle.btx_stack.specs.Stacks.{top, below_top}
-use Rattle.btx_stack.specs.Stacks as stacks
+use Rattle.btx_stack.specs.refinement.Stacks.{top, below_top}
+use Rattle.btx_stack.specs.refinement.Stacks as stacks
 use Rattle.std.specs.Str.{bytes_eq}
 use Rattle.std.specs.Ordering.{int_eq}
 use Rattle.btx_stack.proofs.LongStrings.{plain_before, owns_off}
@@ -18,11 +18,11 @@ use Rattle.btx_stack.proofs.LongStrings.{plain_before, owns_off}
 module _ (f : List Content → Option (List Content)) (g : List Literal → Option (List Literal))
     (is : (old new : List Content) (large : List (List ℕ)) → f old ≡ Some new → g (filled old large) ≡ Some (filled new large))
     (owns : (old new : List Content) (n : ℕ) → f old ≡ Some new → Owns old n → Owns new n) where
-  done : (r : Bool) (old new : List Content) (large : List (List ℕ)) (was : List Literal) → Partly r old (f old) new → filled old large ≡ was → stacks.Partly r was (g was) (filled new large)
+  pub done : (r : Bool) (old new : List Content) (large : List (List ℕ)) (was : List Literal) → Partly r old (f old) new → filled old large ≡ was → stacks.Partly r was (g was) (filled new large)
   done true old new large was e o = subst (λ w. g w ≡ Some (filled new large)) o (is old new large e)
   done false old new large was e o = ap (λ xs. filled xs large) e ∙ o
 
-  owned : (r : Bool) (old new : List Content) (n : ℕ) → Partly r old (f old) new → Owns old n → Owns new n
+  pub owned : (r : Bool) (old new : List Content) (n : ℕ) → Partly r old (f old) new → Owns old n → Owns new n
   owned true old new n e o = owns old new n e o
   owned false old new n e o = subst (λ xs. Owns xs n) (sym e) o
 

@@ -5,9 +5,9 @@ use Rattle.std.proofs.lemmas.Bool.{cond_below}
 use Rattle.btx_stack.specs.declared.slot.Kind.{Kind}
 use Rattle.btx_stack.specs.declared.slot.Kind.TheVariants as kind
 use Rattle.btx_stack.specs.declared.slot.Slot.{Slot}
-use Rattle.btx_stack.specs.Content.{Content}
-use Rattle.btx_stack.specs.Slots.{content_of, contents_of, Stand, HasBytes}
-use Rattle.btx_stack.specs.Steps.{pushed}
+use Rattle.btx_stack.specs.refinement.Content.{Content}
+use Rattle.btx_stack.specs.refinement.Slots.{content_of, contents_of, Stand, HasBytes}
+use Rattle.btx_stack.specs.refinement.Steps.{with_pushed}
 
 few : (k : Kind) (v : Slot) (n : ℕ) → HasBytes k v n → n ≤ 1000000
 few kind.Integer v n h = omega arith
@@ -62,7 +62,7 @@ pub put_here : (slots : List Slot) (top : ℕ) (v : Slot) (x : Content) (pool : 
     contents_of (drop (top - 1) (set slots (top - 1) v)) pool ≡ x ∷ old
 put_here slots top v x pool old o l p t b e = ap (contents_of (drop (top - 1) (set slots (top - 1) v))) (sym (append-nil pool)) ∙ put_there slots top v x pool [] old o l p t b (e [])
 
-pub pushed_with_room : (x : Content) (old : List Content) → length old < 1000 → pushed x old ≡ Some (x ∷ old)
+pub pushed_with_room : (x : Content) (old : List Content) → length old < 1000 → with_pushed x old ≡ Some (x ∷ old)
 pushed_with_room x old room = sym (cond_below (length old) 1000 (Some (x ∷ old)) None room)
 
 pub count_within : (slots : List Slot) (top : ℕ) (pool : List ℕ) (old : List Content) → contents_of (drop top slots) pool ≡ old → length slots ≡ 1000 → length old ≤ 1000
@@ -74,13 +74,13 @@ full slots top pool old o l e h = omega (arith, count_is slots top pool old o l)
 
 -- a value whose bytes are at the end of the pool
 pub push_there : (slots : List Slot) (top : ℕ) (v : Slot) (x : Content) (pool made : List ℕ) (old : List Content) → contents_of (drop top slots) pool ≡ old → length slots ≡ 1000 → 0 < top → top ≤ 1000 → v.start ≡ length pool → content_of v made ≡ x →
-    pushed x old ≡ Some (contents_of (drop (top - 1) (set slots (top - 1) v)) (pool ++ made))
+    with_pushed x old ≡ Some (contents_of (drop (top - 1) (set slots (top - 1) v)) (pool ++ made))
 push_there slots top v x pool made old o l p t b e =
     pushed_with_room x old (omega (arith, count_is slots top pool old o l)) ∙ ap Some (sym (put_there slots top v x pool made old o l p t b e))
 
 -- a value without bytes
 pub push_here : (slots : List Slot) (top : ℕ) (v : Slot) (x : Content) (pool : List ℕ) (old : List Content) → contents_of (drop top slots) pool ≡ old → length slots ≡ 1000 → 0 < top → top ≤ 1000 → v.start ≡ length pool → ((made : List ℕ) → content_of v made ≡ x) →
-    pushed x old ≡ Some (contents_of (drop (top - 1) (set slots (top - 1) v)) pool)
+    with_pushed x old ≡ Some (contents_of (drop (top - 1) (set slots (top - 1) v)) pool)
 push_here slots top v x pool old o l p t b e =
     pushed_with_room x old (omega (arith, count_is slots top pool old o l)) ∙ ap Some (sym (put_here slots top v x pool old o l p t b e))
 

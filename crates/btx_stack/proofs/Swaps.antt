@@ -4,9 +4,9 @@ use Rattle.std.proofs.lemmas.List.{drop-set, set_comm, length-set, length-drop, 
 use Rattle.btx_stack.specs.declared.slot.Kind.{Kind}
 use Rattle.btx_stack.specs.declared.slot.Kind.TheVariants as kind
 use Rattle.btx_stack.specs.declared.slot.Slot.{Slot}
-use Rattle.btx_stack.specs.Content.{Content}
-use Rattle.btx_stack.specs.Slots.{content_of, content_as, contents_of, Stand, Fits, HasBytes, are_large_kinds, is_large_kind}
-use Rattle.btx_stack.specs.Steps.{swapped, are_large, is_large}
+use Rattle.btx_stack.specs.refinement.Content.{Content}
+use Rattle.btx_stack.specs.refinement.Slots.{content_of, content_as, contents_of, Stand, SlotFits, HasBytes, are_large_kinds, is_large_kind}
+use Rattle.btx_stack.specs.refinement.Steps.{swapped, are_large, is_large}
 use Rattle.btx_stack.proofs.Opens.{opens_two, two_fit, range_is, large_as}
 use Rattle.btx_stack.proofs.Pushes.{on_parts, small}
 
@@ -31,7 +31,7 @@ bytes_moved kind.Made v start n h = h
 bytes_moved kind.Large v start n h = h
 
 -- a value with as many bytes elsewhere
-fits_moved : (v : Slot) (size start now : ℕ) → Fits v size → start ≤ now → size - v.start ≡ now - start → Fits (moved v start) now
+fits_moved : (v : Slot) (size start now : ℕ) → SlotFits v size → start ≤ now → size - v.start ≡ now - start → SlotFits (moved v start) now
 fits_moved v size start now f h e = record { start = h; bytes = subst (λ n. HasBytes v.kind (moved v start) n) e (bytes_moved v.kind v start (size - v.start) f.bytes) }
 
 two_set : (slots : List Slot) (top : ℕ) (x y : Slot) → top + 1 < length slots → drop top (set (set slots top x) (top + 1) y) ≡ x ∷ y ∷ drop (top + 2) slots

@@ -1,6 +1,1 @@
-pub mod Content
-pub mod Slots
-pub mod Steps
-pub mod LongStrings
-pub mod Stacks
-pub mod Variables
+pub mod refinement

@@ -10,4 +10,5 @@ pub mod variable;
 
 pub use literal::Literal;
 pub use literals::Literals;
+pub use slots::GREATEST_SHORT;
 pub use variable::Variable;

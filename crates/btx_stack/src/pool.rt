@@ -58,3 +58,15 @@ pub fn again(pool: &mut Vec<u8>, start: usize) -> Result<(), AllocError>
     }
     Ok(())
 }
+
+/// Of the bytes from `start` on `count` stay, from the one at `from` among them on.
+#[inline(always)]
+pub fn keep(pool: &mut Vec<u8>, start: usize, from: usize, count: usize)
+    requires { start + from + count ≤ vec_len pool.old }
+    ensures { pool.new.items ≡ take start pool.old.items ++ take count (drop (start + from) pool.old.items) }
+{
+    if from > 0 {
+        pool.copy_within(start + from..start + from + count, start);
+    }
+    pool.truncate(start + count);
+}

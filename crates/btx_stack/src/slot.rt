@@ -1,10 +1,10 @@
 //! A literal as the stack keeps it.
 ghost use Rattle.std.specs.Prelude.{◌≡◌, ◌≤◌, length, IsTrue, drop, take};
 ghost use Rattle.std.specs.Str.{bytes_eq};
-ghost use Rattle.btx_text.specs.Limits.{greatest_string};
-ghost use Rattle.btx_code.specs.Ops.{callee_of, Runs};
-ghost use Rattle.btx_stack.specs.Slots.{IsPlain, IsMade, is_text_kind, is_large_kind, are_large_kinds, content_of, text_of};
-ghost use Rattle.btx_stack.specs.Content as content;
+ghost use Rattle.btx_text.specs.language.Limits.{greatest_string};
+ghost use Rattle.btx_code.specs.refinement.Ops.{callee_of, Runs};
+ghost use Rattle.btx_stack.specs.refinement.Slots.{IsPlainSlot, IsMade, is_text_kind, is_large_kind, are_large_kinds, content_of, slot_text};
+ghost use Rattle.btx_stack.specs.refinement.Content as content;
 
 use btx_bst::Callee;
 use btx_code::Op;
@@ -57,7 +57,7 @@ pub fn are_same(pool: &[u8], a: &Slot<'_>, b: &Slot<'_>) -> bool
     requires below { IsTrue (is_text_kind b.now.kind) }
     requires in_order { b.now.start ≤ a.now.start }
     requires within { a.now.start ≤ length pool.now }
-    ensures { result ≡ bytes_eq (text_of b.now (drop b.now.start (take a.now.start pool.now))) (text_of a.now (drop a.now.start pool.now)) }
+    ensures { result ≡ bytes_eq (slot_text b.now (drop b.now.start (take a.now.start pool.now))) (slot_text a.now (drop a.now.start pool.now)) }
 {
     b.text(pool, a.start as usize) == a.text(pool, pool.len())
 }
@@ -80,7 +80,7 @@ pub struct Slot<'a> {
 impl<'a> Slot<'a> {
     /// A slot that holds no string.
     pub fn empty() -> Self
-        ensures { IsPlain result 0 content.Missing }
+        ensures { IsPlainSlot result 0 content.Missing }
     {
         Slot {
             kind: Kind::Missing,
@@ -109,7 +109,7 @@ impl<'a> Slot<'a> {
         requires text { IsTrue (is_text_kind self.now.kind) }
         requires in_order { self.now.start ≤ end }
         requires within { end ≤ length pool.now }
-        ensures value { result.now ≡ text_of self.now (drop self.now.start (take end pool.now)) }
+        ensures value { result.now ≡ slot_text self.now (drop self.now.start (take end pool.now)) }
         ensures content { content.Text result.now ≡ content_of self.now (drop self.now.start (take end pool.now)) }
     {
         match self.kind {
@@ -121,7 +121,7 @@ impl<'a> Slot<'a> {
     /// The slot holds an integer from now on.
     #[inline(always)]
     pub fn set_integer(&mut self, integer: i32, start: u32)
-        ensures { IsPlain self.new start (content.Integer integer) }
+        ensures { IsPlainSlot self.new start (content.Integer integer) }
     {
         self.kind = Kind::Integer;
         self.integer = integer;
@@ -132,7 +132,7 @@ impl<'a> Slot<'a> {
     #[inline(always)]
     pub fn set_function(&mut self, op: Op, number: u32, start: u32)
         requires { Runs op }
-        ensures { IsPlain self.new start (content.Function (callee_of op number)) }
+        ensures { IsPlainSlot self.new start (content.Function (callee_of op number)) }
     {
         self.kind = Kind::Function;
         self.op = op;
@@ -143,7 +143,7 @@ impl<'a> Slot<'a> {
     /// The slot holds the value of a missing field from now on.
     #[inline(always)]
     pub fn set_missing(&mut self, start: u32)
-        ensures { IsPlain self.new start content.Missing }
+        ensures { IsPlainSlot self.new start content.Missing }
     {
         self.kind = Kind::Missing;
         self.start = start;
@@ -153,7 +153,7 @@ impl<'a> Slot<'a> {
     #[inline(always)]
     pub fn set_lent(&mut self, bytes: &'a [u8], start: u32)
         requires { length bytes.now ≤ greatest_string }
-        ensures { IsPlain self.new start (content.Text bytes.now) }
+        ensures { IsPlainSlot self.new start (content.Text bytes.now) }
     {
         self.kind = Kind::Lent;
         self.bytes = bytes;
@@ -163,7 +163,7 @@ impl<'a> Slot<'a> {
     /// The slot holds a long string from now on.
     #[inline(always)]
     pub fn set_large(&mut self, number: u32, start: u32)
-        ensures { IsPlain self.new start (content.Large number) }
+        ensures { IsPlainSlot self.new start (content.Large number) }
     {
         self.kind = Kind::Large;
         self.number = number;

@@ -1,13 +1,13 @@
 //! The stack of slots over one pool of bytes, below the layer of long strings.
 ghost use Rattle.std.specs.Prelude.{◌≡◌, ◌≤◌, ◌<◌, ◌+◌, [], ◌∷◌, length, drop, IfOk, IfSome, IfNone, OnErr, IsSome, is_some, IsTrue};
-ghost use Rattle.btx_text.specs.Limits.{greatest_string};
-ghost use Rattle.btx_code.specs.Ops.{callee_of, Runs};
-ghost use Rattle.btx_stack.specs.Slots.{greatest_short};
-ghost use Rattle.btx_stack.specs.Steps.{Steps, Partly, Gives, compared, put_for_integers, replaced, below_choice, one_if, large_on, integer_on, has_function, has_missing, plain_on, plain_off, pushed, below_top, has_text, joined, swapped, duplicated};
-ghost use Rattle.btx_stack.specs.Content as content;
+ghost use Rattle.btx_text.specs.language.Limits.{greatest_string};
+ghost use Rattle.btx_code.specs.refinement.Ops.{callee_of, Runs};
+ghost use Rattle.btx_stack.specs.refinement.Slots.{greatest_short};
+ghost use Rattle.btx_stack.specs.refinement.Steps.{Steps, Partly, GivesString, compared, cut, put_for_integers, replaced, below_choice, one_if, large_on, integer_on, has_function, has_missing, plain_on, plain_off, with_pushed, below_top, has_text, top_joined, swapped, duplicated};
+ghost use Rattle.btx_stack.specs.refinement.Content as content;
 
 use crate::literal::Literal;
-use crate::pool::{again, append_two, exchange, put_before};
+use crate::pool::{again, append_two, exchange, keep, put_before};
 use crate::slot::{Kind, Slot, are_large, are_same};
 use crate::variable::Variable;
 use btx_code::Op;
@@ -31,12 +31,12 @@ pub struct Slots<'a> {
 
 impl<'a> Model for Slots<'a> {
     ghost use Rattle.std.specs.Prelude.{List};
-    ghost use Rattle.btx_stack.specs.Content.{Content};
+    ghost use Rattle.btx_stack.specs.refinement.Content.{Content};
 
     ghost Value = { List Content };
 
     ghost use Rattle.std.specs.Prelude.{drop, ◌≡◌, ◌≤◌, length};
-    ghost use Rattle.btx_stack.specs.Slots.{contents_of, Stand};
+    ghost use Rattle.btx_stack.specs.refinement.Slots.{contents_of, Stand};
 
     ghost view = { λ s. contents_of (drop s.top s.all.items) s.pool.items };
 
@@ -69,7 +69,7 @@ impl<'a> Slots<'a> {
     #[tactic(auto, using(crate::proofs::Pushes::small, crate::proofs::Pushes::full, crate::proofs::Pushes::push_here))]
     #[inline(always)]
     pub fn push_integer(&mut self, integer: i32) -> bool
-        ensures steps { Steps result self.old (pushed (content.Integer integer) self.old) self.new }
+        ensures steps { Steps result self.old (with_pushed (content.Integer integer) self.old) self.new }
         ensures room { length self.old < 1000 → IsTrue result }
     {
         let at = self.top;
@@ -87,7 +87,7 @@ impl<'a> Slots<'a> {
     #[inline(always)]
     pub fn push_function(&mut self, op: Op, number: u32) -> bool
         requires { Runs op }
-        ensures steps { Steps result self.old (pushed (content.Function (callee_of op number)) self.old) self.new }
+        ensures steps { Steps result self.old (with_pushed (content.Function (callee_of op number)) self.old) self.new }
         ensures room { length self.old < 1000 → IsTrue result }
     {
         let at = self.top;
@@ -104,7 +104,7 @@ impl<'a> Slots<'a> {
     #[tactic(auto, using(crate::proofs::Pushes::small, crate::proofs::Pushes::full, crate::proofs::Pushes::push_here))]
     #[inline(always)]
     pub fn push_missing(&mut self) -> bool
-        ensures steps { Steps result self.old (pushed content.Missing self.old) self.new }
+        ensures steps { Steps result self.old (with_pushed content.Missing self.old) self.new }
         ensures room { length self.old < 1000 → IsTrue result }
     {
         let at = self.top;
@@ -122,7 +122,7 @@ impl<'a> Slots<'a> {
     #[inline(always)]
     pub fn push_lent(&mut self, bytes: &'a [u8]) -> bool
         requires { length bytes.now ≤ greatest_string }
-        ensures steps { Steps result self.old (pushed (content.Text bytes.now) self.old) self.new }
+        ensures steps { Steps result self.old (with_pushed (content.Text bytes.now) self.old) self.new }
         ensures room { length self.old < 1000 → IsTrue result }
     {
         let at = self.top;
@@ -140,7 +140,7 @@ impl<'a> Slots<'a> {
     #[inline(always)]
     pub fn push_made(&mut self, bytes: &[u8]) -> Result<bool, AllocError>
         requires { length bytes.now ≤ greatest_short }
-        ensures steps { IfOk result (λ done. Steps done self.old (pushed (content.Text bytes.now) self.old) self.new) }
+        ensures steps { IfOk result (λ done. Steps done self.old (with_pushed (content.Text bytes.now) self.old) self.new) }
         ensures room { IfOk result (λ done. length self.old < 1000 → IsTrue done) }
         ensures unchanged { OnErr result (self.new ≡ self.old) }
     {
@@ -159,7 +159,7 @@ impl<'a> Slots<'a> {
     #[tactic(auto, using(crate::proofs::Pushes::small, crate::proofs::Pushes::full, crate::proofs::Pushes::push_here))]
     #[inline(always)]
     pub fn push_large(&mut self, number: u32) -> bool
-        ensures steps { Steps result self.old (pushed (content.Large number) self.old) self.new }
+        ensures steps { Steps result self.old (with_pushed (content.Large number) self.old) self.new }
         ensures room { length self.old < 1000 → IsTrue result }
     {
         let at = self.top;
@@ -479,12 +479,56 @@ impl<'a> Slots<'a> {
         }
     }
 
+    /// Replaces two integers on top and the string below them by `count` bytes of the string, from the one at `from` on, and answers true; or answers
+    /// false where others stand on top, the string has fewer bytes, or it is a long one.
+    #[tactic(auto, using(crate::proofs::Cuts::cut_lent, crate::proofs::Cuts::cut_lent_stands, crate::proofs::Cuts::lent_within, crate::proofs::Cuts::cut_made, crate::proofs::Cuts::cut_made_stands, crate::proofs::Cuts::third_within))]
+    #[inline(always)]
+    pub fn cut(&mut self, from: usize, count: usize) -> bool
+        ensures { Partly result self.old (cut from count self.old) self.new }
+    {
+        let at = self.top;
+        if at >= 998 {
+            return false;
+        }
+        let a = self.all[at];
+        let b = self.all[at + 1];
+        let t = self.all[at + 2];
+        match (a.kind, b.kind, t.kind) {
+            (Kind::Integer, Kind::Integer, Kind::Lent) => {
+                if from > t.bytes.len() {
+                    return false;
+                }
+                if count > t.bytes.len() - from {
+                    return false;
+                }
+                let bytes = &t.bytes[from..from + count];
+                self.all[at + 2].set_lent(bytes, t.start);
+                self.top = at + 2;
+                true
+            }
+            (Kind::Integer, Kind::Integer, Kind::Made) => {
+                let start = t.start as usize;
+                let size = self.pool.len() - start;
+                if from > size {
+                    return false;
+                }
+                if count > size - from {
+                    return false;
+                }
+                keep(&mut self.pool, start, from, count);
+                self.top = at + 2;
+                true
+            }
+            _ => false,
+        }
+    }
+
     /// Joins the two strings on top, the lower one first, and answers true; or answers false where they are no two strings, or would be too long for
     /// the pool.
     #[tactic(auto, using(crate::proofs::Joins::join_made, crate::proofs::Few::fewer_than_two))]
     #[inline(always)]
     pub fn join(&mut self) -> Result<bool, AllocError>
-        ensures steps { IfOk result (λ done. Steps done self.old (joined self.old) self.new) }
+        ensures steps { IfOk result (λ done. Steps done self.old (top_joined self.old) self.new) }
         ensures unchanged { OnErr result (self.new ≡ self.old) }
     {
         let at = self.top;
@@ -588,7 +632,7 @@ impl<'a> Slots<'a> {
     /// Moves the string on top into a variable and answers true, or answers false where it is no such string, or has more than `most` bytes.
     #[inline(always)]
     pub fn give(&mut self, variable: &mut Variable<'a>, most: usize) -> Result<bool, AllocError>
-        ensures gives { IfOk result (λ done. Gives done most self.old self.new variable.old variable.new) }
+        ensures gives { IfOk result (λ done. GivesString done most self.old self.new variable.old variable.new) }
         ensures unchanged { OnErr result (self.new ≡ self.old) }
     {
         let at = self.top;

@@ -1,7 +1,7 @@
 //! The value of a string variable.
 ghost use Rattle.std.specs.Prelude.{◌≡◌, ◌≤◌, [], length, IfOk, IfSome, OnOk};
-ghost use Rattle.btx_text.specs.Limits.{greatest_string};
-ghost use Rattle.btx_stack.specs.Slots.{greatest_short};
+ghost use Rattle.btx_text.specs.language.Limits.{greatest_string};
+ghost use Rattle.btx_stack.specs.refinement.Slots.{greatest_short};
 
 use crate::slots::GREATEST_SHORT;
 use btx_text::Text;
@@ -27,13 +27,13 @@ pub struct Variable<'a> {
 
 impl<'a> Model for Variable<'a> {
     ghost use Rattle.std.specs.Prelude.{List, ℕ, ◌≤◌, length};
-    ghost use Rattle.btx_text.specs.Limits.{greatest_string};
-    ghost use Rattle.btx_stack.specs.Slots.{greatest_short};
-    ghost use Rattle.btx_stack.specs.Variables.{value_of};
+    ghost use Rattle.btx_text.specs.language.Limits.{greatest_string};
+    ghost use Rattle.btx_stack.specs.refinement.Slots.{greatest_short};
+    ghost use Rattle.btx_stack.specs.refinement.Variables.{variable_value};
 
     ghost Value = { List ℕ };
 
-    ghost view = { λ v. value_of v.source v.lent.now v.own.items v.large };
+    ghost view = { λ v. variable_value v.source v.lent.now v.own.items v.large };
 
     ghost invariant = { λ v. (length v.own.items ≤ greatest_short) × (length v.lent.now ≤ greatest_string) };
 }

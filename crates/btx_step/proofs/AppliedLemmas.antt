@@ -9,18 +9,18 @@ use Rattle.btx_step.specs.declared.literal.Wanted.{Wanted}
 use Rattle.btx_step.specs.declared.literal.Wanted.TheVariants as wanted
 use Rattle.btx_step.specs.declared.said.Note.{Note}
 use Rattle.btx_step.specs.declared.said.Note.TheVariants as note
-use Rattle.btx_step.specs.Jobs.{Job}
-use Rattle.btx_step.specs.Stores.{Store}
-use Rattle.btx_step.specs.Answers.{Answer, with_literals}
-use Rattle.btx_step.specs.Operands.{Operand, Any, Of, Value, Does, seen_as, applied, absent, wrong, told_of, or_else, complaints, or_default}
-use Rattle.btx_step.specs.Table.{row, runs, runs_missing}
-use Rattle.btx_step.specs.Steps.{built_in_run}
-use Rattle.btx_step.specs.Applied.{literal_of, Given, literals_of, done_on, IsApplied, AreMissing, IsWrong, IsReported, FollowsRule, AppliedOrReported}
+use Rattle.btx_step.specs.language.Jobs.{Job}
+use Rattle.btx_step.specs.language.Stores.{Store}
+use Rattle.btx_step.specs.language.Answers.{Answer, with_literals}
+use Rattle.btx_step.specs.language.Operands.{Operand, Any, Of, Value, Does, seen_as, applied, absent, wrong, misfit_notes, or_else, complaints, or_default}
+use Rattle.btx_step.specs.language.Table.{row, runs, runs_missing}
+use Rattle.btx_step.specs.language.Steps.{built_in_run}
+use Rattle.btx_step.specs.laws.Applied.{operand_literal, OperandValues, operand_literals, done_on, IsApplied, AreMissing, IsWrong, IsReported, FollowsRule, AppliedOrReported}
 
 -- ---- one operand
 
 -- a literal is such an operand, or it isn't
-look : (operand : Operand) (x : Literal) → ((value : Value operand) × (x ≡ literal_of operand value) × (seen_as operand x ≡ Some value)) ⊎ (seen_as operand x ≡ None)
+look : (operand : Operand) (x : Literal) → ((value : Value operand) × (x ≡ operand_literal operand value) × (seen_as operand x ≡ Some value)) ⊎ (seen_as operand x ≡ None)
 look Any x = inl (x, refl, refl)
 look (Of wanted.Integer) (literal.Integer n) = inl (n, refl, refl)
 look (Of wanted.Text) (literal.Text text) = inl (text, refl, refl)
@@ -29,7 +29,7 @@ look (Of wanted.TextOrMissing) (literal.Text text) = inl (Some text, refl, refl)
 look (Of wanted.TextOrMissing) literal.Missing = inl (None, refl, refl)
 look (Of kind) x = inr refl
 
-round : (operand : Operand) (value : Value operand) → seen_as operand (literal_of operand value) ≡ Some value
+round : (operand : Operand) (value : Value operand) → seen_as operand (operand_literal operand value) ≡ Some value
 round Any x = refl
 round (Of wanted.Integer) n = refl
 round (Of wanted.Text) text = refl
@@ -40,7 +40,7 @@ round (Of wanted.TextOrMissing) (Some text) = refl
 none_is_some : {A : Type 0} (a : A) → None ≡ Some a → ⊥
 none_is_some a e = subst (λ o. MatchOption o ⊤ (λ x. ⊥)) e tt
 
-misfit : (kind : Wanted) (x : Literal) → seen_as (Of kind) x ≡ None → (value : Value (Of kind)) → x ≢ literal_of (Of kind) value
+misfit : (kind : Wanted) (x : Literal) → seen_as (Of kind) x ≡ None → (value : Value (Of kind)) → x ≢ operand_literal (Of kind) value
 misfit kind x none value e = none_is_some value (sym none ∙ ap (seen_as (Of kind)) e ∙ round (Of kind) value)
 
 -- ---- operands that aren't there
@@ -67,9 +67,9 @@ enough (operand ∷ more) (x ∷ xs) = later (enough more xs)
 -- ---- all operands
 
 record Fits (operands : List Operand) (does : Does operands) (xs : List Literal) : Type 0 where
-  values : Given operands
+  values : OperandValues operands
   below : List Literal
-  taken : xs ≡ literals_of operands values ++ below
+  taken : xs ≡ operand_literals operands values ++ below
   left : drop (length operands) xs ≡ below
   is : applied operands does xs ≡ Some (done_on operands does values)
 
@@ -81,9 +81,9 @@ record Fails (operands : List Operand) (does : Does operands) (xs : List Literal
 told_later : (operand : Operand) (more : List Operand) (x : Literal) (xs : List Literal) (value : Value operand) → seen_as operand x ≡ Some value
     → complaints (operand ∷ more) (x ∷ xs) ≡ complaints more xs
 told_later Any more x xs value e = refl
-told_later (Of kind) more x xs value e = ap (λ o. or_else (absent more xs) (told_of o (note.WrongKind x kind) (wrong more xs))) e
+told_later (Of kind) more x xs value e = ap (λ o. or_else (absent more xs) (misfit_notes o (note.WrongKind x kind) (wrong more xs))) e
 
-module _ (operand : Operand) (more : List Operand) (does : Does (operand ∷ more)) (x : Literal) (xs : List Literal) (value : Value operand) (same : x ≡ literal_of operand value) (seen : seen_as operand x ≡ Some value) where
+module _ (operand : Operand) (more : List Operand) (does : Does (operand ∷ more)) (x : Literal) (xs : List Literal) (value : Value operand) (same : x ≡ operand_literal operand value) (seen : seen_as operand x ≡ Some value) where
   go_on : applied (operand ∷ more) does (x ∷ xs) ≡ applied more (does value) xs
   go_on = ap (option_and_then (λ value. applied more (does value) xs)) seen
 
@@ -91,7 +91,7 @@ module _ (operand : Operand) (more : List Operand) (does : Does (operand ∷ mor
   fits_later h = record {
     values = (value, h.values);
     below = h.below;
-    taken = ap (λ y. y ∷ xs) same ∙ ap (λ ys. literal_of operand value ∷ ys) h.taken;
+    taken = ap (λ y. y ∷ xs) same ∙ ap (λ ys. operand_literal operand value ∷ ys) h.taken;
     left = h.left;
     is = go_on ∙ h.is;
   }
@@ -108,7 +108,7 @@ module _ (operand : Operand) (more : List Operand) (does : Does (operand ∷ mor
     found = h.found;
     misfits = h.misfits;
     above = (value, h.above);
-    fit = ap (λ y. y ∷ take h.place xs) same ∙ ap (λ ys. literal_of operand value ∷ ys) h.fit;
+    fit = ap (λ y. y ∷ take h.place xs) same ∙ ap (λ ys. operand_literal operand value ∷ ys) h.fit;
     logged = told_later operand more x xs value seen ∙ h.logged;
   })
 
@@ -119,7 +119,7 @@ module _ (operand : Operand) (more : List Operand) (does : Does (operand ∷ mor
 module _ (kind : Wanted) (more : List Operand) (x : Literal) (xs : List Literal) (none : seen_as (Of kind) x ≡ None) where
   -- it is told, unless another one isn't there
   told_here : (notes : List Note) → absent more xs ≡ notes → complaints (Of kind ∷ more) (x ∷ xs) ≡ or_else notes (note.WrongKind x kind ∷ [])
-  told_here notes e = ap (λ o. or_else (absent more xs) (told_of o (note.WrongKind x kind) (wrong more xs))) none ∙ ap (λ l. or_else l (note.WrongKind x kind ∷ [])) e
+  told_here notes e = ap (λ o. or_else (absent more xs) (misfit_notes o (note.WrongKind x kind) (wrong more xs))) none ∙ ap (λ l. or_else l (note.WrongKind x kind ∷ [])) e
 
   why_here : Enough more xs ⊎ Few more xs
       → AreMissing (Of kind ∷ more) (x ∷ xs) (complaints (Of kind ∷ more) (x ∷ xs)) ⊎ IsWrong (Of kind ∷ more) (x ∷ xs) (complaints (Of kind ∷ more) (x ∷ xs))
@@ -141,7 +141,7 @@ abbrev Verdict : (operands : List Operand) → Does operands → List Literal �
 Verdict operands does xs = Fits operands does xs ⊎ Fails operands does xs
 
 of_kind : (kind : Wanted) (more : List Operand) (does : Does (Of kind ∷ more)) (x : Literal) (xs : List Literal) → ((value : Value (Of kind)) → Verdict more (does value) xs)
-    → ((value : Value (Of kind)) × (x ≡ literal_of (Of kind) value) × (seen_as (Of kind) x ≡ Some value)) ⊎ (seen_as (Of kind) x ≡ None) → Verdict (Of kind ∷ more) does (x ∷ xs)
+    → ((value : Value (Of kind)) × (x ≡ operand_literal (Of kind) value) × (seen_as (Of kind) x ≡ Some value)) ⊎ (seen_as (Of kind) x ≡ None) → Verdict (Of kind ∷ more) does (x ∷ xs)
 of_kind kind more does x xs others (inl e) = later (Of kind) more does x xs e.0 e.1 e.2 (others e.0)
 of_kind kind more does x xs others (inr none) =
     inr (record { why = why_here kind more x xs none (enough more xs); is = ap (option_and_then (λ value. applied more (does value) xs)) none })

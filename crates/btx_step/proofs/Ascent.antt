@@ -6,17 +6,17 @@ use Rattle.std.specs.List.Sorted.{ties, IsStableBy}
 use Rattle.std.proofs.lemmas.Bool.{cases_Bool}
 use Rattle.std.proofs.lemmas.Cmp.{nat_list_cmp_total}
 use Rattle.std.proofs.lemmas.List.Sorted.{ranks_by}
-use Rattle.btx_step.specs.Sorting.{placed, sorted_by, by_key}
+use Rattle.btx_step.specs.language.Sorting.{inserted, sorted_by, by_key}
 use Rattle.btx_step.proofs.Order.{Ascends, passed, failed, ascends_from_sorted, one_order}
 
 module _ {X : Type 0} (lt : X → X → Bool) (o : IsStrictWeakOrder lt) where
-  later : (x y : X) (ys : List X) → lt y x ≡ true → placed lt x (y ∷ ys) ≡ y ∷ placed lt x ys
-  later x y ys e = ap (λ b. cond b (y ∷ placed lt x ys) (x ∷ y ∷ ys)) e
+  later : (x y : X) (ys : List X) → lt y x ≡ true → inserted lt x (y ∷ ys) ≡ y ∷ inserted lt x ys
+  later x y ys e = ap (λ b. cond b (y ∷ inserted lt x ys) (x ∷ y ∷ ys)) e
 
-  here : (x y : X) (ys : List X) → lt y x ≡ false → placed lt x (y ∷ ys) ≡ x ∷ y ∷ ys
-  here x y ys e = ap (λ b. cond b (y ∷ placed lt x ys) (x ∷ y ∷ ys)) e
+  here : (x y : X) (ys : List X) → lt y x ≡ false → inserted lt x (y ∷ ys) ≡ x ∷ y ∷ ys
+  here x y ys e = ap (λ b. cond b (y ∷ inserted lt x ys) (x ∷ y ∷ ys)) e
 
-  all_placed : (P : X → Type 0) (x : X) (ys : List X) → P x → AllByRecursion P ys → AllByRecursion P (placed lt x ys)
+  all_placed : (P : X → Type 0) (x : X) (ys : List X) → P x → AllByRecursion P ys → AllByRecursion P (inserted lt x ys)
   all_placed P x [] one all = (one, all)
   all_placed P x (y ∷ ys) one all =
       ⊎_elim
@@ -28,7 +28,7 @@ module _ {X : Type 0} (lt : X → X → Bool) (o : IsStrictWeakOrder lt) where
   all_above x y [] low all = all
   all_above x y (z ∷ ys) low all = (o.chain z y x all.0 low, all_above x y ys low all.1)
 
-  placed_ascends : (x : X) (ys : List X) → Ascends lt ys → Ascends lt (placed lt x ys)
+  placed_ascends : (x : X) (ys : List X) → Ascends lt ys → Ascends lt (inserted lt x ys)
   placed_ascends x [] up = (tt, tt)
   placed_ascends x (y ∷ ys) up =
       ⊎_elim
@@ -57,14 +57,14 @@ module _ {X : Type 0} (lt : X → X → Bool) (o : IsStrictWeakOrder lt) where
   abbrev pub Tells : (X → Bool) → Type 0
   Tells p = (x y : X) → lt y x ≡ true → p x ≡ true → p y ≡ false
 
-  placed_passes : (p : X → Bool) → Tells p → (x : X) (ys : List X) → filter p (placed lt x ys) ≡ filter p (x ∷ ys)
+  placed_passes : (p : X → Bool) → Tells p → (x : X) (ys : List X) → filter p (inserted lt x ys) ≡ filter p (x ∷ ys)
   placed_passes p tells x [] = refl
   placed_passes p tells x (y ∷ ys) =
       let more = placed_passes p tells x ys in
       ⊎_elim
       (λ below. ap (filter p) (later x y ys below) ∙
       ⊎_elim
-      (λ t. failed p y (placed lt x ys) (tells x y below t) ∙ more ∙ passed p x ys t ∙ ap (λ l. x ∷ l) (sym (failed p y ys (tells x y below t))) ∙ sym (passed p x (y ∷ ys) t))
+      (λ t. failed p y (inserted lt x ys) (tells x y below t) ∙ more ∙ passed p x ys t ∙ ap (λ l. x ∷ l) (sym (failed p y ys (tells x y below t))) ∙ sym (passed p x (y ∷ ys) t))
       (λ f. ap (λ l. cond (p y) (y ∷ l) l) (more ∙ failed p x ys f) ∙ sym (failed p x (y ∷ ys) f))
       (cases_Bool (p x)))
       (λ f. ap (filter p) (here x y ys f))

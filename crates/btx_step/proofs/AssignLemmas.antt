@@ -6,16 +6,16 @@ use Rattle.btx_bst.specs.declared.callee.Callee.TheVariants as callee
 use Rattle.btx_stack.specs.declared.literal.Literal.{Literal}
 use Rattle.btx_stack.specs.declared.literal.Literal.TheVariants.{Integer, Text, Function}
 use Rattle.btx_step.specs.declared.said.Said.{Said}
-use Rattle.btx_step.specs.Jobs.{Job}
-use Rattle.btx_step.specs.Stores.{Store, Values}
-use Rattle.btx_step.specs.Answers.{Answer, says, with_literals}
-use Rattle.btx_step.specs.Leaves.{StandUnder, IsOther}
-use Rattle.btx_step.specs.Operands.{on_operands}
-use Rattle.btx_step.specs.Table.{row}
-use Rattle.btx_step.specs.Variables as variables
+use Rattle.btx_step.specs.language.Jobs.{Job}
+use Rattle.btx_step.specs.language.Stores.{Store, EntryVariables}
+use Rattle.btx_step.specs.language.Answers.{Answer, says, with_literals}
+use Rattle.btx_step.specs.laws.Leaves.{StandUnder, IsOther}
+use Rattle.btx_step.specs.language.Operands.{on_operands}
+use Rattle.btx_step.specs.language.Table.{row}
+use Rattle.btx_step.specs.language.Variables as variables
 
 -- these literals stand, this entry is the current one, all entries but one are these, and so many bodies were open at once
-pub record Leaves (below : List Literal) (current : Option ℕ) (entries : List Values) (deepest : ℕ) (changed : Option ℕ) (a : Answer) : Type 0 where
+pub record Leaves (below : List Literal) (current : Option ℕ) (entries : List EntryVariables) (deepest : ℕ) (changed : Option ℕ) (a : Answer) : Type 0 where
   pub stand : StandUnder below a.store.literals
   pub stays : a.store.current ≡ current
   pub deep : a.store.deepest ≡ deepest

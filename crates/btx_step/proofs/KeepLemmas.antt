@@ -15,17 +15,17 @@ use Rattle.btx_step.specs.declared.said.Said.{Said}
 use Rattle.btx_step.specs.declared.said.Said.TheVariants as said
 use Rattle.btx_step.specs.declared.stand_in.StandIn.{StandIn}
 use Rattle.btx_step.specs.declared.stand_in.StandIn.TheVariants as stand_in
-use Rattle.btx_step.specs.Jobs.{Job}
-use Rattle.btx_step.specs.Stores.{Store}
-use Rattle.btx_step.specs.Answers.{Answer, answer, with_literals, pushes, pushes_text, complained}
-use Rattle.btx_step.specs.Leaves.{StandUnder}
-use Rattle.btx_step.specs.Operands.{Operand, Does, Push, Back, on_operands}
-use Rattle.btx_step.specs.Table.{row, misses_entry}
-use Rattle.btx_step.specs.Arithmetic as arithmetic
-use Rattle.btx_step.specs.Entries as entries
-use Rattle.btx_step.specs.Stacks as stacks
-use Rattle.btx_step.specs.Strings as strings
-use Rattle.btx_step.specs.Variables as variables
+use Rattle.btx_step.specs.language.Jobs.{Job}
+use Rattle.btx_step.specs.language.Stores.{Store}
+use Rattle.btx_step.specs.language.Answers.{Answer, answer, with_literals, pushes, pushes_text, complained}
+use Rattle.btx_step.specs.laws.Leaves.{StandUnder}
+use Rattle.btx_step.specs.language.Operands.{Operand, Does, Push, Back, on_operands}
+use Rattle.btx_step.specs.language.Table.{row, misses_entry}
+use Rattle.btx_step.specs.language.Arithmetic as arithmetic
+use Rattle.btx_step.specs.language.Entries as entries
+use Rattle.btx_step.specs.language.Stacks as stacks
+use Rattle.btx_step.specs.language.Strings as strings
+use Rattle.btx_step.specs.language.Variables as variables
 use Rattle.btx_step.proofs.RuleLemmas.{Each, Taken, by_rule}
 
 -- a step left all but the literals of a store, and these literals below its results

@@ -9,13 +9,13 @@ use Rattle.btx_bst.specs.declared.token.Token.TheVariants as token
 use Rattle.btx_step.specs.declared.next.Next.TheVariants as next
 use Rattle.btx_step.specs.declared.said.Said.TheVariants as said
 use Rattle.btx_step.specs.declared.stand_in.StandIn.TheVariants as stand_in
-use Rattle.btx_step.specs.Jobs.{Job}
-use Rattle.btx_step.specs.Stores.{Store}
-use Rattle.btx_step.specs.Answers.{with_literals}
-use Rattle.btx_step.specs.Entries.{finds_missing}
-use Rattle.btx_step.specs.Table.{row, runs_missing}
-use Rattle.btx_step.specs.Steps.{built_in_run, run_of, step_of}
-use Rattle.btx_step.specs.Leaves.{is_assignment, is_listing, operands_taken, VariablesStay, OtherEntriesStay, CurrentStays, DeepestStays, LowerLiteralsStay, ListingEmpties}
+use Rattle.btx_step.specs.language.Jobs.{Job}
+use Rattle.btx_step.specs.language.Stores.{Store}
+use Rattle.btx_step.specs.language.Answers.{with_literals}
+use Rattle.btx_step.specs.language.Entries.{finds_missing}
+use Rattle.btx_step.specs.language.Table.{row, runs_missing}
+use Rattle.btx_step.specs.language.Steps.{built_in_run, function_run, step_of}
+use Rattle.btx_step.specs.laws.Leaves.{is_assignment, is_listing, operands_taken, VariablesStay, OtherEntriesStay, CurrentStays, DeepestStays, LowerLiteralsStay, ListingEmpties}
 use Rattle.btx_step.proofs.AssignLemmas.{assigned}
 use Rattle.btx_step.proofs.RuleLemmas.{pushed_by}
 use Rattle.btx_step.proofs.KeepLemmas as keep
@@ -39,8 +39,8 @@ built_in_kept job built_in.Swap s a l = keep.swaps s.literals s
 built_in_kept job f s a l = keep.by_operands (row f).operands (pushed_by (row f).default) ((row f).does job) (keep.row_kept job f tt) s.literals s
 
 run_kept : (job : Job) (f : Callee) (s : Store) → is_assignment (token.Run f) ≡ false → is_listing (token.Run f) ≡ false
-    → Keeps (with_literals [] s) (drop (operands_taken (token.Run f)) s.literals) (run_of job f s)
-unfolding run_of
+    → Keeps (with_literals [] s) (drop (operands_taken (token.Run f)) s.literals) (function_run job f s)
+unfolding function_run
 run_kept job (callee.BuiltIn f) s a l = built_in_kept job f s a l
 run_kept job (callee.User i) s a l = keep.answered (next.Open i) said.Nothing s
 run_kept job (callee.Field i) s a l = keep.field job i s.current s
@@ -60,30 +60,30 @@ kept job (token.Run f) s a l = run_kept job f s a l
 -- ---- the laws
 
 pub variables_stay : VariablesStay
-unfolding step_of run_of built_in_run
+unfolding step_of function_run built_in_run
 variables_stay job (token.Run (callee.BuiltIn built_in.Stack)) s a = refl
 variables_stay job t s a = (kept job t s a refl).rest
 
 pub other_entries_stay : OtherEntriesStay
-unfolding step_of run_of built_in_run
+unfolding step_of function_run built_in_run
 other_entries_stay job (token.Run (callee.BuiltIn built_in.Assign)) s entry apart = (assigned job s.literals s).others entry apart
 other_entries_stay job t s entry apart = ap (λ (x : Store). slice_get x.entries entry) (variables_stay job t s refl)
 
 pub current_stays : CurrentStays
-unfolding step_of run_of built_in_run
+unfolding step_of function_run built_in_run
 current_stays job (token.Run (callee.BuiltIn built_in.Assign)) s = (assigned job s.literals s).stays
 current_stays job t s = ap (λ (x : Store). x.current) (variables_stay job t s refl)
 
 pub deepest_stays : DeepestStays
-unfolding step_of run_of built_in_run
+unfolding step_of function_run built_in_run
 deepest_stays job (token.Run (callee.BuiltIn built_in.Assign)) s = (assigned job s.literals s).deep
 deepest_stays job t s = ap (λ (x : Store). x.deepest) (variables_stay job t s refl)
 
 pub lower_literals_stay : LowerLiteralsStay
-unfolding step_of run_of built_in_run
+unfolding step_of function_run built_in_run
 lower_literals_stay job (token.Run (callee.BuiltIn built_in.Assign)) s l = (assigned job s.literals s).stand
 lower_literals_stay job t s l = (kept job t s refl l).stand
 
 pub listing_empties : ListingEmpties
-unfolding step_of run_of built_in_run
+unfolding step_of function_run built_in_run
 listing_empties job s = refl

@@ -5,6 +5,7 @@ pub mod Ascent
 pub mod Bytes
 pub mod Orders
 pub mod QuickLemmas
+pub mod PairLemmas
 pub mod RowLemmas
 pub mod RuleLemmas
 pub mod AppliedLemmas
@@ -13,3 +14,4 @@ pub mod AssignLemmas
 pub mod LeaveLemmas
 pub mod FunctionRows
 pub mod StartLemmas
+pub mod ApartLemmas

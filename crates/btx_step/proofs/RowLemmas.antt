@@ -1,6 +1,6 @@
 -- Steps in a row.
-use Rattle.std.proofs.Common.{◌≡◌, ◌<◌, ◌≤◌, ℕ, ℤ, cond, List, ◌∷◌, length, take, Option, Some, None, slice_get, slice_set, refl, sym, ap, subst, ◌∙◌}
-use Rattle.std.proofs.lemmas.Bool.{lt-ltb}
+use Rattle.std.proofs.Common.{◌≡◌, ◌<◌, ◌≤◌, ℕ, ℤ, cond, List, ◌∷◌, ◌++◌, length, take, Option, Some, None, slice_get, slice_set, refl, sym, ap, subst, ◌∙◌}
+use Rattle.std.proofs.lemmas.Bool.{le-ltb, lt-ltb}
 use Rattle.std.proofs.lemmas.List.{take_all}
 use Rattle.btx_bst.specs.declared.built_in.BuiltIn.TheVariants as built_in
 use Rattle.btx_bst.specs.declared.callee.Callee.TheVariants as callee
@@ -9,15 +9,16 @@ use Rattle.btx_stack.specs.declared.literal.Literal.TheVariants.{Integer, Text}
 use Rattle.btx_step.specs.declared.next.Limit.TheVariants as limit
 use Rattle.btx_step.specs.declared.next.Next.TheVariants as next
 use Rattle.btx_step.specs.declared.said.Said.TheVariants as said
-use Rattle.btx_step.specs.Jobs.{Job}
-use Rattle.btx_step.specs.Stores.{Store, Values}
-use Rattle.btx_step.specs.Answers.{Answer, answer, done, says, pushed, with_literals}
-use Rattle.btx_step.specs.Operands.{on_operands}
-use Rattle.btx_step.specs.Table.{row, runs}
-use Rattle.btx_step.specs.Stacks.{swaps, duplicates}
-use Rattle.btx_step.specs.Variables as variables
-use Rattle.btx_step.specs.Steps.{built_in_run, run_of}
-use Rattle.btx_step.specs.Laws.{SwapTwice, DuplicatePop, InEntry, ReadsBack}
+use Rattle.btx_step.specs.language.Jobs.{Job}
+use Rattle.btx_step.specs.language.Stores.{Store, EntryVariables}
+use Rattle.btx_step.specs.language.Answers.{Answer, answer, done, quiet, says, pushed, pushed_text, with_literals}
+use Rattle.btx_step.specs.language.Operands.{on_operands}
+use Rattle.btx_step.specs.language.Table.{row, runs}
+use Rattle.btx_step.specs.language.Stacks.{swaps, duplicates}
+use Rattle.btx_step.specs.language.Strings.{joins}
+use Rattle.btx_step.specs.language.Variables as variables
+use Rattle.btx_step.specs.language.Steps.{built_in_run, function_run}
+use Rattle.btx_step.specs.laws.Laws.{SwapTwice, DuplicatePop, StringsEndAtLimit, InEntry, ReadsBack}
 use Rattle.btx_step.proofs.ValueLemmas.{read_at}
 
 pub swap_twice : SwapTwice
@@ -40,6 +41,27 @@ duplicate_pop job x xs s e room =
     ap after (ap (λ l. on_operands (row built_in.Duplicate).operands (row built_in.Duplicate).default duplicates l s) e ∙ pushed_done x (with_literals (x ∷ xs) s) inside)
     ∙ ap (λ l. done (with_literals l s)) (sym e)
 
+-- ---- the limit of strings
+
+-- a string that is too long ends the run
+text_ended : (text : List ℕ) (s : Store) → 1000000 < length text → pushed_text text s ≡ quiet (next.End limit.String) s
+text_ended text s long =
+    ap (λ b. cond b (quiet (next.End limit.String) s) (pushed (Text text) s)) (lt-ltb 1000000 (length text) long)
+
+-- and another one is pushed where it has room
+text_done : (text : List ℕ) (s : Store) → length text ≤ 1000000 → length s.literals < 1000 → pushed_text text s ≡ done (with_literals (Text text ∷ s.literals) s)
+text_done text s short room =
+    ap (λ b. cond b (quiet (next.End limit.String) s) (pushed (Text text) s)) (le-ltb 1000000 (length text) short) ∙ pushed_done (Text text) s room
+
+pub strings_end : StringsEndAtLimit
+unfolding built_in_run
+strings_end job last first below s e =
+    let join : List Literal → Answer = λ l. on_operands (row built_in.Concatenate).operands (row built_in.Concatenate).default joins l s in
+    record {
+      too_long = λ long. ap join e ∙ text_ended (first ++ last) (with_literals below s) long;
+      joined = λ short room. ap join e ∙ text_done (first ++ last) (with_literals below s) short room;
+    }
+
 -- ---- variables
 
 -- what is pushed stands on top
@@ -50,7 +72,7 @@ all_kept : (most : ℕ) (text : List ℕ) → length text ≤ most → take most
 all_kept most text short = take_all most text short
 
 -- the values of an entry that was written
-written_values : (entries : List Values) (entry : ℕ) (values : Values) → entry < length entries → variables.values_of (slice_set entries entry values) entry ≡ values
+written_values : (entries : List EntryVariables) (entry : ℕ) (values : EntryVariables) → entry < length entries → variables.values_of (slice_set entries entry values) entry ≡ values
 written_values entries entry values within = ap variables.values_in (read_at entries entry values within)
 
 entry_integer_back : (job : Job) (i : ℕ) (n : ℤ) (xs : List Literal) (s : Store) (entry : ℕ) → length xs < 1000
@@ -58,7 +80,7 @@ entry_integer_back : (job : Job) (i : ℕ) (n : ℤ) (xs : List Literal) (s : St
     → (variables.entry_integer i (Some entry) (variables.with_entry_integer entry i n (with_literals xs s))).store.literals ≡ Integer n ∷ xs
 entry_integer_back job i n xs s entry room within inside =
     on_top _ (variables.with_entry_integer entry i n (with_literals xs s)) room
-    ∙ ap (λ m. Integer m ∷ xs) (ap (λ (values : Values). variables.integer_in (slice_get values.integers i)) (written_values s.entries entry _ within)
+    ∙ ap (λ m. Integer m ∷ xs) (ap (λ (values : EntryVariables). variables.integer_in (slice_get values.integers i)) (written_values s.entries entry _ within)
     ∙ ap variables.integer_in (read_at (variables.values_of s.entries entry).integers i n inside))
 
 entry_string_back : (job : Job) (i : ℕ) (text : List ℕ) (xs : List Literal) (s : Store) (entry : ℕ) → length xs < 1000
@@ -66,7 +88,7 @@ entry_string_back : (job : Job) (i : ℕ) (text : List ℕ) (xs : List Literal) 
     → (variables.entry_string i (Some entry) (variables.with_entry_string entry i text (with_literals xs s))).store.literals ≡ Text text ∷ xs
 entry_string_back job i text xs s entry room within inside =
     on_top _ (variables.with_entry_string entry i text (with_literals xs s)) room
-    ∙ ap (λ t. Text t ∷ xs) (ap (λ (values : Values). variables.string_in (slice_get values.strings i)) (written_values s.entries entry _ within)
+    ∙ ap (λ t. Text t ∷ xs) (ap (λ (values : EntryVariables). variables.string_in (slice_get values.strings i)) (written_values s.entries entry _ within)
     ∙ ap variables.string_in (read_at (variables.values_of s.entries entry).strings i text inside))
 
 -- what is stored in a variable of an entry, by the current entry
@@ -102,7 +124,7 @@ abbrev assigning : Job → List Literal → Store → Answer
 assigning job xs s = on_operands (row built_in.Assign).operands (row built_in.Assign).default (variables.assigns job) xs s
 
 pub reads_back : ReadsBack
-unfolding built_in_run run_of integer_stored string_stored
+unfolding built_in_run function_run integer_stored string_stored
 reads_back job (callee.GlobalInteger i) (Integer n) xs s e room takes =
     ap (λ l. (variables.global_integer i (assigning job l s).store).store.literals) e
     ∙ on_top _ (variables.with_integer i n (with_literals xs s)) room

@@ -6,17 +6,17 @@ use Rattle.btx_step.specs.declared.literal.Wanted.TheVariants as wanted
 use Rattle.btx_step.specs.declared.said.Note.{Note}
 use Rattle.btx_step.specs.declared.stand_in.StandIn.{StandIn}
 use Rattle.btx_step.specs.declared.stand_in.StandIn.TheVariants as stand_in
-use Rattle.btx_step.specs.Stores.{Store}
-use Rattle.btx_step.specs.Answers.{Answer, with_literals, complained}
-use Rattle.btx_step.specs.Operands.{Operand, Any, Of, Value, Does, Default, Push, Back, applied, or_default, complaints, on_operands}
-use Rattle.btx_step.specs.Applied.{literal_of}
+use Rattle.btx_step.specs.language.Stores.{Store}
+use Rattle.btx_step.specs.language.Answers.{Answer, with_literals, complained}
+use Rattle.btx_step.specs.language.Operands.{Operand, Any, Of, Value, Does, Default, Push, Back, applied, or_default, complaints, on_operands}
+use Rattle.btx_step.specs.laws.Applied.{operand_literal}
 
 -- Q of the literals that are taken, R of those below them, and P of the store that a function begins with and its answer
 module _ (Q : Literal → Type 0) (R : List Literal → Type 0) (P : Store → Answer → Type 0) where
   -- so it is of a function on all operands
   abbrev pub Each : (operands : List Operand) → Does operands → Type 0
   Each [] does = (s : Store) → R s.literals → P s (does s)
-  Each (operand ∷ more) does = (value : Value operand) → Q (literal_of operand value) → Each more (does value)
+  Each (operand ∷ more) does = (value : Value operand) → Q (operand_literal operand value) → Each more (does value)
 
   -- the literals of a stack are so
   abbrev pub Taken : List Operand → List Literal → Type 0

@@ -1,10 +1,10 @@
 -- The values of an entry's variables.
 use Rattle.std.proofs.Common.{◌≡◌, ℕ, zero, suc, ◌<◌, List, [], ◌∷◌, length, get_or, slice_get, slice_set, Some, refl, ap, arith}
 use Rattle.std.proofs.lemmas.Option.{slice_get_read}
-use Rattle.btx_step.specs.Stores.{Values}
-use Rattle.btx_step.specs.Variables.{values_of, values_in}
+use Rattle.btx_step.specs.language.Stores.{EntryVariables}
+use Rattle.btx_step.specs.language.Variables.{values_of, values_in}
 
-pub values_read : (xs : List Values) (i : ℕ) (v : Values) → i < length xs → v ≡ get_or xs i v → values_of xs i ≡ v
+pub values_read : (xs : List EntryVariables) (i : ℕ) (v : EntryVariables) → i < length xs → v ≡ get_or xs i v → values_of xs i ≡ v
 values_read xs i v lt e = ap values_in (slice_get_read xs (length xs) i v refl lt e)
 
 -- what was written is read

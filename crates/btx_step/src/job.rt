@@ -1,7 +1,7 @@
 //! What a step reads and never changes.
 ghost use Rattle.std.specs.Prelude.{◌≡◌};
-ghost use Rattle.btx_bib.specs.Library.{key_of, kind_of};
-ghost use Rattle.btx_step.specs.Entries.{entry_of, runner_of, type_name};
+ghost use Rattle.btx_bib.specs.language.Library.{key_of, entry_type};
+ghost use Rattle.btx_step.specs.language.Entries.{entry_of, runner_of, type_name};
 
 use crate::kept_bytes::KeptBytes;
 use btx_bib::Library;
@@ -20,7 +20,7 @@ pub struct Job<'a> {
 }
 
 impl<'a> Model for Job<'a> {
-    ghost use Rattle.btx_step.specs.Jobs.{Job as Stored};
+    ghost use Rattle.btx_step.specs.language.Jobs.{Job as Stored};
 
     ghost Value = { Stored };
 
@@ -97,7 +97,7 @@ impl<'a> Job<'a> {
 
     /// The name of an entry's type, the empty one for a type that the style doesn't know.
     pub fn type_name(&self, entry: usize) -> &'a [u8]
-        ensures { result.now ≡ type_name self.now (kind_of (entry_of self.now entry)) }
+        ensures { result.now ≡ type_name self.now (entry_type (entry_of self.now entry)) }
     {
         match self.library.kind(entry) {
             Some(function) => self.style.name(Callee::User(function)),
@@ -107,7 +107,7 @@ impl<'a> Job<'a> {
 
     /// The function of an entry's type; that of the type `default.type` for a type that the style doesn't know.
     pub fn runner(&self, entry: usize) -> Option<u32>
-        ensures { result ≡ runner_of self.now (kind_of (entry_of self.now entry)) }
+        ensures { result ≡ runner_of self.now (entry_type (entry_of self.now entry)) }
     {
         match self.library.kind(entry) {
             Some(function) => Some(function),

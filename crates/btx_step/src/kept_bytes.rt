@@ -1,7 +1,7 @@
 //! How many bytes of a string a variable keeps.
 ghost use Rattle.std.specs.Prelude.{◌≡◌};
 ghost use Rattle.std.specs.Option.{SomeIff};
-ghost use Rattle.btx_step.specs.Limits.{IsKeptBytes};
+ghost use Rattle.btx_step.specs.refinement.Limits.{IsKeptBytes};
 
 use std::marker::Model;
 
@@ -13,7 +13,7 @@ pub struct KeptBytes {
 
 impl Model for KeptBytes {
     ghost use Rattle.std.specs.Prelude.{ℕ};
-    ghost use Rattle.btx_step.specs.Limits.{IsKeptBytes};
+    ghost use Rattle.btx_step.specs.refinement.Limits.{IsKeptBytes};
 
     ghost Value = { ℕ };
 

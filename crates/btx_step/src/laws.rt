@@ -1,14 +1,14 @@
 //! Laws over what a step does, each the contract of a function that does nothing.
 ghost use Rattle.std.specs.Prelude.{[]};
 ghost use Rattle.btx_text.specs.declared.element_kind.TextMode.TheVariants.{Bytes, Utf8};
-ghost use Rattle.btx_step.specs.Applied as applied;
-ghost use Rattle.btx_step.specs.Laws as law;
-ghost use Rattle.btx_step.specs.Leaves as leaves;
-ghost use Rattle.btx_step.specs.Orders as order;
-ghost use Rattle.btx_step.specs.Starts.{LimitsLaw};
-ghost use Rattle.btx_step.specs.WorkedAssignments as assigned;
-ghost use Rattle.btx_step.specs.WorkedFunctions as worked;
-ghost use Rattle.btx_step.specs.WorkedStores as given;
+ghost use Rattle.btx_step.specs.laws.Applied as applied;
+ghost use Rattle.btx_step.specs.laws.Laws as law;
+ghost use Rattle.btx_step.specs.laws.Leaves as leaves;
+ghost use Rattle.btx_step.specs.laws.Orders as order;
+ghost use Rattle.btx_step.specs.laws.Starts.{FirstLimitsLaw};
+ghost use Rattle.btx_step.specs.laws.WorkedAssignments as assigned;
+ghost use Rattle.btx_step.specs.laws.WorkedFunctions as worked;
+ghost use Rattle.btx_step.specs.laws.WorkedStores as given;
 
 /// Of every built-in function and every stack: either all operands are there and fit, they go, and the function is done on them; or what is
 /// missing is logged, else the first operand of a wrong kind, and the function's default follows.
@@ -20,6 +20,11 @@ pub fn applied_or_reported()
 pub fn nothing_done()
     ensures swap { law.SwapTwice }
     ensures duplicate { law.DuplicatePop }
+{}
+
+/// A string of 1,000,000 bytes is pushed where it has room, and one of more ends the run at the limit of strings: as `*` makes them.
+pub fn strings_end_at_limit()
+    ensures { law.StringsEndAtLimit }
 {}
 
 /// A variable that is executed after it was assigned a value pushes that value, where it wasn't cut.
@@ -51,28 +56,28 @@ pub fn one_order()
 /// In each style that is read, `entry.max$` begins with the number of bytes that a string variable of an entry keeps, and `global.max$` with that of
 /// a global one.
 pub fn limits_begin_as_set()
-    ensures { LimitsLaw }
+    ensures { FirstLimitsLaw }
 {}
 
 /// Each built-in function does to a stack, to the variables and to what is written and logged what is worked by hand: on operands that fit, of a
 /// wrong kind or missing, outside an entry and in one; and so do fields and variables, and the test of a loop.
 #[tactic(auto, using(crate::proofs::FunctionRows::worked_rows))]
 pub fn worked_functions_do_so()
-    ensures comparisons { worked.AreSo (given.job Bytes) given.outside given.one_below worked.comparisons }
-    ensures integers { worked.AreSo (given.job Bytes) given.outside given.one_below worked.integers }
-    ensures strings { worked.AreSo (given.job Bytes) given.outside given.one_below worked.strings }
-    ensures names { worked.AreSo (given.job Bytes) given.outside given.one_below worked.names }
-    ensures stack { worked.AreSo (given.job Bytes) given.outside given.one_below worked.stack }
-    ensures choices { worked.AreSo (given.job Bytes) given.outside given.one_below worked.choices }
-    ensures wrong_operands { worked.AreSo (given.job Bytes) given.outside given.one_below worked.wrong_operands }
-    ensures whole_stacks { worked.AreSo (given.job Bytes) given.outside [] worked.whole_stacks }
-    ensures bytes_characters { worked.AreSo (given.job Bytes) given.outside given.one_below worked.bytes_characters }
-    ensures utf8_characters { worked.AreSo (given.job Utf8) given.outside given.one_below worked.utf8_characters }
-    ensures no_entry { worked.AreSo (given.job Bytes) given.outside given.one_below worked.no_entry }
+    ensures comparisons { worked.AreSo (given.job Bytes) given.outside_entries given.one_below worked.comparisons }
+    ensures integers { worked.AreSo (given.job Bytes) given.outside_entries given.one_below worked.integers }
+    ensures strings { worked.AreSo (given.job Bytes) given.outside_entries given.one_below worked.strings }
+    ensures names { worked.AreSo (given.job Bytes) given.outside_entries given.one_below worked.names }
+    ensures stack { worked.AreSo (given.job Bytes) given.outside_entries given.one_below worked.stack }
+    ensures choices { worked.AreSo (given.job Bytes) given.outside_entries given.one_below worked.choices }
+    ensures wrong_operands { worked.AreSo (given.job Bytes) given.outside_entries given.one_below worked.wrong_operands }
+    ensures whole_stacks { worked.AreSo (given.job Bytes) given.outside_entries [] worked.whole_stacks }
+    ensures bytes_characters { worked.AreSo (given.job Bytes) given.outside_entries given.one_below worked.bytes_characters }
+    ensures utf8_characters { worked.AreSo (given.job Utf8) given.outside_entries given.one_below worked.utf8_characters }
+    ensures no_entry { worked.AreSo (given.job Bytes) given.outside_entries given.one_below worked.no_entry }
     ensures of_knuth { worked.AreSo (given.job Bytes) given.in_knuth given.one_below worked.of_knuth }
     ensures of_lamport { worked.AreSo (given.job Bytes) given.in_lamport given.one_below worked.of_lamport }
     ensures of_lamport_without_default { worked.AreSo given.job_without_default given.in_lamport given.one_below worked.of_lamport_without_default }
-    ensures assignments { assigned.AreAssigned given.outside assigned.assignments }
+    ensures assignments { assigned.AreAssigned given.outside_entries assigned.assignments }
     ensures assignments_of_knuth { assigned.AreAssigned given.in_knuth assigned.assignments_of_knuth }
     ensures assignments_of_lamport { assigned.AreAssigned given.in_lamport assigned.assignments_of_lamport }
     ensures loop_tests { assigned.AreTested assigned.loop_tests }

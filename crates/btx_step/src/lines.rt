@@ -2,7 +2,7 @@
 ghost use Rattle.std.specs.Prelude.{◌≡◌, ◌++◌, IfOk, OnOk, codes, decimal};
 ghost use Rattle.std.specs.Option.{option_copied};
 ghost use Rattle.std.specs.Fmt.{signed_decimal};
-ghost use Rattle.btx_step.specs.Notes as spec;
+ghost use Rattle.btx_step.specs.language.Notes as spec;
 
 use crate::literal::{Literal, Wanted};
 use crate::said::Note;
@@ -13,7 +13,7 @@ use itoa::Buffer;
 use std::alloc::{AllocError, Global};
 
 /// A line of the log, met while a function of this name is executed, in an entry of this key if there is one.
-#[tactic(auto, using(btx_text::proofs::JoinLemmas::joins), unfolding(crate::specs::Notes::line_of))]
+#[tactic(auto, using(btx_text::proofs::JoinLemmas::joins), unfolding(crate::specs::language::Notes::note_line))]
 pub fn line_of(
     alloc: Global,
     style: &Style<'_>,
@@ -21,7 +21,7 @@ pub fn line_of(
     key: Option<&[u8]>,
     note: &Note<'_>,
 ) -> Result<LogLine, AllocError>
-    ensures { IfOk result (λ line. line ≡ spec.line_of style.now executed.now (option_copied key.entry) note.now) }
+    ensures { IfOk result (λ line. line ≡ spec.note_line style.now executed.now (option_copied key.entry) note.now) }
 {
     let kind = kind_of(note);
     let mut text = Vec::new(alloc);
@@ -32,9 +32,9 @@ pub fn line_of(
 }
 
 // What a line is.
-#[tactic(auto, unfolding(crate::specs::Notes::kind_of))]
+#[tactic(auto, unfolding(crate::specs::language::Notes::note_kind))]
 fn kind_of(note: &Note<'_>) -> LineKind
-    ensures { result ≡ spec.kind_of note.now }
+    ensures { result ≡ spec.note_kind note.now }
 {
     match note {
         Note::Cut(_, _) | Note::Warning(_) => LineKind::Warning,
@@ -44,7 +44,7 @@ fn kind_of(note: &Note<'_>) -> LineKind
 }
 
 // Whether a place follows.
-#[tactic(auto, unfolding(crate::specs::Notes::has_place))]
+#[tactic(auto, unfolding(crate::specs::language::Notes::has_place))]
 fn has_place(note: &Note<'_>) -> bool
     ensures { result ≡ spec.has_place note.now }
 {
@@ -68,7 +68,7 @@ fn push_place_if(
 }
 
 // Appends a place.
-#[tactic(auto, unfolding(crate::specs::Notes::place_of))]
+#[tactic(auto, unfolding(crate::specs::language::Notes::place_of))]
 fn push_place(text: &mut Vec<u8>, executed: &[u8], key: Option<&[u8]>) -> Result<(), AllocError>
     ensures { OnOk result (text.new.items ≡ text.old.items ++ spec.place_of executed.now (option_copied key.entry)) }
 {
@@ -127,7 +127,7 @@ fn push_integer_before(text: &mut Vec<u8>, number: i32, after: &[u8]) -> Result<
 }
 
 // Appends that an integer is no code.
-#[tactic(auto, unfolding(crate::specs::Notes::not_ascii_text))]
+#[tactic(auto, unfolding(crate::specs::language::Notes::not_ascii_text))]
 fn push_not_ascii(text: &mut Vec<u8>, number: i32) -> Result<(), AllocError>
     ensures { OnOk result (text.new.items ≡ text.old.items ++ spec.not_ascii_text number) }
 {
@@ -164,7 +164,7 @@ fn push_form_before(
 }
 
 // Appends a literal as the log shows it.
-#[tactic(auto, unfolding(crate::specs::Notes::form_of))]
+#[tactic(auto, unfolding(crate::specs::language::Notes::form_of))]
 fn push_form(text: &mut Vec<u8>, style: &Style<'_>, value: &Literal<'_>) -> Result<(), AllocError>
     ensures { OnOk result (text.new.items ≡ text.old.items ++ spec.form_of style.now value.now) }
 {
@@ -189,9 +189,9 @@ fn kind_text(wanted: Wanted) -> &'static [u8]
 }
 
 // Appends the text of a line, without its place.
-#[tactic(auto, unfolding(crate::specs::Notes::text_of))]
+#[tactic(auto, unfolding(crate::specs::language::Notes::note_text))]
 fn push_note(text: &mut Vec<u8>, style: &Style<'_>, note: &Note<'_>) -> Result<(), AllocError>
-    ensures { OnOk result (text.new.items ≡ text.old.items ++ spec.text_of style.now note.now) }
+    ensures { OnOk result (text.new.items ≡ text.old.items ++ spec.note_text style.now note.now) }
 {
     match note {
         Note::EmptyStack => text.extend_from_slice(b"You can't pop an empty literal stack"),

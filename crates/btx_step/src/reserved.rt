@@ -1,7 +1,7 @@
 //! A stack whose memory is taken once, when it is made.
 
 ghost use Rattle.std.specs.Prelude.{◌≡◌, ◌<◌, ◌≤◌, List, [], ◌∷◌, length, vec_len, vec_capacity, IfOk, IfSome, IfNone, reverse, option_copied};
-ghost use Rattle.btx_step.specs.Top.{top, below_top};
+ghost use Rattle.btx_step.specs.refinement.Top.{top, below_top};
 
 use std::alloc::{AllocError, Global};
 use std::marker::Model;

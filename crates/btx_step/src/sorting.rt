@@ -1,6 +1,6 @@
 //! The order of a list of entries.
 ghost use Rattle.std.specs.Prelude.{◌≡◌, OnOk, OnErr};
-ghost use Rattle.btx_step.specs.Sorting.{sorted, sort_key};
+ghost use Rattle.btx_step.specs.language.Sorting.{sorted, sort_key};
 
 use crate::store::Store;
 use std::alloc::AllocError;

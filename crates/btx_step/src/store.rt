@@ -1,19 +1,22 @@
 //! The literals, the variables and the current entry, and what functions do to them.
 ghost use Rattle.std.specs.Prelude.{◌≡◌, ◌≤◌, ◌==◌, [], ◌∷◌, IfOk, IfSome, IfNone, length};
-ghost use Rattle.btx_step.specs.Answers.{answer, quiet, silence, pushes, pushed, pushed_text, complained, complains, lacks, refuses, outside, truth, with_literals};
-ghost use Rattle.btx_text.specs.Limits.{greatest_string};
-ghost use Rattle.btx_step.specs.Control.{tested, tested_as};
-ghost use Rattle.btx_step.specs.Quick.{next_of_push};
-ghost use Rattle.btx_step.specs.Steps.{built_in_run, run_of, step_of, with_current, with_depth};
+ghost use Rattle.btx_step.specs.language.Answers.{answer, quiet, pushes, pushed, pushed_text, complained, complains, refuses, outside, truth, with_literals};
+ghost use Rattle.btx_step.specs.refinement.Answers.{silence, lacks};
+ghost use Rattle.btx_text.specs.language.Limits.{greatest_string};
+ghost use Rattle.btx_step.specs.language.Control.{tested, tested_as};
+ghost use Rattle.btx_step.specs.refinement.Quick.{next_of_push};
+ghost use Rattle.btx_step.specs.language.Steps.{built_in_run, function_run, step_of, with_current, with_depth};
 ghost use Rattle.btx_stack.specs.declared.literal.Literal.TheVariants as literal;
 ghost use Rattle.btx_step.specs.declared.said.Said.{Said as Words};
 ghost use Rattle.btx_step.specs.declared.said.Said.TheVariants as words;
 ghost use Rattle.btx_step.specs.declared.next.Next.TheVariants as following;
 
+mod apart;
 mod arithmetic;
 mod control;
 mod entries;
 mod names;
+mod pairs;
 mod quick;
 mod stacks;
 mod starts;
@@ -46,10 +49,12 @@ pub struct Store<'a> {
     deepest: usize,
     // What is kept of names and formats from call to call. It is no part of what the store means.
     names: NameFormatter,
+    // Room for a string while it is made. It is no part of what the store means.
+    room: Vec<u8>,
 }
 
 impl<'a> Model for Store<'a> {
-    ghost use Rattle.btx_step.specs.Stores.{Store as Stored};
+    ghost use Rattle.btx_step.specs.language.Stores.{Store as Stored};
 
     ghost Value = { Stored };
 
@@ -65,7 +70,7 @@ impl<'a> Model for Store<'a> {
 
 impl<'a> Store<'a> {
     /// What a token does. What it says goes into `said`, which says nothing before.
-    #[tactic(auto, unfolding(crate::specs::Steps::step_of))]
+    #[tactic(auto, unfolding(crate::specs::language::Steps::step_of))]
     pub fn step(
         &mut self,
         job: &Job<'a>,
@@ -84,7 +89,7 @@ impl<'a> Store<'a> {
     }
 
     /// What a function does.
-    #[tactic(auto, unfolding(crate::specs::Steps::run_of))]
+    #[tactic(auto, unfolding(crate::specs::language::Steps::function_run))]
     pub fn run(
         &mut self,
         job: &Job<'a>,
@@ -92,7 +97,7 @@ impl<'a> Store<'a> {
         said: &mut Said<'a>,
     ) -> Result<Next, AllocError>
         requires { said.old ≡ silence }
-        ensures { IfOk result (λ next. answer next said.new self.new ≡ run_of job.now function self.old) }
+        ensures { IfOk result (λ next. answer next said.new self.new ≡ function_run job.now function self.old) }
     {
         match function {
             Callee::BuiltIn(function) => self.run_built_in(job, function, said),
@@ -105,7 +110,7 @@ impl<'a> Store<'a> {
         }
     }
 
-    #[tactic(auto, unfolding(crate::specs::Steps::built_in_run))]
+    #[tactic(auto, unfolding(crate::specs::language::Steps::built_in_run))]
     fn run_built_in(
         &mut self,
         job: &Job<'a>,

@@ -1,7 +1,7 @@
 //! The values of variables, by number.
 ghost use Rattle.std.specs.Prelude.{◌≡◌, ◌≤◌, length, slice_get};
 ghost use Rattle.std.specs.Prelude.{IfOk};
-ghost use Rattle.btx_step.specs.Variables.{integer_in, string_in, integer_set, string_set};
+ghost use Rattle.btx_step.specs.language.Variables.{integer_in, string_in, integer_set, string_set};
 
 use crate::list::item;
 use btx_text::Text;
@@ -16,7 +16,7 @@ pub struct Values<'a> {
 }
 
 impl<'a> Model for Values<'a> {
-    ghost use Rattle.btx_step.specs.Stores.{Values as Stored};
+    ghost use Rattle.btx_step.specs.language.Stores.{EntryVariables as Stored};
 
     ghost Value = { Stored };
 

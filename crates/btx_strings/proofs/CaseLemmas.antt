@@ -1,22 +1,22 @@
 -- The look back at the elements before, as a place that is carried on.
 use Rattle.std.proofs.Common.{◌≡◌, ℕ, Bool, true, false, cond, ◌&&◌, List, [], ◌∷◌, ◌++◌, refl, ap}
-use Rattle.btx_text.specs.Elements.{Part}
+use Rattle.btx_text.specs.language.Elements.{Element}
 use Rattle.btx_strings.specs.declared.conversions.Conversion.{Conversion}
 use Rattle.btx_strings.specs.declared.case_change.Place.{Place}
 use Rattle.btx_strings.specs.declared.case_change.Place.TheVariants.{First, Colon, ColonAndWhite, Inside}
-use Rattle.btx_strings.specs.Case.{is_white_text, is_colon, after_colon, begins_title, cased_part, cased_parts}
-use Rattle.btx_strings.specs.CaseState.{is_after_colon, is_beginning}
+use Rattle.btx_strings.specs.language.Case.{is_white_text, is_colon, after_colon, begins_title, cased_part, cased_parts}
+use Rattle.btx_strings.specs.refinement.CaseState.{is_after_colon, is_beginning}
 
 -- the place after one more element
-abbrev pub place_after : Place → Part → Place
+abbrev pub place_after : Place → Element → Place
 place_after place part = cond (is_white_text part.text) (cond (is_after_colon place) ColonAndWhite Inside) (cond (is_colon part) Colon Inside)
 
 -- the place after the elements before, nearest first
-abbrev pub place_of : List Part → Place
+abbrev pub place_of : List Element → Place
 place_of [] = First
 place_of (part ∷ before) = place_after (place_of before) part
 
-is_after_colon-place_of : (before : List Part) → is_after_colon (place_of before) ≡ after_colon before
+is_after_colon-place_of : (before : List Element) → is_after_colon (place_of before) ≡ after_colon before
 is_after_colon-place_of [] = refl
 is_after_colon-place_of (part ∷ before) = at (is_white_text part.text) (is_colon part) (is_after_colon (place_of before)) (is_after_colon-place_of before) where
   at : (white colon after : Bool) → after ≡ after_colon before → is_after_colon (cond white (cond after ColonAndWhite Inside) (cond colon Colon Inside)) ≡ cond white (after_colon before) colon
@@ -25,7 +25,7 @@ is_after_colon-place_of (part ∷ before) = at (is_white_text part.text) (is_col
   at false true after is = refl
   at false false after is = refl
 
-is_beginning-place_of : (before : List Part) → is_beginning (place_of before) ≡ begins_title before
+is_beginning-place_of : (before : List Element) → is_beginning (place_of before) ≡ begins_title before
 is_beginning-place_of [] = refl
 is_beginning-place_of (part ∷ before) = at (is_white_text part.text) (is_colon part) (is_after_colon (place_of before)) (is_after_colon-place_of before) where
   at : (white colon after : Bool) → after ≡ after_colon before → is_beginning (cond white (cond after ColonAndWhite Inside) (cond colon Colon Inside)) ≡ (white && after_colon before)
@@ -35,16 +35,16 @@ is_beginning-place_of (part ∷ before) = at (is_white_text part.text) (is_colon
   at false false after is = refl
 
 -- the same text, by a place
-abbrev pub cased_from : Conversion → Place → List Part → List ℕ
+abbrev pub cased_from : Conversion → Place → List Element → List ℕ
 cased_from conversion place [] = []
 cased_from conversion place (part ∷ parts) = cased_part conversion (is_beginning place) part ++ cased_from conversion (place_after place part) parts
 
-cased_parts-carried : (conversion : Conversion) (before parts : List Part) → cased_parts conversion before parts ≡ cased_from conversion (place_of before) parts
+cased_parts-carried : (conversion : Conversion) (before parts : List Element) → cased_parts conversion before parts ≡ cased_from conversion (place_of before) parts
 unfolding cased_parts
 cased_parts-carried conversion before [] = refl
 cased_parts-carried conversion before (part ∷ parts) =
     rw (is_beginning-place_of before) (ap (λ xs. cased_part conversion (begins_title before) part ++ xs) (cased_parts-carried conversion (part ∷ before) parts))
 
 -- from the first element on
-pub cased_from-first : (conversion : Conversion) (parts : List Part) → cased_parts conversion [] parts ≡ cased_from conversion First parts
+pub cased_from-first : (conversion : Conversion) (parts : List Element) → cased_parts conversion [] parts ≡ cased_from conversion First parts
 cased_from-first conversion parts = cased_parts-carried conversion [] parts

@@ -1,8 +1,8 @@
 -- Lemmas on the glyphs of a special character.
 use Rattle.std.proofs.Common.{◌≡◌, ℕ, zero, suc, ◌≤◌, Bool, true, false, cond, eqb, ◌&&◌, ◌∙◌, List, [], ◌∷◌, length, take, drop, refl, arith, ap}
-use Rattle.btx_text.specs.Class.{is_alpha}
-use Rattle.btx_strings.specs.Controls.{Glyph, Control, Plain, control_name, glyphs_from, glyphs_of, lone, is_brace, follows, is_white_glyph, without_white}
-use Rattle.btx_strings.specs.Glyphs.{gone_after}
+use Rattle.btx_text.specs.language.Class.{is_alpha}
+use Rattle.btx_strings.specs.language.Controls.{Glyph, Control, Plain, control_name, glyphs_from, glyphs_of, lone, is_brace, follows, is_white_glyph, without_white}
+use Rattle.btx_strings.specs.refinement.Glyphs.{gone_after}
 use Rattle.std.specs.Prelude.{take_while}
 use Rattle.std.proofs.lemmas.Bool.{ne_eqb}
 use Rattle.std.proofs.lemmas.List.{length-take}

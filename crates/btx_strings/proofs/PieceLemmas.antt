@@ -5,18 +5,18 @@ use Rattle.std.specs.List.{prefix_len, starts_with}
 use Rattle.std.proofs.lemmas.List.{append-nil}
 use Rattle.std.proofs.lemmas.Bool.{eqb-true, false≢true}
 use Rattle.std.proofs.lemmas.Bool.Decides.{nat_tests}
-use Rattle.btx_text.specs.Class.{is_white}
+use Rattle.btx_text.specs.language.Class.{is_white}
 use Rattle.btx_text.specs.declared.element_kind.Kind.{Kind}
 use Rattle.btx_text.specs.declared.element_kind.Kind.TheVariants.{Byte, Open, Close, Special}
 use Rattle.btx_text.specs.declared.element_kind.TextMode.TheVariants.{Bytes}
-use Rattle.btx_text.specs.Elements.{Part, depth_after, kind_at, element_at, extent, group_len, elements_from, elements_of}
+use Rattle.btx_text.specs.language.Elements.{Element, depth_after, kind_at, element_at, extent, group_len, elements_from, elements_of}
 use Rattle.btx_text.proofs.ElementLemmas.{group_len-le, elements_from-step, elements_from-nil}
 use Rattle.btx_strings.specs.declared.conversions.Conversion.{Conversion}
 use Rattle.btx_strings.specs.declared.conversions.Conversion.TheVariants.{Title, Upper}
 use Rattle.btx_strings.specs.declared.case_change.Place.{Place}
 use Rattle.btx_strings.specs.declared.case_change.Place.TheVariants.{First, Colon, ColonAndWhite, Inside}
-use Rattle.btx_strings.specs.Case.{case_of, is_title, is_white_text, cased_part, cased_special, cased}
-use Rattle.btx_strings.specs.CaseState.{is_plain, is_inside, is_beginning, piece_len, cased_piece, place_after}
+use Rattle.btx_strings.specs.language.Case.{case_of, is_title, is_white_text, cased_part, cased_special, cased}
+use Rattle.btx_strings.specs.refinement.CaseState.{is_case_plain, is_inside, is_beginning, piece_len, cased_piece, place_after}
 use Rattle.btx_strings.proofs.CaseLemmas.{cased_from, cased_from-first}
 use Rattle.btx_strings.proofs.CaseLemmas as elements
 
@@ -71,7 +71,7 @@ in_group c start depth [] = refl
 in_group c start depth (b ∷ bs) = rw (kind_inside depth b bs, deeper depth, less_deep depth) (at (λ d. in_group c (start + 1) d bs) (eqb b 123) (eqb b 125)) where
   at : ((d : ℕ) → rest_at c Inside 0 (start + 1) (suc d) bs ≡ take (group_len (suc d) bs) bs ++ cased_rest c Inside (drop (group_len (suc d) bs) bs)) → (t u : Bool) →
       let kind : Kind = cond t Open (cond u Close Byte) in
-      let part : Part = record { kind = kind; text = take (extent kind (b ∷ bs)) (b ∷ bs); start = start; depth = suc depth } in
+      let part : Element = record { kind = kind; text = take (extent kind (b ∷ bs)) (b ∷ bs); start = start; depth = suc depth } in
       let d = cond t (suc (depth + 1)) (cond u depth (suc depth)) in
       let n = cond (eqb d 0) 1 (suc (group_len d bs)) in
       cased_part c false part ++ rest_at c (elements.place_after Inside part) (length part.text - 1) (start + 1) d bs ≡ take n (b ∷ bs) ++ cased_rest c Inside (drop n (b ∷ bs))
@@ -90,7 +90,7 @@ unfolding cased_rest kind_at
 special c p s bs e h =
     let kind : kind_at Bytes 0 s ≡ Special = rw h refl in
     let text = take (group_len 0 s) s in
-    let part : Part = record { kind = Special; text = text; start = 0; depth = 0 } in
+    let part : Element = record { kind = Special; text = text; start = 0; depth = 0 } in
     let step : elements_from Bytes 0 0 0 s ≡ part ∷ elements_from Bytes 0 (0 + length text) 0 (drop (group_len 0 s) s) = rw kind at (elements_from-step Bytes 0 0 123 s bs e) in
     ap (cased_from c p) step ∙ ap (λ xs. cased_part c (is_beginning p) part ++ xs) (starts_apart c (place_after p text) 0 (0 + length text) 0 0 (drop (group_len 0 s) s))
 
@@ -132,7 +132,7 @@ unfolding cased_rest elements_from kind_at
 one_byte c p b bs h = rw (h, no_brace b h) (at (eqb b 125) refl) where
   at : (t : Bool) → eqb b 125 ≡ t →
       let kind : Kind = cond t Close Byte in
-      let part : Part = record { kind = kind; text = take (extent kind (b ∷ bs)) (b ∷ bs); start = 0; depth = 0 } in
+      let part : Element = record { kind = kind; text = take (extent kind (b ∷ bs)) (b ∷ bs); start = 0; depth = 0 } in
       cased_part c (is_beginning p) part ++ rest_at c (elements.place_after p part) (length part.text - 1) 1 (cond t 0 0) bs
       ≡ cond (is_title c && is_beginning p) (b ∷ []) (case_of c b ∷ []) ++ rest_at c (place_after p (b ∷ [])) 0 0 0 bs
   at true is = rw (eqb-true _ _ is) (rw (stays c) (ap (λ xs. cond (is_title c && is_beginning p) (125 ∷ []) (125 ∷ []) ++ xs) (starts_apart c (place_after p (125 ∷ [])) 0 1 0 0 bs))) where
@@ -147,18 +147,18 @@ plain_parts false false h = (refl, refl)
 plain_parts false true h = absurd (false≢true h)
 plain_parts true u h = absurd (false≢true h)
 
-plain_byte : (c : Conversion) (b : ℕ) (bs : List ℕ) → is_plain b ≡ true → cased_rest c Inside (b ∷ bs) ≡ case_of c b ∷ cased_rest c Inside bs
+plain_byte : (c : Conversion) (b : ℕ) (bs : List ℕ) → is_case_plain b ≡ true → cased_rest c Inside (b ∷ bs) ≡ case_of c b ∷ cased_rest c Inside bs
 plain_byte c b bs h =
     let parts = plain_parts (eqb b 58) (eqb b 123) h in
     one_byte c Inside b bs parts.1 ∙ rw (kept_inside c, parts.0, same (is_white b) Inside) refl
 
 run : (c : Conversion) (s : List ℕ) →
-    let n = prefix_len is_plain s in
+    let n = prefix_len is_case_plain s in
     cased_rest c Inside s ≡ map (case_of c) (take n s) ++ cased_rest c Inside (drop n s)
 run c [] = refl
-run c (b ∷ bs) = rw (one_more (prefix_len is_plain bs)) (at (is_plain b) refl (run c bs)) where
-  at : (t : Bool) → is_plain b ≡ t → cased_rest c Inside bs ≡ map (case_of c) (take (prefix_len is_plain bs) bs) ++ cased_rest c Inside (drop (prefix_len is_plain bs) bs) →
-      let n = cond t (suc (prefix_len is_plain bs)) 0 in
+run c (b ∷ bs) = rw (one_more (prefix_len is_case_plain bs)) (at (is_case_plain b) refl (run c bs)) where
+  at : (t : Bool) → is_case_plain b ≡ t → cased_rest c Inside bs ≡ map (case_of c) (take (prefix_len is_case_plain bs) bs) ++ cased_rest c Inside (drop (prefix_len is_case_plain bs) bs) →
+      let n = cond t (suc (prefix_len is_case_plain bs)) 0 in
       cased_rest c Inside (b ∷ bs) ≡ map (case_of c) (take n (b ∷ bs)) ++ cased_rest c Inside (drop n (b ∷ bs))
   at true h rest = plain_byte c b bs h ∙ ap (λ xs. case_of c b ∷ xs) rest
   at false h rest = refl
@@ -176,21 +176,21 @@ run_as_piece : (c : Conversion) (b : ℕ) (xs : List ℕ) → eqb b 58 ≡ false
 unfolding cased_piece
 run_as_piece c b xs h k = (rw (kept_inside c, no_brace b k, k) refl, rw (h, same (is_white_text (b ∷ xs)) Inside) refl)
 
-run_len : (b : ℕ) (bs : List ℕ) → is_plain b ≡ true → prefix_len is_plain (b ∷ bs) ≡ suc (prefix_len is_plain bs)
-run_len b bs h = rw h (one_more (prefix_len is_plain bs))
+run_len : (b : ℕ) (bs : List ℕ) → is_case_plain b ≡ true → prefix_len is_case_plain (b ∷ bs) ≡ suc (prefix_len is_case_plain bs)
+run_len b bs h = rw h (one_more (prefix_len is_case_plain bs))
 
-run_piece : (c : Conversion) (b : ℕ) (bs : List ℕ) → is_plain b ≡ true →
-    let n = prefix_len is_plain (b ∷ bs) in
+run_piece : (c : Conversion) (b : ℕ) (bs : List ℕ) → is_case_plain b ≡ true →
+    let n = prefix_len is_case_plain (b ∷ bs) in
     cased_rest c Inside (b ∷ bs) ≡ cased_piece c false (take n (b ∷ bs)) ++ cased_rest c (place_after Inside (take n (b ∷ bs))) (drop n (b ∷ bs))
 run_piece c b bs h =
     let parts = plain_parts (eqb b 58) (eqb b 123) h in
-    let m = prefix_len is_plain bs in
+    let m = prefix_len is_case_plain bs in
     let piece = run_as_piece c b (take m bs) parts.0 parts.1 in
     let here : cased_rest c Inside (b ∷ bs) ≡ case_of c b ∷ map (case_of c) (take m bs) ++ cased_rest c Inside (drop m bs) = rw (run_len b bs h) at (run c (b ∷ bs)) in
     rw (run_len b bs h, piece.0, piece.1) here
 
-outside_piece : (c : Conversion) (p : Place) (b : ℕ) (bs : List ℕ) (t : Bool) → eqb b 123 ≡ false → is_plain b ≡ t →
-    let n = cond (is_inside p && t) (prefix_len is_plain (b ∷ bs)) 1 in
+outside_piece : (c : Conversion) (p : Place) (b : ℕ) (bs : List ℕ) (t : Bool) → eqb b 123 ≡ false → is_case_plain b ≡ t →
+    let n = cond (is_inside p && t) (prefix_len is_case_plain (b ∷ bs)) 1 in
     cased_rest c p (b ∷ bs) ≡ cased_piece c (is_beginning p) (take n (b ∷ bs)) ++ cased_rest c (place_after p (take n (b ∷ bs))) (drop n (b ∷ bs))
 outside_piece c Inside b bs true h k = run_piece c b bs k
 outside_piece c Inside b bs false h k = one_piece c Inside b bs h
@@ -205,10 +205,10 @@ unfolding piece_len
 cased_rest-piece c p [] h = absurd (omega arith)
 cased_rest-piece c p (b ∷ bs) h = at (eqb b 123) refl where
   at : (t : Bool) → eqb b 123 ≡ t →
-      let n = cond t (group_len 0 (b ∷ bs)) (cond (is_inside p && is_plain b) (prefix_len is_plain (b ∷ bs)) 1) in
+      let n = cond t (group_len 0 (b ∷ bs)) (cond (is_inside p && is_case_plain b) (prefix_len is_case_plain (b ∷ bs)) 1) in
       cased_rest c p (b ∷ bs) ≡ cased_piece c (is_beginning p) (take n (b ∷ bs)) ++ cased_rest c (place_after p (take n (b ∷ bs))) (drop n (b ∷ bs))
   at true is = rw (eqb-true _ _ is) (group_piece c p bs)
-  at false is = outside_piece c p b bs (is_plain b) is refl
+  at false is = outside_piece c p b bs (is_case_plain b) is refl
 
 cased_rest-none : (c : Conversion) (p : Place) (s : List ℕ) → length s ≡ 0 → cased_rest c p s ≡ []
 unfolding cased_rest
@@ -229,22 +229,22 @@ group_some (b ∷ bs) h = at (eqb (depth_after 0 b) 0) (group_len (depth_after 0
   at true n = omega arith
   at false n = omega arith
 
-run_le : (s : List ℕ) → prefix_len is_plain s ≤ length s
+run_le : (s : List ℕ) → prefix_len is_case_plain s ≤ length s
 run_le [] = omega arith
-run_le (b ∷ bs) = at (is_plain b) (prefix_len is_plain bs) (run_le bs) where
+run_le (b ∷ bs) = at (is_case_plain b) (prefix_len is_case_plain bs) (run_le bs) where
   at : (t : Bool) (n : ℕ) → n ≤ length bs → cond t (1 + n) 0 ≤ suc (length bs)
   at true n h = omega arith
   at false n h = omega arith
 
-run_some : (b : ℕ) (bs : List ℕ) → is_plain b ≡ true → 0 < prefix_len is_plain (b ∷ bs)
+run_some : (b : ℕ) (bs : List ℕ) → is_case_plain b ≡ true → 0 < prefix_len is_case_plain (b ∷ bs)
 run_some b bs h = rw h (omega arith)
 
 piece_fits : (p : Place) (s : List ℕ) → 0 < length s → (0 < piece_len p s) × (piece_len p s ≤ length s)
 unfolding piece_len
 piece_fits p [] h = absurd (omega arith)
-piece_fits p (b ∷ bs) h = at (eqb b 123) (is_inside p) (is_plain b) refl where
-  at : (t u v : Bool) → is_plain b ≡ v →
-      let n = cond t (group_len 0 (b ∷ bs)) (cond (u && v) (prefix_len is_plain (b ∷ bs)) 1) in
+piece_fits p (b ∷ bs) h = at (eqb b 123) (is_inside p) (is_case_plain b) refl where
+  at : (t u v : Bool) → is_case_plain b ≡ v →
+      let n = cond t (group_len 0 (b ∷ bs)) (cond (u && v) (prefix_len is_case_plain (b ∷ bs)) 1) in
       (0 < n) × (n ≤ length (b ∷ bs))
   at true u v k = (group_some (b ∷ bs) h, group_len-le 0 (b ∷ bs))
   at false true true k = (run_some b bs k, run_le (b ∷ bs))

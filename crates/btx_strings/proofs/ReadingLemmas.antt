@@ -6,8 +6,9 @@ use Rattle.std.proofs.lemmas.Bool.{and_parts, and_from, not-true, not_from_false
 use Rattle.std.proofs.lemmas.Bool.Decides.{nat_tests}
 use Rattle.std.proofs.lemmas.List.{take-append-drop, drop_at}
 use Rattle.std.proofs.lemmas.List.Sums.{take_while-cons}
-use Rattle.btx_text.specs.Class.{is_alpha}
-use Rattle.btx_strings.specs.Controls.{Glyph, Control, Plain, is_brace, lone, control_name, glyphs_of, glyphs_text, begins_with, is_name, is_glyph, IsReading}
+use Rattle.btx_text.specs.language.Class.{is_alpha}
+use Rattle.btx_strings.specs.language.Controls.{Glyph, Control, Plain, is_brace, lone, control_name, glyphs_of}
+use Rattle.btx_strings.specs.laws.Controls.{glyphs_text, begins_with, is_name, is_glyph, AreGlyphs}
 use Rattle.btx_strings.proofs.ControlLemmas.{glyphs_of-control, glyphs_of-plain, glyphs_of-nil, control_name_front}
 
 -- ---- the name of a control sequence
@@ -136,10 +137,10 @@ only (Control name ∷ gs) h =
     glyphs_of-control 92 (name ++ rest) refl ∙ ap (λ xs. Control xs ∷ glyphs_of (drop (length (control_name (name ++ rest))) (name ++ rest))) same ∙ ap (λ xs. Control name ∷ glyphs_of xs) after in
     ap (λ xs. Control name ∷ xs) (only gs h.1) ∙ sym first
 
-pub glyphs_of-reads : (text : List ℕ) → IsReading text (glyphs_of text)
+pub glyphs_of-reads : (text : List ℕ) → AreGlyphs text (glyphs_of text)
 glyphs_of-reads text =
     let h = reads (length text) text (omega arith) in
     record { joined = h.0; each = λ left g right e. each_at left g right (rw (← e) h.1) }
 
-pub glyphs_of-only : (text : List ℕ) (glyphs : List Glyph) → IsReading text glyphs → glyphs ≡ glyphs_of text
+pub glyphs_of-only : (text : List ℕ) (glyphs : List Glyph) → AreGlyphs text glyphs → glyphs ≡ glyphs_of text
 glyphs_of-only text glyphs h = only glyphs (from_each glyphs h.each) ∙ ap glyphs_of h.joined

@@ -8,9 +8,9 @@ use Rattle.std.proofs.lemmas.List.{get_or_past}
 use Rattle.std.proofs.lemmas.List.Sums.{sum_by-cons}
 use Rattle.btx_text.specs.declared.element_kind.Kind.{Kind}
 use Rattle.btx_text.specs.declared.element_kind.Kind.TheVariants.{Special}
-use Rattle.btx_text.specs.Elements.{Part, text_of}
-use Rattle.btx_strings.specs.Controls.{Glyph, Control, Plain, control_name, glyphs_from, glyphs_of, is_brace, follows, is_white_glyph, without_white, letters_of}
-use Rattle.btx_strings.specs.Width.{widths, byte_width, first_width, control_width, glyph_width, special_width, width_as, part_width}
+use Rattle.btx_text.specs.language.Elements.{Element, text_of}
+use Rattle.btx_strings.specs.language.Controls.{Glyph, Control, Plain, control_name, glyphs_from, glyphs_of, is_brace, follows, is_white_glyph, without_white, letters_of}
+use Rattle.btx_strings.specs.language.Width.{widths, byte_width, first_width, control_width, glyph_width, special_width, width_as, part_width}
 
 -- ---- no byte is wider than 1,028
 
@@ -88,10 +88,10 @@ width_as-le : (kind : Kind) (text : List ℕ) → width_as kind text ≤ 1028 * 
 width_as-le Special text = special_width-le text
 width_as-le _ text = bytes_width-le text
 
-pub part_width-le : (part : Part) → part_width part ≤ 1028 * length part.text
+pub part_width-le : (part : Element) → part_width part ≤ 1028 * length part.text
 part_width-le part = width_as-le part.kind part.text
 
 -- one element less to go over
-pub one_less : (parts rest : List Part) (part : Part) → parts ≡ part ∷ rest →
+pub one_less : (parts rest : List Element) (part : Element) → parts ≡ part ∷ rest →
     (sum_by part_width parts ≡ part_width part + sum_by part_width rest) × (length (text_of parts) ≡ length part.text + length (text_of rest)) × (part_width part ≤ 1028 * length part.text)
 one_less parts rest part is = rw is (sum_by-cons part_width part rest, length-append part.text (text_of rest), part_width-le part)

@@ -1,10 +1,3 @@
-pub mod Limit
-pub mod Answers
-pub mod Controls
-pub mod Glyphs
-pub mod Lengths
-pub mod Positions
-pub mod Purify
-pub mod Case
-pub mod CaseState
-pub mod Width
+pub mod language
+pub mod laws
+pub mod refinement

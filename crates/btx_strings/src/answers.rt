@@ -1,6 +1,6 @@
 //! What a string function answers.
 ghost use Rattle.std.specs.Prelude.{◌≤◌, ◌+◌, length};
-ghost use Rattle.btx_text.specs.Limits.{greatest_string};
+ghost use Rattle.btx_text.specs.language.Limits.{greatest_string};
 
 use crate::limit::within_limit;
 use btx_text::Fault;
@@ -44,7 +44,8 @@ pub struct Answer {
 
 impl Answer {
     ghost use Rattle.std.specs.Prelude.{◌++◌, replicate};
-    ghost use Rattle.btx_strings.specs.Answers.{Answers, no_complaints};
+    ghost use Rattle.btx_strings.specs.language.Answers.{no_complaints};
+    ghost use Rattle.btx_strings.specs.refinement.Answers.{Answers};
 
     /// A text as an answer with these complaints, or [`Fault::StringLimit`] where it is too long.
     pub fn new(text: Vec<u8>, complaints: Complaints) -> Result<Answer, Fault>

@@ -1,10 +1,11 @@
 //! Letters raised and lowered.
 ghost use Rattle.std.specs.Prelude.{◌≡◌, ◌++◌, map, OnOk};
 ghost use Rattle.std.specs.List.{prefix_len};
-ghost use Rattle.btx_strings.specs.Answers.{Answers, no_complaints};
-ghost use Rattle.btx_strings.specs.Case as spec;
-ghost use Rattle.btx_strings.specs.CaseState.{cased_piece, is_beginning, is_plain, piece_len, place_after};
-ghost use Rattle.btx_strings.specs.Glyphs.{glyph_of};
+ghost use Rattle.btx_strings.specs.language.Answers.{no_complaints};
+ghost use Rattle.btx_strings.specs.refinement.Answers.{Answers};
+ghost use Rattle.btx_strings.specs.language.Case as spec;
+ghost use Rattle.btx_strings.specs.refinement.CaseState.{cased_piece, is_beginning, is_case_plain, piece_len, place_after};
+ghost use Rattle.btx_strings.specs.refinement.Glyphs.{glyph_of};
 
 use crate::answers::{Answer, Complaints};
 use crate::controls::{Glyph, Glyphs, Sequences};
@@ -43,26 +44,39 @@ pub fn change_case(alloc: Global, string: &[u8], conversion: &[u8]) -> Result<An
     }
 }
 
-// A string in another case, piece by piece.
-#[tactic(auto, using(crate::proofs::PieceLemmas::pieces))]
+// A string in another case.
 fn cased(alloc: Global, string: &[u8], conversion: Conversion) -> Result<Answer, Fault>
     ensures { Answers result (spec.cased conversion string.now) no_complaints }
 {
     let mut text = Vec::with_capacity(alloc, string.len())?;
+    change_case_into(&mut text, string, conversion)?;
+    Answer::new(text, Complaints::NONE)
+}
+
+/// Makes a text a string in another case, of any length, in the memory of what stood there. It goes piece by piece.
+#[tactic(auto, using(crate::proofs::PieceLemmas::pieces))]
+pub fn change_case_into(
+    text: &mut Vec<u8>,
+    string: &[u8],
+    conversion: Conversion,
+) -> Result<(), AllocError>
+    ensures { OnOk result (text.new.items ≡ spec.cased conversion string.now) }
+{
+    text.clear();
     let mut place = Place::First;
     let mut rest = string;
     while !rest.is_empty() {
         let (piece, others) = rest.split_at(piece_len(place, rest));
-        push_piece(&mut text, conversion, begins(place), piece)?;
+        push_piece(text, conversion, begins(place), piece)?;
         place = place_after(place, piece);
         rest = others;
     }
-    Answer::new(text, Complaints::NONE)
+    Ok(())
 }
 
 // How many bytes the piece has that a text begins with: a whole group in braces; else, where nothing begins, all before a colon or a
 // group; else one byte.
-#[tactic(auto, unfolding(crate::specs::CaseState::piece_len))]
+#[tactic(auto, unfolding(crate::specs::refinement::CaseState::piece_len))]
 fn piece_len(place: Place, rest: &[u8]) -> usize
     ensures { result ≡ piece_len place rest.now }
 {
@@ -77,7 +91,7 @@ fn piece_len(place: Place, rest: &[u8]) -> usize
 
 // How many bytes there are before a colon or a group.
 fn run_len(rest: &[u8]) -> usize
-    ensures { result ≡ prefix_len is_plain rest.now }
+    ensures { result ≡ prefix_len is_case_plain rest.now }
 {
     for (i, &byte) in rest.iter().enumerate() {
         if matches!(byte, b':' | b'{') {
@@ -109,7 +123,7 @@ fn place_after(place: Place, piece: &[u8]) -> Place
 }
 
 // Adds a piece in another case, which may begin a title or a part of one.
-#[tactic(auto, unfolding(crate::specs::CaseState::cased_piece))]
+#[tactic(auto, unfolding(crate::specs::refinement::CaseState::cased_piece))]
 fn push_piece(
     text: &mut Vec<u8>,
     conversion: Conversion,
@@ -178,7 +192,7 @@ fn push_glyph(
 }
 
 // Adds a control sequence in another case.
-#[tactic(auto, unfolding(crate::specs::Case::cased_control))]
+#[tactic(auto, unfolding(crate::specs::language::Case::cased_control))]
 fn push_control(text: &mut Vec<u8>, conversion: Conversion, name: &[u8]) -> Result<(), AllocError>
     ensures { OnOk result (text.new.items ≡ text.old.items ++ spec.cased_control conversion name.now) }
 {

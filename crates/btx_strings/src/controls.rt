@@ -1,7 +1,7 @@
 //! The control sequences of special characters.
 ghost use Rattle.std.specs.Prelude.{◌≡◌, length, take_while};
-ghost use Rattle.btx_strings.specs.Controls.{control_name, glyphs_of, is_white_glyph, letters_of};
-ghost use Rattle.btx_text.specs.Class.{is_alpha};
+ghost use Rattle.btx_strings.specs.language.Controls.{control_name, glyphs_of, is_white_glyph, letters_of};
+ghost use Rattle.btx_text.specs.language.Class.{is_alpha};
 
 use crate::conversions::Conversion;
 use btx_text::classify::{is_alpha, is_white};
@@ -26,7 +26,7 @@ pub(crate) enum Sequences {
 }
 
 impl Sequences {
-    ghost use Rattle.btx_strings.specs.Glyphs.{is_of};
+    ghost use Rattle.btx_strings.specs.refinement.Glyphs.{is_of};
 
     // Whether a control sequence is among them.
     fn has(self, name: &[u8]) -> bool
@@ -47,7 +47,7 @@ pub struct Glyphs<'a> {
 
 impl<'a> Model for Glyphs<'a> {
     ghost use Rattle.std.specs.Prelude.{List};
-    ghost use Rattle.btx_strings.specs.Controls.{Glyph as SpecGlyph, glyphs_of};
+    ghost use Rattle.btx_strings.specs.language.Controls.{Glyph as SpecGlyph, glyphs_of};
 
     ghost Value = { List SpecGlyph };
 
@@ -64,7 +64,7 @@ impl<'a> Glyphs<'a> {
 }
 
 impl<'a> Glyph<'a> {
-    ghost use Rattle.btx_strings.specs.Glyphs.{glyph_of, gone_after, is_of};
+    ghost use Rattle.btx_strings.specs.refinement.Glyphs.{glyph_of, gone_after, is_of};
 
     // Whether white goes after this glyph, by whether white before it went: with control sequences of these the white behind them goes.
     pub(crate) fn is_white_gone(self, gone: bool, sequences: Sequences) -> bool
@@ -89,7 +89,7 @@ impl<'a> Glyph<'a> {
 
 impl<'a> Iterator for Glyphs<'a> {
     ghost use Rattle.std.specs.Iterator.{YieldsFirstBy, item_count};
-    ghost use Rattle.btx_strings.specs.Glyphs.{glyph_of};
+    ghost use Rattle.btx_strings.specs.refinement.Glyphs.{glyph_of};
 
     type Item = Glyph<'a>;
 
@@ -112,7 +112,7 @@ impl<'a> Iterator for Glyphs<'a> {
 
 /// The letters that a control sequence stands for, by what follows its backslash: both of `oe OE ae AE ss`, the first of
 /// `i j o aa l O AA L`, none of any other.
-#[tactic(auto, unfolding(crate::specs::Controls::letters_of))]
+#[tactic(auto, unfolding(crate::specs::language::Controls::letters_of))]
 pub fn letters(name: &[u8]) -> &[u8]
     ensures { result.now ≡ letters_of name.now }
 {
@@ -124,7 +124,7 @@ pub fn letters(name: &[u8]) -> &[u8]
 }
 
 // How many bytes belong to a backslash, of those after it.
-#[tactic(auto, unfolding(crate::specs::Controls::control_name))]
+#[tactic(auto, unfolding(crate::specs::language::Controls::control_name))]
 fn control_len(rest: &[u8]) -> usize
     ensures { result ≡ length (control_name rest.now) }
 {

@@ -1,6 +1,6 @@
 //! The conversions of a case change.
 ghost use Rattle.std.specs.Prelude.{◌≡◌};
-ghost use Rattle.btx_strings.specs.Case as spec;
+ghost use Rattle.btx_strings.specs.language.Case as spec;
 
 /// What becomes of the letters of a string.
 #[derive(Clone, Copy, Debug, PartialEq, Eq)]

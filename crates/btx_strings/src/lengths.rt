@@ -1,7 +1,7 @@
 //! The length of a string in characters of text.
 ghost use Rattle.std.specs.Prelude.{◌≡◌, ◌≤◌, length, pos};
-ghost use Rattle.btx_strings.specs.Lengths.{text_length_of};
-ghost use Rattle.btx_text.specs.Limits.{greatest_string};
+ghost use Rattle.btx_strings.specs.language.Lengths.{text_length_of};
+ghost use Rattle.btx_text.specs.language.Limits.{greatest_string};
 
 use btx_text::{Elements, TextMode};
 

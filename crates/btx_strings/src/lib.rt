@@ -15,10 +15,10 @@ mod substrings;
 mod widths;
 
 pub use answers::{Answer, Complaints};
-pub use case_change::change_case;
+pub use case_change::{change_case, change_case_into};
 pub use lengths::text_length;
-pub use periods::add_period;
+pub use periods::{add_period, lacks_period};
 pub use prefixes::text_prefix;
-pub use purified::purify;
-pub use substrings::substring;
+pub use purified::{purify, purify_into};
+pub use substrings::{Piece, piece_of, substring};
 pub use widths::width;

@@ -1,5 +1,5 @@
 //! The limit of a string.
-ghost use Rattle.btx_strings.specs.Limit.{KeepsLimit};
+ghost use Rattle.btx_strings.specs.refinement.Limit.{KeepsLimit};
 
 use btx_text::{Fault, GREATEST_STRING};
 

@@ -1,7 +1,8 @@
 //! A period at the end of a string.
-ghost use Rattle.std.specs.Prelude.{◌≡◌};
-ghost use Rattle.btx_strings.specs.Answers.{Answers, no_complaints};
-ghost use Rattle.btx_strings.specs.Positions as spec;
+ghost use Rattle.std.specs.Prelude.{◌≡◌, ◌++◌, [], ◌∷◌, if◌then◌else◌};
+ghost use Rattle.btx_strings.specs.language.Answers.{no_complaints};
+ghost use Rattle.btx_strings.specs.refinement.Answers.{Answers};
+ghost use Rattle.btx_strings.specs.language.Positions as spec;
 
 use crate::answers::{Answer, Complaints};
 use btx_text::Fault;
@@ -13,10 +14,20 @@ use std::alloc::Global;
 pub fn add_period(alloc: Global, string: &[u8]) -> Result<Answer, Fault>
     ensures { Answers result (spec.add_period_of string.now) no_complaints }
 {
-    if string.is_empty() || is_ended(string) {
+    if !lacks_period(string) {
         return Answer::copy_of(alloc, string, Complaints::NONE);
     }
     Answer::extended(alloc, string, 1, b'.')
+}
+
+/// Whether a string gets a period by [`add_period`].
+pub fn lacks_period(string: &[u8]) -> bool
+    ensures { spec.add_period_of string.now ≡ (if result then string.now ++ spec.period ∷ [] else string.now) }
+{
+    if string.is_empty() {
+        return false;
+    }
+    !is_ended(string)
 }
 
 // Whether a string ends in a stop, closing braces aside.

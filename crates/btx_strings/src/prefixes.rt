@@ -1,8 +1,9 @@
 //! The beginning of a string, in characters of text.
 ghost use Rattle.std.specs.Prelude.{◌≡◌};
-ghost use Rattle.btx_text.specs.Elements.{elements_of, text_of};
-ghost use Rattle.btx_strings.specs.Answers.{Answers, no_complaints};
-ghost use Rattle.btx_strings.specs.Lengths.{closed, take_characters, text_prefix_of, wanted};
+ghost use Rattle.btx_text.specs.language.Elements.{elements_of, text_of};
+ghost use Rattle.btx_strings.specs.language.Answers.{no_complaints};
+ghost use Rattle.btx_strings.specs.refinement.Answers.{Answers};
+ghost use Rattle.btx_strings.specs.language.Lengths.{with_braces_closed, take_characters, text_prefix_of, wanted_length};
 
 use crate::answers::Answer;
 use btx_text::{Elements, Fault, TextMode, depth_at};
@@ -43,14 +44,14 @@ fn front(string: &[u8], count: usize, mode: TextMode) -> &[u8]
 
 // How many characters a number asks for.
 fn wanted(count: i32) -> usize
-    ensures { result ≡ wanted count }
+    ensures { result ≡ wanted_length count }
 {
     usize::try_from(count).unwrap_or(0)
 }
 
 // A text with the braces closed that it leaves open.
 fn closed(alloc: Global, front: &[u8]) -> Result<Answer, Fault>
-    ensures { Answers result (closed front.now) no_complaints }
+    ensures { Answers result (with_braces_closed front.now) no_complaints }
 {
     Answer::extended(alloc, front, depth_at(front, front.len()), b'}')
 }

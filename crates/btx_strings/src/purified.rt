@@ -1,11 +1,12 @@
 //! The purified form of a string.
 ghost use Rattle.std.specs.Prelude.{◌≡◌, ◌++◌, OnOk};
 ghost use Rattle.std.specs.List.{flat_map};
-ghost use Rattle.btx_strings.specs.Answers.{Answers, no_complaints};
-ghost use Rattle.btx_strings.specs.Controls.{glyphs_of};
-ghost use Rattle.btx_strings.specs.Glyphs.{glyph_of};
-ghost use Rattle.btx_strings.specs.Purify.{purified_byte, purified_glyph, purified_part, purify_of};
-ghost use Rattle.btx_text.specs.Parts.{part_of};
+ghost use Rattle.btx_strings.specs.language.Answers.{no_complaints};
+ghost use Rattle.btx_strings.specs.refinement.Answers.{Answers};
+ghost use Rattle.btx_strings.specs.language.Controls.{glyphs_of};
+ghost use Rattle.btx_strings.specs.refinement.Glyphs.{glyph_of};
+ghost use Rattle.btx_strings.specs.language.Purify.{purified_byte, purified_glyph, purified_part, purify_of};
+ghost use Rattle.btx_text.specs.refinement.Parts.{part_of};
 
 use crate::answers::{Answer, Complaints};
 use crate::controls::{Glyph, Glyphs, letters};
@@ -20,10 +21,19 @@ pub fn purify(alloc: Global, string: &[u8]) -> Result<Answer, Fault>
     ensures { Answers result (purify_of string.now) no_complaints }
 {
     let mut text = Vec::with_capacity(alloc, string.len())?;
-    for element in Elements::of(string) {
-        push_element(&mut text, element)?;
-    }
+    purify_into(&mut text, string)?;
     Answer::new(text, Complaints::NONE)
+}
+
+/// Makes a text what [`purify`] leaves of a string, of any length, in the memory of what stood there.
+pub fn purify_into(text: &mut Vec<u8>, string: &[u8]) -> Result<(), AllocError>
+    ensures { OnOk result (text.new.items ≡ purify_of string.now) }
+{
+    text.clear();
+    for element in Elements::of(string) {
+        push_element(text, element)?;
+    }
+    Ok(())
 }
 
 // Adds an element's purified form.

@@ -1,11 +1,20 @@
 //! A piece of a string, by positions of bytes.
-ghost use Rattle.std.specs.Prelude.{◌≡◌, ◌<◌};
-ghost use Rattle.btx_strings.specs.Answers.{Answers, no_complaints};
-ghost use Rattle.btx_strings.specs.Positions as spec;
+ghost use Rattle.std.specs.Prelude.{◌<◌};
+ghost use Rattle.btx_strings.specs.language.Answers.{no_complaints};
+ghost use Rattle.btx_strings.specs.refinement.Answers.{Answers};
+ghost use Rattle.btx_strings.specs.refinement.Pieces.{IsPiece};
+ghost use Rattle.btx_strings.specs.language.Positions as spec;
 
 use crate::answers::{Answer, Complaints};
 use btx_text::Fault;
 use std::alloc::Global;
+
+/// Where a piece begins in a string, and how many bytes it has.
+#[derive(Clone, Copy, Debug, PartialEq, Eq)]
+pub struct Piece {
+    pub from: usize,
+    pub count: usize,
+}
 
 /// A piece of a string, of `length` bytes or as many as there are. Bytes are counted from 1: with a positive `start` the piece's
 /// first byte has that number from the left, with a negative one its last byte has it from the right. The piece is empty where
@@ -15,39 +24,51 @@ use std::alloc::Global;
 pub fn substring(alloc: Global, string: &[u8], start: i32, length: i32) -> Result<Answer, Fault>
     ensures { Answers result (spec.substring_of string.now start length) no_complaints }
 {
-    Answer::copy_of(alloc, piece(string, start, length), Complaints::NONE)
+    let piece = piece_of(string.len(), start, length);
+    Answer::copy_of(
+        alloc,
+        &string[piece.from..piece.from + piece.count],
+        Complaints::NONE,
+    )
 }
 
-// The piece.
-fn piece(string: &[u8], start: i32, length: i32) -> &[u8]
-    ensures { result.now ≡ spec.substring_of string.now start length }
+/// Where the piece lies that [`substring`] takes of a string of `size` bytes.
+pub fn piece_of(size: usize, start: i32, length: i32) -> Piece
+    ensures { IsPiece size result (λ string. spec.substring_of string start length) }
 {
     if length <= 0 || start == 0 {
-        return &[];
+        return Piece { from: 0, count: 0 };
     }
     let place = start.unsigned_abs() as usize;
     let length = length.unsigned_abs() as usize;
     if start > 0 {
-        from_left(string, place, length)
+        from_left(size, place, length)
     } else {
-        from_right(string, place, length)
+        from_right(size, place, length)
     }
 }
 
 // The first `length` bytes from the one at `place` on, counted from 1.
-fn from_left(string: &[u8], place: usize, length: usize) -> &[u8]
+fn from_left(size: usize, place: usize, length: usize) -> Piece
     requires { 0 < place }
-    ensures { result.now ≡ spec.from_left string.now place length }
+    ensures { IsPiece size result (λ string. spec.from_left string place length) }
 {
-    let rest = &string[string.len().min(place - 1)..];
-    &rest[..rest.len().min(length)]
+    let from = size.min(place - 1);
+    Piece {
+        from,
+        count: (size - from).min(length),
+    }
 }
 
 // The last `length` bytes up to the one at `place` from the right, counted from 1.
-fn from_right(string: &[u8], place: usize, length: usize) -> &[u8]
+fn from_right(size: usize, place: usize, length: usize) -> Piece
     requires { 0 < place }
-    ensures { result.now ≡ spec.from_right string.now place length }
+    ensures { IsPiece size result (λ string. spec.from_right string place length) }
 {
-    let front = &string[..string.len().saturating_sub(place - 1)];
-    &front[front.len().saturating_sub(length)..]
+    let to = size.saturating_sub(place - 1);
+    let from = to.saturating_sub(length);
+    Piece {
+        from,
+        count: to - from,
+    }
 }

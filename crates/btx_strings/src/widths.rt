@@ -1,9 +1,9 @@
 //! The width of a string.
 ghost use Rattle.std.specs.Prelude.{◌≡◌, ◌≤◌, ◌<◌, ◌+◌, ◌^◌, length, pos, sum_by, true};
-ghost use Rattle.btx_strings.specs.Glyphs.{glyph_of};
-ghost use Rattle.btx_strings.specs.Width as spec;
-ghost use Rattle.btx_text.specs.Limits.{greatest_string};
-ghost use Rattle.btx_text.specs.Parts.{part_of};
+ghost use Rattle.btx_strings.specs.refinement.Glyphs.{glyph_of};
+ghost use Rattle.btx_strings.specs.language.Width as spec;
+ghost use Rattle.btx_text.specs.language.Limits.{greatest_string};
+ghost use Rattle.btx_text.specs.refinement.Parts.{part_of};
 
 use crate::controls::{Glyph, Glyphs, Sequences, letters};
 use btx_text::{Element, Elements, Kind};
@@ -96,7 +96,7 @@ fn glyph_width(glyph: Glyph<'_>) -> u32
 }
 
 // The width of a control sequence.
-#[tactic(auto, unfolding(crate::specs::Width::control_width))]
+#[tactic(auto, unfolding(crate::specs::language::Width::control_width))]
 fn control_width(name: &[u8]) -> u32
     ensures { result ≡ spec.control_width name.now }
 {

@@ -4,7 +4,8 @@ use Rattle.std.proofs.lemmas.Bool.{false≢true}
 use Rattle.std.proofs.lemmas.Bool.Decides.{nat_tests}
 use Rattle.btx_text.specs.declared.byte_class.Class.{Class}
 use Rattle.btx_text.specs.declared.byte_class.Class.TheVariants.{White, Alpha, Digit, Sep, Other}
-use Rattle.btx_text.specs.Class.{is_white, is_alpha, is_digit, is_sep, class_of, is_of_class}
+use Rattle.btx_text.specs.language.Class.{is_white, is_alpha, is_digit, is_sep, class_of}
+use Rattle.btx_text.specs.laws.Class.{is_of_class}
 
 -- the class by four tests
 abbrev class_by : Bool → Bool → Bool → Bool → Class

@@ -6,21 +6,22 @@ use Rattle.std.proofs.lemmas.Bool.{eqb-false, cases_lt}
 use Rattle.btx_text.specs.declared.element_kind.Kind.{Kind}
 use Rattle.btx_text.specs.declared.element_kind.Kind.TheVariants.{Special, Wide}
 use Rattle.btx_text.specs.declared.element_kind.TextMode.{TextMode}
-use Rattle.btx_text.specs.Sequences.{sequence_size}
+use Rattle.btx_text.specs.language.Sequences.{sequence_size}
 use Rattle.btx_text.proofs.SequenceLemmas.{is_sequence-size, begins_sequence-front}
-use Rattle.btx_text.specs.Elements.{depth_after, depth_of, Part, text_of, kind_at, IsSpecial, Reaches, IsElement, IsDivision, extent, element_at, group_len, elements_from, elements_of}
+use Rattle.btx_text.specs.language.Elements.{depth_after, depth_of, Element, text_of, kind_at, extent, element_at, group_len, elements_from, elements_of}
+use Rattle.btx_text.specs.laws.Elements.{IsSpecial, Reaches, IsElement, IsDivision}
 use Rattle.btx_text.proofs.ElementLemmas.{Stands, stands_at, group_closes, length_take_extent, elements_from-cons, elements_from-nil}
 
 -- the parts are the elements that follow a text
-abbrev Divides : TextMode → List ℕ → List Part → Type 0
+abbrev Divides : TextMode → List ℕ → List Element → Type 0
 Divides mode before [] = Unit {0}
 Divides mode before (p ∷ ps) = IsElement mode before p (text_of ps) × Divides mode (before ++ p.text) ps
 
-each_at : (mode : TextMode) (left : List Part) (before : List ℕ) (p : Part) (right : List Part) → Divides mode before (left ++ p ∷ right) → IsElement mode (before ++ text_of left) p (text_of right)
+each_at : (mode : TextMode) (left : List Element) (before : List ℕ) (p : Element) (right : List Element) → Divides mode before (left ++ p ∷ right) → IsElement mode (before ++ text_of left) p (text_of right)
 each_at mode [] before p right h = rw append-nil h.0
 each_at mode (l ∷ left) before p right h = rw (← append_assoc) (each_at mode left (before ++ l.text) p right h.1)
 
-from_each : (mode : TextMode) (ps : List Part) (before : List ℕ) → ((left : List Part) (p : Part) (right : List Part) → ps ≡ left ++ p ∷ right → IsElement mode (before ++ text_of left) p (text_of right)) → Divides mode before ps
+from_each : (mode : TextMode) (ps : List Element) (before : List ℕ) → ((left : List Element) (p : Element) (right : List Element) → ps ≡ left ++ p ∷ right → IsElement mode (before ++ text_of left) p (text_of right)) → Divides mode before ps
 from_each mode [] before h = tt
 from_each mode (p ∷ ps) before h = (
   let here = h [] p ps refl in rw append-nil at here,
@@ -73,7 +74,7 @@ divides mode (suc m) before (b ∷ bs) h =
     let moved : elements_from mode 0 (length before + length text) (fold depth_after (depth_of before) text) (drop (length text) (b ∷ bs)) ≡ others =
     rw (len, length-append, fold-append, len) refl in
     let whole : elements_from mode 0 (length before) (depth_of before) (b ∷ bs) ≡ part ∷ others =
-    elements_from-cons mode (length before) (depth_of before) b bs ∙ ap (λ (ps : List Part). part ∷ ps) moved in
+    elements_from-cons mode (length before) (depth_of before) b bs ∙ ap (λ (ps : List Element). part ∷ ps) moved in
     let joined : text ++ text_of others ≡ b ∷ bs = ap (λ x. text ++ x) later.0 ∙ take-append-drop n (b ∷ bs) in
     let here : IsElement mode before part (text_of others) = record {
       start = refl;
@@ -120,13 +121,13 @@ reaches_some Special t a h = h.some
 reaches_some Wide t a h = let size = is_sequence-size t h in omega arith
 reaches_some _ t a h = omega (arith, h)
 
-one_part : (p q : Part) → p.kind ≡ q.kind → p.text ≡ q.text → p.start ≡ q.start → p.depth ≡ q.depth → p ≡ q
+one_part : (p q : Element) → p.kind ≡ q.kind → p.text ≡ q.text → p.start ≡ q.start → p.depth ≡ q.depth → p ≡ q
 one_part p q k t s d =
-    let part : Kind → List ℕ → ℕ → ℕ → Part = λ kind text start depth. record { kind = kind; text = text; start = start; depth = depth } in
+    let part : Kind → List ℕ → ℕ → ℕ → Element = λ kind text start depth. record { kind = kind; text = text; start = start; depth = depth } in
     let same : part p.kind p.text p.start p.depth ≡ part q.kind q.text q.start q.depth = rw (k, t, s, d) refl in
     same
 
-one_element : (mode : TextMode) (before : List ℕ) (p q : Part) (a b : List ℕ) → IsElement mode before p a → IsElement mode before q b → p.text ++ a ≡ q.text ++ b → (p ≡ q) × (a ≡ b)
+one_element : (mode : TextMode) (before : List ℕ) (p q : Element) (a b : List ℕ) → IsElement mode before p a → IsElement mode before q b → p.text ++ a ≡ q.text ++ b → (p ≡ q) × (a ≡ b)
 one_element mode before p q a b hp hq e =
     let depth : p.depth ≡ q.depth = hp.depth ∙ sym hq.depth in
     let kind : p.kind ≡ q.kind = hp.kind ∙ rw (depth, e) (sym hq.kind) in
@@ -136,7 +137,7 @@ one_element mode before p q a b hp hq e =
     let others : p.text ++ a ≡ p.text ++ b = e ∙ ap (λ t. t ++ b) (sym text) in
     (one_part p q kind text (hp.start ∙ sym hq.start) depth, append_cancel_left p.text a b others)
 
-one_division : (mode : TextMode) (ps qs : List Part) (before : List ℕ) → Divides mode before ps → Divides mode before qs → text_of ps ≡ text_of qs → ps ≡ qs
+one_division : (mode : TextMode) (ps qs : List Element) (before : List ℕ) → Divides mode before ps → Divides mode before qs → text_of ps ≡ text_of qs → ps ≡ qs
 one_division mode [] [] before hp hq e = refl
 one_division mode [] (q ∷ qs) before hp hq e =
     let some = reaches_some q.kind q.text _ hq.0.reaches in
@@ -150,7 +151,7 @@ one_division mode (p ∷ ps) [] before hp hq e =
     absurd (omega arith)
 one_division mode (p ∷ ps) (q ∷ qs) before hp hq e =
     let here = one_element mode before p q (text_of ps) (text_of qs) hp.0 hq.0 e in
-    let text : p.text ≡ q.text = ap (λ (x : Part). x.text) here.0 in
+    let text : p.text ≡ q.text = ap (λ (x : Element). x.text) here.0 in
     let hq' : Divides mode (before ++ p.text) qs = rw text hq.1 in
     let tail : ps ≡ qs = one_division mode ps qs (before ++ p.text) hp.1 hq' here.1 in
     ap (λ x. x ∷ ps) here.0 ∙ ap (λ xs. q ∷ xs) tail
@@ -163,7 +164,7 @@ elements_of-divides mode string =
     let h = divides mode (length string) [] string (omega arith) in
     record { joined = h.0; each = λ left p right e. let at : Divides mode [] (left ++ p ∷ right) = rw (← e) h.1 in each_at mode left [] p right at }
 
-pub elements_of-only : (mode : TextMode) (string : List ℕ) (parts : List Part) → IsDivision mode string parts → parts ≡ elements_of mode string
+pub elements_of-only : (mode : TextMode) (string : List ℕ) (parts : List Element) → IsDivision mode string parts → parts ≡ elements_of mode string
 elements_of-only mode string parts h =
     let all = elements_of-divides mode string in
     one_division mode parts (elements_of mode string) [] (from_each mode parts [] h.each) (from_each mode (elements_of mode string) [] all.each) (h.joined ∙ sym all.joined)

@@ -6,9 +6,11 @@ use Rattle.btx_text.specs.declared.element_kind.Kind.{Kind}
 use Rattle.btx_text.specs.declared.element_kind.Kind.TheVariants.{Byte, Open, Close, Special, Wide}
 use Rattle.btx_text.specs.declared.element_kind.TextMode.{TextMode}
 use Rattle.btx_text.specs.declared.element_kind.TextMode.TheVariants.{Bytes, Utf8}
-use Rattle.btx_text.specs.Sequences.{sequence_size, begins_sequence}
+use Rattle.btx_text.specs.language.Sequences.{sequence_size, begins_sequence}
 use Rattle.btx_text.proofs.SequenceLemmas.{begins_sequence-front, begins_sequence-size, begins_sequence-low, fold-sequence}
-use Rattle.btx_text.specs.Elements.{depth_after, Part, begins_special, is_utf8, is_wide, kind_at, kind_of, depth_past, extent, element_at, group_len, elements_from, elements_of}
+use Rattle.btx_text.specs.language.Elements.{depth_after, Element, begins_special, is_utf8, kind_at, kind_of, extent, element_at, group_len, elements_from, elements_of}
+use Rattle.btx_text.specs.laws.Elements.{is_wide}
+use Rattle.btx_text.specs.refinement.Elements.{depth_past}
 use Rattle.std.specs.List.{All, list_any}
 
 -- ---- `group_len`
@@ -149,7 +151,7 @@ elements_from-step mode start depth b s bs e = rw e (step (kind_at mode depth (b
       let first : elements_from mode 0 start depth (b ∷ bs) ≡ record { kind = kind; text = text; start = start; depth = depth } ∷ elements_from mode 0 (start + length text) (fold depth_after depth text) (drop (length text) (b ∷ bs)) = rw is (elements_from-cons mode start depth b bs) in
       let tail : elements_from mode 0 (start + length text) (fold depth_after depth text) (drop (length text) (b ∷ bs)) ≡ elements_from mode 0 (start + length text) (depth_past kind depth b) (drop n (b ∷ bs)) =
       ap (λ k. elements_from mode 0 (start + length text) (fold depth_after depth text) (drop k (b ∷ bs))) len ∙ others_past mode kind (start + length text) depth b bs stands in
-      first ∙ ap (λ (ps : List Part). record { kind = kind; text = text; start = start; depth = depth } ∷ ps) tail
+      first ∙ ap (λ (ps : List Element). record { kind = kind; text = text; start = start; depth = depth } ∷ ps) tail
 
 pub elements_from-nil : (mode : TextMode) (skip start depth : ℕ) (s : List ℕ) → length s ≡ 0 → elements_from mode skip start depth s ≡ []
 unfolding elements_from
@@ -186,7 +188,7 @@ elements_from-low (suc skip) start depth (b ∷ bs) h = elements_from-low skip (
 elements_from-low zero start depth (b ∷ bs) h =
     let here : b < 128 = h 0 0 (omega arith) in
     let part = element_at Bytes start depth (b ∷ bs) in
-    rw (kind_at-low depth b bs here) (ap (λ (ps : List Part). part ∷ ps) (elements_from-low (length part.text - 1) (start + 1) (depth_after depth b) bs (low_tail b bs h)))
+    rw (kind_at-low depth b bs here) (ap (λ (ps : List Element). part ∷ ps) (elements_from-low (length part.text - 1) (start + 1) (depth_after depth b) bs (low_tail b bs h)))
 
 pub elements_of-low : (string : List ℕ) → All (λ b. b < 128) string → elements_of Utf8 string ≡ elements_of Bytes string
 unfolding elements_of
@@ -202,7 +204,7 @@ kind_at-bytes depth s = at (begins_special depth s) (eqb (get_or s 0 0) 123) (eq
   at false false true = refl
   at false false false = refl
 
-elements_from-bytes : (skip start depth : ℕ) (s : List ℕ) → list_any (λ (part : Part). is_wide part.kind) (elements_from Bytes skip start depth s) ≡ false
+elements_from-bytes : (skip start depth : ℕ) (s : List ℕ) → list_any (λ (part : Element). is_wide part.kind) (elements_from Bytes skip start depth s) ≡ false
 unfolding elements_from
 elements_from-bytes skip start depth [] = refl
 elements_from-bytes (suc skip) start depth (b ∷ bs) = elements_from-bytes skip (start + 1) (depth_after depth b) bs
@@ -210,7 +212,7 @@ elements_from-bytes zero start depth (b ∷ bs) =
     let part = element_at Bytes start depth (b ∷ bs) in
     rw (kind_at-bytes depth (b ∷ bs)) (elements_from-bytes (length part.text - 1) (start + 1) (depth_after depth b) bs)
 
-pub elements_of-bytes : (string : List ℕ) → list_any (λ (part : Part). is_wide part.kind) (elements_of Bytes string) ≡ false
+pub elements_of-bytes : (string : List ℕ) → list_any (λ (part : Element). is_wide part.kind) (elements_of Bytes string) ≡ false
 unfolding elements_of
 elements_of-bytes string = elements_from-bytes 0 0 0 string
 

@@ -5,7 +5,7 @@ use Rattle.std.specs.List.{list_all}
 use Rattle.std.proofs.lemmas.Bool.{false≢true, and_parts, and_from, eqb-true, eq-eqb, lt-ltb, le-ltb, le-leb, cases_lt, cases_eq}
 use Rattle.std.proofs.lemmas.Bool.Decides.{nat_tests}
 use lib.Utf8.{encode, scalar_cases}
-use Rattle.btx_text.specs.Sequences.{is_further, sequence_size, second_fits, is_sequence}
+use Rattle.btx_text.specs.language.Sequences.{is_further, sequence_size, second_fits, is_sequence}
 
 -- ---- the tests, by numbers
 

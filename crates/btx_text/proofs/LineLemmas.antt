@@ -3,24 +3,24 @@ use Rattle.std.proofs.Common.{◌≡◌, ℕ, zero, suc, ◌+◌, ◌-◌, ◌<�
 use Rattle.std.proofs.lemmas.List.{take_more, take_rest}
 use Rattle.std.proofs.lemmas.Bool.{false_from_ne_true}
 use Rattle.memchr.specs.Find.{IsFirstByte, is_byte}
-use Rattle.btx_text.specs.Class.{is_white}
-use Rattle.btx_text.specs.Lines.{in_front, pieces_of, white_before, trimmed, lines_of}
+use Rattle.btx_text.specs.language.Class.{is_white}
+use Rattle.btx_text.specs.language.Lines.{in_front, line_pieces, white_before, trimmed, lines_of}
 
 -- ---- the first piece
 
-first_step : (b : ℕ) (bs : List ℕ) (k : ℕ) (t : Bool) → t ≡ false → pieces_of bs ≡ take k bs ∷ pieces_of (drop (suc k) bs) → cond t ([] ∷ pieces_of bs) (in_front b (pieces_of bs)) ≡ (b ∷ take k bs) ∷ pieces_of (drop (suc k) bs)
+first_step : (b : ℕ) (bs : List ℕ) (k : ℕ) (t : Bool) → t ≡ false → line_pieces bs ≡ take k bs ∷ line_pieces (drop (suc k) bs) → cond t ([] ∷ line_pieces bs) (in_front b (line_pieces bs)) ≡ (b ∷ take k bs) ∷ line_pieces (drop (suc k) bs)
 first_step b bs k t is h = rw (is, h) refl
 
-pieces_of-first : (s : List ℕ) (k : ℕ) → k < length s → ((j : ℕ) → j < k → eqb (get_or s j 0) 10 ≡ true → ⊥) → eqb (get_or s k 0) 10 ≡ true → pieces_of s ≡ take k s ∷ pieces_of (drop (suc k) s)
-unfolding pieces_of
+pieces_of-first : (s : List ℕ) (k : ℕ) → k < length s → ((j : ℕ) → j < k → eqb (get_or s j 0) 10 ≡ true → ⊥) → eqb (get_or s k 0) 10 ≡ true → line_pieces s ≡ take k s ∷ line_pieces (drop (suc k) s)
+unfolding line_pieces
 pieces_of-first [] k lt before here = absurd (omega arith)
 pieces_of-first (b ∷ bs) zero lt before here = rw here refl
 pieces_of-first (b ∷ bs) (suc k) lt before here =
     first_step b bs k (eqb b 10) (false_from_ne_true _ (before 0 (omega arith)))
     (pieces_of-first bs k (omega arith) (λ j less. before (suc j) (omega arith)) here)
 
-pieces_of-last : (s : List ℕ) → 0 < length s → ((j : ℕ) → j < length s → eqb (get_or s j 0) 10 ≡ true → ⊥) → pieces_of s ≡ s ∷ []
-unfolding pieces_of
+pieces_of-last : (s : List ℕ) → 0 < length s → ((j : ℕ) → j < length s → eqb (get_or s j 0) 10 ≡ true → ⊥) → line_pieces s ≡ s ∷ []
+unfolding line_pieces
 pieces_of-last [] some none = absurd (omega arith)
 pieces_of-last (b ∷ []) some none = let no : eqb b 10 ≡ false = false_from_ne_true _ (none 0 (omega arith)) in rw no refl
 pieces_of-last (b ∷ c ∷ bs) some none =
@@ -38,7 +38,7 @@ pub lines_of-none : (s : List ℕ) → 0 < length s → IsFirstByte (is_byte 10)
 lines_of-none s some h = ap (map trimmed) (pieces_of-last s some (λ j less. h j (omega arith) less))
 
 pub lines_of-nil : (s : List ℕ) → length s ≡ 0 → lines_of s ≡ []
-unfolding pieces_of
+unfolding line_pieces
 lines_of-nil [] h = refl
 lines_of-nil (b ∷ bs) h = absurd (omega arith)
 

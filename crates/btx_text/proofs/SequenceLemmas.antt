@@ -4,8 +4,8 @@ use Rattle.std.proofs.lemmas.List.{length-take, get_or-take, take_all}
 use Rattle.std.specs.List.{list_all}
 use Rattle.std.proofs.lemmas.Bool.{false≢true, and_parts, and_from, eqb-true, leb-true, le-leb, cases_lt}
 use Rattle.std.proofs.lemmas.Bool.Decides.{nat_tests}
-use Rattle.btx_text.specs.Elements.{depth_after}
-use Rattle.btx_text.specs.Sequences.{is_further, sequence_size, second_fits, is_sequence, begins_sequence}
+use Rattle.btx_text.specs.language.Elements.{depth_after}
+use Rattle.btx_text.specs.language.Sequences.{is_further, sequence_size, second_fits, is_sequence, begins_sequence}
 
 -- no sequence begins with a byte below 128
 pub sequence_size-low : (b : ℕ) → b < 128 → sequence_size b ≡ 0

@@ -5,15 +5,15 @@ use Rattle.btx_text.specs.declared.element_kind.Kind.{Kind}
 use Rattle.btx_text.specs.declared.element_kind.Kind.TheVariants.{Byte, Open, Close, Special, Wide}
 use Rattle.btx_text.specs.declared.element_kind.TextMode.{TextMode}
 use Rattle.btx_text.specs.declared.element_kind.TextMode.TheVariants.{Bytes, Utf8}
-use Rattle.btx_text.specs.Sequences.{sequence_size, second_fits, is_sequence, begins_sequence}
-use Rattle.btx_text.specs.Lines.{pieces_of, trimmed, lines_of}
-use Rattle.btx_text.specs.Elements.{Part, kind_at, group_len, elements_from, elements_of}
+use Rattle.btx_text.specs.language.Sequences.{sequence_size, second_fits, is_sequence, begins_sequence}
+use Rattle.btx_text.specs.language.Lines.{line_pieces, trimmed, lines_of}
+use Rattle.btx_text.specs.language.Elements.{Element, kind_at, group_len, elements_from, elements_of}
 
 abbrev kinds : TextMode → List ℕ → List Kind
-kinds mode string = map (λ (part : Part). part.kind) (elements_of mode string)
+kinds mode string = map (λ (part : Element). part.kind) (elements_of mode string)
 
 abbrev starts : TextMode → List ℕ → List ℕ
-starts mode string = map (λ (part : Part). part.start) (elements_of mode string)
+starts mode string = map (λ (part : Element). part.start) (elements_of mode string)
 
 -- a group that doesn't begin with a backslash is braces and bytes; a special character is one element
 pub braces : kinds Bytes (codes "{\\\"O}z{a}") ≡ Special ∷ Byte ∷ Open ∷ Byte ∷ Close ∷ []
@@ -65,10 +65,10 @@ inside = refl
 
 -- white at the end of a line goes, white at its beginning stays; a last line may be white alone
 pub cut_lines : lines_of (0x61 ∷ 0x20 ∷ 0x0D ∷ 0x0A ∷ 0x0A ∷ 0x20 ∷ 0x62 ∷ 0x0A ∷ 0x09 ∷ []) ≡ (0x61 ∷ []) ∷ [] ∷ (0x20 ∷ 0x62 ∷ []) ∷ [] ∷ []
-unfolding pieces_of trimmed
+unfolding line_pieces trimmed
 cut_lines = refl
 
 -- nothing follows the last line feed
 pub ended_line : lines_of (0x61 ∷ 0x0A ∷ []) ≡ (0x61 ∷ []) ∷ []
-unfolding pieces_of trimmed
+unfolding line_pieces trimmed
 ended_line = refl

@@ -1,11 +1,3 @@
-pub mod Bytes
-pub mod Class
-pub mod Keys
-pub mod Lines
-pub mod Counts
-pub mod Sequences
-pub mod Elements
-pub mod Parts
-pub mod Limits
-pub mod Texts
-pub mod LogLines
+pub mod language
+pub mod laws
+pub mod refinement

@@ -1,11 +1,11 @@
 //! Which class a byte has.
 ghost use Rattle.std.specs.Prelude.{◌≡◌};
-ghost use Rattle.btx_text.specs.Class.{class_of, is_alpha, is_name_byte, is_white};
+ghost use Rattle.btx_text.specs.language.Class.{class_of, is_alpha, is_name_byte, is_white};
 
 use crate::byte_class::Class;
 
 /// The class of a byte.
-#[tactic(auto, unfolding(crate::specs::Class::class_of))]
+#[tactic(auto, unfolding(crate::specs::language::Class::class_of))]
 pub fn class(byte: u8) -> Class
     ensures { result ≡ class_of byte }
 {

@@ -1,6 +1,6 @@
 //! Brace depth.
 ghost use Rattle.std.specs.Prelude.{◌≡◌, ◌≤◌, ◌<◌, ◌+◌, ◌^◌, length, take};
-ghost use Rattle.btx_text.specs.Elements.{depth_after, depth_of};
+ghost use Rattle.btx_text.specs.language.Elements.{depth_after, depth_of};
 
 /// The brace depth after a byte: one more after `{`, one less after `}`, but never below 0.
 pub fn depth_after(depth: usize, byte: u8) -> usize

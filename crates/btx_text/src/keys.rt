@@ -1,6 +1,6 @@
 //! Keys, whose case is ignored.
 ghost use Rattle.std.specs.Prelude.{◌≡◌, ◌↔◌, IsTrue};
-ghost use Rattle.btx_text.specs.Keys.{folded};
+ghost use Rattle.btx_text.specs.language.Keys.{folded};
 
 /// Lowers the letters `A-Z` of a key. No other byte has a case.
 pub fn fold_key(key: &mut [u8])

@@ -5,9 +5,11 @@ ghost use Rattle.std.specs.List.{All, list_any};
 ghost use Rattle.btx_text.specs.declared.byte_class.Class.{Class};
 ghost use Rattle.btx_text.specs.declared.element_kind.TextMode.{TextMode};
 ghost use Rattle.btx_text.specs.declared.element_kind.TextMode.TheVariants.{Bytes, Utf8};
-ghost use Rattle.btx_text.specs.Class.{class_of, is_of_class};
-ghost use Rattle.btx_text.specs.Elements.{IsDivision, Part, elements_of, is_wide};
-ghost use Rattle.btx_text.specs.Sequences.{is_sequence};
+ghost use Rattle.btx_text.specs.language.Class.{class_of};
+ghost use Rattle.btx_text.specs.laws.Class.{is_of_class};
+ghost use Rattle.btx_text.specs.language.Elements.{Element, elements_of};
+ghost use Rattle.btx_text.specs.laws.Elements.{IsDivision, is_wide};
+ghost use Rattle.btx_text.specs.language.Sequences.{is_sequence};
 
 /// Each byte is of exactly one of the five classes.
 pub fn one_class()
@@ -17,7 +19,7 @@ pub fn one_class()
 /// Each string has exactly one division into elements, in either mode.
 pub fn one_division()
     ensures divides { (mode : TextMode) (string : List ℕ) → IsDivision mode string (elements_of mode string) }
-    ensures only { (mode : TextMode) (string : List ℕ) (parts : List Part) →
+    ensures only { (mode : TextMode) (string : List ℕ) (parts : List Element) →
         IsDivision mode string parts → parts ≡ elements_of mode string }
 {}
 

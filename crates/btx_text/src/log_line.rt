@@ -21,7 +21,7 @@ pub struct LogLine {
 }
 
 impl Model for LogLine {
-    ghost use Rattle.btx_text.specs.LogLines.{Line};
+    ghost use Rattle.btx_text.specs.language.LogLines.{Line};
 
     ghost Value = { Line };
 
@@ -62,7 +62,7 @@ pub struct LogLines {
 
 impl Model for LogLines {
     ghost use Rattle.std.specs.Prelude.{List};
-    ghost use Rattle.btx_text.specs.LogLines.{Line};
+    ghost use Rattle.btx_text.specs.language.LogLines.{Line};
 
     ghost Value = { List Line };
 

@@ -1,6 +1,6 @@
 //! The texts of the lines of a log, piece by piece.
 ghost use Rattle.std.specs.Prelude.{◌≡◌, ◌++◌, OnOk, decimal};
-ghost use Rattle.btx_text.specs.LogLines.{mark_of, place_text};
+ghost use Rattle.btx_text.specs.language.LogLines.{mark_of, place_text};
 
 use crate::log_line::LineKind;
 use itoa::Buffer;
@@ -16,7 +16,7 @@ pub struct Place<'a> {
 }
 
 /// Appends how a line of this kind begins: `Warning--`, `Error--` or nothing.
-#[tactic(auto, unfolding(crate::specs::LogLines::mark_of))]
+#[tactic(auto, unfolding(crate::specs::language::LogLines::mark_of))]
 pub fn push_mark(text: &mut Vec<u8>, kind: LineKind) -> Result<(), AllocError>
     ensures { OnOk result (text.new.items ≡ text.old.items ++ mark_of kind) }
 {
@@ -28,7 +28,7 @@ pub fn push_mark(text: &mut Vec<u8>, kind: LineKind) -> Result<(), AllocError>
 }
 
 /// Appends a place, as `--line 12 of file refs.bib`.
-#[tactic(auto, using(crate::proofs::JoinLemmas::joins), unfolding(crate::specs::LogLines::place_text))]
+#[tactic(auto, using(crate::proofs::JoinLemmas::joins), unfolding(crate::specs::language::LogLines::place_text))]
 pub fn push_place(text: &mut Vec<u8>, place: Place<'_>) -> Result<(), AllocError>
     ensures { OnOk result (text.new.items ≡ text.old.items ++ place_text place.entry.line place.entry.file.now) }
 {

@@ -1,7 +1,7 @@
 //! The sequences of UTF-8 that are one character of more than one byte.
 ghost use Rattle.std.specs.Prelude.{◌≡◌, slice_index};
 ghost use Rattle.std.specs.List.{list_all};
-ghost use Rattle.btx_text.specs.Sequences as spec;
+ghost use Rattle.btx_text.specs.language.Sequences as spec;
 
 // Whether a byte goes on with a sequence.
 fn is_further(byte: u8) -> bool
@@ -11,7 +11,7 @@ fn is_further(byte: u8) -> bool
 }
 
 // How many bytes a sequence has that begins with a byte, 0 where none does.
-#[tactic(auto, unfolding(crate::specs::Sequences::sequence_size))]
+#[tactic(auto, unfolding(crate::specs::language::Sequences::sequence_size))]
 pub(crate) fn sequence_size(first: u8) -> usize
     ensures { result ≡ spec.sequence_size first }
 {
@@ -24,7 +24,7 @@ pub(crate) fn sequence_size(first: u8) -> usize
 }
 
 // Whether the second byte fits the first.
-#[tactic(auto, unfolding(crate::specs::Sequences::second_fits))]
+#[tactic(auto, unfolding(crate::specs::language::Sequences::second_fits))]
 fn second_fits(first: u8, second: u8) -> bool
     ensures { result ≡ spec.second_fits first second }
 {
@@ -45,7 +45,7 @@ fn all_further(bytes: &[u8]) -> bool
 }
 
 // Whether a text is one well-formed sequence.
-#[tactic(auto, unfolding(crate::specs::Sequences::is_sequence))]
+#[tactic(auto, unfolding(crate::specs::language::Sequences::is_sequence))]
 fn is_sequence(text: &[u8]) -> bool
     ensures { result ≡ spec.is_sequence text.now }
 {
@@ -60,7 +60,7 @@ fn is_sequence(text: &[u8]) -> bool
 }
 
 // Whether a text, which begins with the byte `first`, begins with a well-formed sequence.
-#[tactic(auto, unfolding(crate::specs::Sequences::begins_sequence), using(crate::proofs::SequenceLemmas::sequence_steps))]
+#[tactic(auto, unfolding(crate::specs::language::Sequences::begins_sequence), using(crate::proofs::SequenceLemmas::sequence_steps))]
 pub(crate) fn begins_sequence(first: u8, rest: &[u8]) -> bool
     requires { slice_index rest.now 0 ≡ first }
     ensures { result ≡ spec.begins_sequence rest.now }

@@ -1,7 +1,8 @@
 //! The elements of a string, one at a time.
 ghost use Rattle.std.specs.Prelude.{◌≡◌, ◌≤◌, ◌<◌, ◌+◌, ◌^◌, length, slice_index};
 ghost use Rattle.btx_text.specs.declared.element_kind.TextMode.TheVariants.{Bytes};
-ghost use Rattle.btx_text.specs.Elements.{depth_past, elements_of, extent, group_len, is_character, kind_at, text_of};
+ghost use Rattle.btx_text.specs.language.Elements.{elements_of, extent, group_len, is_character, kind_at, text_of};
+ghost use Rattle.btx_text.specs.refinement.Elements.{depth_past};
 
 use crate::depths::depth_after;
 use crate::element_kind::{Kind, TextMode};
@@ -33,9 +34,9 @@ pub struct Elements<'a> {
 
 impl<'a> Model for Elements<'a> {
     ghost use Rattle.std.specs.Prelude.{List, ◌+◌, ◌^◌, ◌<◌, ◌≤◌, length};
-    ghost use Rattle.btx_text.specs.Elements.{Part, elements_from};
+    ghost use Rattle.btx_text.specs.language.Elements.{Element, elements_from};
 
-    ghost Value = { List Part };
+    ghost Value = { List Element };
 
     ghost view = { λ it. elements_from it.mode 0 it.start it.depth it.rest.now };
 
@@ -53,7 +54,7 @@ impl<'a> Elements<'a> {
     }
 
     /// The elements of a string that is read in a mode.
-    #[tactic(auto, unfolding(crate::specs::Elements::elements_of), using(crate::proofs::ElementLemmas::lengths))]
+    #[tactic(auto, unfolding(crate::specs::language::Elements::elements_of), using(crate::proofs::ElementLemmas::lengths))]
     pub fn of_text(string: &'a [u8], mode: TextMode) -> Elements<'a>
         ensures value { result ≡ elements_of mode string.now }
         ensures joined { text_of result ≡ string.now }
@@ -79,7 +80,7 @@ impl<'a> Element<'a> {
 
 impl<'a> Iterator for Elements<'a> {
     ghost use Rattle.std.specs.Iterator.{YieldsFirstBy, item_count};
-    ghost use Rattle.btx_text.specs.Parts.{part_of};
+    ghost use Rattle.btx_text.specs.refinement.Parts.{part_of};
 
     type Item = Element<'a>;
 
@@ -107,7 +108,7 @@ impl<'a> Iterator for Elements<'a> {
 }
 
 // The kind of the element that begins here, with the byte `first`.
-#[tactic(auto, unfolding(crate::specs::Elements::kind_at))]
+#[tactic(auto, unfolding(crate::specs::language::Elements::kind_at))]
 fn kind_at(mode: TextMode, depth: usize, first: u8, rest: &[u8]) -> Kind
     requires { slice_index rest.now 0 ≡ first }
     ensures { result ≡ kind_at mode depth rest.now }

@@ -1,6 +1,6 @@
 //! A string of at most 1,000,000 bytes.
-ghost use Rattle.std.specs.Prelude.{◌≡◌, ◌≤◌, ◌+◌, ◌++◌, [], length, take, IfOk};
-ghost use Rattle.btx_text.specs.Limits.{greatest_string};
+ghost use Rattle.std.specs.Prelude.{◌≡◌, ◌≤◌, ◌+◌, ◌++◌, [], length, take, IfOk, IfSome};
+ghost use Rattle.btx_text.specs.language.Limits.{greatest_string};
 
 use std::alloc::{AllocError, Global};
 use std::marker::Model;
@@ -31,8 +31,8 @@ impl<'a> Model for Text<'a> {
 
     ghost Value = { List ℕ };
 
-    ghost use Rattle.btx_text.specs.Texts.{bytes_of};
-    ghost use Rattle.btx_text.specs.Limits.{greatest_string};
+    ghost use Rattle.btx_text.specs.refinement.Texts.{bytes_of};
+    ghost use Rattle.btx_text.specs.language.Limits.{greatest_string};
 
     ghost view = { λ text. bytes_of text.kept };
 
@@ -84,6 +84,17 @@ impl<'a> Text<'a> {
             Kept::Borrowed(bytes) => bytes,
             Kept::Owned(bytes) => bytes.as_slice(),
             Kept::Shared(bytes) => bytes.as_slice(),
+        }
+    }
+
+    /// The bytes, if they stand in a file.
+    pub fn lent(&self) -> Option<&'a [u8]>
+        ensures value { IfSome result (λ bytes. bytes.now ≡ self.now) }
+        ensures within { length self.now ≤ greatest_string }
+    {
+        match &self.kept {
+            Kept::Borrowed(bytes) => Some(bytes),
+            Kept::Owned(_) | Kept::Shared(_) => None,
         }
     }
 

@@ -1,6 +1,6 @@
 //! The lines of a text, one at a time.
 ghost use Rattle.std.specs.Prelude.{◌≡◌};
-ghost use Rattle.btx_text.specs.Lines.{lines_of};
+ghost use Rattle.btx_text.specs.language.Lines.{lines_of};
 
 use crate::trimming::without_trailing_white;
 use memchr::memchr;
@@ -14,7 +14,7 @@ pub struct Lines<'a> {
 
 impl<'a> Model for Lines<'a> {
     ghost use Rattle.std.specs.Prelude.{List, ℕ};
-    ghost use Rattle.btx_text.specs.Lines.{lines_of};
+    ghost use Rattle.btx_text.specs.language.Lines.{lines_of};
 
     ghost Value = { List (List ℕ) };
 

@@ -1,6 +1,6 @@
 //! Lines and the white at their ends.
 ghost use Rattle.std.specs.Prelude.{◌≡◌};
-ghost use Rattle.btx_text.specs.Lines.{lines_of, trimmed};
+ghost use Rattle.btx_text.specs.language.Lines.{lines_of, trimmed};
 
 use crate::classify::is_white;
 use crate::text_lines::Lines;

@@ -7,12 +7,12 @@ use Rattle.btx_bib.specs.declared.grammar.commands.Wanted.{Wanted}
 use Rattle.btx_bib.specs.declared.grammar.commands.Wanted.TheVariants as wanted
 use Rattle.btx_bib.specs.declared.grammar.slip.Slip.{Slip}
 use Rattle.btx_bib.specs.declared.grammar.slip.Slip.TheVariants.{NoEquals, NoClosing}
-use Rattle.btx_bib.specs.Grammar.Tokens.{Read, followed_by, name_at, open_at, sign_at, key_at, closing}
-use Rattle.btx_bib.specs.Grammar.Values.{Part, value_at}
-use Rattle.btx_bib.specs.Grammar.Fields.{Field, more_at}
-use Rattle.btx_bib.specs.Grammar.Items.{Event, Comment, Preamble, Definition, Entry, FieldOf, End, Wrong, Keeping, is_repeated, Step, step_by, ended, field_event, step_of, known_step, next_step, behind_at, command_of, head_of, head_at, events_from}
-use Rattle.btx_bib.specs.Grammar.WholeItems.{PreambleItem, StringItem, EntryItem, other_fields, fields_at, item_of, item_at}
-use Rattle.btx_bib.specs.Grammar.ItemEvents.{read_events, told, Tells, IsNew}
+use Rattle.btx_bib.specs.language.Grammar.Tokens.{Parsed, followed_by, name_at, open_at, sign_at, key_at, closing_delimiter}
+use Rattle.btx_bib.specs.language.Grammar.Values.{Part, value_at}
+use Rattle.btx_bib.specs.language.Grammar.Fields.{Field, more_at}
+use Rattle.btx_bib.specs.language.Grammar.Items.{Event, Comment, Preamble, Definition, Entry, FieldOf, End, Wrong, Keeping, is_repeated, Step, step_by, item_end, field_event, expected_step, known_step, next_step, behind_at, command_of, head_of, head_at, events_from}
+use Rattle.btx_bib.specs.laws.Grammar.WholeItems.{PreambleItem, StringItem, EntryItem, other_fields, fields_at, whole_item, whole_item_at}
+use Rattle.btx_bib.specs.laws.Grammar.ItemEvents.{read_events, bare_events, GivesEvents, IsNew}
 use Rattle.btx_bib.proofs.GrammarLemmas.LengthLemmas.{Shrinks, events-some}
 use Rattle.btx_bib.proofs.GrammarLemmas.WholeItemLemmas.{more-shrinks, fields_at-step}
 
@@ -21,147 +21,147 @@ use Rattle.btx_bib.proofs.GrammarLemmas.WholeItemLemmas.{more-shrinks, fields_at
 abbrev step_to : Event → Wanted → List ℕ → Step
 step_to event next rest = record { event = event; wanted = next; rest = rest }
 
-told-step : {S : Type 0} (keeping : Keeping S) (state : S) (w : Wanted) (s : List ℕ) (event : Event) (next : Wanted) (rest : List ℕ) → step_of w s ≡ Some (step_to event next rest) → is_repeated (keeping.is_stored state) event ≡ false →
-    told (events_from keeping state w s) ≡ event ∷ told (events_from keeping (keeping.after state event) next rest)
+told-step : {S : Type 0} (keeping : Keeping S) (state : S) (w : Wanted) (s : List ℕ) (event : Event) (next : Wanted) (rest : List ℕ) → expected_step w s ≡ Some (step_to event next rest) → is_repeated (keeping.is_stored state) event ≡ false →
+    bare_events (events_from keeping state w s) ≡ event ∷ bare_events (events_from keeping (keeping.after state event) next rest)
 told-step keeping state w s event next rest e new =
     let known : next_step (keeping.is_stored state) w s ≡ Some (step_to event next rest) = ap (known_step (keeping.is_stored state)) e ∙ rw new refl in
-    ap told (events-some keeping state w s (step_to event next rest) known)
+    ap bare_events (events-some keeping state w s (step_to event next rest) known)
 
 -- an event before those that are read
-abbrev with_event : Event → Read (List Event) → Read (List Event)
+abbrev with_event : Event → Parsed (List Event) → Parsed (List Event)
 with_event event (Ok got) = Ok (event ∷ got.0, got.1)
 with_event event (Err wrong) = Err wrong
 
-tells-more : {S : Type 0} (keeping : Keeping S) (state : S) (w : Wanted) (s : List ℕ) (event : Event) (next : Wanted) (rest : List ℕ) (r : Read (List Event)) → step_of w s ≡ Some (step_to event next rest) → is_repeated (keeping.is_stored state) event ≡ false →
-    Tells keeping (keeping.after state event) next rest r → Tells keeping state w s (with_event event r)
+tells-more : {S : Type 0} (keeping : Keeping S) (state : S) (w : Wanted) (s : List ℕ) (event : Event) (next : Wanted) (rest : List ℕ) (r : Parsed (List Event)) → expected_step w s ≡ Some (step_to event next rest) → is_repeated (keeping.is_stored state) event ≡ false →
+    GivesEvents keeping (keeping.after state event) next rest r → GivesEvents keeping state w s (with_event event r)
 tells-more keeping state w s event next rest (Ok got) e new h = told-step keeping state w s event next rest e new ∙ ap (λ xs. event ∷ xs) h
 tells-more keeping state w s event next rest (Err wrong) e new h = (event ∷ h.0, told-step keeping state w s event next rest e new ∙ ap (λ xs. event ∷ xs) h.1)
 
-tells-one : {S : Type 0} (keeping : Keeping S) (state : S) (w : Wanted) (s : List ℕ) (event : Event) (rest : List ℕ) → step_of w s ≡ Some (step_to event wanted.Item rest) → is_repeated (keeping.is_stored state) event ≡ false →
-    Tells keeping state w s (Ok (event ∷ [], rest))
+tells-one : {S : Type 0} (keeping : Keeping S) (state : S) (w : Wanted) (s : List ℕ) (event : Event) (rest : List ℕ) → expected_step w s ≡ Some (step_to event wanted.Item rest) → is_repeated (keeping.is_stored state) event ≡ false →
+    GivesEvents keeping state w s (Ok (event ∷ [], rest))
 tells-one keeping state w s event rest e new = told-step keeping state w s event wanted.Item rest e new
 
-tells-wrong : {S : Type 0} (keeping : Keeping S) (state : S) (w : Wanted) (s : List ℕ) (wrong : Slip × List ℕ) → step_of w s ≡ Some (step_to (Wrong wrong.0) wanted.Item wrong.1) → Tells keeping state w s (Err wrong)
+tells-wrong : {S : Type 0} (keeping : Keeping S) (state : S) (w : Wanted) (s : List ℕ) (wrong : Slip × List ℕ) → expected_step w s ≡ Some (step_to (Wrong wrong.0) wanted.Item wrong.1) → GivesEvents keeping state w s (Err wrong)
 tells-wrong keeping state w s wrong e = ([], told-step keeping state w s (Wrong wrong.0) wanted.Item wrong.1 e refl)
 
 -- ---- the end of an item, and the fields of an entry
 
-abbrev end_events : Read (Unit {0}) → Read (List Event)
+abbrev end_events : Parsed (Unit {0}) → Parsed (List Event)
 end_events (Ok got) = Ok (End ∷ [], got.1)
 end_events (Err wrong) = Err wrong
 
-closing-by : {S : Type 0} (keeping : Keeping S) (state : S) (d : Delimiter) (s : List ℕ) (r : Read (Unit {0})) → step_of (wanted.Closing d) s ≡ Some (step_by (ended r)) → Tells keeping state (wanted.Closing d) s (end_events r)
+closing-by : {S : Type 0} (keeping : Keeping S) (state : S) (d : Delimiter) (s : List ℕ) (r : Parsed (Unit {0})) → expected_step (wanted.Closing d) s ≡ Some (step_by (item_end r)) → GivesEvents keeping state (wanted.Closing d) s (end_events r)
 closing-by keeping state d s (Ok got) e = tells-one keeping state (wanted.Closing d) s End got.1 e refl
 closing-by keeping state d s (Err wrong) e = tells-wrong keeping state (wanted.Closing d) s wrong e
 
-closing-tells : {S : Type 0} (keeping : Keeping S) (state : S) (d : Delimiter) (s : List ℕ) → Tells keeping state (wanted.Closing d) s (end_events (sign_at (closing d) (NoClosing d) s))
-unfolding step_of
-closing-tells keeping state d s = closing-by keeping state d s (sign_at (closing d) (NoClosing d) s) refl
+closing-tells : {S : Type 0} (keeping : Keeping S) (state : S) (d : Delimiter) (s : List ℕ) → GivesEvents keeping state (wanted.Closing d) s (end_events (sign_at (closing_delimiter d) (NoClosing d) s))
+unfolding expected_step
+closing-tells keeping state d s = closing-by keeping state d s (sign_at (closing_delimiter d) (NoClosing d) s) refl
 
-abbrev field_events : Read (List Field) → Read (List Event)
+abbrev field_events : Parsed (List Field) → Parsed (List Event)
 field_events (Ok got) = Ok (map FieldOf got.0 ++ End ∷ [], got.1)
 field_events (Err wrong) = Err wrong
 
-one-more-event : (field : Field) (r : Read (List Field)) → with_event (FieldOf field) (field_events r) ≡ field_events (followed_by r (λ fields end. Ok (field ∷ fields, end)))
+one-more-event : (field : Field) (r : Parsed (List Field)) → with_event (FieldOf field) (field_events r) ≡ field_events (followed_by r (λ fields end. Ok (field ∷ fields, end)))
 one-more-event field (Ok got) = refl
 one-more-event field (Err wrong) = refl
 
-fields-by : {S : Type 0} (keeping : Keeping S) (state : S) (d : Delimiter) (s : List ℕ) (r : Read (Option Field)) → Shrinks (length s) r → step_of (wanted.Fields d) s ≡ Some (step_by (field_event d r)) →
-    ((q : S) (t : List ℕ) → length t < length s → Tells keeping q (wanted.Fields d) t (field_events (fields_at d t))) → Tells keeping state (wanted.Fields d) s (field_events (followed_by r (other_fields (fields_at d))))
+fields-by : {S : Type 0} (keeping : Keeping S) (state : S) (d : Delimiter) (s : List ℕ) (r : Parsed (Option Field)) → Shrinks (length s) r → expected_step (wanted.Fields d) s ≡ Some (step_by (field_event d r)) →
+    ((q : S) (t : List ℕ) → length t < length s → GivesEvents keeping q (wanted.Fields d) t (field_events (fields_at d t))) → GivesEvents keeping state (wanted.Fields d) s (field_events (followed_by r (other_fields (fields_at d))))
 fields-by keeping state d s (Ok (None, rest)) l e others = tells-one keeping state (wanted.Fields d) s End rest e refl
 fields-by keeping state d s (Ok (Some field, rest)) l e others =
-    subst (Tells keeping state (wanted.Fields d) s) (one-more-event field (fields_at d rest))
+    subst (GivesEvents keeping state (wanted.Fields d) s) (one-more-event field (fields_at d rest))
     (tells-more keeping state (wanted.Fields d) s (FieldOf field) (wanted.Fields d) rest (field_events (fields_at d rest)) e refl (others (keeping.after state (FieldOf field)) rest (omega arith)))
 fields-by keeping state d s (Err wrong) l e others = tells-wrong keeping state (wanted.Fields d) s wrong e
 
-fields-step : (d : Delimiter) (s : List ℕ) → step_of (wanted.Fields d) s ≡ Some (step_by (field_event d (more_at d s)))
-unfolding step_of
+fields-step : (d : Delimiter) (s : List ℕ) → expected_step (wanted.Fields d) s ≡ Some (step_by (field_event d (more_at d s)))
+unfolding expected_step
 fields-step d s = refl
 
-fields-within : {S : Type 0} (keeping : Keeping S) (m : ℕ) (state : S) (d : Delimiter) (s : List ℕ) → length s < m → Tells keeping state (wanted.Fields d) s (field_events (fields_at d s))
+fields-within : {S : Type 0} (keeping : Keeping S) (m : ℕ) (state : S) (d : Delimiter) (s : List ℕ) → length s < m → GivesEvents keeping state (wanted.Fields d) s (field_events (fields_at d s))
 fields-within keeping zero state d s lt = absurd (omega arith)
 fields-within keeping (suc m) state d s lt =
-    subst (λ r. Tells keeping state (wanted.Fields d) s (field_events r)) (sym (fields_at-step d s))
+    subst (λ r. GivesEvents keeping state (wanted.Fields d) s (field_events r)) (sym (fields_at-step d s))
     (fields-by keeping state d s (more_at d s) (more-shrinks d s) (fields-step d s) (λ q t less. fields-within keeping m q d t (omega arith)))
 
-fields-tells : {S : Type 0} (keeping : Keeping S) (state : S) (d : Delimiter) (s : List ℕ) → Tells keeping state (wanted.Fields d) s (field_events (fields_at d s))
+fields-tells : {S : Type 0} (keeping : Keeping S) (state : S) (d : Delimiter) (s : List ℕ) → GivesEvents keeping state (wanted.Fields d) s (field_events (fields_at d s))
 fields-tells keeping state d s = fields-within keeping (suc (length s)) state d s (omega arith)
 
 -- ---- items
 
 -- what is read first is wrong, and so is the whole
-abbrev StepIs : List ℕ → Read (Event × Wanted) → Type 0
-StepIs s r = step_of wanted.Item s ≡ Some (step_by r)
+abbrev StepIs : List ℕ → Parsed (Event × Wanted) → Type 0
+StepIs s r = expected_step wanted.Item s ≡ Some (step_by r)
 
-preamble-value : {S : Type 0} (keeping : Keeping S) (state : S) (s : List ℕ) (d : Delimiter) (r : Read (List Part)) → StepIs s (followed_by r (λ value rest. Ok ((Preamble value, wanted.Closing d), rest))) →
-    Tells keeping state wanted.Item s (read_events (followed_by r (λ value behind. followed_by (sign_at (closing d) (NoClosing d) behind) (λ sign rest. Ok (PreambleItem value, rest)))))
+preamble-value : {S : Type 0} (keeping : Keeping S) (state : S) (s : List ℕ) (d : Delimiter) (r : Parsed (List Part)) → StepIs s (followed_by r (λ value rest. Ok ((Preamble value, wanted.Closing d), rest))) →
+    GivesEvents keeping state wanted.Item s (read_events (followed_by r (λ value behind. followed_by (sign_at (closing_delimiter d) (NoClosing d) behind) (λ sign rest. Ok (PreambleItem value, rest)))))
 preamble-value keeping state s d (Err wrong) e = tells-wrong keeping state wanted.Item s wrong e
 preamble-value {S} keeping state s d (Ok got) e =
-    at (sign_at (closing d) (NoClosing d) got.1) (tells-more keeping state wanted.Item s (Preamble got.0) (wanted.Closing d) got.1 (end_events (sign_at (closing d) (NoClosing d) got.1)) e refl (closing-tells keeping (keeping.after state (Preamble got.0)) d got.1)) where
-      at : (r : Read (Unit {0})) → Tells keeping state wanted.Item s (with_event (Preamble got.0) (end_events r)) → Tells keeping state wanted.Item s (read_events (followed_by r (λ sign rest. Ok (PreambleItem got.0, rest))))
+    at (sign_at (closing_delimiter d) (NoClosing d) got.1) (tells-more keeping state wanted.Item s (Preamble got.0) (wanted.Closing d) got.1 (end_events (sign_at (closing_delimiter d) (NoClosing d) got.1)) e refl (closing-tells keeping (keeping.after state (Preamble got.0)) d got.1)) where
+      at : (r : Parsed (Unit {0})) → GivesEvents keeping state wanted.Item s (with_event (Preamble got.0) (end_events r)) → GivesEvents keeping state wanted.Item s (read_events (followed_by r (λ sign rest. Ok (PreambleItem got.0, rest))))
       at (Ok sign) h = h
       at (Err wrong) h = h
 
-preamble-tells : {S : Type 0} (keeping : Keeping S) (state : S) (s : List ℕ) (r : Read Delimiter) → StepIs s (followed_by r (λ d behind. followed_by (value_at behind) (λ value rest. Ok ((Preamble value, wanted.Closing d), rest)))) →
-    Tells keeping state wanted.Item s (read_events (followed_by r (λ d behind. followed_by (value_at behind) (λ value after. followed_by (sign_at (closing d) (NoClosing d) after) (λ sign rest. Ok (PreambleItem value, rest))))))
+preamble-tells : {S : Type 0} (keeping : Keeping S) (state : S) (s : List ℕ) (r : Parsed Delimiter) → StepIs s (followed_by r (λ d behind. followed_by (value_at behind) (λ value rest. Ok ((Preamble value, wanted.Closing d), rest)))) →
+    GivesEvents keeping state wanted.Item s (read_events (followed_by r (λ d behind. followed_by (value_at behind) (λ value after. followed_by (sign_at (closing_delimiter d) (NoClosing d) after) (λ sign rest. Ok (PreambleItem value, rest))))))
 preamble-tells keeping state s (Err wrong) e = tells-wrong keeping state wanted.Item s wrong e
 preamble-tells keeping state s (Ok got) e = preamble-value keeping state s got.0 (value_at got.1) e
 
-string-value : {S : Type 0} (keeping : Keeping S) (state : S) (s : List ℕ) (d : Delimiter) (name : List ℕ) (r : Read (List Part)) → StepIs s (followed_by r (λ value rest. Ok ((Definition name value, wanted.Closing d), rest))) →
-    Tells keeping state wanted.Item s (read_events (followed_by r (λ value behind. followed_by (sign_at (closing d) (NoClosing d) behind) (λ sign rest. Ok (StringItem name value, rest)))))
+string-value : {S : Type 0} (keeping : Keeping S) (state : S) (s : List ℕ) (d : Delimiter) (name : List ℕ) (r : Parsed (List Part)) → StepIs s (followed_by r (λ value rest. Ok ((Definition name value, wanted.Closing d), rest))) →
+    GivesEvents keeping state wanted.Item s (read_events (followed_by r (λ value behind. followed_by (sign_at (closing_delimiter d) (NoClosing d) behind) (λ sign rest. Ok (StringItem name value, rest)))))
 string-value keeping state s d name (Err wrong) e = tells-wrong keeping state wanted.Item s wrong e
 string-value {S} keeping state s d name (Ok got) e =
-    at (sign_at (closing d) (NoClosing d) got.1) (tells-more keeping state wanted.Item s (Definition name got.0) (wanted.Closing d) got.1 (end_events (sign_at (closing d) (NoClosing d) got.1)) e refl (closing-tells keeping (keeping.after state (Definition name got.0)) d got.1)) where
-      at : (r : Read (Unit {0})) → Tells keeping state wanted.Item s (with_event (Definition name got.0) (end_events r)) → Tells keeping state wanted.Item s (read_events (followed_by r (λ sign rest. Ok (StringItem name got.0, rest))))
+    at (sign_at (closing_delimiter d) (NoClosing d) got.1) (tells-more keeping state wanted.Item s (Definition name got.0) (wanted.Closing d) got.1 (end_events (sign_at (closing_delimiter d) (NoClosing d) got.1)) e refl (closing-tells keeping (keeping.after state (Definition name got.0)) d got.1)) where
+      at : (r : Parsed (Unit {0})) → GivesEvents keeping state wanted.Item s (with_event (Definition name got.0) (end_events r)) → GivesEvents keeping state wanted.Item s (read_events (followed_by r (λ sign rest. Ok (StringItem name got.0, rest))))
       at (Ok sign) h = h
       at (Err wrong) h = h
 
-string-sign : {S : Type 0} (keeping : Keeping S) (state : S) (s : List ℕ) (d : Delimiter) (name : List ℕ) (r : Read (Unit {0})) → StepIs s (followed_by r (λ sign behind. followed_by (value_at behind) (λ value rest. Ok ((Definition name value, wanted.Closing d), rest)))) →
-    Tells keeping state wanted.Item s (read_events (followed_by r (λ sign behind. followed_by (value_at behind) (λ value after. followed_by (sign_at (closing d) (NoClosing d) after) (λ end rest. Ok (StringItem name value, rest))))))
+string-sign : {S : Type 0} (keeping : Keeping S) (state : S) (s : List ℕ) (d : Delimiter) (name : List ℕ) (r : Parsed (Unit {0})) → StepIs s (followed_by r (λ sign behind. followed_by (value_at behind) (λ value rest. Ok ((Definition name value, wanted.Closing d), rest)))) →
+    GivesEvents keeping state wanted.Item s (read_events (followed_by r (λ sign behind. followed_by (value_at behind) (λ value after. followed_by (sign_at (closing_delimiter d) (NoClosing d) after) (λ end rest. Ok (StringItem name value, rest))))))
 string-sign keeping state s d name (Err wrong) e = tells-wrong keeping state wanted.Item s wrong e
 string-sign keeping state s d name (Ok got) e = string-value keeping state s d name (value_at got.1) e
 
-string-name : {S : Type 0} (keeping : Keeping S) (state : S) (s : List ℕ) (d : Delimiter) (r : Read (List ℕ)) →
+string-name : {S : Type 0} (keeping : Keeping S) (state : S) (s : List ℕ) (d : Delimiter) (r : Parsed (List ℕ)) →
     StepIs s (followed_by r (λ name behind. followed_by (sign_at 61 NoEquals behind) (λ sign after. followed_by (value_at after) (λ value rest. Ok ((Definition name value, wanted.Closing d), rest))))) →
-    Tells keeping state wanted.Item s (read_events (followed_by r (λ name behind. followed_by (sign_at 61 NoEquals behind) (λ sign after. followed_by (value_at after) (λ value later.
-    followed_by (sign_at (closing d) (NoClosing d) later) (λ end rest. Ok (StringItem name value, rest)))))))
+    GivesEvents keeping state wanted.Item s (read_events (followed_by r (λ name behind. followed_by (sign_at 61 NoEquals behind) (λ sign after. followed_by (value_at after) (λ value later.
+    followed_by (sign_at (closing_delimiter d) (NoClosing d) later) (λ end rest. Ok (StringItem name value, rest)))))))
 string-name keeping state s d (Err wrong) e = tells-wrong keeping state wanted.Item s wrong e
 string-name keeping state s d (Ok got) e = string-sign keeping state s d got.0 (sign_at 61 NoEquals got.1) e
 
-string-tells : {S : Type 0} (keeping : Keeping S) (state : S) (s : List ℕ) (r : Read Delimiter) →
+string-tells : {S : Type 0} (keeping : Keeping S) (state : S) (s : List ℕ) (r : Parsed Delimiter) →
     StepIs s (followed_by r (λ d inner. followed_by (name_at inner) (λ name behind. followed_by (sign_at 61 NoEquals behind) (λ sign after. followed_by (value_at after) (λ value rest. Ok ((Definition name value, wanted.Closing d), rest)))))) →
-    Tells keeping state wanted.Item s (read_events (followed_by r (λ d inner. followed_by (name_at inner) (λ name behind. followed_by (sign_at 61 NoEquals behind) (λ sign after. followed_by (value_at after) (λ value later.
-    followed_by (sign_at (closing d) (NoClosing d) later) (λ end rest. Ok (StringItem name value, rest))))))))
+    GivesEvents keeping state wanted.Item s (read_events (followed_by r (λ d inner. followed_by (name_at inner) (λ name behind. followed_by (sign_at 61 NoEquals behind) (λ sign after. followed_by (value_at after) (λ value later.
+    followed_by (sign_at (closing_delimiter d) (NoClosing d) later) (λ end rest. Ok (StringItem name value, rest))))))))
 string-tells keeping state s (Err wrong) e = tells-wrong keeping state wanted.Item s wrong e
 string-tells keeping state s (Ok got) e = string-name keeping state s got.0 (name_at got.1) e
 
-entry-key : {S : Type 0} (keeping : Keeping S) (state : S) (s : List ℕ) (name : List ℕ) (d : Delimiter) (r : Read (List ℕ)) → IsNew (keeping.is_stored state) (followed_by r (λ key rest. Ok ((Entry name key, wanted.Fields d), rest))) → StepIs s (followed_by r (λ key rest. Ok ((Entry name key, wanted.Fields d), rest))) →
-    Tells keeping state wanted.Item s (read_events (followed_by r (λ key behind. followed_by (fields_at d behind) (λ fields rest. Ok (EntryItem name key fields, rest)))))
+entry-key : {S : Type 0} (keeping : Keeping S) (state : S) (s : List ℕ) (name : List ℕ) (d : Delimiter) (r : Parsed (List ℕ)) → IsNew (keeping.is_stored state) (followed_by r (λ key rest. Ok ((Entry name key, wanted.Fields d), rest))) → StepIs s (followed_by r (λ key rest. Ok ((Entry name key, wanted.Fields d), rest))) →
+    GivesEvents keeping state wanted.Item s (read_events (followed_by r (λ key behind. followed_by (fields_at d behind) (λ fields rest. Ok (EntryItem name key fields, rest)))))
 entry-key keeping state s name d (Err wrong) new e = tells-wrong keeping state wanted.Item s wrong e
 entry-key {S} keeping state s name d (Ok got) new e =
     at (fields_at d got.1) (tells-more keeping state wanted.Item s (Entry name got.0) (wanted.Fields d) got.1 (field_events (fields_at d got.1)) e (new name got.0 got.1 (wanted.Fields d) refl) (fields-tells keeping (keeping.after state (Entry name got.0)) d got.1)) where
-      at : (r : Read (List Field)) → Tells keeping state wanted.Item s (with_event (Entry name got.0) (field_events r)) → Tells keeping state wanted.Item s (read_events (followed_by r (λ fields rest. Ok (EntryItem name got.0 fields, rest))))
+      at : (r : Parsed (List Field)) → GivesEvents keeping state wanted.Item s (with_event (Entry name got.0) (field_events r)) → GivesEvents keeping state wanted.Item s (read_events (followed_by r (λ fields rest. Ok (EntryItem name got.0 fields, rest))))
       at (Ok fields) h = h
       at (Err wrong) h = h
 
-entry-tells : {S : Type 0} (keeping : Keeping S) (state : S) (s : List ℕ) (name : List ℕ) (r : Read Delimiter) → IsNew (keeping.is_stored state) (followed_by r (λ d inner. followed_by (key_at d inner) (λ key rest. Ok ((Entry name key, wanted.Fields d), rest)))) →
+entry-tells : {S : Type 0} (keeping : Keeping S) (state : S) (s : List ℕ) (name : List ℕ) (r : Parsed Delimiter) → IsNew (keeping.is_stored state) (followed_by r (λ d inner. followed_by (key_at d inner) (λ key rest. Ok ((Entry name key, wanted.Fields d), rest)))) →
     StepIs s (followed_by r (λ d inner. followed_by (key_at d inner) (λ key rest. Ok ((Entry name key, wanted.Fields d), rest)))) →
-    Tells keeping state wanted.Item s (read_events (followed_by r (λ d inner. followed_by (key_at d inner) (λ key behind. followed_by (fields_at d behind) (λ fields rest. Ok (EntryItem name key fields, rest))))))
+    GivesEvents keeping state wanted.Item s (read_events (followed_by r (λ d inner. followed_by (key_at d inner) (λ key behind. followed_by (fields_at d behind) (λ fields rest. Ok (EntryItem name key fields, rest))))))
 entry-tells keeping state s name (Err wrong) new e = tells-wrong keeping state wanted.Item s wrong e
 entry-tells keeping state s name (Ok got) new e = entry-key keeping state s name got.0 (key_at got.0 got.1) new e
 
-item_of-tells : {S : Type 0} (keeping : Keeping S) (state : S) (s : List ℕ) (c : Command) (name t : List ℕ) → IsNew (keeping.is_stored state) (head_of c name t) → StepIs s (head_of c name t) → Tells keeping state wanted.Item s (read_events (item_of c name t))
-unfolding head_of item_of
+item_of-tells : {S : Type 0} (keeping : Keeping S) (state : S) (s : List ℕ) (c : Command) (name t : List ℕ) → IsNew (keeping.is_stored state) (head_of c name t) → StepIs s (head_of c name t) → GivesEvents keeping state wanted.Item s (read_events (whole_item c name t))
+unfolding head_of whole_item
 item_of-tells keeping state s command.Comment name t new e = tells-one keeping state wanted.Item s Comment t e refl
 item_of-tells keeping state s command.Preamble name t new e = preamble-tells keeping state s (open_at t) e
 item_of-tells keeping state s command.Definition name t new e = string-tells keeping state s (open_at t) e
 item_of-tells keeping state s command.Entry name t new e = entry-tells keeping state s name (open_at t) new e
 
-named-tells : {S : Type 0} (keeping : Keeping S) (state : S) (s : List ℕ) (r : Read (List ℕ)) → IsNew (keeping.is_stored state) (followed_by r (λ name rest. head_of (command_of name) name rest)) → StepIs s (followed_by r (λ name rest. head_of (command_of name) name rest)) →
-    Tells keeping state wanted.Item s (read_events (followed_by r (λ name rest. item_of (command_of name) name rest)))
+named-tells : {S : Type 0} (keeping : Keeping S) (state : S) (s : List ℕ) (r : Parsed (List ℕ)) → IsNew (keeping.is_stored state) (followed_by r (λ name rest. head_of (command_of name) name rest)) → StepIs s (followed_by r (λ name rest. head_of (command_of name) name rest)) →
+    GivesEvents keeping state wanted.Item s (read_events (followed_by r (λ name rest. whole_item (command_of name) name rest)))
 named-tells keeping state s (Err wrong) new e = tells-wrong keeping state wanted.Item s wrong e
 named-tells keeping state s (Ok got) new e = item_of-tells keeping state s (command_of got.0) got.0 got.1 new e
 
-pub item-tells : {S : Type 0} (keeping : Keeping S) (state : S) (s t : List ℕ) → behind_at s ≡ Some t → IsNew (keeping.is_stored state) (head_at t) → Tells keeping state wanted.Item s (read_events (item_at t))
-unfolding item_at head_at step_of
+pub item-tells : {S : Type 0} (keeping : Keeping S) (state : S) (s t : List ℕ) → behind_at s ≡ Some t → IsNew (keeping.is_stored state) (head_at t) → GivesEvents keeping state wanted.Item s (read_events (whole_item_at t))
+unfolding whole_item_at head_at expected_step
 item-tells keeping state s t e new = named-tells keeping state s (name_at t) new (rw e refl)

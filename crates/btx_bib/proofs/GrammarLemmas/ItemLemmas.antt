@@ -3,7 +3,7 @@ use Rattle.std.proofs.Common.{◌≡◌, ℕ, zero, suc, ◌+◌, ◌<◌, true,
 use Rattle.std.proofs.lemmas.Bool.{false_from_ne_true}
 use Rattle.std.proofs.lemmas.List.{take_rest}
 use Rattle.memchr.specs.Find.{IsFirstByte, is_byte}
-use Rattle.btx_bib.specs.Grammar.Items.{behind_at}
+use Rattle.btx_bib.specs.language.Grammar.Items.{behind_at}
 
 at-some : (s : List ℕ) (k : ℕ) → k < length s → ((j : ℕ) → j < k → eqb (get_or s j 0) 64 ≡ true → ⊥) → eqb (get_or s k 0) 64 ≡ true → behind_at s ≡ Some (drop (suc k) s)
 unfolding behind_at

@@ -1,7 +1,7 @@
 -- What is read leaves a text that isn't longer.
 use Rattle.std.proofs.Common.{◌≡◌, ℕ, zero, suc, ◌+◌, ◌*◌, ◌<◌, ◌≤◌, Bool, true, false, cond, eqb, List, [], ◌∷◌, length, drop, refl, ◌∙◌, ap, arith, length-drop, Ok, Err, Some, None, Option}
 use Rattle.std.specs.Option.{option_map}
-use Rattle.btx_text.specs.Class.{is_digit, begins_name}
+use Rattle.btx_text.specs.language.Class.{is_digit, begins_name}
 use Rattle.btx_bib.specs.declared.grammar.byte_sets.Delimiter.{Delimiter}
 use Rattle.btx_bib.specs.declared.grammar.byte_sets.ByteSet.TheVariants.{Gap, NameByte, Digit, KeyByte}
 use Rattle.btx_bib.specs.declared.grammar.byte_sets.Enclosure.{Enclosure}
@@ -12,28 +12,28 @@ use Rattle.btx_bib.specs.declared.grammar.commands.Wanted.{Wanted}
 use Rattle.btx_bib.specs.declared.grammar.commands.Wanted.TheVariants.{Item, Closing, Fields}
 use Rattle.btx_bib.specs.declared.grammar.slip.Slip.{Slip}
 use Rattle.btx_bib.specs.declared.grammar.slip.Slip.TheVariants.{NoEquals, NoClosing, Repeated}
-use Rattle.btx_bib.specs.Grammar.ByteSets.{begins, past, enclosed_len}
-use Rattle.btx_bib.specs.Grammar.Tokens.{Read, followed_by, name_in, name_at, open_in, open_at, sign_in, sign_at, key_in, key_at, closing}
-use Rattle.btx_bib.specs.Grammar.Values.{Part, closed, enclosed_in, part_in, part_at, next_part, joined, value_within, value_at}
-use Rattle.btx_bib.specs.Grammar.Fields.{Field, field_at, one_more, after_comma, more_in, more_at}
-use Rattle.btx_bib.specs.Grammar.Items.{Event, Wrong, Keeping, is_repeated, as_known, known_step, next_step, command_of, head_of, head_at, ended, field_event, Step, step_by, behind_at, step_of, Placed, events_by, events_within, events_from}
+use Rattle.btx_bib.specs.language.Grammar.ByteSets.{begins, past, enclosed_len}
+use Rattle.btx_bib.specs.language.Grammar.Tokens.{Parsed, followed_by, name_here, name_at, open_in, open_at, sign_in, sign_at, key_here, key_at, closing_delimiter}
+use Rattle.btx_bib.specs.language.Grammar.Values.{Part, closed_part, enclosed_in, part_in, part_at, next_part, joined, value_within, value_at}
+use Rattle.btx_bib.specs.language.Grammar.Fields.{Field, field_at, one_more, after_comma, more_in, more_at}
+use Rattle.btx_bib.specs.language.Grammar.Items.{Event, Wrong, Keeping, is_repeated, as_known, known_step, next_step, command_of, head_of, head_at, item_end, field_event, Step, step_by, behind_at, expected_step, Placed, events_by, events_within, events_from}
 use Rattle.btx_bib.proofs.GrammarLemmas.ValueLemmas.{Within, behind_hash-within, past-le}
 
 -- the text that follows isn't longer than so many bytes
-abbrev pub Stays : {A : Type 0} → ℕ → Read A → Type 0
+abbrev pub Stays : {A : Type 0} → ℕ → Parsed A → Type 0
 Stays n (Ok got) = length got.1 ≤ n
 Stays n (Err wrong) = length wrong.1 ≤ n
 
-stays-more : {A : Type 0} (r : Read A) (n m : ℕ) → n ≤ m → Stays n r → Stays m r
+stays-more : {A : Type 0} (r : Parsed A) (n m : ℕ) → n ≤ m → Stays n r → Stays m r
 stays-more (Ok got) n m le h = omega arith
 stays-more (Err wrong) n m le h = omega arith
 
-stays-then : {A B : Type 0} (r : Read A) (next : A → List ℕ → Read B) (n : ℕ) → Stays n r → ((a : A) (rest : List ℕ) → length rest ≤ n → Stays n (next a rest)) → Stays n (followed_by r next)
+stays-then : {A B : Type 0} (r : Parsed A) (next : A → List ℕ → Parsed B) (n : ℕ) → Stays n r → ((a : A) (rest : List ℕ) → length rest ≤ n → Stays n (next a rest)) → Stays n (followed_by r next)
 stays-then (Ok got) next n h k = k got.0 got.1 h
 stays-then (Err wrong) next n h k = h
 
 -- a choice, and the two ways of it
-stays-if : {A : Type 0} (t : Bool) (r s : Read A) (n : ℕ) → Stays n r → Stays n s → Stays n (cond t r s)
+stays-if : {A : Type 0} (t : Bool) (r s : Parsed A) (n : ℕ) → Stays n r → Stays n s → Stays n (cond t r s)
 stays-if true r s n h k = h
 stays-if false r s n h k = k
 
@@ -42,8 +42,8 @@ drop-le n s = omega (arith, length-drop n s)
 
 -- ---- words and signs
 
-name_in-stays : (s : List ℕ) → Stays (length s) (name_in s)
-unfolding name_in
+name_in-stays : (s : List ℕ) → Stays (length s) (name_here s)
+unfolding name_here
 name_in-stays s = stays-if (begins begins_name s) _ _ (length s) (past-le NameByte s) (omega arith)
 
 name-stays : (s : List ℕ) (n : ℕ) → length s ≤ n → Stays n (name_at s)
@@ -64,8 +64,8 @@ sign_in-stays sign slip s = stays-if (begins (λ b. eqb b sign) s) _ _ (length s
 sign-stays : (sign : ℕ) (slip : Slip) (s : List ℕ) (n : ℕ) → length s ≤ n → Stays n (sign_at sign slip s)
 sign-stays sign slip s n le = stays-more (sign_at sign slip s) (length (past Gap s)) n (omega (arith, past-le Gap s)) (sign_in-stays sign slip (past Gap s))
 
-key_in-stays : (delimiter : Delimiter) (s : List ℕ) → Stays (length s) (key_in delimiter s)
-unfolding key_in
+key_in-stays : (delimiter : Delimiter) (s : List ℕ) → Stays (length s) (key_here delimiter s)
+unfolding key_here
 key_in-stays delimiter [] = omega arith
 key_in-stays delimiter (b ∷ bs) = past-le (KeyByte delimiter) (b ∷ bs)
 
@@ -74,7 +74,7 @@ key-stays delimiter s n le = stays-more (key_at delimiter s) (length (past Gap s
 
 -- ---- values
 
-closed-stays : (enclosure : Enclosure) (text rest : List ℕ) (n : ℕ) → length rest ≤ n → Stays n (closed enclosure text rest)
+closed-stays : (enclosure : Enclosure) (text rest : List ℕ) (n : ℕ) → length rest ≤ n → Stays n (closed_part enclosure text rest)
 closed-stays enclosure text [] n h = omega arith
 closed-stays Group text (b ∷ bs) n h = omega arith
 closed-stays Quotes text (b ∷ bs) n h = stays-if (eqb b 34) _ _ n (omega arith) h
@@ -117,14 +117,14 @@ field-stays s n le =
     stays-then (sign_at 61 NoEquals r) _ n (sign-stays 61 NoEquals r n h) (λ sign q k.
     stays-then (value_at q) _ n (value-stays q n k) (λ value rest l. l)))
 
-one_more-stays : (r : Read Field) (n : ℕ) → Stays n r → Stays n (one_more r)
+one_more-stays : (r : Parsed Field) (n : ℕ) → Stays n r → Stays n (one_more r)
 one_more-stays (Ok got) n h = h
 one_more-stays (Err wrong) n h = h
 
 after_comma-stays : (delimiter : Delimiter) (s : List ℕ) (n : ℕ) → length s ≤ n → Stays n (after_comma delimiter s)
 unfolding after_comma
 after_comma-stays delimiter s n le =
-    stays-if (begins (λ b. eqb b (closing delimiter)) s) _ _ n (omega (arith, drop-le 1 s)) (one_more-stays (field_at s) n (field-stays s n le))
+    stays-if (begins (λ b. eqb b (closing_delimiter delimiter)) s) _ _ n (omega (arith, drop-le 1 s)) (one_more-stays (field_at s) n (field-stays s n le))
 
 -- ---- what is read at a place: less is left, or as much and an item is wanted
 
@@ -139,7 +139,7 @@ left-le Item n = omega arith
 left-le (Closing delimiter) n = omega arith
 left-le (Fields delimiter) n = omega arith
 
-begun : (r : Read (Event × Wanted)) (n : ℕ) → Stays n r → left (step_by r).wanted (length (step_by r).rest) < 2 * suc n
+begun : (r : Parsed (Event × Wanted)) (n : ℕ) → Stays n r → left (step_by r).wanted (length (step_by r).rest) < 2 * suc n
 begun (Ok got) n h = let le = left-le got.0.1 (length got.1) in omega arith
 begun (Err wrong) n h = omega arith
 
@@ -162,12 +162,12 @@ head-stays : (s : List ℕ) (n : ℕ) → length s ≤ n → Stays n (head_at s)
 unfolding head_at
 head-stays s n le = stays-then (name_at s) _ n (name-stays s n le) (λ name r h. head_of-stays (command_of name) name r n h)
 
-ended-left : (r : Read (Unit {0})) (n : ℕ) → Stays n r → let step = step_by (ended r) in left step.wanted (length step.rest) < 2 * n + 1
+ended-left : (r : Parsed (Unit {0})) (n : ℕ) → Stays n r → let step = step_by (item_end r) in left step.wanted (length step.rest) < 2 * n + 1
 ended-left (Ok got) n h = omega arith
 ended-left (Err wrong) n h = omega arith
 
 -- a further field leaves less, its end no more
-abbrev pub Shrinks : ℕ → Read (Option Field) → Type 0
+abbrev pub Shrinks : ℕ → Parsed (Option Field) → Type 0
 Shrinks n (Ok (None, rest)) = length rest ≤ n
 Shrinks n (Ok (Some field, rest)) = suc (length rest) ≤ n
 Shrinks n (Err wrong) = length wrong.1 ≤ n
@@ -175,33 +175,33 @@ Shrinks n (Err wrong) = length wrong.1 ≤ n
 shrinks_ended : (n m : ℕ) (rest : List ℕ) → length rest ≤ n → Shrinks n (Ok (None, rest))
 shrinks_ended n m rest h = h
 
-shrinks-if : (t : Bool) (r s : Read (Option Field)) (n : ℕ) → Shrinks n r → Shrinks n s → Shrinks n (cond t r s)
+shrinks-if : (t : Bool) (r s : Parsed (Option Field)) (n : ℕ) → Shrinks n r → Shrinks n s → Shrinks n (cond t r s)
 shrinks-if true r s n h k = h
 shrinks-if false r s n h k = k
 
-shrinks-one : (r : Read Field) (n m : ℕ) → n < m → Stays n r → Shrinks m (one_more r)
+shrinks-one : (r : Parsed Field) (n m : ℕ) → n < m → Stays n r → Shrinks m (one_more r)
 shrinks-one (Ok got) n m lt h = omega arith
 shrinks-one (Err wrong) n m lt h = omega arith
 
 after_comma-shrinks : (delimiter : Delimiter) (s : List ℕ) (n m : ℕ) → length s ≤ n → n < m → Shrinks m (after_comma delimiter s)
 unfolding after_comma
 after_comma-shrinks delimiter s n m le lt =
-    shrinks-if (begins (λ b. eqb b (closing delimiter)) s) _ _ m (omega (arith, drop-le 1 s)) (shrinks-one (field_at s) n m lt (field-stays s n le))
+    shrinks-if (begins (λ b. eqb b (closing_delimiter delimiter)) s) _ _ m (omega (arith, drop-le 1 s)) (shrinks-one (field_at s) n m lt (field-stays s n le))
 
 pub more_in-shrinks : (delimiter : Delimiter) (s : List ℕ) → Shrinks (length s) (more_in delimiter s)
 unfolding more_in
 more_in-shrinks delimiter [] = omega arith
 more_in-shrinks delimiter (b ∷ bs) =
     let n = length (b ∷ bs) in
-    shrinks-if (eqb b (closing delimiter)) _ _ n (omega arith)
+    shrinks-if (eqb b (closing_delimiter delimiter)) _ _ n (omega arith)
     (shrinks-if (eqb b 44) _ _ n (after_comma-shrinks delimiter (past Gap bs) (length bs) n (past-le Gap bs) (omega arith)) (omega arith))
 
-pub shrinks-more : (r : Read (Option Field)) (n m : ℕ) → n ≤ m → Shrinks n r → Shrinks m r
+pub shrinks-more : (r : Parsed (Option Field)) (n m : ℕ) → n ≤ m → Shrinks n r → Shrinks m r
 shrinks-more (Ok (None, rest)) n m le h = omega arith
 shrinks-more (Ok (Some field, rest)) n m le h = omega arith
 shrinks-more (Err wrong) n m le h = omega arith
 
-field-left : (delimiter : Delimiter) (r : Read (Option Field)) (n : ℕ) → Shrinks n r → let step = step_by (field_event delimiter r) in left step.wanted (length step.rest) < 2 * n + 1
+field-left : (delimiter : Delimiter) (r : Parsed (Option Field)) (n : ℕ) → Shrinks n r → let step = step_by (field_event delimiter r) in left step.wanted (length step.rest) < 2 * n + 1
 field-left delimiter (Ok (None, rest)) n h = omega arith
 field-left delimiter (Ok (Some field, rest)) n h = omega arith
 field-left delimiter (Err wrong) n h = omega arith
@@ -226,10 +226,10 @@ item-steps s (Some t) e =
     let h = begun (head_at t) (length t) (head-stays t (length t) (omega arith)) in
     omega arith
 
-pub step-leaves : (wanted : Wanted) (s : List ℕ) → StepsTo (left wanted (length s)) (step_of wanted s)
-unfolding step_of
+pub step-leaves : (wanted : Wanted) (s : List ℕ) → StepsTo (left wanted (length s)) (expected_step wanted s)
+unfolding expected_step
 step-leaves Item s = item-steps s (behind_at s) refl
-step-leaves (Closing delimiter) s = ended-left (sign_at (closing delimiter) (NoClosing delimiter) s) (length s) (sign-stays (closing delimiter) (NoClosing delimiter) s (length s) (omega arith))
+step-leaves (Closing delimiter) s = ended-left (sign_at (closing_delimiter delimiter) (NoClosing delimiter) s) (length s) (sign-stays (closing_delimiter delimiter) (NoClosing delimiter) s (length s) (omega arith))
 step-leaves (Fields delimiter) s =
     field-left delimiter (more_at delimiter s) (length s) (shrinks-more (more_at delimiter s) (length (past Gap s)) (length s) (past-le Gap s) (more_in-shrinks delimiter (past Gap s)))
 
@@ -249,7 +249,7 @@ known-steps is_stored n None h = tt
 known-steps is_stored n (Some step) h = let le = known-left is_stored step.event step.wanted (length step.rest) in omega arith
 
 pub next-leaves : (is_stored : List ℕ → Bool) (wanted : Wanted) (s : List ℕ) → StepsTo (left wanted (length s)) (next_step is_stored wanted s)
-next-leaves is_stored wanted s = known-steps is_stored (left wanted (length s)) (step_of wanted s) (step-leaves wanted s)
+next-leaves is_stored wanted s = known-steps is_stored (left wanted (length s)) (expected_step wanted s) (step-leaves wanted s)
 
 by-enough : {S : Type 0} (keeping : Keeping S) (f g : S → Wanted → List ℕ → List Placed) (n : ℕ) (state : S) (o : Option Step) → StepsTo n o →
     ((q : S) (w : Wanted) (s : List ℕ) → left w (length s) < n → f q w s ≡ g q w s) → events_by keeping f state o ≡ events_by keeping g state o

@@ -1,7 +1,7 @@
 -- What is spelled at the front of a text stays so where more stands behind the text.
 use Rattle.std.proofs.Common.{◌≡◌, ◌<◌, ℕ, zero, suc, Bool, true, false, if◌then◌else◌, eqb, List, [], ◌∷◌, ◌++◌, map, fold, length, ◌⊎◌, inl, inr, refl, sym, ◌∙◌, ap, subst, arith, append_assoc, Result, Ok, Err, Some, None, Option}
 use Rattle.std.proofs.lemmas.Bool.{true≢false}
-use Rattle.btx_text.specs.Class.{is_digit, begins_name}
+use Rattle.btx_text.specs.language.Class.{is_digit, begins_name}
 use Rattle.btx_bib.specs.declared.grammar.byte_sets.ByteSet.{ByteSet}
 use Rattle.btx_bib.specs.declared.grammar.byte_sets.ByteSet.TheVariants.{Gap, NameByte, Digit, KeyByte}
 use Rattle.btx_bib.specs.declared.grammar.byte_sets.Delimiter.{Delimiter}
@@ -12,14 +12,14 @@ use Rattle.btx_bib.specs.declared.grammar.commands.Wanted.{Wanted}
 use Rattle.btx_bib.specs.declared.grammar.commands.Wanted.TheVariants.{Item, Closing, Fields}
 use Rattle.btx_bib.specs.declared.grammar.slip.Slip.{Slip}
 use Rattle.btx_bib.specs.declared.grammar.slip.Slip.TheVariants.{NoName, NoDelimiter, NoComma, NoEquals, NoClosing, NoValue, Unbalanced, EndOfFile, Repeated}
-use Rattle.btx_bib.specs.Grammar.ByteSets.{is_gap, is_in, begins}
-use Rattle.btx_bib.specs.Grammar.Tokens.{slip_at, closing}
-use Rattle.btx_bib.specs.Grammar.Values.{Part, Braced, Quoted, Digits, Named}
-use Rattle.btx_bib.specs.Grammar.Fields.{Field}
-use Rattle.btx_bib.specs.Grammar.Items.{Event, Comment, Preamble, Definition, Entry, FieldOf, End, Wrong, Placed, Keeping, as_known, command_of}
-use Rattle.btx_bib.specs.Grammar.Spelling.{Grammar, Gives, Both, Then, AllIn, IsWord, IsWrongHere, White, Spaced, NameHere, SignHere, IsWrongPart, PartHere, EndsThere, GoesOn, ValueOf, Value, FieldSpelling}
-use Rattle.btx_bib.specs.Grammar.Reading.{OnSign, WrongHere, OpenHere, KeyHere, AfterComma, MoreHere, HeadOf, Head, more_event, HasNoAt, Stands, IsOutcome, IsReading}
-use Rattle.btx_bib.specs.Cuts.{EndsOutside}
+use Rattle.btx_bib.specs.language.Grammar.ByteSets.{is_gap, is_in, begins}
+use Rattle.btx_bib.specs.language.Grammar.Tokens.{slip_at, closing_delimiter}
+use Rattle.btx_bib.specs.language.Grammar.Values.{Part, Braced, Quoted, Digits, Named}
+use Rattle.btx_bib.specs.language.Grammar.Fields.{Field}
+use Rattle.btx_bib.specs.language.Grammar.Items.{Event, Comment, Preamble, Definition, Entry, FieldOf, End, Wrong, Placed, Keeping, as_known, command_of}
+use Rattle.btx_bib.specs.laws.Grammar.Spelling.{Grammar, Gives, Both, Then, AllIn, IsWord, IsWrongHere, White, Spaced, NameHere, SignHere, IsWrongPart, PartHere, EndsThere, OthersFollow, ValueOf, ValueSpelling, FieldSpelling}
+use Rattle.btx_bib.specs.laws.Grammar.Reading.{OnSign, WrongHere, OpenHere, KeyHere, AfterComma, MoreHere, HeadOf, Head, more_event, HasNoAt, Stands, IsOutcome, IsReading}
+use Rattle.btx_bib.specs.laws.Cuts.{EndsOutside}
 
 -- ---- what is left of a text
 
@@ -236,7 +236,7 @@ module _ (more : List ℕ) where
   ends-goes part (Err slip) front rest h r = absurd r
 
   abbrev after_part : ℕ → Part → Grammar (List Part)
-  after_part n part o front rest = EndsThere part o front rest ⊎ GoesOn (ValueOf n) part o front rest
+  after_part n part o front rest = EndsThere part o front rest ⊎ OthersFollow (ValueOf n) part o front rest
 
   value_of-goes : (n : ℕ) → Goes Seen parts_on (ValueOf n) (ValueOf n)
   value_of-goes zero o front rest h r = absurd r
@@ -249,7 +249,7 @@ module _ (more : List ℕ) where
             (spaced-goes Any same (SignHere 35 NoValue) (SignHere 35 NoValue) (sign-goes 35 NoValue))
             (λ none. last-goes Seen Seen parts_on parts_on (ValueOf n) (ValueOf n) (λ parts. part ∷ parts) (λ parts. part_on part ∷ parts) D (λ parts. refl) seen-behind) o front rest h r)
 
-  value-goes : Goes Seen parts_on Value Value
+  value-goes : Goes Seen parts_on ValueSpelling ValueSpelling
   value-goes o front rest h (n, r) = (n, value_of-goes n o front rest h r)
 
   -- ---- fields
@@ -261,7 +261,7 @@ module _ (more : List ℕ) where
   field-goes =
       then-same Seen field_on (Spaced NameHere) _ (spaced-goes Any same NameHere NameHere name-goes) (λ name.
       then-same Seen field_on (Spaced (SignHere 61 NoEquals)) _ (spaced-goes Any same (SignHere 61 NoEquals) (SignHere 61 NoEquals) (sign-goes 61 NoEquals)) (λ sign.
-      last-goes Seen Seen parts_on field_on Value Value (λ value. record { name = name; value = value }) (λ value. record { name = name; value = value }) value-goes (λ value. refl) seen-behind))
+      last-goes Seen Seen parts_on field_on ValueSpelling ValueSpelling (λ value. record { name = name; value = value }) (λ value. record { name = name; value = value }) value-goes (λ value. refl) seen-behind))
 
   abbrev more_on : Option Field → Option Field
   more_on None = None
@@ -274,12 +274,12 @@ module _ (more : List ℕ) where
 
   comma-goes : (d : Delimiter) → Goes SeenField more_on (AfterComma d) (AfterComma d)
   comma-goes d =
-      on_sign-goes SeenField more_on (closing d) (Gives None) (Gives None) (Then FieldSpelling (λ field. Gives (Some field))) (Then FieldSpelling (λ field. Gives (Some field))) (gives-goes SeenField more_on None)
+      on_sign-goes SeenField more_on (closing_delimiter d) (Gives None) (Gives None) (Then FieldSpelling (λ field. Gives (Some field))) (Then FieldSpelling (λ field. Gives (Some field))) (gives-goes SeenField more_on None)
       (last-goes SeenField Seen field_on more_on FieldSpelling FieldSpelling (λ field. Some field) (λ field. Some field) field-goes (λ field. refl) seen-behind)
 
   more-goes : (d : Delimiter) → Goes SeenField more_on (MoreHere d) (MoreHere d)
   more-goes d =
-      on_sign-goes SeenField more_on (closing d) (Gives None) (Gives None) (OnSign 44 (Spaced (AfterComma d)) (WrongHere (NoComma d))) (OnSign 44 (Spaced (AfterComma d)) (WrongHere (NoComma d))) (gives-goes SeenField more_on None)
+      on_sign-goes SeenField more_on (closing_delimiter d) (Gives None) (Gives None) (OnSign 44 (Spaced (AfterComma d)) (WrongHere (NoComma d))) (OnSign 44 (Spaced (AfterComma d)) (WrongHere (NoComma d))) (gives-goes SeenField more_on None)
       (on_sign-goes SeenField more_on 44 (Spaced (AfterComma d)) (Spaced (AfterComma d)) (WrongHere (NoComma d)) (WrongHere (NoComma d))
       (spaced-goes SeenField more_on (AfterComma d) (AfterComma d) (comma-goes d)) (wrong_here-goes SeenField more_on (NoComma d)))
 
@@ -319,12 +319,12 @@ module _ (more : List ℕ) where
   head_of-goes command.Comment name = gives-goes Behind head_on (Comment, Item)
   head_of-goes command.Preamble name =
       then-same Behind head_on (Spaced OpenHere) _ (spaced-goes Any same OpenHere OpenHere open-goes) (λ d.
-      last-goes Behind Seen parts_on head_on Value Value (λ value. (Preamble value, Closing d)) (λ value. (Preamble value, Closing d)) value-goes (λ value. refl) seen-behind)
+      last-goes Behind Seen parts_on head_on ValueSpelling ValueSpelling (λ value. (Preamble value, Closing d)) (λ value. (Preamble value, Closing d)) value-goes (λ value. refl) seen-behind)
   head_of-goes command.Definition name =
       then-same Behind head_on (Spaced OpenHere) _ (spaced-goes Any same OpenHere OpenHere open-goes) (λ d.
       then-same Behind head_on (Spaced NameHere) _ (spaced-goes Any same NameHere NameHere name-goes) (λ string.
       then-same Behind head_on (Spaced (SignHere 61 NoEquals)) _ (spaced-goes Any same (SignHere 61 NoEquals) (SignHere 61 NoEquals) (sign-goes 61 NoEquals)) (λ sign.
-      last-goes Behind Seen parts_on head_on Value Value (λ value. (Definition string value, Closing d)) (λ value. (Definition string value, Closing d)) value-goes (λ value. refl) seen-behind)))
+      last-goes Behind Seen parts_on head_on ValueSpelling ValueSpelling (λ value. (Definition string value, Closing d)) (λ value. (Definition string value, Closing d)) value-goes (λ value. refl) seen-behind)))
   head_of-goes command.Entry name =
       then-same Behind head_on (Spaced OpenHere) _ (spaced-goes Any same OpenHere OpenHere open-goes) (λ d.
       then-same Behind head_on (Spaced (KeyHere d)) _ (spaced-goes Any same (KeyHere d) (KeyHere d) (key-goes d)) (λ key. gives-goes Behind head_on (Entry name key, Fields d)))
@@ -343,7 +343,7 @@ module _ (more : List ℕ) where
   stands-goes : (next : Wanted) → Goes Behind head_on (Stands next) (Stands next)
   stands-goes Item o front rest h (ignored, behind, is, none, r) = (ignored, behind, is, none, head-goes o behind rest h r)
   stands-goes (Closing d) o front rest h r =
-      then-same Behind head_on (Spaced (SignHere (closing d) (NoClosing d))) _ (spaced-goes Any same (SignHere (closing d) (NoClosing d)) (SignHere (closing d) (NoClosing d)) (sign-goes (closing d) (NoClosing d))) (λ sign. gives-goes Behind head_on (End, Item)) o front rest h r
+      then-same Behind head_on (Spaced (SignHere (closing_delimiter d) (NoClosing d))) _ (spaced-goes Any same (SignHere (closing_delimiter d) (NoClosing d)) (SignHere (closing_delimiter d) (NoClosing d)) (sign-goes (closing_delimiter d) (NoClosing d))) (λ sign. gives-goes Behind head_on (End, Item)) o front rest h r
   stands-goes (Fields d) o front rest h r =
       last-goes Behind SeenField more_on head_on (Spaced (MoreHere d)) (Spaced (MoreHere d)) (more_event d) (more_event d) (spaced-goes SeenField more_on (MoreHere d) (MoreHere d) (more-goes d)) (more_event-on d) (more_event-behind d) o front rest h r
 
@@ -372,15 +372,15 @@ module _ (more : List ℕ) where
 
   preamble-begins : (P : Event → Type 0) → ((value : List Part) → P (Preamble value)) → (name : List ℕ) → Begins P (HeadOf command.Preamble name)
   preamble-begins P is name =
-      then-begins P (Spaced OpenHere) (λ d. Then Value (λ value. Gives (Preamble value, Closing d))) (λ d.
-      then-begins P Value (λ value. Gives (Preamble value, Closing d)) (λ value. gives-begins P (Preamble value, Closing d) (is value)))
+      then-begins P (Spaced OpenHere) (λ d. Then ValueSpelling (λ value. Gives (Preamble value, Closing d))) (λ d.
+      then-begins P ValueSpelling (λ value. Gives (Preamble value, Closing d)) (λ value. gives-begins P (Preamble value, Closing d) (is value)))
 
   definition-begins : (P : Event → Type 0) → ((string : List ℕ) (value : List Part) → P (Definition string value)) → (name : List ℕ) → Begins P (HeadOf command.Definition name)
   definition-begins P is name =
-      then-begins P (Spaced OpenHere) (λ d. Then (Spaced NameHere) (λ string. Then (Spaced (SignHere 61 NoEquals)) (λ sign. Then Value (λ value. Gives (Definition string value, Closing d))))) (λ d.
-      then-begins P (Spaced NameHere) (λ string. Then (Spaced (SignHere 61 NoEquals)) (λ sign. Then Value (λ value. Gives (Definition string value, Closing d)))) (λ string.
-      then-begins P (Spaced (SignHere 61 NoEquals)) (λ sign. Then Value (λ value. Gives (Definition string value, Closing d))) (λ sign.
-      then-begins P Value (λ value. Gives (Definition string value, Closing d)) (λ value. gives-begins P (Definition string value, Closing d) (is string value)))))
+      then-begins P (Spaced OpenHere) (λ d. Then (Spaced NameHere) (λ string. Then (Spaced (SignHere 61 NoEquals)) (λ sign. Then ValueSpelling (λ value. Gives (Definition string value, Closing d))))) (λ d.
+      then-begins P (Spaced NameHere) (λ string. Then (Spaced (SignHere 61 NoEquals)) (λ sign. Then ValueSpelling (λ value. Gives (Definition string value, Closing d)))) (λ string.
+      then-begins P (Spaced (SignHere 61 NoEquals)) (λ sign. Then ValueSpelling (λ value. Gives (Definition string value, Closing d))) (λ sign.
+      then-begins P ValueSpelling (λ value. Gives (Definition string value, Closing d)) (λ value. gives-begins P (Definition string value, Closing d) (is string value)))))
 
   entry-begins : (P : Event → Type 0) → ((kind key : List ℕ) → P (Entry kind key)) → (name : List ℕ) → Begins P (HeadOf command.Entry name)
   entry-begins P is name =
@@ -420,7 +420,7 @@ module _ (more : List ℕ) where
   more-free : (d : Delimiter) (rest inner : List ℕ) → MoreHere d (Ok None) inner rest → Left inner × MoreHere d (Ok None) inner (rest ++ more)
   more-free d rest inner (inl (behind, is, r)) = (subst Left (sym is) tt, inl (behind, is, r))
   more-free d rest inner (inr (other, inl (behind, is, r))) =
-      (subst Left (sym is) tt, inr (first-sign (closing d) 44 behind rest inner is other, inl (behind, is, spaced-free (AfterComma d) None behind rest (comma-free d rest) r)))
+      (subst Left (sym is) tt, inr (first-sign (closing_delimiter d) 44 behind rest inner is other, inl (behind, is, spaced-free (AfterComma d) None behind rest (comma-free d rest) r)))
   more-free d rest inner (inr (other, inr (not_comma, r))) = absurd r
 
   no-end : (event : Event) → IsNoEnd event → event ≡ End → ⊥
@@ -430,8 +430,8 @@ module _ (more : List ℕ) where
   end-goes Item got front rest end (ignored, behind, is, none, r) = absurd (no-end got.0 (head-begins got behind rest r) end)
   end-goes (Closing d) got front rest end (inl r) = absurd r
   end-goes (Closing d) got front rest end (inr (none, first, second, whole, r, g)) =
-      let there = spaced-free (SignHere (closing d) (NoClosing d)) none first (second ++ rest) (sign-free (closing d) (NoClosing d) none (second ++ rest)) r in
-      inr (none, first, second, whole, subst (λ t. Spaced (SignHere (closing d) (NoClosing d)) (Ok none) first t) (append_assoc second rest more) there, (g.0, ap head_on g.1))
+      let there = spaced-free (SignHere (closing_delimiter d) (NoClosing d)) none first (second ++ rest) (sign-free (closing_delimiter d) (NoClosing d) none (second ++ rest)) r in
+      inr (none, first, second, whole, subst (λ t. Spaced (SignHere (closing_delimiter d) (NoClosing d)) (Ok none) first t) (append_assoc second rest more) there, (g.0, ap head_on g.1))
   end-goes (Fields d) got front rest end (inl r) = absurd r
   end-goes (Fields d) got front rest end (inr (None, first, second, whole, r, g)) =
       let there = spaced-free (MoreHere d) None first (second ++ rest) (more-free d (second ++ rest)) r in
@@ -535,7 +535,7 @@ module _ (more : List ℕ) where
     there : (p : Placed) (events : List Placed) (state : S) (next : Wanted) (text : List ℕ) → EndsOutside (p ∷ events) more → IsReading keeping state next text (p ∷ events) → Left text × After next text
     there p events state Item text ends h = (item-left p events state text h, tt)
     there p events state (Closing d) text ends (o, next, front, whole, outcome, r, others) =
-        let white = subst NotWhite whole (last-white (SignHere (closing d) (NoClosing d)) (λ sign. (End, Item)) (sign-some (closing d) (NoClosing d)) o front p.rest (err-left p events state o next ends outcome others) r) in
+        let white = subst NotWhite whole (last-white (SignHere (closing_delimiter d) (NoClosing d)) (λ sign. (End, Item)) (sign-some (closing_delimiter d) (NoClosing d)) o front p.rest (err-left p events state o next ends outcome others) r) in
         (white-left text white, white)
     there p events state (Fields d) text ends (o, next, front, whole, outcome, r, others) =
         let white = subst NotWhite whole (last-white (MoreHere d) (more_event d) (more-some d) o front p.rest (err-left p events state o next ends outcome others) r) in

@@ -4,10 +4,11 @@ use Rattle.std.specs.Prelude.{unwrap_or}
 use Rattle.std.proofs.lemmas.Bool.{eqb-true, false_from_ne_true, true≢false}
 use Rattle.std.proofs.lemmas.List.{drop_all}
 use Rattle.memchr.specs.Find.{IsFirstByte}
-use Rattle.btx_text.specs.Elements.{depth_after}
+use Rattle.btx_text.specs.language.Elements.{depth_after}
 use Rattle.btx_bib.specs.declared.grammar.byte_sets.Enclosure.{Enclosure}
 use Rattle.btx_bib.specs.declared.grammar.byte_sets.Enclosure.TheVariants.{Group, Quotes}
-use Rattle.btx_bib.specs.Grammar.ByteSets.{is_gap, is_word_byte, ends_enclosed, enclosed_len, is_mark, unmarked_len}
+use Rattle.btx_bib.specs.language.Grammar.ByteSets.{is_gap, ends_enclosed, enclosed_len}
+use Rattle.btx_bib.specs.refinement.Grammar.ByteSets.{is_word_byte, is_mark, unmarked_len}
 use Rattle.btx_bib.proofs.GrammarLemmas.RunLemmas.{enclosed_here, enclosed_next}
 
 -- ---- the first mark

@@ -5,8 +5,9 @@ use Rattle.std.proofs.lemmas.Bool.{cases_lt}
 use Rattle.std.proofs.lemmas.List.Sums.{count_by-le-length}
 use Rattle.std.specs.List.{count_by}
 use Rattle.std.proofs.lemmas.List.Recursion.{is_count_by}
-use Rattle.btx_text.specs.Lines.{in_front, pieces_of}
-use Rattle.btx_bib.specs.Grammar.PlaceLines.{lines_begun, feeds_in}
+use Rattle.btx_text.specs.language.Lines.{in_front, line_pieces}
+use Rattle.btx_bib.specs.language.Grammar.PlaceLines.{lines_begun}
+use Rattle.btx_bib.specs.refinement.Grammar.PlaceLines.{feeds_in}
 
 pub feeds-count : (s : List ℕ) → feeds_in s ≡ count_by (λ b. eqb b 10) s
 feeds-count s = is_count_by feeds_in (λ b. eqb b 10) refl (λ b bs. at b bs (eqb b 10)) s where
@@ -55,16 +56,16 @@ in_front-length b [] n e = absurd (omega (arith, e))
 in_front-length b (p ∷ ps) n e = e
 
 -- the lines that have begun: one more than the line feeds before the last byte
-pieces-snoc : (s : List ℕ) (b : ℕ) → length (pieces_of (s ++ b ∷ [])) ≡ suc (feeds_in s)
-unfolding pieces_of
+pieces-snoc : (s : List ℕ) (b : ℕ) → length (line_pieces (s ++ b ∷ [])) ≡ suc (feeds_in s)
+unfolding line_pieces
 pieces-snoc [] b = at (eqb b 10) where
   at : (t : Bool) → length (cond t ([] ∷ []) ((b ∷ []) ∷ [])) ≡ 1
   at true = refl
   at false = refl
 pieces-snoc (c ∷ cs) b = at (eqb c 10) (pieces-snoc cs b) where
-  at : (t : Bool) → length (pieces_of (cs ++ b ∷ [])) ≡ suc (feeds_in cs) → length (cond t ([] ∷ pieces_of (cs ++ b ∷ [])) (in_front c (pieces_of (cs ++ b ∷ [])))) ≡ suc (cond t (suc (feeds_in cs)) (feeds_in cs))
+  at : (t : Bool) → length (line_pieces (cs ++ b ∷ [])) ≡ suc (feeds_in cs) → length (cond t ([] ∷ line_pieces (cs ++ b ∷ [])) (in_front c (line_pieces (cs ++ b ∷ [])))) ≡ suc (cond t (suc (feeds_in cs)) (feeds_in cs))
   at true h = ap suc h
-  at false h = in_front-length c (pieces_of (cs ++ b ∷ [])) (feeds_in cs) h
+  at false h = in_front-length c (line_pieces (cs ++ b ∷ [])) (feeds_in cs) h
 
 take-min : (count : ℕ) (text : List ℕ) → take count text ≡ take (min count (length text)) text
 take-min count text = ⊎_elim within past (cases_lt count (length text)) where
@@ -79,10 +80,10 @@ pub lines_begun-place : (count : ℕ) (text : List ℕ) (place : ℕ) → min co
 unfolding lines_begun
 lines_begun-place count text place is =
     let cut : take count text ≡ take place text ++ get_or text place 0 ∷ [] = take-min count text ∙ ap (λ n. take n text) is ∙ take_more text place 0 (omega (arith, is)) in
-    ap (λ s. length (pieces_of s)) cut ∙ pieces-snoc (take place text) (get_or text place 0) ∙ omega arith
+    ap (λ s. length (line_pieces s)) cut ∙ pieces-snoc (take place text) (get_or text place 0) ∙ omega arith
 
 pub lines_begun-nothing : (count : ℕ) (text : List ℕ) → min count (length text) ≡ 0 → lines_begun count text ≡ 0
-unfolding lines_begun pieces_of
-lines_begun-nothing count text is = ap (λ s. length (pieces_of s)) (take-min count text ∙ ap (λ n. take n text) is)
+unfolding lines_begun line_pieces
+lines_begun-nothing count text is = ap (λ s. length (line_pieces s)) (take-min count text ∙ ap (λ n. take n text) is)
 
 pub ruleset line_steps = (lines_begun-place, lines_begun-nothing)

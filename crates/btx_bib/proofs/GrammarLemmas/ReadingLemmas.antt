@@ -12,42 +12,42 @@ use Rattle.btx_bib.specs.declared.grammar.commands.Wanted.{Wanted}
 use Rattle.btx_bib.specs.declared.grammar.commands.Wanted.TheVariants.{Item, Closing, Fields}
 use Rattle.btx_bib.specs.declared.grammar.slip.Slip.{Slip}
 use Rattle.btx_bib.specs.declared.grammar.slip.Slip.TheVariants.{NoDelimiter, NoComma, NoEquals, NoClosing}
-use Rattle.btx_bib.specs.Grammar.ByteSets.{begins, run_len, run, past}
-use Rattle.btx_bib.specs.Grammar.Tokens.{Read, followed_by, wrong_at, name_at, open_in, open_at, sign_at, key_in, key_at, closing}
-use Rattle.btx_bib.specs.Grammar.Values.{value_at}
-use Rattle.btx_bib.specs.Grammar.Fields.{Field, field_at, one_more, after_comma, more_in, more_at}
-use Rattle.btx_bib.specs.Grammar.Items.{Event, Comment, Preamble, Definition, Entry, End, Wrong, command_of, head_of, head_at, ended, field_event, Step, step_by, behind_at, step_of, Placed, Keeping, as_known, known_step, events_by, events_from}
-use Rattle.btx_bib.specs.Grammar.Spelling.{Grammar, Gives, Then, Spaced, NameHere, SignHere, Value, FieldSpelling, Splits, read_as}
-use Rattle.btx_bib.specs.Grammar.Reading.{OnSign, WrongHere, OpenHere, KeyHere, AfterComma, MoreHere, HeadOf, Head, more_event, HasNoAt, Stands, IsOutcome, IsReading}
+use Rattle.btx_bib.specs.language.Grammar.ByteSets.{begins, longest_run_len, longest_run, past}
+use Rattle.btx_bib.specs.language.Grammar.Tokens.{Parsed, followed_by, wrong_at, name_at, open_in, open_at, sign_at, key_here, key_at, closing_delimiter}
+use Rattle.btx_bib.specs.language.Grammar.Values.{value_at}
+use Rattle.btx_bib.specs.language.Grammar.Fields.{Field, field_at, one_more, after_comma, more_in, more_at}
+use Rattle.btx_bib.specs.language.Grammar.Items.{Event, Comment, Preamble, Definition, Entry, End, Wrong, command_of, head_of, head_at, item_end, field_event, Step, step_by, behind_at, expected_step, Placed, Keeping, as_known, known_step, events_by, events_from}
+use Rattle.btx_bib.specs.laws.Grammar.Spelling.{Grammar, Gives, Then, Spaced, NameHere, SignHere, ValueSpelling, FieldSpelling, Splits, read_as}
+use Rattle.btx_bib.specs.laws.Grammar.Reading.{OnSign, WrongHere, OpenHere, KeyHere, AfterComma, MoreHere, HeadOf, Head, more_event, HasNoAt, Stands, IsOutcome, IsReading}
 use Rattle.btx_bib.proofs.GrammarLemmas.LengthLemmas.{left, StepsTo, next-leaves, events_from-step, events-none}
 use Rattle.btx_bib.proofs.GrammarLemmas.SpellingLemmas.{Decides, Only, then-decides, gives-decides, spaced-decides, name-decides, sign-decides, value-decides, field-decides, run-of, past-of, is_run}
 
 -- ---- signs
 
-abbrev on_sign : {A : Type 0} → ℕ → (List ℕ → Read A) → (List ℕ → Read A) → List ℕ → Read A
+abbrev on_sign : {A : Type 0} → ℕ → (List ℕ → Parsed A) → (List ℕ → Parsed A) → List ℕ → Parsed A
 on_sign sign read other s = cond (begins (λ b. eqb b sign) s) (read (drop 1 s)) (other s)
 
-sign-front : {A : Type 0} (sign : ℕ) (R S : Grammar A) (bs : List ℕ) (r : Read A) → Splits R bs r → Splits (OnSign sign R S) (sign ∷ bs) r
+sign-front : {A : Type 0} (sign : ℕ) (R S : Grammar A) (bs : List ℕ) (r : Parsed A) → Splits R bs r → Splits (OnSign sign R S) (sign ∷ bs) r
 sign-front sign R S bs (Ok got) h = (sign ∷ h.0, ap (λ t. sign ∷ t) h.1, inl (h.0, refl, h.2))
 sign-front sign R S bs (Err wrong) h = (sign ∷ h.0, ap (λ t. sign ∷ t) h.1, inl (h.0, refl, h.2))
 
-other-front : {A : Type 0} (sign : ℕ) (R S : Grammar A) (s : List ℕ) (r : Read A) → begins (λ b. eqb b sign) s ≡ false → Splits S s r → Splits (OnSign sign R S) s r
+other-front : {A : Type 0} (sign : ℕ) (R S : Grammar A) (s : List ℕ) (r : Parsed A) → begins (λ b. eqb b sign) s ≡ false → Splits S s r → Splits (OnSign sign R S) s r
 other-front sign R S s (Ok got) e h = (h.0, h.1, inr (rw h.1 e, h.2))
 other-front sign R S s (Err wrong) e h = (h.0, h.1, inr (rw h.1 e, h.2))
 
-on-total : {A : Type 0} (sign : ℕ) (R S : Grammar A) (read other : List ℕ → Read A) → ((t : List ℕ) → Splits R t (read t)) → ((t : List ℕ) → Splits S t (other t)) →
+on-total : {A : Type 0} (sign : ℕ) (R S : Grammar A) (read other : List ℕ → Parsed A) → ((t : List ℕ) → Splits R t (read t)) → ((t : List ℕ) → Splits S t (other t)) →
     (s : List ℕ) (t : Bool) → begins (λ b. eqb b sign) s ≡ t → Splits (OnSign sign R S) s (cond t (read (drop 1 s)) (other s))
 on-total sign R S read other D E s false e = other-front sign R S s (other s) e (E s)
 on-total sign R S read other D E [] true e = absurd (true≢false (sym e))
 on-total sign R S read other D E (b ∷ bs) true e =
     subst (λ c. Splits (OnSign sign R S) (c ∷ bs) (read bs)) (sym (eqb-true b sign e)) (sign-front sign R S bs (read bs) (D bs))
 
-on-only : {A : Type 0} (sign : ℕ) (R S : Grammar A) (read other : List ℕ → Read A) → Only read R → Only other S → Only (on_sign sign read other) (OnSign sign R S)
+on-only : {A : Type 0} (sign : ℕ) (R S : Grammar A) (read other : List ℕ → Parsed A) → Only read R → Only other S → Only (on_sign sign read other) (OnSign sign R S)
 on-only sign R S read other D E o front rest (inl h) =
     rw (h.1, eq-eqb sign sign refl) (D o h.0 rest h.2)
 on-only sign R S read other D E o front rest (inr h) = rw h.0 (E o front rest h.1)
 
-on-decides : {A : Type 0} (sign : ℕ) (R S : Grammar A) (read other : List ℕ → Read A) → Decides read R → Decides other S → Decides (on_sign sign read other) (OnSign sign R S)
+on-decides : {A : Type 0} (sign : ℕ) (R S : Grammar A) (read other : List ℕ → Parsed A) → Decides read R → Decides other S → Decides (on_sign sign read other) (OnSign sign R S)
 on-decides sign R S read other D E = record {
   total = λ s. on-total sign R S read other D.total E.total s (begins (λ b. eqb b sign) s) refl;
   only = on-only sign R S read other D.only E.only;
@@ -67,35 +67,35 @@ open-decides =
 
 -- ---- keys
 
-key-total : (d : Delimiter) (s : List ℕ) → Splits (KeyHere d) s (key_in d s)
-unfolding key_in
+key-total : (d : Delimiter) (s : List ℕ) → Splits (KeyHere d) s (key_here d s)
+unfolding key_here
 key-total d [] = ([], refl, (refl, refl, refl))
 key-total d (b ∷ bs) =
-    let whole = take-append-drop (run_len (KeyByte d) (b ∷ bs)) (b ∷ bs) in
-    (run (KeyByte d) (b ∷ bs), whole, (refl, is_run (KeyByte d) (b ∷ bs), rw whole refl))
+    let whole = take-append-drop (longest_run_len (KeyByte d) (b ∷ bs)) (b ∷ bs) in
+    (longest_run (KeyByte d) (b ∷ bs), whole, (refl, is_run (KeyByte d) (b ∷ bs), rw whole refl))
 
-key_in-some : (d : Delimiter) (s : List ℕ) → begins (λ b. true) s ≡ true → key_in d s ≡ Ok (run (KeyByte d) s, past (KeyByte d) s)
-unfolding key_in
+key_in-some : (d : Delimiter) (s : List ℕ) → begins (λ b. true) s ≡ true → key_here d s ≡ Ok (longest_run (KeyByte d) s, past (KeyByte d) s)
+unfolding key_here
 key_in-some d [] e = absurd (true≢false (sym e))
 key_in-some d (b ∷ bs) e = refl
 
-key-only : (d : Delimiter) → Only (key_in d) (KeyHere d)
-unfolding key_in
+key-only : (d : Delimiter) → Only (key_here d) (KeyHere d)
+unfolding key_here
 key-only d (Ok key) front rest h = rw (h.0, key_in-some d (key ++ rest) h.2, run-of (KeyByte d) key rest h.1, past-of (KeyByte d) key rest h.1) refl
 key-only d (Err slip) front rest h = rw (h.1, h.2, h.0) refl
 
-key-decides : (d : Delimiter) → Decides (key_in d) (KeyHere d)
+key-decides : (d : Delimiter) → Decides (key_here d) (KeyHere d)
 key-decides d = record { total = key-total d; only = key-only d }
 
 -- ---- what may stand at a place
 
-same-decides : {A : Type 0} (R : Grammar A) (read other : List ℕ → Read A) → ((s : List ℕ) → read s ≡ other s) → Decides read R → Decides other R
+same-decides : {A : Type 0} (R : Grammar A) (read other : List ℕ → Parsed A) → ((s : List ℕ) → read s ≡ other s) → Decides read R → Decides other R
 same-decides R read other e D = record {
   total = λ s. subst (Splits R s) (e s) (D.total s);
   only = λ o front rest h. sym (e (front ++ rest)) ∙ D.only o front rest h;
 }
 
-one-field : (r : Read Field) → ◌≡◌ {A = Read (Option Field)} (followed_by r (λ field rest. Ok (Some field, rest))) (one_more r)
+one-field : (r : Parsed Field) → ◌≡◌ {A = Parsed (Option Field)} (followed_by r (λ field rest. Ok (Some field, rest))) (one_more r)
 one-field (Ok got) = refl
 one-field (Err wrong) = refl
 
@@ -109,30 +109,30 @@ ended-decides = gives-decides None
 
 after_comma-decides : (d : Delimiter) → Decides (after_comma d) (AfterComma d)
 unfolding after_comma
-after_comma-decides d = on-decides (closing d) (Gives None) (Then FieldSpelling (λ field. Gives (Some field))) (λ s. Ok (None, s)) (λ s. one_more (field_at s)) ended-decides some-field-decides
+after_comma-decides d = on-decides (closing_delimiter d) (Gives None) (Then FieldSpelling (λ field. Gives (Some field))) (λ s. Ok (None, s)) (λ s. one_more (field_at s)) ended-decides some-field-decides
 
 pub more_in-decides : (d : Delimiter) → Decides (more_in d) (MoreHere d)
 unfolding more_in
 more_in-decides d =
-    on-decides (closing d) (Gives None) (OnSign 44 (Spaced (AfterComma d)) (WrongHere (NoComma d))) (λ s. Ok (None, s)) _ ended-decides
+    on-decides (closing_delimiter d) (Gives None) (OnSign 44 (Spaced (AfterComma d)) (WrongHere (NoComma d))) (λ s. Ok (None, s)) _ ended-decides
     (on-decides 44 (Spaced (AfterComma d)) (WrongHere (NoComma d)) (λ s. after_comma d (past Gap s)) (wrong_at (NoComma d)) (spaced-decides (AfterComma d) (after_comma d) (after_comma-decides d)) (wrong-decides (NoComma d)))
 
 pub spaced-open : Decides open_at (Spaced OpenHere)
 spaced-open = spaced-decides OpenHere open_in open-decides
 
 pub spaced-key : (d : Delimiter) → Decides (key_at d) (Spaced (KeyHere d))
-spaced-key d = spaced-decides (KeyHere d) (key_in d) (key-decides d)
+spaced-key d = spaced-decides (KeyHere d) (key_here d) (key-decides d)
 
 head_of-decides : (c : Command) (name : List ℕ) → Decides (head_of c name) (HeadOf c name)
 unfolding head_of
 head_of-decides command.Comment name = gives-decides (Comment, Item)
 head_of-decides command.Preamble name =
-    then-decides (Spaced OpenHere) _ open_at _ spaced-open (λ d. then-decides Value _ value_at _ value-decides (λ value. gives-decides (Preamble value, Closing d)))
+    then-decides (Spaced OpenHere) _ open_at _ spaced-open (λ d. then-decides ValueSpelling _ value_at _ value-decides (λ value. gives-decides (Preamble value, Closing d)))
 head_of-decides command.Definition name =
     then-decides (Spaced OpenHere) _ open_at _ spaced-open (λ d.
     then-decides (Spaced NameHere) _ name_at _ name-decides (λ string.
     then-decides (Spaced (SignHere 61 NoEquals)) _ (sign_at 61 NoEquals) _ (sign-decides 61 NoEquals) (λ sign.
-    then-decides Value _ value_at _ value-decides (λ value. gives-decides (Definition string value, Closing d)))))
+    then-decides ValueSpelling _ value_at _ value-decides (λ value. gives-decides (Definition string value, Closing d)))))
 head_of-decides command.Entry name =
     then-decides (Spaced OpenHere) _ open_at _ spaced-open (λ d. then-decides (Spaced (KeyHere d)) _ (key_at d) _ (spaced-key d) (λ key. gives-decides (Entry name key, Fields d)))
 
@@ -140,16 +140,16 @@ head-decides : Decides head_at Head
 unfolding head_at
 head-decides = then-decides (Spaced NameHere) _ name_at _ name-decides (λ name. head_of-decides (command_of name) name)
 
-ended-same : (r : Read (Unit {0})) → followed_by r (λ sign rest. Ok ((End, Item), rest)) ≡ ended r
+ended-same : (r : Parsed (Unit {0})) → followed_by r (λ sign rest. Ok ((End, Item), rest)) ≡ item_end r
 ended-same (Ok got) = refl
 ended-same (Err wrong) = refl
 
-end-decides : (d : Delimiter) → Decides (λ s. ended (sign_at (closing d) (NoClosing d) s)) (Stands (Closing d))
+end-decides : (d : Delimiter) → Decides (λ s. item_end (sign_at (closing_delimiter d) (NoClosing d) s)) (Stands (Closing d))
 end-decides d =
-    same-decides (Stands (Closing d)) (λ s. followed_by (sign_at (closing d) (NoClosing d) s) (λ sign rest. Ok ((End, Item), rest))) _ (λ s. ended-same (sign_at (closing d) (NoClosing d) s))
-    (then-decides (Spaced (SignHere (closing d) (NoClosing d))) (λ sign. Gives (End, Item)) (sign_at (closing d) (NoClosing d)) (λ sign rest. Ok ((End, Item), rest)) (sign-decides (closing d) (NoClosing d)) (λ sign. gives-decides (End, Item)))
+    same-decides (Stands (Closing d)) (λ s. followed_by (sign_at (closing_delimiter d) (NoClosing d) s) (λ sign rest. Ok ((End, Item), rest))) _ (λ s. ended-same (sign_at (closing_delimiter d) (NoClosing d) s))
+    (then-decides (Spaced (SignHere (closing_delimiter d) (NoClosing d))) (λ sign. Gives (End, Item)) (sign_at (closing_delimiter d) (NoClosing d)) (λ sign rest. Ok ((End, Item), rest)) (sign-decides (closing_delimiter d) (NoClosing d)) (λ sign. gives-decides (End, Item)))
 
-more-same : (d : Delimiter) (r : Read (Option Field)) → followed_by r (λ more rest. Ok (more_event d more, rest)) ≡ field_event d r
+more-same : (d : Delimiter) (r : Parsed (Option Field)) → followed_by r (λ more rest. Ok (more_event d more, rest)) ≡ field_event d r
 more-same d (Ok (None, rest)) = refl
 more-same d (Ok (Some field, rest)) = refl
 more-same d (Err wrong) = refl
@@ -198,11 +198,11 @@ IsStep event next (Err slip) = (event ≡ Wrong slip) × (next ≡ Item)
 abbrev StepStands : Wanted → List ℕ → Step → Type 0
 StepStands w s step = (o : Result (Event × Wanted) Slip) × (front : List ℕ) × (front ++ step.rest ≡ s) × IsStep step.event step.wanted o × Stands w o front step.rest
 
-read-stands : (w : Wanted) (s : List ℕ) (r : Read (Event × Wanted)) → Splits (Stands w) s r → StepStands w s (step_by r)
+read-stands : (w : Wanted) (s : List ℕ) (r : Parsed (Event × Wanted)) → Splits (Stands w) s r → StepStands w s (step_by r)
 read-stands w s (Ok got) h = (Ok got.0, h.0, h.1, (refl, refl), h.2)
 read-stands w s (Err wrong) h = (Err wrong.0, h.0, h.1, (refl, refl), h.2)
 
-item-splits : (s t : List ℕ) (r : Read (Event × Wanted)) → behind_at s ≡ Some t → Splits Head t r → Splits (Stands Item) s r
+item-splits : (s t : List ℕ) (r : Parsed (Event × Wanted)) → behind_at s ≡ Some t → Splits Head t r → Splits (Stands Item) s r
 item-splits s t (Ok got) e h =
     let at = at-splits s t e in
     (at.0 ++ 64 ∷ h.0, append_assoc at.0 (64 ∷ h.0) got.1 ∙ ap (λ x. at.0 ++ 64 ∷ x) h.1 ∙ sym at.1, (at.0, h.0, refl, at.2, h.2))
@@ -218,14 +218,14 @@ item-step : (s : List ℕ) (o : Option (List ℕ)) → behind_at s ≡ o → Opt
 item-step s None e = (refl, at-none s e)
 item-step s (Some t) e = read-stands Item s (head_at t) (item-splits s t (head_at t) e (head-decides.total t))
 
-step-stands : (w : Wanted) (s : List ℕ) → OptionStands w s (step_of w s)
-unfolding step_of
+step-stands : (w : Wanted) (s : List ℕ) → OptionStands w s (expected_step w s)
+unfolding expected_step
 step-stands Item s = item-step s (behind_at s) refl
-step-stands (Closing d) s = read-stands (Closing d) s (ended (sign_at (closing d) (NoClosing d) s)) ((end-decides d).total s)
+step-stands (Closing d) s = read-stands (Closing d) s (item_end (sign_at (closing_delimiter d) (NoClosing d) s)) ((end-decides d).total s)
 step-stands (Fields d) s = read-stands (Fields d) s (field_event d (more_at d s)) ((fields-decides d).total s)
 
-stands-step : (w : Wanted) (o : Result (Event × Wanted) Slip) (front rest : List ℕ) → Stands w o front rest → step_of w (front ++ rest) ≡ Some (step_by (read_as o rest))
-unfolding step_of
+stands-step : (w : Wanted) (o : Result (Event × Wanted) Slip) (front rest : List ℕ) → Stands w o front rest → expected_step w (front ++ rest) ≡ Some (step_by (read_as o rest))
+unfolding expected_step
 stands-step Item o front rest h =
     let text : front ++ rest ≡ h.0 ++ 64 ∷ (h.1 ++ rest) = ap (λ t. t ++ rest) h.2 ∙ append_assoc h.0 (64 ∷ h.1) rest in
     let at : behind_at (front ++ rest) ≡ Some (h.1 ++ rest) = ap behind_at text ∙ at-of h.0 (h.1 ++ rest) h.3 in
@@ -258,19 +258,19 @@ reading-total : {S : Type 0} (keeping : Keeping S) (m : ℕ) (state : S) (w : Wa
 reading-total keeping zero state w s lt = absurd (omega arith)
 reading-total keeping (suc m) state w s lt =
     subst (IsReading keeping state w s) (sym (events_from-step keeping state w s))
-    (reading-by keeping state w s (step_of w s) (step-stands w s) (next-leaves (keeping.is_stored state) w s) (λ q v t less. reading-total keeping m q v t (omega arith)))
+    (reading-by keeping state w s (expected_step w s) (step-stands w s) (next-leaves (keeping.is_stored state) w s) (λ q v t less. reading-total keeping m q v t (omega arith)))
 
 pub is_reading : {S : Type 0} (keeping : Keeping S) (state : S) (w : Wanted) (s : List ℕ) → IsReading keeping state w s (events_from keeping state w s)
 is_reading keeping state w s = reading-total keeping (suc (left w (length s))) state w s (omega arith)
 
-nothing-step : (w : Wanted) (s : List ℕ) → w ≡ Item → HasNoAt s → step_of w s ≡ None
-unfolding step_of
+nothing-step : (w : Wanted) (s : List ℕ) → w ≡ Item → HasNoAt s → expected_step w s ≡ None
+unfolding expected_step
 nothing-step w s is h = rw (is, none-at s h) refl
 
 pub one_reading : {S : Type 0} (keeping : Keeping S) (events : List Placed) (state : S) (w : Wanted) (s : List ℕ) → IsReading keeping state w s events → events ≡ events_from keeping state w s
 one_reading keeping [] state w s h = sym (events-none keeping state w s (ap (known_step (keeping.is_stored state)) (nothing-step w s h.0 h.1)))
 one_reading keeping (p ∷ ps) state w s (o, next, front, text, outcome, stands, others) =
-    let step : step_of w s ≡ Some (step_by (read_as o p.rest)) = ap (step_of w) (sym text) ∙ stands-step w o front p.rest stands in
+    let step : expected_step w s ≡ Some (step_by (read_as o p.rest)) = ap (expected_step w) (sym text) ∙ stands-step w o front p.rest stands in
     ap (λ xs. p ∷ xs) (one_reading keeping ps (keeping.after state p.event) next p.rest others)
     ∙ sym (outcome-events keeping (events_from keeping) state p.event next p.rest o outcome)
     ∙ sym (events_from-step keeping state w s ∙ ap (λ t. events_by keeping (events_from keeping) state (known_step (keeping.is_stored state) t)) step)

@@ -4,14 +4,15 @@ use Rattle.std.proofs.lemmas.List.{append-nil, drop_all, drop_more, length-appen
 use Rattle.std.proofs.lemmas.Bool.{and_parts, eqb-true, true≢false}
 use Rattle.btx_text.specs.declared.fault.Fault.{Fault}
 use Rattle.btx_text.specs.declared.fault.Fault.TheVariants.{Memory, Device, FileLimit, StringLimit}
-use Rattle.btx_text.specs.Limits.{greatest_string}
+use Rattle.btx_text.specs.language.Limits.{greatest_string}
 use Rattle.btx_bib.specs.declared.grammar.byte_sets.ByteSet.TheVariants.{Gap}
 use Rattle.btx_bib.specs.declared.grammar.value_ends.Ends.{Ends}
 use Rattle.btx_bib.specs.declared.grammar.value_ends.Ends.TheVariants.{Kept, Trimmed}
-use Rattle.btx_bib.specs.Grammar.ByteSets.{is_gap, begins, past, run_len}
-use Rattle.btx_bib.specs.Grammar.Values.{Part}
-use Rattle.btx_bib.specs.Grammar.ValueTexts.{Strings, text_of_part, joined_text, squeezed, shaped, without_first_space, without_last_space, GathersWithin, Makes}
-use Rattle.btx_bib.specs.Grammar.Squeezing.{squeezed_after, white_after, stays_squeezed, is_squeezed, ends_in_gap, stands, without_last_gap, without_gaps}
+use Rattle.btx_bib.specs.language.Grammar.ByteSets.{is_gap, begins, past, longest_run_len}
+use Rattle.btx_bib.specs.language.Grammar.Values.{Part}
+use Rattle.btx_bib.specs.language.Grammar.ValueTexts.{StringValues, text_of_part, joined_text, squeezed, shaped, without_first_space, without_last_space}
+use Rattle.btx_bib.specs.refinement.Grammar.ValueTexts.{GathersWithin, MakesText}
+use Rattle.btx_bib.specs.refinement.Grammar.Squeezing.{squeezed_after, white_after, stays_squeezed, is_squeezed, ends_in_gap, stands, without_last_gap, without_gaps}
 
 both : (s : List ℕ) → (squeezed_after false s ≡ squeezed s) × (squeezed s ≡ cond (begins is_gap s) (32 ∷ squeezed_after true s) (squeezed_after true s))
 unfolding squeezed
@@ -59,7 +60,7 @@ pub ruleset squeeze_steps = (squeezed_after-next, white_after-next, squeezed_aft
 -- ---- part by part
 
 -- after a part the text and what is still to come are what they were
-pub part-goes : (strings : Strings) (text new bytes total : List ℕ) (was white : Bool) (part : Part) (left parts : List Part) → left ≡ part ∷ parts → bytes ≡ text_of_part strings part →
+pub part-goes : (strings : StringValues) (text new bytes total : List ℕ) (was white : Bool) (part : Part) (left parts : List Part) → left ≡ part ∷ parts → bytes ≡ text_of_part strings part →
     new ≡ text ++ squeezed_after was bytes → white ≡ white_after was bytes → text ++ squeezed_after was (joined_text strings left) ≡ total → new ++ squeezed_after white (joined_text strings parts) ≡ total
 part-goes strings text new bytes total was white part left parts l b n w e =
     let others = joined_text strings parts in
@@ -67,7 +68,7 @@ part-goes strings text new bytes total was white part left parts l b n w e =
     rw (n, w) (append_assoc text (squeezed_after was bytes) (squeezed_after (white_after was bytes) others) ∙ ap (λ t. text ++ t) (sym (squeezed_after-append was bytes others)) ∙ before)
 
 -- a text that is too long before its end is too long at it
-pub part-long : (most : ℕ) (strings : Strings) (new total : List ℕ) (white : Bool) (parts : List Part) → new ++ squeezed_after white (joined_text strings parts) ≡ total → most < length new → most < length total
+pub part-long : (most : ℕ) (strings : StringValues) (new total : List ℕ) (white : Bool) (parts : List Part) → new ++ squeezed_after white (joined_text strings parts) ≡ total → most < length new → most < length total
 part-long most strings new total white parts e lt =
     let len = ap length e in
     let sum = length-append new (squeezed_after white (joined_text strings parts)) in
@@ -135,11 +136,11 @@ last-no-gap s h = rw (gap-space (get_or s (length s - 1) 0) h) refl
 
 -- the white at the beginning goes
 squeezed_after-past : (s : List ℕ) → squeezed_after true s ≡ squeezed_after true (past Gap s)
-unfolding run_len
+unfolding longest_run_len
 squeezed_after-past [] = refl
 squeezed_after-past (b ∷ bs) = at (is_gap b) refl (squeezed_after-past bs) where
   at : (g : Bool) → is_gap b ≡ g → squeezed_after true bs ≡ squeezed_after true (past Gap bs) →
-      squeezed_after true (b ∷ bs) ≡ squeezed_after true (drop (cond g (suc (run_len Gap bs)) 0) (b ∷ bs))
+      squeezed_after true (b ∷ bs) ≡ squeezed_after true (drop (cond g (suc (longest_run_len Gap bs)) 0) (b ∷ bs))
   at true is h = rw is h
   at false is h = refl
 
@@ -234,7 +235,7 @@ stands-trimmed s h = ap (λ (b : Bool). b && not (ends_in_gap s)) (squeezed-begi
 pub ruleset standing_squeezed = (stands-kept, stands-trimmed)
 
 -- a value of one part
-pub joined-one : (strings : Strings) (part : Part) → joined_text strings (part ∷ []) ≡ text_of_part strings part
+pub joined-one : (strings : StringValues) (part : Part) → joined_text strings (part ∷ []) ≡ text_of_part strings part
 joined-one strings part = append-nil (text_of_part strings part)
 
 pub ruleset lone = (joined-one)
@@ -242,14 +243,14 @@ pub ruleset lone = (joined-one)
 -- ---- what the code makes
 
 -- a fault of the text with its last space is one of the text without it
-pub fault-fits : (fault : Fault) (s t : List ℕ) → t ≡ without_last_space s → GathersWithin (suc greatest_string) (Err fault) s → Makes (Err fault) t
+pub fault-fits : (fault : Fault) (s t : List ℕ) → t ≡ without_last_space s → GathersWithin (suc greatest_string) (Err fault) s → MakesText (Err fault) t
 fault-fits Memory s t e h = tt
 fault-fits StringLimit s t e h = omega (arith, last-length s, ap length e)
 fault-fits Device s t e h = absurd h
 fault-fits FileLimit s t e h = absurd h
 
 -- so is one of a text that keeps its ends
-pub fault-same : (fault : Fault) (s t : List ℕ) → t ≡ s → GathersWithin greatest_string (Err fault) s → Makes (Err fault) t
+pub fault-same : (fault : Fault) (s t : List ℕ) → t ≡ s → GathersWithin greatest_string (Err fault) s → MakesText (Err fault) t
 fault-same Memory s t e h = tt
 fault-same StringLimit s t e h = omega (arith, ap length e)
 fault-same Device s t e h = absurd h

@@ -2,33 +2,35 @@
 use Rattle.std.proofs.Common.{◌≡◌, ℕ, zero, suc, ◌<◌, ◌≤◌, Bool, true, false, cond, eqb, List, [], ◌∷◌, length, drop, refl, sym, ap, arith, length-drop, Ok, Err, Some, None, IfOk, IfSome, Result, Option, subst}
 use Rattle.std.specs.Option.{option_map}
 use Rattle.btx_bib.specs.declared.grammar.parts.Part.{Part as CodePart}
-use Rattle.btx_bib.specs.Grammar.PartViews.{part_view}
+use Rattle.btx_bib.specs.refinement.Grammar.PartViews.{part_view}
 use Rattle.std.specs.Borrow.{Bor}
 use Rattle.std.proofs.lemmas.Bool.{and_parts}
-use Rattle.btx_text.specs.Class.{is_digit, is_name_byte, begins_name}
+use Rattle.btx_text.specs.language.Class.{is_digit, is_name_byte, begins_name}
 use Rattle.btx_bib.specs.declared.grammar.byte_sets.ByteSet.{ByteSet}
 use Rattle.btx_bib.specs.declared.grammar.byte_sets.ByteSet.TheVariants.{Gap, NameByte, Digit}
 use Rattle.btx_bib.specs.declared.grammar.byte_sets.Enclosure.{Enclosure}
 use Rattle.btx_bib.specs.declared.grammar.byte_sets.Enclosure.TheVariants.{Group, Quotes}
-use Rattle.btx_bib.specs.Grammar.ByteSets.{is_in, run_len, run, past, enclosed_len}
+use Rattle.btx_bib.specs.language.Grammar.ByteSets.{is_in, longest_run_len, longest_run, past, enclosed_len}
 use Rattle.btx_bib.specs.declared.grammar.slip.Slip.{Slip}
 use Rattle.btx_bib.specs.declared.grammar.slip.Slip.TheVariants.{NoValue, Unbalanced}
-use Rattle.btx_bib.specs.Grammar.Tokens.{Read, seen, followed_by}
-use Rattle.btx_bib.specs.Grammar.Values.{Part, Quoted, Digits, Named, closed, enclosed_in, part_in, part_at, behind_hash, next_part, joined, value_within, value_at, parts_read, end_of}
+use Rattle.btx_bib.specs.language.Grammar.Tokens.{Parsed, followed_by}
+use Rattle.btx_bib.specs.refinement.Grammar.Tokens.{seen}
+use Rattle.btx_bib.specs.language.Grammar.Values.{Part, Quoted, Digits, Named, closed_part, enclosed_in, part_in, part_at, behind_hash, next_part, joined, value_within, value_at}
+use Rattle.btx_bib.specs.refinement.Grammar.Values.{parts_read, value_end}
 
 -- what was read leaves less
-abbrev pub Leaves : {A : Type 0} → ℕ → Read A → Type 0
+abbrev pub Leaves : {A : Type 0} → ℕ → Parsed A → Type 0
 Leaves n (Ok got) = suc (length got.1) ≤ n
 Leaves n (Err wrong) = Unit {0}
 
 pub past-le : (set : ByteSet) (s : List ℕ) → length (past set s) ≤ length s
-past-le set s = omega (arith, length-drop (run_len set s) s)
+past-le set s = omega (arith, length-drop (longest_run_len set s) s)
 
 past-less : (set : ByteSet) (b : ℕ) (bs : List ℕ) → is_in set b ≡ true → suc (length (past set (b ∷ bs))) ≤ length (b ∷ bs)
-unfolding run_len
-past-less set b bs is = rw is (omega (arith, length-drop (run_len set bs) bs))
+unfolding longest_run_len
+past-less set b bs is = rw is (omega (arith, length-drop (longest_run_len set bs) bs))
 
-closed-leaves : (enclosure : Enclosure) (text rest : List ℕ) (n : ℕ) → length rest ≤ n → Leaves n (closed enclosure text rest)
+closed-leaves : (enclosure : Enclosure) (text rest : List ℕ) (n : ℕ) → length rest ≤ n → Leaves n (closed_part enclosure text rest)
 closed-leaves enclosure text [] n h = tt
 closed-leaves Group text (b ∷ bs) n h = h
 closed-leaves Quotes text (b ∷ bs) n h = at (eqb b 34) where
@@ -36,7 +38,7 @@ closed-leaves Quotes text (b ∷ bs) n h = at (eqb b 34) where
   at true = h
   at false = tt
 
-more : {A : Type 0} (r : Read A) (n : ℕ) → Leaves n r → Leaves (suc n) r
+more : {A : Type 0} (r : Parsed A) (n : ℕ) → Leaves n r → Leaves (suc n) r
 more (Ok got) n h = omega arith
 more (Err wrong) n h = tt
 
@@ -51,8 +53,8 @@ unfolding part_in
 part_in-leaves [] = tt
 part_in-leaves (b ∷ bs) = at (eqb b 123) (eqb b 34) (is_digit b) (begins_name b) refl refl where
   at : (t u v w : Bool) → is_digit b ≡ v → begins_name b ≡ w → Leaves (suc (length bs))
-      (cond t (enclosed_in Group bs) (cond u (enclosed_in Quotes bs) (cond v (Ok (Digits (run Digit (b ∷ bs)), past Digit (b ∷ bs)))
-      (cond w (Ok (Named (record { name = run NameByte (b ∷ bs); rest = past NameByte (b ∷ bs) }), past NameByte (b ∷ bs))) (Err (NoValue, b ∷ bs))))))
+      (cond t (enclosed_in Group bs) (cond u (enclosed_in Quotes bs) (cond v (Ok (Digits (longest_run Digit (b ∷ bs)), past Digit (b ∷ bs)))
+      (cond w (Ok (Named (record { name = longest_run NameByte (b ∷ bs); rest = past NameByte (b ∷ bs) }), past NameByte (b ∷ bs))) (Err (NoValue, b ∷ bs))))))
   at true u v w d n = more (enclosed_in Group bs) (length bs) (enclosed-leaves Group bs)
   at false true v w d n = more (enclosed_in Quotes bs) (length bs) (enclosed-leaves Quotes bs)
   at false false true w d n = past-less Digit b bs d
@@ -60,7 +62,7 @@ part_in-leaves (b ∷ bs) = at (eqb b 123) (eqb b 34) (is_digit b) (begins_name 
   at false false false false d n = tt
 
 -- a part leaves less than there was before the white in front of it
-less : {A : Type 0} (r : Read A) (n m : ℕ) → n ≤ m → Leaves n r → Leaves m r
+less : {A : Type 0} (r : Parsed A) (n m : ℕ) → n ≤ m → Leaves n r → Leaves m r
 less (Ok got) n m le h = omega arith
 less (Err wrong) n m le h = tt
 
@@ -90,7 +92,7 @@ pub ruleset part_steps = (part-shorter, next_part-shorter)
 
 -- ---- a value, one part at a time
 
-step-enough : (f g : List ℕ → Read (List Part)) (n : ℕ) (r : Read Part) → Leaves n r → ((t : List ℕ) → length t < n → f t ≡ g t) →
+step-enough : (f g : List ℕ → Parsed (List Part)) (n : ℕ) (r : Parsed Part) → Leaves n r → ((t : List ℕ) → length t < n → f t ≡ g t) →
     followed_by r (λ part rest. joined f part rest (next_part rest)) ≡ followed_by r (λ part rest. joined g part rest (next_part rest))
 step-enough f g n (Err wrong) h same = refl
 step-enough f g n (Ok got) h same = at (next_part got.1) (behind_hash-within (past Gap got.1) (length got.1) (past-le Gap got.1)) where
@@ -112,30 +114,30 @@ value_at-step text =
     step-enough (value_within (length text)) value_at (length text) (part_at text) (part_at-leaves text)
     (λ t lt. value_within-enough (length text) (suc (length t)) t lt (omega arith))
 
-pub value-wrong : (text : List ℕ) (wrong : Slip × List ℕ) → part_at text ≡ Err wrong → end_of (value_at text) ≡ Err wrong
+pub value-wrong : (text : List ℕ) (wrong : Slip × List ℕ) → part_at text ≡ Err wrong → value_end (value_at text) ≡ Err wrong
 value-wrong text wrong e = rw (value_at-step text, e) refl
 
-pub value-ends : (text rest : List ℕ) (part : Part) → part_at text ≡ Ok (part, rest) → next_part rest ≡ None → end_of (value_at text) ≡ Ok (tt, rest)
+pub value-ends : (text rest : List ℕ) (part : Part) → part_at text ≡ Ok (part, rest) → next_part rest ≡ None → value_end (value_at text) ≡ Ok (tt, rest)
 value-ends text rest part e n = rw (value_at-step text, e, n) refl
 
-end-joined : (part : Part) (rest : List ℕ) (r : Read (List Part)) → end_of (followed_by r (λ parts end. Ok (part ∷ parts, end))) ≡ end_of r
+end-joined : (part : Part) (rest : List ℕ) (r : Parsed (List Part)) → value_end (followed_by r (λ parts end. Ok (part ∷ parts, end))) ≡ value_end r
 end-joined part rest (Ok got) = refl
 end-joined part rest (Err wrong) = refl
 
-pub value-goes : (text rest next : List ℕ) (part : Part) → part_at text ≡ Ok (part, rest) → next_part rest ≡ Some next → end_of (value_at text) ≡ end_of (value_at next)
+pub value-goes : (text rest next : List ℕ) (part : Part) → part_at text ≡ Ok (part, rest) → next_part rest ≡ Some next → value_end (value_at text) ≡ value_end (value_at next)
 value-goes text rest next part e n = rw (value_at-step text, e, n) (end-joined part rest (value_at next))
 
-abbrev rest_of : Read (Unit {0}) → List ℕ
+abbrev rest_of : Parsed (Unit {0}) → List ℕ
 rest_of (Ok got) = got.1
 rest_of (Err wrong) = wrong.1
 
-pub whole_from : (r : Read (List Part)) (rest : List ℕ) → end_of r ≡ Ok (tt, rest) → r ≡ Ok (parts_read r, rest)
+pub whole_from : (r : Parsed (List Part)) (rest : List ℕ) → value_end r ≡ Ok (tt, rest) → r ≡ Ok (parts_read r, rest)
 whole_from (Ok got) rest e = let is : got.1 ≡ rest = at got.1 e in rw (← is) refl where
-  at : (xs : List ℕ) → ◌≡◌ {A = Read (Unit {0})} (Ok (tt, xs)) (Ok (tt, rest)) → xs ≡ rest
-  at xs e = ap (λ (r : Read (Unit {0})). rest_of r) e
+  at : (xs : List ℕ) → ◌≡◌ {A = Parsed (Unit {0})} (Ok (tt, xs)) (Ok (tt, rest)) → xs ≡ rest
+  at xs e = ap (λ (r : Parsed (Unit {0})). rest_of r) e
 whole_from (Err wrong) rest e = cc
 
-pub wrong_from : (r : Read (List Part)) (wrong : Slip × List ℕ) → end_of r ≡ Err wrong → r ≡ Err wrong
+pub wrong_from : (r : Parsed (List Part)) (wrong : Slip × List ℕ) → value_end r ≡ Err wrong → r ≡ Err wrong
 wrong_from (Ok got) wrong e = cc
 wrong_from (Err w) wrong e = cc
 
@@ -147,11 +149,11 @@ pub ruleset value_steps = (value-ends, value-goes, whole_from, wrong_from)
 pub value-one : (text rest : List ℕ) (part : Part) → part_at text ≡ Ok (part, rest) → next_part rest ≡ None → value_at text ≡ Ok (part ∷ [], rest)
 value-one text rest part e n = rw (value_at-step text, e, n) refl
 
-pub value-more : (text rest next end : List ℕ) (part : Part) → part_at text ≡ Ok (part, rest) → next_part rest ≡ Some next → end_of (value_at next) ≡ Ok (tt, end) →
+pub value-more : (text rest next end : List ℕ) (part : Part) → part_at text ≡ Ok (part, rest) → next_part rest ≡ Some next → value_end (value_at next) ≡ Ok (tt, end) →
     value_at text ≡ Ok (part ∷ parts_read (value_at next), end)
 value-more text rest next end part e n w = rw (value_at-step text, e, n, whole_from (value_at next) end w) refl
 
-pub value-more-wrong : (text rest next : List ℕ) (part : Part) (wrong : Slip × List ℕ) → part_at text ≡ Ok (part, rest) → next_part rest ≡ Some next → end_of (value_at next) ≡ Err wrong →
+pub value-more-wrong : (text rest next : List ℕ) (part : Part) (wrong : Slip × List ℕ) → part_at text ≡ Ok (part, rest) → next_part rest ≡ Some next → value_end (value_at next) ≡ Err wrong →
     value_at text ≡ Err wrong
 value-more-wrong text rest next part wrong e n w = rw (value_at-step text, e, n, wrong_from (value_at next) wrong w) refl
 

@@ -5,14 +5,14 @@ use Rattle.btx_bib.specs.declared.grammar.byte_sets.ByteSet.TheVariants.{Gap}
 use Rattle.btx_bib.specs.declared.grammar.commands.Command.{Command}
 use Rattle.btx_bib.specs.declared.grammar.commands.Command.TheVariants as command
 use Rattle.btx_bib.specs.declared.grammar.slip.Slip.TheVariants.{NoEquals, NoClosing}
-use Rattle.btx_bib.specs.Grammar.ByteSets.{past}
-use Rattle.btx_bib.specs.Grammar.Tokens.{Read, followed_by, name_at, open_at, sign_at, key_at, closing}
-use Rattle.btx_bib.specs.Grammar.Values.{value_at}
-use Rattle.btx_bib.specs.Grammar.Fields.{Field, more_in, more_at}
-use Rattle.btx_bib.specs.Grammar.Items.{command_of}
-use Rattle.btx_bib.specs.Grammar.Spelling.{Gives, Then, Spaced, NameHere, SignHere, Value, Splits}
-use Rattle.btx_bib.specs.Grammar.Reading.{OpenHere, KeyHere, MoreHere}
-use Rattle.btx_bib.specs.Grammar.WholeItems.{CommentItem, PreambleItem, StringItem, EntryItem, ClosingHere, OtherFields, FieldsOf, FieldsHere, ItemOf, ItemHere, other_fields, fields_within, fields_at, item_of, item_at}
+use Rattle.btx_bib.specs.language.Grammar.ByteSets.{past}
+use Rattle.btx_bib.specs.language.Grammar.Tokens.{Parsed, followed_by, name_at, open_at, sign_at, key_at, closing_delimiter}
+use Rattle.btx_bib.specs.language.Grammar.Values.{value_at}
+use Rattle.btx_bib.specs.language.Grammar.Fields.{Field, more_in, more_at}
+use Rattle.btx_bib.specs.language.Grammar.Items.{command_of}
+use Rattle.btx_bib.specs.laws.Grammar.Spelling.{Gives, Then, Spaced, NameHere, SignHere, ValueSpelling, Splits}
+use Rattle.btx_bib.specs.laws.Grammar.Reading.{OpenHere, KeyHere, MoreHere}
+use Rattle.btx_bib.specs.laws.Grammar.WholeItems.{CommentItem, PreambleItem, StringItem, EntryItem, ClosingHere, OtherFields, FieldsOf, FieldsHere, ItemOf, ItemHere, other_fields, fields_within, fields_at, whole_item, whole_item_at}
 use Rattle.btx_bib.proofs.GrammarLemmas.ValueLemmas.{past-le}
 use Rattle.btx_bib.proofs.GrammarLemmas.LengthLemmas.{Shrinks, shrinks-more, more_in-shrinks}
 use Rattle.btx_bib.proofs.GrammarLemmas.SpellingLemmas.{Decides, Only, both-second, both-then, then-only, then-decides, gives-decides, spaced-decides, name-decides, sign-decides, value-decides}
@@ -23,7 +23,7 @@ use Rattle.btx_bib.proofs.GrammarLemmas.ReadingLemmas.{spaced-open, spaced-key, 
 pub more-shrinks : (d : Delimiter) (s : List ℕ) → Shrinks (length s) (more_at d s)
 more-shrinks d s = shrinks-more (more_at d s) (length (past Gap s)) (length s) (past-le Gap s) (more_in-shrinks d (past Gap s))
 
-fields-enough-by : (f g : List ℕ → Read (List Field)) (n : ℕ) (r : Read (Option Field)) → Shrinks n r → ((t : List ℕ) → length t < n → f t ≡ g t) → followed_by r (other_fields f) ≡ followed_by r (other_fields g)
+fields-enough-by : (f g : List ℕ → Parsed (List Field)) (n : ℕ) (r : Parsed (Option Field)) → Shrinks n r → ((t : List ℕ) → length t < n → f t ≡ g t) → followed_by r (other_fields f) ≡ followed_by r (other_fields g)
 fields-enough-by f g n (Ok (None, rest)) h same = refl
 fields-enough-by f g n (Ok (Some field, rest)) h same = rw (same rest (omega arith)) refl
 fields-enough-by f g n (Err wrong) h same = refl
@@ -45,13 +45,13 @@ more-decides d = spaced-decides (MoreHere d) (more_in d) (more_in-decides d)
 
 -- ---- fields are spelled as they are read
 
-others-total : (n : ℕ) (d : Delimiter) (field : Field) (t : List ℕ) (q : Read (List Field)) → Splits (FieldsOf n d) t q → Splits (Then (FieldsOf n d) (λ fields. Gives (field ∷ fields))) t (followed_by q (λ fields end. Ok (field ∷ fields, end)))
+others-total : (n : ℕ) (d : Delimiter) (field : Field) (t : List ℕ) (q : Parsed (List Field)) → Splits (FieldsOf n d) t q → Splits (Then (FieldsOf n d) (λ fields. Gives (field ∷ fields))) t (followed_by q (λ fields end. Ok (field ∷ fields, end)))
 others-total n d field t (Ok got) h =
     both-then (FieldsOf n d) (λ fields. Gives (field ∷ fields)) t (Ok (field ∷ got.0, got.1))
     (both-second (FieldsOf n d) (λ fields. Gives (field ∷ fields)) t got (Ok (field ∷ got.0, got.1)) h ((gives-decides (field ∷ got.0)).total got.1))
 others-total n d field t (Err wrong) h = (h.0, h.1, inl h.2)
 
-fields-splits : (n : ℕ) (d : Delimiter) (s : List ℕ) (more : Option Field) (rest : List ℕ) (q : Read (List Field)) → Splits (Spaced (MoreHere d)) s (Ok (more, rest)) → Splits (OtherFields (FieldsOf n d) more) rest q → Splits (FieldsOf (suc n) d) s q
+fields-splits : (n : ℕ) (d : Delimiter) (s : List ℕ) (more : Option Field) (rest : List ℕ) (q : Parsed (List Field)) → Splits (Spaced (MoreHere d)) s (Ok (more, rest)) → Splits (OtherFields (FieldsOf n d) more) rest q → Splits (FieldsOf (suc n) d) s q
 fields-splits n d s more rest (Ok got) h k = both-then (Spaced (MoreHere d)) (OtherFields (FieldsOf n d)) s (Ok got) (both-second (Spaced (MoreHere d)) (OtherFields (FieldsOf n d)) s (more, rest) (Ok got) h k)
 fields-splits n d s more rest (Err wrong) h k = both-then (Spaced (MoreHere d)) (OtherFields (FieldsOf n d)) s (Err wrong) (both-second (Spaced (MoreHere d)) (OtherFields (FieldsOf n d)) s (more, rest) (Err wrong) h k)
 
@@ -60,7 +60,7 @@ fields-total zero d s lt = absurd (omega arith)
 fields-total (suc m) d s lt =
     subst (λ r. (n : ℕ) × Splits (FieldsOf n d) s r) (sym (fields_at-step d s))
     (at (more_at d s) ((more-decides d).total s) (more-shrinks d s) (λ t less. fields-total m d t (omega arith))) where
-      at : (r : Read (Option Field)) → Splits (Spaced (MoreHere d)) s r → Shrinks (length s) r → ((t : List ℕ) → length t < length s → (n : ℕ) × Splits (FieldsOf n d) t (fields_at d t)) →
+      at : (r : Parsed (Option Field)) → Splits (Spaced (MoreHere d)) s r → Shrinks (length s) r → ((t : List ℕ) → length t < length s → (n : ℕ) × Splits (FieldsOf n d) t (fields_at d t)) →
           (n : ℕ) × Splits (FieldsOf n d) s (followed_by r (other_fields (fields_at d)))
       at (Ok (None, rest)) h l others = (1, fields-splits 0 d s None rest (Ok ([], rest)) h ((gives-decides []).total rest))
       at (Ok (Some field, rest)) h l others =
@@ -80,7 +80,7 @@ fields_of-only (suc n) d o front rest h =
     fields_at-step d (front ++ rest)
     ∙ then-only (Spaced (MoreHere d)) (OtherFields (FieldsOf n d)) (more_at d) (other_fields (fields_at d)) (more-decides d).only (λ more. other_fields-only n d more (fields_of-only n d)) o front rest h
 
-fields-from : (n : ℕ) (d : Delimiter) (s : List ℕ) (q : Read (List Field)) → Splits (FieldsOf n d) s q → Splits (FieldsHere d) s q
+fields-from : (n : ℕ) (d : Delimiter) (s : List ℕ) (q : Parsed (List Field)) → Splits (FieldsOf n d) s q → Splits (FieldsHere d) s q
 fields-from n d s (Ok got) h = (h.0, h.1, (n, h.2))
 fields-from n d s (Err wrong) h = (h.0, h.1, (n, h.2))
 
@@ -92,24 +92,24 @@ fields-decides d = record {
 
 -- ---- items
 
-item_of-decides : (c : Command) (name : List ℕ) → Decides (item_of c name) (ItemOf c name)
-unfolding item_of
+item_of-decides : (c : Command) (name : List ℕ) → Decides (whole_item c name) (ItemOf c name)
+unfolding whole_item
 item_of-decides command.Comment name = gives-decides CommentItem
 item_of-decides command.Preamble name =
     then-decides (Spaced OpenHere) _ open_at _ spaced-open (λ d.
-    then-decides Value _ value_at _ value-decides (λ value.
-    then-decides (ClosingHere d) _ (sign_at (closing d) (NoClosing d)) _ (sign-decides (closing d) (NoClosing d)) (λ sign. gives-decides (PreambleItem value))))
+    then-decides ValueSpelling _ value_at _ value-decides (λ value.
+    then-decides (ClosingHere d) _ (sign_at (closing_delimiter d) (NoClosing d)) _ (sign-decides (closing_delimiter d) (NoClosing d)) (λ sign. gives-decides (PreambleItem value))))
 item_of-decides command.Definition name =
     then-decides (Spaced OpenHere) _ open_at _ spaced-open (λ d.
     then-decides (Spaced NameHere) _ name_at _ name-decides (λ string.
     then-decides (Spaced (SignHere 61 NoEquals)) _ (sign_at 61 NoEquals) _ (sign-decides 61 NoEquals) (λ sign.
-    then-decides Value _ value_at _ value-decides (λ value.
-    then-decides (ClosingHere d) _ (sign_at (closing d) (NoClosing d)) _ (sign-decides (closing d) (NoClosing d)) (λ end. gives-decides (StringItem string value))))))
+    then-decides ValueSpelling _ value_at _ value-decides (λ value.
+    then-decides (ClosingHere d) _ (sign_at (closing_delimiter d) (NoClosing d)) _ (sign-decides (closing_delimiter d) (NoClosing d)) (λ end. gives-decides (StringItem string value))))))
 item_of-decides command.Entry name =
     then-decides (Spaced OpenHere) _ open_at _ spaced-open (λ d.
     then-decides (Spaced (KeyHere d)) _ (key_at d) _ (spaced-key d) (λ key.
     then-decides (FieldsHere d) _ (fields_at d) _ (fields-decides d) (λ fields. gives-decides (EntryItem name key fields))))
 
-pub item-decides : Decides item_at ItemHere
-unfolding item_at
+pub item-decides : Decides whole_item_at ItemHere
+unfolding whole_item_at
 item-decides = then-decides (Spaced NameHere) _ name_at _ name-decides (λ name. item_of-decides (command_of name) name)

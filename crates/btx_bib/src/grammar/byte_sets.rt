@@ -1,8 +1,9 @@
 //! The bytes that the words of a database are made of, and the runs of them.
 ghost use Rattle.std.specs.Prelude.{◌≡◌, ◌≤◌, ◌==◌, ◌&&◌, length};
-ghost use Rattle.btx_text.specs.Class.{begins_name};
-ghost use Rattle.btx_bib.specs.Grammar.ByteSets as spec;
-ghost use Rattle.btx_bib.specs.Grammar.Squeezing as squeezing;
+ghost use Rattle.btx_text.specs.language.Class.{begins_name};
+ghost use Rattle.btx_bib.specs.language.Grammar.ByteSets as spec;
+ghost use Rattle.btx_bib.specs.refinement.Grammar.ByteSets as refined;
+ghost use Rattle.btx_bib.specs.refinement.Grammar.Squeezing as squeezing;
 
 use btx_text::classify::{is_name_byte, is_white};
 use btx_text::depths::depth_after;
@@ -60,7 +61,7 @@ pub fn ends_in_gap(text: &[u8]) -> bool
 /// Whether a byte is one of those that neither are white nor enclose: most are, not all.
 #[inline(always)]
 pub fn is_word_byte(byte: u8) -> bool
-    ensures { result ≡ spec.is_word_byte byte }
+    ensures { result ≡ refined.is_word_byte byte }
 {
     byte >= b'#' && byte <= b'z'
 }
@@ -91,7 +92,7 @@ fn is_in(set: ByteSet, byte: u8) -> bool
 #[inline(always)]
 #[tactic(auto, using(crate::proofs::GrammarLemmas::RunLemmas::run_steps))]
 pub fn run_len(set: ByteSet, text: &[u8]) -> usize
-    ensures value { result ≡ spec.run_len set text.now }
+    ensures value { result ≡ spec.longest_run_len set text.now }
     ensures bound { result ≤ length text.now }
 {
     for (place, &byte) in text.iter().enumerate() {
@@ -118,7 +119,7 @@ pub fn ends_enclosed(enclosure: Enclosure, depth: usize, byte: u8) -> bool
 #[inline(always)]
 #[tactic(auto, using(crate::proofs::GrammarLemmas::MarkLemmas::mark_steps))]
 fn unmarked_len(enclosure: Enclosure, text: &[u8]) -> usize
-    ensures value { result ≡ spec.unmarked_len (spec.is_mark enclosure) text.now }
+    ensures value { result ≡ refined.unmarked_len (refined.is_mark enclosure) text.now }
     ensures bound { result ≤ length text.now }
 {
     match enclosure {

@@ -1,8 +1,8 @@
 //! The fields of an entry, read.
 ghost use Rattle.std.specs.Prelude.{◌≡◌};
-ghost use Rattle.btx_bib.specs.Grammar.FieldViews.{field_view, more_view};
-ghost use Rattle.btx_bib.specs.Grammar.Fields as spec;
-ghost use Rattle.btx_bib.specs.Grammar.Tokens.{seen};
+ghost use Rattle.btx_bib.specs.refinement.Grammar.FieldViews.{field_view, more_view};
+ghost use Rattle.btx_bib.specs.language.Grammar.Fields as spec;
+ghost use Rattle.btx_bib.specs.refinement.Grammar.Tokens.{seen};
 
 use crate::grammar::byte_sets::{ByteSet, Delimiter};
 use crate::grammar::fields::Field;
@@ -11,7 +11,7 @@ use crate::grammar::tokens::{Read, closing, name, past, sign, slip_at};
 use crate::grammar::values::read_value;
 
 // A field: a name, `=` and a value.
-#[tactic(auto, unfolding(crate::specs::Grammar::Fields::field_at))]
+#[tactic(auto, unfolding(crate::specs::language::Grammar::Fields::field_at))]
 #[inline(never)]
 fn read_field(text: &[u8]) -> Read<'_, Field<'_>>
     ensures { seen field_view result ≡ spec.field_at text.now }
@@ -23,7 +23,7 @@ fn read_field(text: &[u8]) -> Read<'_, Field<'_>>
 }
 
 // What follows a comma.
-#[tactic(auto, unfolding(crate::specs::Grammar::Fields::after_comma))]
+#[tactic(auto, unfolding(crate::specs::language::Grammar::Fields::after_comma))]
 fn after_comma(delimiter: Delimiter, rest: &[u8]) -> Read<'_, Option<Field<'_>>>
     ensures { seen more_view result ≡ spec.after_comma delimiter rest.now }
 {
@@ -37,7 +37,7 @@ fn after_comma(delimiter: Delimiter, rest: &[u8]) -> Read<'_, Option<Field<'_>>>
 }
 
 /// What follows the key or a field: one more field, or the end of the entry.
-#[tactic(auto, unfolding(crate::specs::Grammar::Fields::more_in))]
+#[tactic(auto, unfolding(crate::specs::language::Grammar::Fields::more_in))]
 pub fn read_more(delimiter: Delimiter, text: &[u8]) -> Read<'_, Option<Field<'_>>>
     ensures { seen more_view result ≡ spec.more_at delimiter text.now }
 {

@@ -2,11 +2,12 @@
 ghost use Rattle.std.specs.Prelude.{◌≡◌};
 ghost use Rattle.std.specs.Str.{bytes_eq};
 ghost use Rattle.std.specs.Option.{option_map};
-ghost use Rattle.btx_text.specs.Keys.{folded};
-ghost use Rattle.btx_bib.specs.Grammar.EventViews.{event_view, head_view};
-ghost use Rattle.btx_bib.specs.Grammar.Items as spec;
-ghost use Rattle.btx_bib.specs.Grammar.Tokens.{closing, seen, sign_at};
-ghost use Rattle.btx_bib.specs.Grammar.Fields.{more_at};
+ghost use Rattle.btx_text.specs.language.Keys.{folded};
+ghost use Rattle.btx_bib.specs.refinement.Grammar.EventViews.{event_view, head_view};
+ghost use Rattle.btx_bib.specs.language.Grammar.Items as spec;
+ghost use Rattle.btx_bib.specs.language.Grammar.Tokens.{closing_delimiter, sign_at};
+ghost use Rattle.btx_bib.specs.refinement.Grammar.Tokens.{seen};
+ghost use Rattle.btx_bib.specs.language.Grammar.Fields.{more_at};
 
 use crate::grammar::byte_sets::Delimiter;
 use crate::grammar::commands::{Command, Wanted};
@@ -26,7 +27,7 @@ fn is_named(name: &[u8], command: &[u8]) -> bool
 }
 
 // The command of a name.
-#[tactic(auto, unfolding(crate::specs::Grammar::Items::command_of))]
+#[tactic(auto, unfolding(crate::specs::language::Grammar::Items::command_of))]
 fn command(name: &[u8]) -> Command
     ensures { result ≡ spec.command_of name.now }
 {
@@ -43,7 +44,7 @@ fn command(name: &[u8]) -> Command
 }
 
 // The value of a preamble.
-#[tactic(auto, unfolding(crate::specs::Grammar::Items::head_of))]
+#[tactic(auto, unfolding(crate::specs::language::Grammar::Items::head_of))]
 fn preamble<'a>(name: &'a [u8], text: &'a [u8]) -> Read<'a, (Event<'a>, Wanted)>
     ensures { seen head_view result ≡ spec.head_of Command.Preamble name.now text.now }
 {
@@ -53,7 +54,7 @@ fn preamble<'a>(name: &'a [u8], text: &'a [u8]) -> Read<'a, (Event<'a>, Wanted)>
 }
 
 // The name and the value of a string.
-#[tactic(auto, unfolding(crate::specs::Grammar::Items::head_of))]
+#[tactic(auto, unfolding(crate::specs::language::Grammar::Items::head_of))]
 fn definition<'a>(name: &'a [u8], text: &'a [u8]) -> Read<'a, (Event<'a>, Wanted)>
     ensures { seen head_view result ≡ spec.head_of Command.Definition name.now text.now }
 {
@@ -68,7 +69,7 @@ fn definition<'a>(name: &'a [u8], text: &'a [u8]) -> Read<'a, (Event<'a>, Wanted
 }
 
 // The type and the key of an entry.
-#[tactic(auto, unfolding(crate::specs::Grammar::Items::head_of))]
+#[tactic(auto, unfolding(crate::specs::language::Grammar::Items::head_of))]
 fn entry<'a>(name: &'a [u8], text: &'a [u8]) -> Read<'a, (Event<'a>, Wanted)>
     ensures { seen head_view result ≡ spec.head_of Command.Entry name.now text.now }
 {
@@ -78,7 +79,7 @@ fn entry<'a>(name: &'a [u8], text: &'a [u8]) -> Read<'a, (Event<'a>, Wanted)>
 }
 
 /// What follows an `@`.
-#[tactic(auto, unfolding(crate::specs::Grammar::Items::head_at, crate::specs::Grammar::Items::head_of))]
+#[tactic(auto, unfolding(crate::specs::language::Grammar::Items::head_at, crate::specs::language::Grammar::Items::head_of))]
 pub fn read_head(text: &[u8]) -> Read<'_, (Event<'_>, Wanted)>
     ensures { seen head_view result ≡ spec.head_at text.now }
 {
@@ -93,7 +94,7 @@ pub fn read_head(text: &[u8]) -> Read<'_, (Event<'_>, Wanted)>
 
 /// The end of an item.
 pub fn read_end(delimiter: Delimiter, text: &[u8]) -> Read<'_, (Event<'_>, Wanted)>
-    ensures { seen head_view result ≡ spec.ended (sign_at (closing delimiter) (Slip.NoClosing delimiter) text.now) }
+    ensures { seen head_view result ≡ spec.item_end (sign_at (closing_delimiter delimiter) (Slip.NoClosing delimiter) text.now) }
 {
     let (_, rest) = sign(closing(delimiter), Slip::NoClosing(delimiter), text)?;
     Ok(((Event::End, Wanted::Item), rest))

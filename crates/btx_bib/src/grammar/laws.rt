@@ -1,20 +1,21 @@
 //! Laws over the definitions, each the contract of a function that does nothing.
 ghost use Rattle.std.specs.Prelude.{◌≡◌, ◌++◌, ℕ, [], Bool, false, List, Result};
 ghost use Rattle.btx_bib.specs.declared.grammar.slip.Slip.{Slip};
-ghost use Rattle.btx_bib.specs.Grammar.Fields.{Field, field_at};
-ghost use Rattle.btx_bib.specs.Grammar.Spelling.{FieldSpelling, Splits, Value, read_as};
-ghost use Rattle.btx_bib.specs.Grammar.ItemEvents.{IsNew, Tells, read_events};
-ghost use Rattle.btx_bib.specs.Grammar.Items.{Event, Placed, behind_at, by_history, events_from, head_at};
-ghost use Rattle.btx_bib.specs.Grammar.Reading.{IsReading};
+ghost use Rattle.btx_bib.specs.language.Grammar.Fields.{Field, field_at};
+ghost use Rattle.btx_bib.specs.laws.Grammar.Spelling.{FieldSpelling, Splits, ValueSpelling, read_as};
+ghost use Rattle.btx_bib.specs.laws.Grammar.ItemEvents.{IsNew, GivesEvents, read_events};
+ghost use Rattle.btx_bib.specs.language.Grammar.Items.{Event, Placed, behind_at, events_from, head_at};
+ghost use Rattle.btx_bib.specs.laws.Grammar.Items.{by_history};
+ghost use Rattle.btx_bib.specs.laws.Grammar.Reading.{IsReading};
 ghost use Rattle.btx_bib.specs.declared.grammar.commands.Wanted.TheVariants as wanted;
-ghost use Rattle.btx_bib.specs.Grammar.Values.{Part, value_at};
-ghost use Rattle.btx_bib.specs.Grammar.WholeItems.{Item, ItemHere, item_at};
+ghost use Rattle.btx_bib.specs.language.Grammar.Values.{Part, value_at};
+ghost use Rattle.btx_bib.specs.laws.Grammar.WholeItems.{WholeItem, ItemHere, whole_item_at};
 
 /// Each text has exactly one front that spells a value, or at whose end a value is wrong.
 pub fn one_value()
-    ensures spells { (text : List ℕ) → Splits Value text (value_at text) }
+    ensures spells { (text : List ℕ) → Splits ValueSpelling text (value_at text) }
     ensures only { (outcome : Result (List Part) Slip) (front rest : List ℕ) →
-        Value outcome front rest → value_at (front ++ rest) ≡ read_as outcome rest }
+        ValueSpelling outcome front rest → value_at (front ++ rest) ≡ read_as outcome rest }
 {}
 
 /// Each text has exactly one front that spells a field, or at whose end a field is wrong.
@@ -26,9 +27,9 @@ pub fn one_field()
 
 /// Behind each `@` exactly one item is spelled by exactly one front of the text, or exactly one thing is wrong at exactly one place.
 pub fn one_item()
-    ensures spells { (text : List ℕ) → Splits ItemHere text (item_at text) }
-    ensures only { (outcome : Result Item Slip) (front rest : List ℕ) →
-        ItemHere outcome front rest → item_at (front ++ rest) ≡ read_as outcome rest }
+    ensures spells { (text : List ℕ) → Splits ItemHere text (whole_item_at text) }
+    ensures only { (outcome : Result WholeItem Slip) (front rest : List ℕ) →
+        ItemHere outcome front rest → whole_item_at (front ++ rest) ≡ read_as outcome rest }
 {}
 
 /// Each text has exactly one reading, however the events before say which keys are stored: a list of what stands in it and of what
@@ -45,5 +46,5 @@ pub fn one_reading()
 pub fn items_are_told()
     ensures { (is_stored : List Event → List ℕ → Bool) (before : List Event) (text behind : List ℕ) →
         behind_at text ≡ Some behind → IsNew (is_stored before) (head_at behind) →
-        Tells (by_history is_stored) before wanted.Item text (read_events (item_at behind)) }
+        GivesEvents (by_history is_stored) before wanted.Item text (read_events (whole_item_at behind)) }
 {}

@@ -1,6 +1,7 @@
 //! The lines of places.
 ghost use Rattle.std.specs.Prelude.{◌≡◌, ◌≤◌, ◌+◌, drop, length, take};
-ghost use Rattle.btx_bib.specs.Grammar.PlaceLines as spec;
+ghost use Rattle.btx_bib.specs.language.Grammar.PlaceLines as spec;
+ghost use Rattle.btx_bib.specs.refinement.Grammar.PlaceLines as refined;
 
 use std::marker::Model;
 use std::simd::prelude::*;
@@ -18,7 +19,7 @@ pub struct LineCounter<'a> {
 
 impl<'a> Model for LineCounter<'a> {
     ghost use Rattle.std.specs.Prelude.{◌≡◌, ◌≤◌, List, ℕ, length, take};
-    ghost use Rattle.btx_bib.specs.Grammar.PlaceLines.{feeds_in};
+    ghost use Rattle.btx_bib.specs.refinement.Grammar.PlaceLines.{feeds_in};
 
     ghost Value = { List ℕ };
 
@@ -31,7 +32,7 @@ impl<'a> Model for LineCounter<'a> {
 #[inline(always)]
 fn feeds_in_block(text: &[u8], place: usize) -> usize
     requires within { place + 32 ≤ length text.now }
-    ensures { result ≡ spec.feeds_in (take 32 (drop place text.now)) }
+    ensures { result ≡ refined.feeds_in (take 32 (drop place text.now)) }
 {
     let block = u8x32::from_slice(&text[place..]);
     block.simd_eq(u8x32::splat(b'\n')).to_bitmask().count_ones() as usize
@@ -40,7 +41,7 @@ fn feeds_in_block(text: &[u8], place: usize) -> usize
 // How many line feeds a short text has.
 #[tactic(auto, using(crate::proofs::GrammarLemmas::PlaceLemmas::feed_counts))]
 fn feeds_one_by_one(text: &[u8]) -> usize
-    ensures value { result ≡ spec.feeds_in text.now }
+    ensures value { result ≡ refined.feeds_in text.now }
     ensures bound { result ≤ length text.now }
 {
     text.iter().filter(|byte| **byte == b'\n').count()
@@ -48,7 +49,7 @@ fn feeds_one_by_one(text: &[u8]) -> usize
 
 // How many line feeds a text has: block by block, and then what is left.
 fn feeds_in(text: &[u8]) -> usize
-    ensures value { result ≡ spec.feeds_in text.now }
+    ensures value { result ≡ refined.feeds_in text.now }
     ensures bound { result ≤ length text.now }
 {
     let mut feeds = 0;
@@ -64,8 +65,8 @@ fn feeds_in(text: &[u8]) -> usize
 #[tactic(auto, using(crate::proofs::GrammarLemmas::PlaceLemmas::feed_sums))]
 fn feeds_before(text: &[u8], counted: usize, counted_feeds: usize, place: usize) -> usize
     requires within { place ≤ length text.now }
-    requires feeds { counted_feeds ≡ spec.feeds_in (take counted text.now) }
-    ensures value { result ≡ spec.feeds_in (take place text.now) }
+    requires feeds { counted_feeds ≡ refined.feeds_in (take counted text.now) }
+    ensures value { result ≡ refined.feeds_in (take place text.now) }
     ensures bound { result ≤ place }
 {
     if place < counted {

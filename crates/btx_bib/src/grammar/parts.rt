@@ -1,9 +1,9 @@
 //! The parts of a value.
 ghost use Rattle.std.specs.Prelude.{◌≡◌, ◌<◌, ◌≤◌, length, IfOk, IfSome};
 ghost use Rattle.std.specs.Option.{option_map};
-ghost use Rattle.btx_bib.specs.Grammar.PartViews.{part_view};
-ghost use Rattle.btx_bib.specs.Grammar.Tokens.{seen};
-ghost use Rattle.btx_bib.specs.Grammar.Values as spec;
+ghost use Rattle.btx_bib.specs.refinement.Grammar.PartViews.{part_view};
+ghost use Rattle.btx_bib.specs.refinement.Grammar.Tokens.{seen};
+ghost use Rattle.btx_bib.specs.language.Grammar.Values as spec;
 
 use crate::grammar::byte_sets::{ByteSet, Enclosure, begins_name, enclosed_len, run_len};
 use crate::grammar::slip::Slip;
@@ -52,7 +52,7 @@ fn enclosed(enclosure: Enclosure, rest: &[u8]) -> Read<'_, Part<'_>>
 }
 
 // A part of a value that stands here.
-#[tactic(auto, unfolding(crate::specs::Grammar::Values::part_in))]
+#[tactic(auto, unfolding(crate::specs::language::Grammar::Values::part_in))]
 fn part_in(rest: &[u8]) -> Read<'_, Part<'_>>
     ensures { seen part_view result ≡ spec.part_in rest.now }
 {

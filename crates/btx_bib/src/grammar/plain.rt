@@ -1,8 +1,8 @@
 //! What is enclosed in its plainest form, read in one pass.
 ghost use Rattle.std.specs.Prelude.{◌≡◌, ◌≤◌, true, length, Ok, IfSome};
-ghost use Rattle.btx_bib.specs.Grammar.PlainFields.{enclosed_part};
-ghost use Rattle.btx_bib.specs.Grammar.Squeezing.{IsSqueezedLen, stands};
-ghost use Rattle.btx_bib.specs.Grammar.Values as spec;
+ghost use Rattle.btx_bib.specs.refinement.Grammar.PlainFields.{enclosed_part};
+ghost use Rattle.btx_bib.specs.refinement.Grammar.Squeezing.{IsSqueezedLen, stands};
+ghost use Rattle.btx_bib.specs.language.Grammar.Values as spec;
 ghost use Rattle.btx_bib.specs.declared.grammar.value_ends.Ends.TheVariants as ends;
 
 use crate::grammar::byte_sets::{Enclosure, ends_enclosed, ends_in_gap, is_gap, is_word_byte};

@@ -1,8 +1,8 @@
 //! Fields in their plainest form, each read in one pass.
 ghost use Rattle.std.specs.Prelude.{◌≡◌, ◌==◌, ◌∷◌, [], drop, if◌then◌else◌, Ok, Some, None, IfSome};
-ghost use Rattle.btx_bib.specs.Grammar.ByteSets as bytes;
-ghost use Rattle.btx_bib.specs.Grammar.PlainFields.{IsPlain, StandsNext, part_in_view};
-ghost use Rattle.btx_bib.specs.Grammar.Values as spec;
+ghost use Rattle.btx_bib.specs.language.Grammar.ByteSets as bytes;
+ghost use Rattle.btx_bib.specs.refinement.Grammar.PlainFields.{IsPlainPart, StandsNext, part_in_view};
+ghost use Rattle.btx_bib.specs.language.Grammar.Values as spec;
 ghost use Rattle.btx_bib.specs.declared.grammar.byte_sets.ByteSet.TheVariants as set;
 
 use crate::grammar::byte_sets::{ByteSet, Enclosure, begins_name, run_len};
@@ -45,10 +45,10 @@ pub struct PlainField<'a> {
 
 // A part of a value that is plain, if one stands here.
 #[inline(always)]
-#[tactic(auto, unfolding(crate::specs::Grammar::Values::part_in))]
+#[tactic(auto, unfolding(crate::specs::language::Grammar::Values::part_in))]
 fn plain_part(rest: &[u8]) -> Option<PlainValue<'_>>
     ensures value { IfSome result (λ got. spec.part_in rest.now ≡ Ok (part_in_view got, got.rest.now)) }
-    ensures plain { IfSome result (λ got. IsPlain (part_in_view got)) }
+    ensures plain { IfSome result (λ got. IsPlainPart (part_in_view got)) }
 {
     let (&byte, behind) = rest.split_first()?;
     let (kind, (text, rest)) = if byte == b'{' {
@@ -90,7 +90,7 @@ fn behind_sign(sign: u8, text: &[u8]) -> Option<&[u8]>
 #[tactic(auto, using(crate::proofs::GrammarLemmas::ValueLemmas::value_parts))]
 fn plain_value(text: &[u8]) -> Option<PlainValue<'_>>
     ensures value { IfSome result (λ got. spec.value_at text.now ≡ Ok (part_in_view got ∷ [], got.rest.now)) }
-    ensures plain { IfSome result (λ got. IsPlain (part_in_view got)) }
+    ensures plain { IfSome result (λ got. IsPlainPart (part_in_view got)) }
 {
     let value = plain_part(past(ByteSet::Gap, text))?;
     match next_part(value.rest) {
@@ -103,7 +103,7 @@ fn plain_value(text: &[u8]) -> Option<PlainValue<'_>>
 #[inline(always)]
 pub fn plain_field(text: &[u8]) -> Option<PlainField<'_>>
     ensures field { IfSome result (λ field. StandsNext text.now field) }
-    ensures plain { IfSome result (λ field. IsPlain (part_in_view field.value)) }
+    ensures plain { IfSome result (λ field. IsPlainPart (part_in_view field.value)) }
 {
     let rest = past(ByteSet::Gap, behind_sign(b',', text)?);
     let (&byte, _) = rest.split_first()?;

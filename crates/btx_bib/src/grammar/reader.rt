@@ -1,10 +1,10 @@
 //! A database, read event by event.
 ghost use Rattle.std.specs.Prelude.{◌≡◌, Some, IfOk, IfSome, OnErr};
 ghost use Rattle.std.specs.Option.{option_map};
-ghost use Rattle.btx_bib.specs.Grammar.EventViews.{event_view, head_view, step_view};
-ghost use Rattle.btx_bib.specs.Grammar.Items as spec;
-ghost use Rattle.btx_bib.specs.Grammar.PlainFields.{IsPlain, part_in_view, plain_step};
-ghost use Rattle.btx_bib.specs.Grammar.Reads.{IsRead};
+ghost use Rattle.btx_bib.specs.refinement.Grammar.EventViews.{event_view, head_view, step_view};
+ghost use Rattle.btx_bib.specs.language.Grammar.Items as spec;
+ghost use Rattle.btx_bib.specs.refinement.Grammar.PlainFields.{IsPlainPart, part_in_view, plain_step};
+ghost use Rattle.btx_bib.specs.refinement.Grammar.Reads.{IsRead};
 
 use crate::grammar::commands::Wanted;
 use crate::grammar::events::{Event, Placed};
@@ -73,10 +73,10 @@ impl<'a> Reader<'a> {
 
     /// The field in its plainest form that stands at the next place, if one does. The reader stays where it is.
     #[inline(always)]
-    #[tactic(auto, unfolding(crate::specs::Grammar::Items::step_of))]
+    #[tactic(auto, unfolding(crate::specs::language::Grammar::Items::expected_step))]
     pub(crate) fn plain_field(&self) -> Option<PlainField<'a>>
-        ensures field { IfSome result (λ field. spec.step_of self.now.0 self.now.1 ≡ Some (plain_step self.now.0 field)) }
-        ensures plain { IfSome result (λ field. IsPlain (part_in_view field.value)) }
+        ensures field { IfSome result (λ field. spec.expected_step self.now.0 self.now.1 ≡ Some (plain_step self.now.0 field)) }
+        ensures plain { IfSome result (λ field. IsPlainPart (part_in_view field.value)) }
     {
         match self.wanted {
             Wanted::Fields(_) => plain_field(self.rest),
@@ -123,9 +123,9 @@ fn known<'a, K: StoredKeys>(
 }
 
 // What is read at a place, what is wanted next, and the text from there on.
-#[tactic(auto, unfolding(crate::specs::Grammar::Items::step_of))]
+#[tactic(auto, unfolding(crate::specs::language::Grammar::Items::expected_step))]
 fn step<'a>(wanted: Wanted, text: &'a [u8]) -> Option<(Event<'a>, Wanted, &'a [u8])>
-    ensures { option_map step_view result ≡ spec.step_of wanted text.now }
+    ensures { option_map step_view result ≡ spec.expected_step wanted text.now }
 {
     let read = match wanted {
         Wanted::Item => read_head(behind_at(text)?),

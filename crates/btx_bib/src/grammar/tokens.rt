@@ -1,7 +1,8 @@
 //! The words and signs of an item.
 ghost use Rattle.std.specs.Prelude.{◌≡◌};
-ghost use Rattle.btx_bib.specs.Grammar.ByteSets as bytes;
-ghost use Rattle.btx_bib.specs.Grammar.Tokens as spec;
+ghost use Rattle.btx_bib.specs.language.Grammar.ByteSets as bytes;
+ghost use Rattle.btx_bib.specs.language.Grammar.Tokens as spec;
+ghost use Rattle.btx_bib.specs.refinement.Grammar.Tokens as refined;
 
 use crate::grammar::byte_sets::{ByteSet, Delimiter, begins_name, run_len};
 use crate::grammar::slip::Slip;
@@ -29,10 +30,10 @@ pub fn slip_at(slip: Slip, rest: &[u8]) -> Slip
 }
 
 /// A name.
-#[tactic(auto, unfolding(crate::specs::Grammar::Tokens::name_in))]
+#[tactic(auto, unfolding(crate::specs::language::Grammar::Tokens::name_here))]
 #[inline(always)]
 pub fn name(text: &[u8]) -> Read<'_, &[u8]>
-    ensures { spec.seen (λ name. name.now) result ≡ spec.name_at text.now }
+    ensures { refined.seen (λ name. name.now) result ≡ spec.name_at text.now }
 {
     let rest = past(ByteSet::Gap, text);
     match rest.split_first() {
@@ -45,9 +46,9 @@ pub fn name(text: &[u8]) -> Read<'_, &[u8]>
 }
 
 /// The opening delimiter.
-#[tactic(auto, unfolding(crate::specs::Grammar::Tokens::open_in))]
+#[tactic(auto, unfolding(crate::specs::language::Grammar::Tokens::open_in))]
 pub fn open(text: &[u8]) -> Read<'_, Delimiter>
-    ensures { spec.seen (λ delimiter. delimiter) result ≡ spec.open_at text.now }
+    ensures { refined.seen (λ delimiter. delimiter) result ≡ spec.open_at text.now }
 {
     let rest = past(ByteSet::Gap, text);
     match rest.split_first() {
@@ -59,7 +60,7 @@ pub fn open(text: &[u8]) -> Read<'_, Delimiter>
 
 /// The closing delimiter.
 pub fn closing(delimiter: Delimiter) -> u8
-    ensures { result ≡ spec.closing delimiter }
+    ensures { result ≡ spec.closing_delimiter delimiter }
 {
     match delimiter {
         Delimiter::Braces => b'}',
@@ -68,10 +69,10 @@ pub fn closing(delimiter: Delimiter) -> u8
 }
 
 /// A sign.
-#[tactic(auto, unfolding(crate::specs::Grammar::Tokens::sign_in))]
+#[tactic(auto, unfolding(crate::specs::language::Grammar::Tokens::sign_in))]
 #[inline(always)]
 pub fn sign(sign: u8, slip: Slip, text: &[u8]) -> Read<'_, ()>
-    ensures { spec.seen (λ none. none) result ≡ spec.sign_at sign slip text.now }
+    ensures { refined.seen (λ none. none) result ≡ spec.sign_at sign slip text.now }
 {
     let rest = past(ByteSet::Gap, text);
     match rest.split_first() {
@@ -81,9 +82,9 @@ pub fn sign(sign: u8, slip: Slip, text: &[u8]) -> Read<'_, ()>
 }
 
 /// A key.
-#[tactic(auto, unfolding(crate::specs::Grammar::Tokens::key_in))]
+#[tactic(auto, unfolding(crate::specs::language::Grammar::Tokens::key_here))]
 pub fn key(delimiter: Delimiter, text: &[u8]) -> Read<'_, &[u8]>
-    ensures { spec.seen (λ key. key.now) result ≡ spec.key_at delimiter text.now }
+    ensures { refined.seen (λ key. key.now) result ≡ spec.key_at delimiter text.now }
 {
     let rest = past(ByteSet::Gap, text);
     if rest.is_empty() {

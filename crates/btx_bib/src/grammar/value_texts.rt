@@ -1,12 +1,13 @@
 //! The text that a value stands for.
 ghost use Rattle.std.specs.Prelude.{◌≡◌, ◌<◌, ◌≤◌, ◌∷◌, ◌++◌, [], true, false, length, is_some, IfOk, IfSome, OnOk};
 ghost use Rattle.std.specs.Option.{option_map};
-ghost use Rattle.btx_text.specs.Limits.{greatest_string};
-ghost use Rattle.btx_bib.specs.Grammar.ByteSets.{begins, is_gap};
-ghost use Rattle.btx_bib.specs.Grammar.PartViews.{part_view};
-ghost use Rattle.btx_bib.specs.Grammar.PlainFields.{HasString, IsPlain, part_in_view};
-ghost use Rattle.btx_bib.specs.Grammar.Squeezing as squeezing;
-ghost use Rattle.btx_bib.specs.Grammar.ValueTexts as spec;
+ghost use Rattle.btx_text.specs.language.Limits.{greatest_string};
+ghost use Rattle.btx_bib.specs.language.Grammar.ByteSets.{begins, is_gap};
+ghost use Rattle.btx_bib.specs.refinement.Grammar.PartViews.{part_view};
+ghost use Rattle.btx_bib.specs.refinement.Grammar.PlainFields.{HasString, IsPlainPart, part_in_view};
+ghost use Rattle.btx_bib.specs.refinement.Grammar.Squeezing as squeezing;
+ghost use Rattle.btx_bib.specs.language.Grammar.ValueTexts as spec;
+ghost use Rattle.btx_bib.specs.refinement.Grammar.ValueTexts as refined;
 
 use crate::grammar::byte_sets::{ByteSet, ends_in_gap, is_gap};
 use crate::grammar::parts::Part;
@@ -107,6 +108,32 @@ fn lent(ends: Ends, text: &[u8]) -> Option<&[u8]>
     }
 }
 
+// The value that a squeezed text gives a field, where it stands in the text: only its ends are looked at.
+#[tactic(auto, using(crate::proofs::GrammarLemmas::TrimLemmas::trimming))]
+fn trimmed(text: &[u8]) -> Option<&[u8]>
+    requires { squeezing.is_squeezed false text.now ≡ true }
+    ensures value { IfSome result (λ trimmed. trimmed.now ≡ spec.shaped Ends.Trimmed text.now) }
+    ensures within { IfSome result (λ trimmed. length trimmed.now ≤ greatest_string) }
+{
+    let inner = without_gaps(text);
+    if inner.len() <= GREATEST_STRING && stands_squeezed(Ends::Trimmed, inner) {
+        Some(inner)
+    } else {
+        None
+    }
+}
+
+// The value that a string gives whose ends don't stand, if the string itself stands in a file.
+fn trimmed_string<'a>(ends: Ends, text: &Text<'a>) -> Option<Text<'a>>
+    requires { squeezing.is_squeezed false text.now ≡ true }
+    ensures { IfSome result (λ trimmed. trimmed ≡ spec.shaped ends text.now) }
+{
+    match ends {
+        Ends::Kept => None,
+        Ends::Trimmed => Some(Text::borrowed(trimmed(text.lent()?)?)),
+    }
+}
+
 // The value of a name where a value is this name alone, if it needn't be made.
 #[tactic(auto, using(crate::proofs::GrammarLemmas::SqueezeLemmas::standing))]
 fn lone_string<'a, S: Strings<'a>>(
@@ -120,7 +147,7 @@ fn lone_string<'a, S: Strings<'a>>(
     match strings.value_of(alloc, name)? {
         None => Ok(Some(Text::empty())),
         Some(text) if stands_squeezed(ends, text.as_bytes()) => Ok(Some(text.copy(alloc)?)),
-        Some(_) => Ok(None),
+        Some(text) => Ok(trimmed_string(ends, text)),
     }
 }
 
@@ -185,7 +212,7 @@ pub fn plain_text<'a, S: Strings<'a>>(
     value: &PlainValue<'a>,
     strings: &S,
 ) -> Result<Option<Text<'a>>, AllocError>
-    requires { IsPlain (part_in_view value.now) }
+    requires { IsPlainPart (part_in_view value.now) }
     ensures value { IfOk result (λ found. IfSome found (λ text. text ≡ spec.value_text Ends.Trimmed (S.values strings.now) (part_in_view value.now ∷ []))) }
     ensures known { IfOk result (λ found. IfSome found (λ text. HasString (S.values strings.now) (part_in_view value.now))) }
 {
@@ -250,7 +277,7 @@ fn gathered<'a, S: Strings<'a>>(
     was_white: bool,
     most: usize,
 ) -> Result<Vec<u8>, Fault>
-    ensures { spec.GathersWithin most result (squeezing.squeezed_after was_white (spec.joined_text (S.values strings.now) value.now)) }
+    ensures { refined.GathersWithin most result (squeezing.squeezed_after was_white (spec.joined_text (S.values strings.now) value.now)) }
 {
     let mut text = Vec::new(alloc);
     let mut white = was_white;
@@ -280,7 +307,7 @@ fn made_whole<'a, S: Strings<'a>>(
     value: &Value<'a>,
     strings: &S,
 ) -> Result<Text<'a>, Fault>
-    ensures { spec.Makes result (spec.value_text Ends.Kept (S.values strings.now) value.now) }
+    ensures { refined.MakesText result (spec.value_text Ends.Kept (S.values strings.now) value.now) }
 {
     match gathered(alloc, value, strings, false, GREATEST_STRING) {
         Ok(text) => Ok(Text::owned(text)),
@@ -294,7 +321,7 @@ fn made_trimmed<'a, S: Strings<'a>>(
     value: &Value<'a>,
     strings: &S,
 ) -> Result<Text<'a>, Fault>
-    ensures { spec.Makes result (spec.value_text Ends.Trimmed (S.values strings.now) value.now) }
+    ensures { refined.MakesText result (spec.value_text Ends.Trimmed (S.values strings.now) value.now) }
 {
     let mut text = match gathered(alloc, value, strings, true, GREATEST_STRING + 1) {
         Ok(text) => text,
@@ -307,14 +334,14 @@ fn made_trimmed<'a, S: Strings<'a>>(
     Ok(Text::owned(text))
 }
 
-/// The text of a value. Where it stands in the file or is that of one string, it isn't copied; else it is made in one pass.
+/// The text of a value. Where it stands in the file, or in one string that does, or is that of one string, it isn't copied; else it is made in one pass.
 pub fn value_text<'a, S: Strings<'a>>(
     alloc: Global,
     value: &Value<'a>,
     strings: &S,
     ends: Ends,
 ) -> Result<Text<'a>, Fault>
-    ensures { spec.Makes result (spec.value_text ends (S.values strings.now) value.now) }
+    ensures { refined.MakesText result (spec.value_text ends (S.values strings.now) value.now) }
 {
     if let Some(text) = lone_text(alloc, value, strings, ends)? {
         return Ok(text);
@@ -328,7 +355,7 @@ pub fn value_text<'a, S: Strings<'a>>(
 /// The text of a macro of a style, squeezed. Where it stands in the style's file as it is, it isn't copied.
 #[tactic(auto, using(crate::proofs::GrammarLemmas::SqueezeLemmas::squeezed_whole))]
 pub fn squeezed_text(alloc: Global, text: &[u8]) -> Result<Text<'_>, Fault>
-    ensures { spec.Makes result (spec.shaped Ends.Kept text.now) }
+    ensures { refined.MakesText result (spec.shaped Ends.Kept text.now) }
 {
     if let Some(bytes) = lent(Ends::Kept, text) {
         return Ok(Text::borrowed(bytes));

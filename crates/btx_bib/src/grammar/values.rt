@@ -1,7 +1,8 @@
 //! Values: parts joined by `#`.
 ghost use Rattle.std.specs.Prelude.{◌≡◌, ◌∷◌, [], IfSome};
-ghost use Rattle.btx_bib.specs.Grammar.Tokens.{seen};
-ghost use Rattle.btx_bib.specs.Grammar.Values as spec;
+ghost use Rattle.btx_bib.specs.refinement.Grammar.Tokens.{seen};
+ghost use Rattle.btx_bib.specs.language.Grammar.Values as language;
+ghost use Rattle.btx_bib.specs.refinement.Grammar.Values as spec;
 
 use crate::grammar::parts::{Part, next_part, read_part};
 use crate::grammar::tokens::Read;
@@ -16,8 +17,8 @@ pub struct Value<'a> {
 
 impl<'a> Model for Value<'a> {
     ghost use Rattle.std.specs.Prelude.{List, ◌∷◌};
-    ghost use Rattle.btx_bib.specs.Grammar.Values.{Part as SpecPart};
-    ghost use Rattle.btx_bib.specs.Grammar.PartViews.{part_view, parts_from, AreWhole};
+    ghost use Rattle.btx_bib.specs.language.Grammar.Values.{Part as SpecPart};
+    ghost use Rattle.btx_bib.specs.refinement.Grammar.PartViews.{part_view, parts_from, AreWhole};
 
     ghost Value = { List SpecPart };
 
@@ -35,8 +36,8 @@ pub struct Parts<'a> {
 
 impl<'a> Model for Parts<'a> {
     ghost use Rattle.std.specs.Prelude.{List};
-    ghost use Rattle.btx_bib.specs.Grammar.Values.{Part as SpecPart};
-    ghost use Rattle.btx_bib.specs.Grammar.PartViews.{parts_with, AreWhole};
+    ghost use Rattle.btx_bib.specs.language.Grammar.Values.{Part as SpecPart};
+    ghost use Rattle.btx_bib.specs.refinement.Grammar.PartViews.{parts_with, AreWhole};
 
     ghost Value = { List SpecPart };
 
@@ -46,7 +47,7 @@ impl<'a> Model for Parts<'a> {
 }
 
 impl<'a> Value<'a> {
-    ghost use Rattle.btx_bib.specs.Grammar.PartViews.{part_view};
+    ghost use Rattle.btx_bib.specs.refinement.Grammar.PartViews.{part_view};
 
     // Its part, if it has one alone.
     pub(crate) fn lone_part(&self) -> Option<Part<'a>>
@@ -71,7 +72,7 @@ impl<'a> Value<'a> {
 
 impl<'a> Iterator for Parts<'a> {
     ghost use Rattle.std.specs.Iterator.{YieldsFirstBy, item_count};
-    ghost use Rattle.btx_bib.specs.Grammar.PartViews.{part_view};
+    ghost use Rattle.btx_bib.specs.refinement.Grammar.PartViews.{part_view};
 
     type Item = Part<'a>;
 
@@ -102,7 +103,7 @@ impl<'a> Iterator for Parts<'a> {
 // Where the value ends that begins here.
 #[tactic(auto, using(crate::proofs::GrammarLemmas::ValueLemmas::value_steps))]
 fn end_of_value(text: &[u8]) -> Read<'_, ()>
-    ensures { seen (λ none. none) result ≡ spec.end_of (spec.value_at text.now) }
+    ensures { seen (λ none. none) result ≡ spec.value_end (language.value_at text.now) }
 {
     let mut rest = text;
     loop {
@@ -120,7 +121,7 @@ fn end_of_value(text: &[u8]) -> Read<'_, ()>
 /// A value.
 #[tactic(auto, using(crate::proofs::GrammarLemmas::ValueLemmas::value_parts))]
 pub fn read_value(text: &[u8]) -> Read<'_, Value<'_>>
-    ensures { seen (λ value. value) result ≡ spec.value_at text.now }
+    ensures { seen (λ value. value) result ≡ language.value_at text.now }
 {
     let (first, after) = read_part(text)?;
     let Some(others) = next_part(after) else {

@@ -1,10 +1,11 @@
 //! The databases of a job are looked for.
 ghost use Rattle.std.specs.Prelude.{◌≡◌, ◌+◌, ◌∷◌, [], length, IfOk};
-ghost use Rattle.btx_aux.specs.Answers.{ByAnswers};
-ghost use Rattle.btx_aux.specs.Entries.{texts_of};
-ghost use Rattle.btx_run.specs.Files.Asked.{AreAmong};
-ghost use Rattle.btx_run.specs.Files.Faults.{CountsOfTwo};
-ghost use Rattle.btx_run.specs.Files.Readings.{AddsAs, ReadsAs, database_read, database_told, databases_read};
+ghost use Rattle.btx_aux.specs.refinement.Answers.{ByAnswers};
+ghost use Rattle.btx_aux.specs.refinement.Entries.{texts_of};
+ghost use Rattle.btx_run.specs.refinement.Files.Asked.{AreAmong};
+ghost use Rattle.btx_run.specs.refinement.Files.Faults.{CountsOfTwo};
+ghost use Rattle.btx_run.specs.language.Files.Readings.{database_logged, databases_read};
+ghost use Rattle.btx_run.specs.refinement.Files.Readings.{AddsAs, ReadsAs, database_read};
 
 use crate::files::found::{FoundFile, FoundFiles, fetch_file};
 use crate::files::journal::Journal;
@@ -21,7 +22,7 @@ fn line_of(
     name: &[u8],
     found: &Option<FoundFile<'_>>,
 ) -> Result<LogLine, AllocError>
-    ensures { IfOk result (λ line. line ≡ database_told number name.now found.now) }
+    ensures { IfOk result (λ line. line ≡ database_logged number name.now found.now) }
 {
     match found {
         Some(_) => database_line(alloc, number, name),

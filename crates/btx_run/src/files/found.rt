@@ -1,8 +1,8 @@
 //! Files that were found.
 ghost use Rattle.std.specs.Prelude.{◌≡◌, ◌+◌, ◌++◌, ◌∷◌, [], length, IfOk, IfSome, OnOk};
-ghost use Rattle.btx_aux.specs.Answers.{ByAnswers};
-ghost use Rattle.btx_aux.specs.Faults.{CountsOfOne};
-ghost use Rattle.btx_run.specs.Files.Found.{file_at, named};
+ghost use Rattle.btx_aux.specs.refinement.Answers.{ByAnswers};
+ghost use Rattle.btx_aux.specs.refinement.Faults.{CountsOfOne};
+ghost use Rattle.btx_run.specs.language.Files.Found.{file_at, named_file};
 
 use btx_aux::Finder;
 use btx_machine::End;
@@ -18,7 +18,7 @@ pub struct FoundFile<'a> {
 }
 
 impl<'a> Model for FoundFile<'a> {
-    ghost use Rattle.btx_run.specs.Files.Found.{NamedFile};
+    ghost use Rattle.btx_run.specs.language.Files.Found.{NamedFile};
 
     ghost Value = { NamedFile };
 
@@ -28,7 +28,7 @@ impl<'a> Model for FoundFile<'a> {
 impl<'a> FoundFile<'a> {
     /// A file of this name and these bytes.
     pub fn new(name: &'a [u8], bytes: Vec<u8>) -> Self
-        ensures { result ≡ named name.now bytes.items }
+        ensures { result ≡ named_file name.now bytes.items }
     {
         FoundFile { name, bytes }
     }
@@ -56,7 +56,7 @@ pub struct FoundFiles<'a> {
 
 impl<'a> Model for FoundFiles<'a> {
     ghost use Rattle.std.specs.Prelude.{List};
-    ghost use Rattle.btx_run.specs.Files.Found.{NamedFile};
+    ghost use Rattle.btx_run.specs.language.Files.Found.{NamedFile};
 
     ghost Value = { List NamedFile };
 

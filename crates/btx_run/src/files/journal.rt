@@ -1,9 +1,11 @@
 //! The lines of a log, written and counted.
 ghost use Rattle.std.specs.Prelude.{◌≡◌, ◌∷◌, [], IfErr, OnErr, OnOk, is_err};
-ghost use Rattle.btx_text.specs.Counts.{count_after};
-ghost use Rattle.btx_out.specs.Pieces.{AppendsBeginning};
-ghost use Rattle.btx_run.specs.Files.Counts.{counted, counts_of};
-ghost use Rattle.btx_run.specs.Files.Telling.{Tells, bytes_of_lines};
+ghost use Rattle.btx_text.specs.language.Counts.{count_after};
+ghost use Rattle.btx_out.specs.language.Pieces.{AppendsBeginning};
+ghost use Rattle.btx_run.specs.language.Files.Counts.{counts_of};
+ghost use Rattle.btx_run.specs.refinement.Files.Counts.{counts_with};
+ghost use Rattle.btx_run.specs.language.Files.Telling.{bytes_of_lines};
+ghost use Rattle.btx_run.specs.refinement.Files.Telling.{Tells};
 
 use btx_out::{Log, Sink};
 use btx_text::{Fault, LineKind, LogLine};
@@ -17,7 +19,7 @@ pub struct Journal {
 }
 
 impl Model for Journal {
-    ghost use Rattle.btx_run.specs.Files.Counts.{Counts};
+    ghost use Rattle.btx_run.specs.language.Files.Counts.{Counts};
 
     ghost Value = { Counts };
 
@@ -51,7 +53,7 @@ impl Journal {
 
     // Counts a line of this kind.
     fn count(&mut self, kind: LineKind)
-        ensures { self.new ≡ counted kind self.old }
+        ensures { self.new ≡ counts_with kind self.old }
     {
         match kind {
             LineKind::Plain => {}

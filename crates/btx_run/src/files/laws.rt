@@ -1,5 +1,5 @@
 //! Laws of what is logged of files, each the contract of a function that does nothing.
-ghost use Rattle.btx_run.specs.Files.Laws.{FoundAreNumbered, MissingAreErrors, OneLineEach};
+ghost use Rattle.btx_run.specs.laws.Files.Laws.{FoundAreNumbered, MissingAreErrors, OneLineEach};
 
 /// The databases that are found are numbered from 1 up without a gap, each that isn't there is an error of its own, and each has one line.
 pub fn databases_are_told()

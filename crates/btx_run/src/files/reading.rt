@@ -1,14 +1,15 @@
 //! The reading of a job's files.
 ghost use Rattle.std.specs.Prelude.{◌≡◌, ◌∷◌, IfOk, IfSome, None, Some};
-ghost use Rattle.btx_aux.specs.Answers.{AsksTop, ByAnswers};
-ghost use Rattle.btx_aux.specs.Faults.{CountsOfOne};
-ghost use Rattle.btx_aux.specs.Files.{Files};
-ghost use Rattle.btx_aux.specs.Job.{Job};
-ghost use Rattle.btx_run.specs.Files.Asked.{AreAmong, names_in};
-ghost use Rattle.btx_run.specs.Files.Faults.{CountsOfTwo};
-ghost use Rattle.btx_run.specs.Files.Found.{file_at};
-ghost use Rattle.btx_run.specs.Files.Names.{top_name};
-ghost use Rattle.btx_run.specs.Files.Readings.{ReadsAs, StyleFits, after_job, after_style, files_read, job_named, style_named, style_read};
+ghost use Rattle.btx_aux.specs.refinement.Answers.{AsksTop, ByAnswers};
+ghost use Rattle.btx_aux.specs.refinement.Faults.{CountsOfOne};
+ghost use Rattle.btx_aux.specs.language.Files.{Files};
+ghost use Rattle.btx_aux.specs.language.Job.{AuxJob};
+ghost use Rattle.btx_run.specs.refinement.Files.Asked.{AreAmong, names_in};
+ghost use Rattle.btx_run.specs.refinement.Files.Faults.{CountsOfTwo};
+ghost use Rattle.btx_run.specs.language.Files.Found.{file_at};
+ghost use Rattle.btx_run.specs.language.Files.Names.{top_name};
+ghost use Rattle.btx_run.specs.language.Files.Readings.{after_job, files_read, job_named, style_named, style_read};
+ghost use Rattle.btx_run.specs.refinement.Files.Readings.{ReadsAs, StyleFits, after_style};
 
 use crate::files::databases::find_databases;
 use crate::files::found::{FilesRead, FoundFile, JobFiles, fetch_file};
@@ -81,7 +82,7 @@ fn without_style<'a, L: Sink>(
     journal: &mut Journal,
     log: &mut L,
 ) -> Result<FilesRead<'a>, Fault>
-    ensures reads { (files : Files) (job : Job) → ReadsAs result (journal.old, journal.new) (L.received log.old, L.received log.new)
+    ensures reads { (files : Files) (job : AuxJob) → ReadsAs result (journal.old, journal.new) (L.received log.old, L.received log.new)
         (style_read files job name.now None) }
     ensures fits { IfOk result (λ read. StyleFits read) }
     ensures counts { CountsOfOne result (L.failures log.old, L.failures log.new) }

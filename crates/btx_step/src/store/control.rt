@@ -1,9 +1,10 @@
 //! Choices and loops.
 ghost use Rattle.std.specs.Prelude.{◌≡◌, IfOk};
 ghost use Rattle.btx_bst.specs.declared.built_in.BuiltIn.TheVariants as built_in;
-ghost use Rattle.btx_step.specs.Answers.{answer, silence};
-ghost use Rattle.btx_step.specs.Control as spec;
-ghost use Rattle.btx_step.specs.Table.{runs};
+ghost use Rattle.btx_step.specs.language.Answers.{answer};
+ghost use Rattle.btx_step.specs.refinement.Answers.{silence};
+ghost use Rattle.btx_step.specs.language.Control as spec;
+ghost use Rattle.btx_step.specs.language.Table.{runs};
 
 use super::Store;
 use crate::literal::{Literal, Wanted};

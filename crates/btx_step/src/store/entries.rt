@@ -1,9 +1,10 @@
 //! The current entry.
 ghost use Rattle.std.specs.Prelude.{◌≡◌, IfOk};
 ghost use Rattle.btx_bst.specs.declared.built_in.BuiltIn.TheVariants as built_in;
-ghost use Rattle.btx_step.specs.Answers.{answer, quiet, silence};
-ghost use Rattle.btx_step.specs.Entries as spec;
-ghost use Rattle.btx_step.specs.Table.{runs, runs_missing, misses_entry};
+ghost use Rattle.btx_step.specs.language.Answers.{answer, quiet};
+ghost use Rattle.btx_step.specs.refinement.Answers.{silence};
+ghost use Rattle.btx_step.specs.language.Entries as spec;
+ghost use Rattle.btx_step.specs.language.Table.{runs, runs_missing, misses_entry};
 
 use super::Store;
 use crate::job::Job;
@@ -27,7 +28,7 @@ impl<'a> Store<'a> {
     {
         match self.current {
             Some(entry) => Ok(match job.library().value(entry, field) {
-                Some(text) => self.push_lent(text.as_bytes()),
+                Some(text) => self.push_lent(text),
                 None => self.push_missing(),
             }),
             None => self.miss_entry(said),

@@ -2,9 +2,10 @@
 ghost use Rattle.std.specs.Prelude.{◌≡◌, [], map, IfOk, OnOk};
 ghost use Rattle.btx_bst.specs.declared.built_in.BuiltIn.TheVariants as built_in;
 ghost use Rattle.btx_step.specs.declared.said.Note.TheVariants as note;
-ghost use Rattle.btx_step.specs.Answers.{answer, done, silence};
-ghost use Rattle.btx_step.specs.Stacks as spec;
-ghost use Rattle.btx_step.specs.Table.{runs};
+ghost use Rattle.btx_step.specs.language.Answers.{answer, done};
+ghost use Rattle.btx_step.specs.refinement.Answers.{silence};
+ghost use Rattle.btx_step.specs.language.Stacks as spec;
+ghost use Rattle.btx_step.specs.language.Table.{runs};
 
 use super::Store;
 use crate::literal::{Literal, Wanted};

@@ -1,6 +1,6 @@
 //! The store before the first command.
 ghost use Rattle.std.specs.Prelude.{◌≡◌, [], IfOk, pos, replicate, slice_set};
-ghost use Rattle.btx_step.specs.Starts.{first_integers, first_store, first_values};
+ghost use Rattle.btx_step.specs.language.Starts.{first_integers, first_store, first_values};
 
 use super::Store;
 use crate::job::Job;
@@ -25,6 +25,7 @@ impl<'a> Store<'a> {
             current: None,
             deepest: 0,
             names: NameFormatter::new(alloc),
+            room: Vec::new(alloc),
         })
     }
 }

@@ -1,5 +1,5 @@
 use Rattle.std.proofs.Common.{◌∙◌, ap}
-use Rattle.btx_aux.specs.Reads.{closed}
+use Rattle.btx_aux.specs.refinement.Reads.{closed}
 use Rattle.btx_aux.proofs.AnswerLemmas.{by_map, shown_by}
 use Rattle.btx_aux.proofs.JobLemmas.{closed-topped}
 use Rattle.btx_aux.proofs.citations.read_aux.Goals as goal

@@ -1,6 +1,6 @@
 use Rattle.std.proofs.Common.{◌∙◌, ap}
-use Rattle.btx_aux.specs.Entries.{pairs_in}
-use Rattle.btx_aux.specs.Pairs.{first_file}
+use Rattle.btx_aux.specs.refinement.Entries.{pairs_in}
+use Rattle.btx_aux.specs.refinement.Pairs.{first_file}
 use Rattle.btx_aux.proofs.TableLemmas.{first_file-insert_entry}
 use Rattle.btx_aux.proofs.memory.put.Goals as goal
 

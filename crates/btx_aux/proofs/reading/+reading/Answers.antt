@@ -1,10 +1,10 @@
 use Rattle.std.proofs.Common.{rules, arith, ◌≡◌, ◌∷◌, [], ◌+◌, ◌∙◌, ap, sym, true, false, length, List, refl, option_copied}
 use borrow.Author.Tests.{tests}
 use Rattle.std.proofs.lemmas.Result.{on_ok_weaker}
-use Rattle.btx_text.specs.Lines.{lines_of}
-use Rattle.btx_aux.specs.Grammar.{is_whole}
-use Rattle.btx_aux.specs.Events.{is_too_long, Event, said}
-use Rattle.btx_aux.specs.Reads.{opened_by, run}
+use Rattle.btx_text.specs.language.Lines.{lines_of}
+use Rattle.btx_aux.specs.language.Grammar.{is_whole}
+use Rattle.btx_aux.specs.language.Events.{is_too_long, AuxEvent, said}
+use Rattle.btx_aux.specs.refinement.Reads.{opened_by, run}
 use Rattle.btx_aux.proofs.ReadLemmas.{run-quiet, run-asking, run-more, run-none, run-ended, said_whole, included-missing, included-found, opened_by-full, opened_by-long, opened_by-read, lines_few, file_missing, file_found, untrue, unfalse}
 use Rattle.btx_aux.proofs.AnswerLemmas.{by_both, by_fetch, by_map, by_none}
 use Rattle.btx_aux.proofs.AskedLemmas.{adds_both, adds_none, asking_adds, found_asks, full_adds, long_adds, missing_asks, quiet_adds, read_adds}
@@ -57,7 +57,7 @@ read_lines-loop-line-init g t c =
     record {
       whole = c.requires.whole;
       count = omega (arith, lines_few c.args.text.now, ap length left);
-      reads = by_none (adds_none c.args.draft.now.files c.args.draft.now.files refl) (λ files. ap (λ (events : List Event). run files (opened_by files c.args.room) c.args.draft.now events) (said_whole c.args.name.now c.args.text.now _ left));
+      reads = by_none (adds_none c.args.draft.now.files c.args.draft.now.files refl) (λ files. ap (λ (events : List AuxEvent). run files (opened_by files c.args.room) c.args.draft.now events) (said_whole c.args.name.now c.args.text.now _ left));
       failures = refl;
       content = refl;
     }

@@ -1,8 +1,8 @@
 use Rattle.std.proofs.Common.{◌≡◌, ◌≤◌, ◌+◌, ◌*◌, length, true}
-use Rattle.btx_aux.specs.Answers.{ByAnswers}
-use Rattle.btx_aux.specs.Grammar.{is_whole}
-use Rattle.btx_aux.specs.Events.{said, said_from}
-use Rattle.btx_aux.specs.Reads.{AddsNames, opened_by, run}
+use Rattle.btx_aux.specs.refinement.Answers.{ByAnswers}
+use Rattle.btx_aux.specs.language.Grammar.{is_whole}
+use Rattle.btx_aux.specs.language.Events.{said, said_from}
+use Rattle.btx_aux.specs.refinement.Reads.{AddsNames, opened_by, run}
 use Rattle.btx_aux.proofs.reading.+reading.Given as goal
 
 -- each file that is opened leaves room for one less

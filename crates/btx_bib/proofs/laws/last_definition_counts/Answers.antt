@@ -2,7 +2,7 @@ use Rattle.std.proofs.Common.{◌∙◌, ap, List, ℕ}
 use Rattle.std.specs.Str.{bytes_eq}
 use Rattle.std.specs.Map.{lookup}
 use Rattle.indexmap.specs.IndexMap.{insert_entry}
-use Rattle.btx_text.specs.Keys.{folded}
+use Rattle.btx_text.specs.language.Keys.{folded}
 use Rattle.btx_bib.proofs.ListedKeyLemmas.{folded-same}
 use Rattle.btx_bib.proofs.DefinitionLemmas.{GivesOwn, LeavesOthers, last-definition-counts, last-macro-counts, lookup-other, lookup-own, others-keep-theirs}
 use Rattle.btx_bib.proofs.laws.last_definition_counts.Goals as goal

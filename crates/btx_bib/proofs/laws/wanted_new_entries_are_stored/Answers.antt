@@ -1,4 +1,4 @@
-use Rattle.btx_bib.specs.Known.{stored_in}
+use Rattle.btx_bib.specs.language.Known.{stored_in}
 use Rattle.btx_bib.proofs.StoredLemmas.{KnowsStored, is_stored-any, others-store-none, wanted-new-are-stored}
 use Rattle.btx_bib.proofs.laws.wanted_new_entries_are_stored.Goals as goal
 

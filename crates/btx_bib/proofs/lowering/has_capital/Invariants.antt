@@ -1,5 +1,5 @@
 use Rattle.std.proofs.Common.{◌≡◌, drop}
-use Rattle.btx_text.specs.Keys.{folded}
+use Rattle.btx_text.specs.language.Keys.{folded}
 use Rattle.btx_bib.proofs.lowering.has_capital.Given as goal
 
 abbrev pub invariant-loop-byte : goal.invariant-loop-byte

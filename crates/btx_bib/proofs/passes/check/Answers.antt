@@ -2,8 +2,8 @@ use Rattle.std.proofs.Common.{rules, ◌∙◌, ◌<◌, ◌++◌, ap, sym, leng
 use Rattle.std.specs.Prelude.{slice_get}
 use Rattle.btx_bib.specs.declared.message.Message.{Message}
 use Rattle.btx_bib.specs.declared.slots.Slot.{Slot}
-use Rattle.btx_bib.specs.Passes.{checked, check_told}
-use Rattle.btx_bib.specs.Steps.{names_of}
+use Rattle.btx_bib.specs.language.Passes.{checked, check_messages}
+use Rattle.btx_bib.specs.refinement.Steps.{lower_keys}
 use Rattle.btx_bib.proofs.PassLemmas.{names_of-changed, key-checked, length-changed, passed-next, told-next, told_by-here}
 use Rattle.btx_bib.proofs.passes.check.Goals as goal
 
@@ -15,8 +15,8 @@ loop-place-preserved c =
     let within : place < length slots = search rules in
     let tells = c.in_ok-check_at.ensures.messages ∙ ap (λ (ms : List Message). c.loop-place.messages ++ ms) (told_by-here slots (slice_get slots place)) in
     record {
-      named = c.loop-place.invariant.named ∙ sym (names_of-changed slots place (checked slots) (key-checked slots)) ∙ ap names_of (sym c.in_ok-check_at.ensures.slots);
+      named = c.loop-place.invariant.named ∙ sym (names_of-changed slots place (checked slots) (key-checked slots)) ∙ ap lower_keys (sym c.in_ok-check_at.ensures.slots);
       count = ap (λ (xs : List Slot). length xs) c.in_ok-check_at.ensures.slots ∙ length-changed slots place (checked slots) ∙ c.loop-place.invariant.count;
       pass = passed-next checked slots after place within c.in_ok-check_at.ensures.slots ∙ c.loop-place.invariant.pass;
-      told = told-next checked check_told slots after place c.loop-place.messages c.check_at.new.messages _ within c.in_ok-check_at.ensures.slots tells c.loop-place.invariant.told;
+      told = told-next checked check_messages slots after place c.loop-place.messages c.check_at.new.messages _ within c.in_ok-check_at.ensures.slots tells c.loop-place.invariant.told;
     }

@@ -1,10 +1,10 @@
 use Rattle.std.proofs.Common.{◌≡◌, ◌++◌}
 use Rattle.std.specs.List.{flat_map}
-use Rattle.btx_bib.specs.Passes.{absence_told, entry_at}
+use Rattle.btx_bib.specs.language.Passes.{absence_messages, entry_at}
 use Rattle.btx_bib.proofs.passes.staying.Given as goal
 
 abbrev pub invariant-loop-slot : goal.invariant-loop-slot
 invariant-loop-slot l = record {
   entries : l.entries.items ++ flat_map entry_at l.slot-iterator.rest.items ≡ flat_map entry_at l.initial.slot-iterator.rest.items;
-  told : l.messages ++ flat_map absence_told l.slot-iterator.rest.items ≡ l.initial.messages ++ flat_map absence_told l.initial.slot-iterator.rest.items;
+  told : l.messages ++ flat_map absence_messages l.slot-iterator.rest.items ≡ l.initial.messages ++ flat_map absence_messages l.initial.slot-iterator.rest.items;
 }

@@ -1,8 +1,8 @@
 use Rattle.std.proofs.Common.{◌≡◌, ◌<◌, ◌^◌}
-use Rattle.btx_bst.specs.Places.{size}
-use Rattle.btx_bst.specs.BodyText.{body_end}
-use Rattle.btx_bst.specs.Views.{inside_view, texts_view}
-use Rattle.btx_bst.specs.Weights.{body_weight}
+use Rattle.btx_bst.specs.language.Places.{size}
+use Rattle.btx_bst.specs.language.BodyText.{body_end}
+use Rattle.btx_bst.specs.refinement.Views.{inside_view, texts_view}
+use Rattle.btx_bst.specs.refinement.Weights.{body_weight}
 use Rattle.btx_bst.proofs.body_words.body.Given as goal
 
 -- what is left of the body does the rest

@@ -1,5 +1,5 @@
 use Rattle.std.proofs.Common.{ℕ, ◌<◌, [], slice_index_or}
-use Rattle.btx_bst.specs.Direct.{IsDirectBody}
+use Rattle.btx_bst.specs.language.Direct.{IsDirectBody}
 use Rattle.btx_bst.proofs.direct.is_direct.Given as goal
 
 abbrev pub invariant-loop-number : goal.invariant-loop-number

@@ -1,5 +1,5 @@
 use Rattle.std.proofs.Common.{◌≡◌, ℕ, ◌<◌, true}
-use Rattle.btx_bst.specs.Direct.{is_direct_at}
+use Rattle.btx_bst.specs.language.Direct.{is_direct_at}
 use Rattle.btx_bst.proofs.direct.is_direct_body.Given as goal
 
 abbrev pub invariant-loop-i : goal.invariant-loop-i

@@ -1,5 +1,5 @@
 use Rattle.std.proofs.Common.{◌≡◌, drop}
-use Rattle.btx_bst.specs.Places.{behind_white}
+use Rattle.btx_bst.specs.language.Places.{behind_white}
 use Rattle.btx_bst.proofs.fronts.behind_white.Given as goal
 
 abbrev pub invariant-loop-i : goal.invariant-loop-i

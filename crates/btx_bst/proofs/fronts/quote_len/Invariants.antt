@@ -1,5 +1,5 @@
 use Rattle.std.proofs.Common.{◌≡◌, ◌+◌, drop}
-use Rattle.btx_bst.specs.Fronts.{quote_len}
+use Rattle.btx_bst.specs.language.Fronts.{quote_len}
 use Rattle.btx_bst.proofs.fronts.quote_len.Given as goal
 
 abbrev pub invariant-loop-i : goal.invariant-loop-i

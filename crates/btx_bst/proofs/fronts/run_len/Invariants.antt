@@ -1,5 +1,5 @@
 use Rattle.std.proofs.Common.{◌≡◌, ◌+◌, drop}
-use Rattle.btx_bst.specs.Fronts.{len_till, ends_name}
+use Rattle.btx_bst.specs.language.Fronts.{len_till, ends_name}
 use Rattle.btx_bst.proofs.fronts.run_len.Given as goal
 
 abbrev pub invariant-loop-i : goal.invariant-loop-i

@@ -1,5 +1,5 @@
 use Rattle.std.proofs.Common.{◌≡◌, ◌+◌, drop}
-use Rattle.btx_bst.specs.Fronts.{word_len}
+use Rattle.btx_bst.specs.language.Fronts.{word_len}
 use Rattle.btx_bst.proofs.fronts.word_len.Given as goal
 
 abbrev pub invariant-loop-i : goal.invariant-loop-i

@@ -1,5 +1,5 @@
 use Rattle.std.proofs.Common.{◌≡◌, ◌+◌, drop}
-use Rattle.btx_bst.specs.Fronts.{digits_len}
+use Rattle.btx_bst.specs.language.Fronts.{digits_len}
 use Rattle.btx_bst.proofs.integers.digits_len.Given as goal
 
 abbrev pub invariant-loop-i : goal.invariant-loop-i

@@ -1,5 +1,5 @@
 use Rattle.std.proofs.Common.{refl}
-use Rattle.btx_bst.specs.Predefined.{predefined}
+use Rattle.btx_bst.specs.language.Predefined.{predefined}
 use Rattle.btx_bst.proofs.FirstNameLemmas.{StandFirst, first-names}
 use Rattle.btx_bst.proofs.laws.predefined_names_keep_their_numbers.Goals as goal
 

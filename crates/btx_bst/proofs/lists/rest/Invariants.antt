@@ -1,7 +1,7 @@
 use Rattle.std.proofs.Common.{◌≡◌, ◌<◌, ◌+◌, ◌^◌}
-use Rattle.btx_bst.specs.Places.{size}
-use Rattle.btx_bst.specs.Lists.{list_end, listing}
-use Rattle.btx_bst.specs.Weights.{names_weight}
+use Rattle.btx_bst.specs.language.Places.{size}
+use Rattle.btx_bst.specs.language.Lists.{list_end, listing}
+use Rattle.btx_bst.specs.refinement.Weights.{names_weight}
 use Rattle.btx_bst.proofs.lists.rest.Given as goal
 
 -- what is left of the list does the rest

@@ -1,14 +1,14 @@
 use Rattle.std.proofs.Common.{◌≡◌}
-use Rattle.btx_bst.specs.Places.{size}
-use Rattle.btx_bst.specs.StyleText.{state, style_from}
-use Rattle.btx_bst.specs.Weights.{HasRoom}
-use Rattle.btx_bst.specs.DraftViews.{draft_view}
+use Rattle.btx_bst.specs.language.Places.{size}
+use Rattle.btx_bst.specs.language.StyleText.{style_state, style_from}
+use Rattle.btx_bst.specs.refinement.Weights.{HasRoom}
+use Rattle.btx_bst.specs.refinement.DraftViews.{draft_view}
 use Rattle.btx_bst.proofs.reader.items.Given as goal
 
 -- the items that are left do the rest
 abbrev pub invariant-loop : goal.invariant-loop
 invariant-loop l = record {
-  goes : style_from (state (draft_view l.draft) l.cursor) ≡ style_from (state (draft_view l.fn.draft) l.fn.cursor);
+  goes : style_from (style_state (draft_view l.draft) l.cursor) ≡ style_from (style_state (draft_view l.fn.draft) l.fn.cursor);
   room : HasRoom (draft_view l.draft) l.cursor;
 }
 

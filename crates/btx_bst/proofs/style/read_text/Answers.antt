@@ -1,5 +1,5 @@
 use Rattle.std.proofs.Common.{◌∙◌, refl}
-use Rattle.btx_bst.specs.StyleText.{style_of}
+use Rattle.btx_bst.specs.language.StyleText.{style_of}
 use Rattle.btx_bst.proofs.RoomLemmas.{start-room}
 use Rattle.btx_bst.proofs.ReferenceLemmas.{read-refers_within}
 use Rattle.btx_bst.proofs.style.read_text.Goals as goal

@@ -1,5 +1,5 @@
 use Rattle.std.proofs.Common.{◌≡◌, ◌-◌, ◌+◌, ◌++◌, ℕ, List, length, sym, subst, arith}
-use Rattle.btx_machine.specs.Items.{numbers_from}
+use Rattle.btx_machine.specs.language.Items.{numbers_from}
 use Rattle.btx_machine.proofs.DoLemmas.{one_entry}
 use Rattle.btx_machine.proofs.items.all_entries.Goals as goal
 

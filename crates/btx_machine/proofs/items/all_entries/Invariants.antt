@@ -1,5 +1,5 @@
 use Rattle.std.proofs.Common.{◌≡◌, ◌-◌, ◌++◌, length}
-use Rattle.btx_machine.specs.Items.{numbers_from}
+use Rattle.btx_machine.specs.language.Items.{numbers_from}
 use Rattle.btx_machine.proofs.items.all_entries.Given as goal
 
 abbrev pub invariant-loop-entry : goal.invariant-loop-entry

@@ -1,7 +1,7 @@
 use Rattle.std.proofs.Common.{◌-◌, ◌∙◌, ap}
-use Rattle.btx_bst.specs.Views.{complaint_view, item_view}
-use Rattle.btx_bst.specs.MessageTexts.{line_of}
-use Rattle.btx_bst.specs.Style.{Style}
+use Rattle.btx_bst.specs.refinement.Views.{complaint_view, item_view}
+use Rattle.btx_bst.specs.language.MessageTexts.{complaint_line}
+use Rattle.btx_bst.specs.language.Style.{Style}
 use Rattle.btx_machine.proofs.ComesLemmas.{on_err, err_map, ok_map}
 use Rattle.btx_machine.proofs.DoLemmas.{at_rest, read_fails, message_fails, execute_fails, iterate_fails, reverse_fails, reverse_runs}
 use Rattle.btx_machine.proofs.items.do_item.Goals as goal
@@ -11,7 +11,7 @@ returns-in_err-line-in-Message-clause-err g c = on_err c.from_residual.result (a
 
 pub returns-in_err-tell-in-Message-clause-err : goal.returns-in_err-tell-in-Message-clause-err
 returns-in_err-tell-in-Message-clause-err g c = on_err c.from_residual-in_err-tell-in-Message.result (message_fails c.args.job.now c.args.list.now.items (item_view c.args.item.now) c.args.work.now c.args.left.now c.tell.new.self.outputs (complaint_view c.in-Message.message.complaint) c.in-Message.message.line c.in_ok-line-in-Message.line (ap item_view c.in-Message.is)
-    (c.in_ok-line-in-Message.ensures ∙ ap (line_of (complaint_view c.in-Message.message.complaint) c.in-Message.message.line) (c.file_name.ensures ∙ ap (λ (style : Style). style.file) c.style.ensures)) c.in_err-tell-in-Message.ensures.err)
+    (c.in_ok-line-in-Message.ensures ∙ ap (complaint_line (complaint_view c.in-Message.message.complaint) c.in-Message.message.line) (c.file_name.ensures ∙ ap (λ (style : Style). style.file) c.style.ensures)) c.in_err-tell-in-Message.ensures.err)
 
 pub returns-in_err-all-in-Read-clause-err : goal.returns-in_err-all-in-Read-clause-err
 returns-in_err-all-in-Read-clause-err g c = on_err c.from_residual-in_err-all-in-Read.result (at_rest c.args.job.now c.args.list.now.items (item_view c.args.item.now) c.args.work.now c.args.left.now)

@@ -1,10 +1,10 @@
 use Rattle.std.proofs.Common.{◌≡◌, ◌≤◌, ◌-◌, [], drop}
-use Rattle.btx_bst.specs.Views.{items_view}
-use Rattle.btx_machine.specs.Faults.{Writes}
-use Rattle.btx_machine.specs.Outputs.{SameSinks}
-use Rattle.btx_machine.specs.Written.{Comes}
-use Rattle.btx_machine.specs.Items.{items_of}
-use Rattle.btx_machine.specs.Progress.{Reached}
+use Rattle.btx_bst.specs.refinement.Views.{items_view}
+use Rattle.btx_machine.specs.refinement.Faults.{Writes}
+use Rattle.btx_machine.specs.refinement.Outputs.{SameSinks}
+use Rattle.btx_machine.specs.refinement.Written.{Comes}
+use Rattle.btx_machine.specs.language.Items.{do_items}
+use Rattle.btx_machine.specs.refinement.Progress.{Reached}
 use Rattle.btx_machine.proofs.items.do_items.Given as goal
 
 -- the items that are left remain to be done
@@ -17,5 +17,5 @@ invariant-loop-item g l = record {
   bbl_counts : l.work.outputs.bbl.failures ≡ l.fn.work.outputs.bbl.failures;
   log_counts : l.work.outputs.log.sink.failures ≡ l.fn.work.outputs.log.sink.failures;
   same : Comes l.fn.work l.work
-      (Reached (items_of l.job (items_view l.items) []) (items_of l.job (items_view (drop l.item-index l.items)) l.list.items) (l.fn.left - l.left));
+      (Reached (do_items l.job (items_view l.items) []) (do_items l.job (items_view (drop l.item-index l.items)) l.list.items) (l.fn.left - l.left));
 }

@@ -1,32 +1,32 @@
 use Rattle.std.proofs.Common.{rules, ap, ◌∙◌, IfOk, OnErr}
-use Rattle.btx_out.specs.Breakers.{Held}
-use Rattle.btx_machine.specs.Faults.{CountsOfOutputs}
-use Rattle.btx_machine.specs.KeepingStep.{AtFault, Completes}
-use Rattle.btx_machine.specs.Outputs.{Journal}
-use Rattle.btx_machine.specs.Product.{product}
-use Rattle.btx_machine.specs.Reports.{told_so}
+use Rattle.btx_out.specs.refinement.Breakers.{Held}
+use Rattle.btx_machine.specs.refinement.Faults.{CountsOfOutputs}
+use Rattle.btx_machine.specs.language.KeepingStep.{AtFault, Completes}
+use Rattle.btx_machine.specs.refinement.Outputs.{Journal}
+use Rattle.btx_machine.specs.language.Product.{style_product}
+use Rattle.btx_machine.specs.language.Reports.{log_counts}
 use Rattle.btx_machine.proofs.ComesLemmas.{on_err}
 use Rattle.btx_machine.proofs.EdgeLemmas.{ends_as, of_equals, pair_is}
 use Rattle.btx_machine.proofs.RunLemmas.{nothing_written}
 use Rattle.btx_machine.proofs.run.execute_style.Goals as goal
 
 pub returns-in_err-store-clause-err : goal.returns-in_err-store-clause-err
-returns-in_err-store-clause-err g c = on_err c.from_residual.result (nothing_written (g.W.Sink.received c.args.bbl.now, g.L.Sink.received c.args.log.now) (product c.args.job.now c.args.told c.args.line) c.args.budget)
+returns-in_err-store-clause-err g c = on_err c.from_residual.result (nothing_written (g.W.Sink.received c.args.bbl.now, g.L.Sink.received c.args.log.now) (style_product c.args.job.now c.args.told c.args.line) c.args.budget)
 
 pub returns-clause-ok : goal.returns-clause-ok
 returns-clause-ok g c =
-    of_equals (λ a b told limit. IfOk c.do_all-result.result (λ report. Completes report a b (product c.args.job.now told limit c.args.budget))) _ _ _ _ _ _ _ _
+    of_equals (λ a b told limit. IfOk c.do_all-result.result (λ report. Completes report a b (style_product c.args.job.now told limit c.args.budget))) _ _ _ _ _ _ _ _
     (pair_is _ _ _ _ c.new-outputs.ensures.received (ap (λ (log : Journal). log.sink.received) c.new-outputs.ensures.log ∙ c.new-2.ensures.received))
     (pair_is _ _ _ _ (ends_as g.W.Sink.received _ c.into_sinks-list.result.0 _ c.do_all-result.new.work.outputs.bbl.received (c.into_sinks-list.ensures.bbl_name ∙ c.do_all-result.ensures.counts.0.0 ∙ c.new-outputs.ensures.name) c.into_sinks-list.ensures.bbl_received (search rules)) (ends_as g.L.Sink.received _ c.into_sinks-list.result.1 _ c.do_all-result.new.work.outputs.log.sink.received (c.into_sinks-list.ensures.log_name ∙ c.do_all-result.ensures.counts.0.1 ∙ ap (λ (log : Journal). log.sink.name) c.new-outputs.ensures.log ∙ c.new-2.ensures.name) c.into_sinks-list.ensures.log_received (search rules)))
-    (ap (λ (log : Journal). told_so log.warnings log.errors) c.new-outputs.ensures.log ∙ ap (λ n. told_so n c.new-2.result.errors) c.new-2.ensures.warnings ∙ ap (told_so c.args.told.warnings) c.new-2.ensures.errors)
+    (ap (λ (log : Journal). log_counts log.warnings log.errors) c.new-outputs.ensures.log ∙ ap (λ n. log_counts n c.new-2.result.errors) c.new-2.ensures.warnings ∙ ap (log_counts c.args.told.warnings) c.new-2.ensures.errors)
     (ap (λ (held : Held). held.limit) c.new-outputs.ensures.breaker) c.do_all-result.ensures.ok
 
 pub returns-clause-err : goal.returns-clause-err
 returns-clause-err g c =
-    of_equals (λ a b told limit. OnErr c.do_all-result.result (AtFault a b (product c.args.job.now told limit) c.args.budget)) _ _ _ _ _ _ _ _
+    of_equals (λ a b told limit. OnErr c.do_all-result.result (AtFault a b (style_product c.args.job.now told limit) c.args.budget)) _ _ _ _ _ _ _ _
     (pair_is _ _ _ _ c.new-outputs.ensures.received (ap (λ (log : Journal). log.sink.received) c.new-outputs.ensures.log ∙ c.new-2.ensures.received))
     (pair_is _ _ _ _ (ends_as g.W.Sink.received _ c.into_sinks-list.result.0 _ c.do_all-result.new.work.outputs.bbl.received (c.into_sinks-list.ensures.bbl_name ∙ c.do_all-result.ensures.counts.0.0 ∙ c.new-outputs.ensures.name) c.into_sinks-list.ensures.bbl_received (search rules)) (ends_as g.L.Sink.received _ c.into_sinks-list.result.1 _ c.do_all-result.new.work.outputs.log.sink.received (c.into_sinks-list.ensures.log_name ∙ c.do_all-result.ensures.counts.0.1 ∙ ap (λ (log : Journal). log.sink.name) c.new-outputs.ensures.log ∙ c.new-2.ensures.name) c.into_sinks-list.ensures.log_received (search rules)))
-    (ap (λ (log : Journal). told_so log.warnings log.errors) c.new-outputs.ensures.log ∙ ap (λ n. told_so n c.new-2.result.errors) c.new-2.ensures.warnings ∙ ap (told_so c.args.told.warnings) c.new-2.ensures.errors)
+    (ap (λ (log : Journal). log_counts log.warnings log.errors) c.new-outputs.ensures.log ∙ ap (λ n. log_counts n c.new-2.result.errors) c.new-2.ensures.warnings ∙ ap (log_counts c.args.told.warnings) c.new-2.ensures.errors)
     (ap (λ (held : Held). held.limit) c.new-outputs.ensures.breaker) c.do_all-result.ensures.err
 
 pub returns-clause-counts : goal.returns-clause-counts

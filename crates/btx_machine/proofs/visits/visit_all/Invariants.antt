@@ -1,8 +1,8 @@
 use Rattle.std.proofs.Common.{◌≡◌, ◌≤◌, ◌-◌, [], drop, Some}
-use Rattle.btx_machine.specs.Commands.{visit}
-use Rattle.btx_machine.specs.Faults.{Writes}
-use Rattle.btx_machine.specs.Outputs.{SameSinks}
-use Rattle.btx_machine.specs.Written.{Comes}
+use Rattle.btx_machine.specs.language.Commands.{visit}
+use Rattle.btx_machine.specs.refinement.Faults.{Writes}
+use Rattle.btx_machine.specs.refinement.Outputs.{SameSinks}
+use Rattle.btx_machine.specs.refinement.Written.{Comes}
 use Rattle.btx_machine.proofs.VisitLemmas.{Remains}
 use Rattle.btx_machine.proofs.visits.visit_all.Given as goal
 

@@ -1,11 +1,11 @@
 use Rattle.std.proofs.Common.{◌≡◌, ◌+◌, ◌∷◌, ◌∙◌, drop, append-nil, ap, sym, arith}
 use Rattle.std.proofs.lemmas.Result.{err_from_is_err_and}
 use Rattle.std.specs.List.{flat_map}
-use Rattle.btx_names.specs.Formats.{Item}
-use Rattle.btx_names.specs.FormattedNames.{item_text}
-use Rattle.btx_names.specs.ItemViews.{item_view}
-use Rattle.btx_names.specs.KeptItems.{kept_view, items_in}
-use Rattle.btx_names.specs.PartViews.{parts_view}
+use Rattle.btx_names.specs.language.Formats.{FormatItem}
+use Rattle.btx_names.specs.language.FormattedNames.{item_text}
+use Rattle.btx_names.specs.refinement.ItemViews.{item_view}
+use Rattle.btx_names.specs.refinement.KeptItems.{kept_view, items_in}
+use Rattle.btx_names.specs.refinement.PartViews.{parts_view}
 use Rattle.btx_names.proofs.KeptItemLemmas.{kept_is_legal, items_at, no_items_left, items_fail}
 use Rattle.btx_names.proofs.formatted.write_items.Goals as goal
 
@@ -19,7 +19,7 @@ returns-in_err-push_item c =
     let rest = items_in (drop (i + 1) items) in
     let kept = c.loop-item.invariant in
     let first = c.as_item.ensures ∙ ap kept_view c.item-item.is in
-    let split : items_in (drop i items) ≡ item ∷ rest = items_at items i c.item-item.result (omega arith) ∙ ap (λ (one : Item). one ∷ rest) (sym first) in
+    let split : items_in (drop i items) ≡ item ∷ rest = items_at items i c.item-item.result (omega arith) ∙ ap (λ (one : FormatItem). one ∷ rest) (sym first) in
     let whole = rw split at kept.1 in
     let p = err_from_is_err_and c.from_residual.result c.from_residual.ensures.1 in
     rw (p.1, p.2)

@@ -1,8 +1,8 @@
 use Rattle.std.proofs.Common.{◌≡◌, ◌++◌, drop}
 use Rattle.std.specs.List.{flat_map}
-use Rattle.btx_names.specs.FormattedNames.{item_text, formatted}
-use Rattle.btx_names.specs.KeptItems.{items_in}
-use Rattle.btx_names.specs.PartViews.{parts_view}
+use Rattle.btx_names.specs.language.FormattedNames.{item_text, formatted}
+use Rattle.btx_names.specs.refinement.KeptItems.{items_in}
+use Rattle.btx_names.specs.refinement.PartViews.{parts_view}
 use Rattle.btx_names.proofs.formatted.write_items.Given as goal
 
 abbrev pub invariant-loop-item : goal.invariant-loop-item

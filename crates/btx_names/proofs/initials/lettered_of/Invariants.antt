@@ -1,5 +1,5 @@
 use Rattle.std.proofs.Common.{◌≡◌, drop}
-use Rattle.btx_names.specs.Lettered.{lettered_of}
+use Rattle.btx_names.specs.refinement.Lettered.{lettered_of}
 use Rattle.btx_names.proofs.initials.lettered_of.Given as goal
 
 abbrev pub invariant-loop-start : goal.invariant-loop-start

@@ -1,5 +1,5 @@
 use Rattle.std.proofs.Common.{◌≡◌, ◌≤◌, drop, length}
-use Rattle.btx_names.specs.NamesFrom.{names_from}
+use Rattle.btx_names.specs.refinement.NamesFrom.{names_from}
 use Rattle.btx_names.proofs.kept_name.name_start.Given as goal
 
 abbrev pub invariant-loop-passed : goal.invariant-loop-passed

@@ -1,6 +1,6 @@
 use Rattle.std.proofs.Common.{◌≡◌, ◌≤◌, ◌<◌, ◌+◌, ◌-◌, length, drop, refl}
 use Rattle.std.proofs.lemmas.List.{take_rest}
-use Rattle.btx_names.specs.Steps.{name_len}
+use Rattle.btx_names.specs.refinement.Steps.{first_name_len}
 use Rattle.btx_names.proofs.NameLemmas.{name_len-le}
 use Rattle.btx_names.proofs.KeptLemmas.{names_behind, none_behind}
 use Rattle.btx_names.proofs.kept_name.next_start.Goals as goal
@@ -12,7 +12,7 @@ pub returns-then-rest-len-lt3 : goal.returns-then-rest-len-lt3
 returns-then-rest-len-lt3 c =
     let names = c.args.names.now in
     let start = c.args.start in
-    let len : c.name_len-len.result ≡ name_len 0 (drop start names) = rw (take_rest names start) at c.name_len-len.ensures in
+    let len : c.name_len-len.result ≡ first_name_len 0 (drop start names) = rw (take_rest names start) at c.name_len-len.ensures in
     let short : length (drop start names) - c.name_len-len.result < 3 = rw (take_rest names start) at c.if-rest-len-lt3.true in
     none_behind names start c.name_len-len.result len short
 
@@ -20,6 +20,6 @@ pub returns : goal.returns
 returns c =
     let names = c.args.names.now in
     let start = c.args.start in
-    let len : c.name_len-len.result ≡ name_len 0 (drop start names) = rw (take_rest names start) at c.name_len-len.ensures in
+    let len : c.name_len-len.result ≡ first_name_len 0 (drop start names) = rw (take_rest names start) at c.name_len-len.ensures in
     let long : 3 ≤ length (drop start names) - c.name_len-len.result = rw (take_rest names start) at c.if-rest-len-lt3.false in
     names_behind names start c.name_len-len.result (start + c.name_len-len.result + 3) c.requires len long refl

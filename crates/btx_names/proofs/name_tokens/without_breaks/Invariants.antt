@@ -1,5 +1,5 @@
 use Rattle.std.proofs.Common.{◌≡◌, drop}
-use Rattle.btx_names.specs.Steps.{skip_breaks}
+use Rattle.btx_names.specs.refinement.Steps.{skip_breaks}
 use Rattle.btx_names.proofs.name_tokens.without_breaks.Given as goal
 
 abbrev pub invariant-loop-place : goal.invariant-loop-place

@@ -1,8 +1,8 @@
 use Rattle.std.proofs.Common.{◌≡◌, ◌++◌, ◌+◌, ◌-◌, ◌∙◌, ℕ, List, sym, ap, arith, min, length, get_or, drop, append_assoc}
 use Rattle.std.specs.List.{flat_map}
-use Rattle.btx_names.specs.FormattedNames.{initial_of}
-use Rattle.btx_names.specs.NameTokens.{tokens_in}
-use Rattle.btx_names.specs.Places.{bytes_at}
+use Rattle.btx_names.specs.language.FormattedNames.{initial_of}
+use Rattle.btx_names.specs.refinement.NameTokens.{tokens_in}
+use Rattle.btx_names.specs.refinement.Places.{bytes_at}
 use Rattle.btx_names.proofs.PartLemmas.{held_at, no_token, one_turn_more}
 use Rattle.btx_names.proofs.pieces.push_initials.Goals as goal
 

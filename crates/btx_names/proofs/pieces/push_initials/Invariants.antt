@@ -1,7 +1,7 @@
 use Rattle.std.proofs.Common.{◌≡◌, ◌≤◌, ◌-◌, ◌++◌, length, drop}
 use Rattle.std.specs.List.{flat_map}
-use Rattle.btx_names.specs.FormattedNames.{initial_of}
-use Rattle.btx_names.specs.NameTokens.{tokens_in}
+use Rattle.btx_names.specs.language.FormattedNames.{initial_of}
+use Rattle.btx_names.specs.refinement.NameTokens.{tokens_in}
 use Rattle.btx_names.proofs.pieces.push_initials.Given as goal
 
 abbrev pub invariant-loop-place : goal.invariant-loop-place

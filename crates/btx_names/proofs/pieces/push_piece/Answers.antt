@@ -1,7 +1,7 @@
 use Rattle.std.proofs.Common.{◌≡◌, ◌<◌, ◌++◌, length}
 use Rattle.std.proofs.lemmas.Result.{err_from_is_err_and}
-use Rattle.btx_names.specs.ItemViews.{piece_view}
-use Rattle.btx_names.specs.PartViews.{part_tokens}
+use Rattle.btx_names.specs.refinement.ItemViews.{piece_view}
+use Rattle.btx_names.specs.refinement.PartViews.{part_tokens}
 use Rattle.btx_names.proofs.PartLemmas.{some_tokens, no_tokens}
 use Rattle.btx_names.proofs.PieceLemmas.{piece_of_none, piece_made, opened_too_long, filled_too_long, closed_too_long, fails_too}
 use Rattle.btx_names.proofs.pieces.push_piece.Goals as goal

@@ -1,7 +1,7 @@
 use Rattle.std.proofs.Common.{◌≡◌, ◌+◌, length, take, drop}
-use Rattle.btx_names.specs.FormattedNames.{with_tokens}
-use Rattle.btx_names.specs.ItemViews.{piece_view}
-use Rattle.btx_names.specs.NameTokens.{tokens_in}
+use Rattle.btx_names.specs.language.FormattedNames.{with_tokens}
+use Rattle.btx_names.specs.refinement.ItemViews.{piece_view}
+use Rattle.btx_names.specs.refinement.NameTokens.{tokens_in}
 use Rattle.btx_names.proofs.pieces.push_tokens.Given as goal
 
 abbrev pub invariant-loop-token : goal.invariant-loop-token

@@ -1,5 +1,5 @@
 use Rattle.std.proofs.Common.{◌≡◌, ◌+◌, ◌≤◌, drop}
-use Rattle.btx_names.specs.Runs.{run_len}
+use Rattle.btx_names.specs.language.Runs.{run_len}
 use Rattle.btx_names.proofs.runs.run_len.Given as goal
 
 abbrev pub invariant-loop-place : goal.invariant-loop-place

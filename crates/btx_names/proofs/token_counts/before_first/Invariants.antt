@@ -1,7 +1,7 @@
 use Rattle.std.proofs.Common.{◌≡◌, ◌+◌, drop}
-use Rattle.btx_names.specs.NameParts.{before_first}
-use Rattle.btx_names.specs.Steps.{passes}
-use Rattle.btx_names.specs.NameTokens.{tokens_in}
+use Rattle.btx_names.specs.language.NameParts.{before_first}
+use Rattle.btx_names.specs.refinement.Steps.{passes}
+use Rattle.btx_names.specs.refinement.NameTokens.{tokens_in}
 use Rattle.btx_names.proofs.token_counts.before_first.Given as goal
 
 abbrev pub invariant-loop-place : goal.invariant-loop-place

@@ -1,7 +1,7 @@
 use Rattle.std.proofs.Common.{◌≡◌, ◌≤◌, take, length}
-use Rattle.btx_names.specs.NameParts.{up_to_last, before_final}
-use Rattle.btx_names.specs.Steps.{passes}
-use Rattle.btx_names.specs.NameTokens.{tokens_in}
+use Rattle.btx_names.specs.language.NameParts.{up_to_last, before_final}
+use Rattle.btx_names.specs.refinement.Steps.{passes}
+use Rattle.btx_names.specs.refinement.NameTokens.{tokens_in}
 use Rattle.btx_names.proofs.token_counts.up_to_last_before_final.Given as goal
 
 abbrev pub invariant-loop-place : goal.invariant-loop-place

@@ -1,7 +1,7 @@
 use Rattle.std.proofs.Common.{◌-◌, ◌<◌, ◌≤◌, ◌∙◌, length, refl, arith}
 use Rattle.std.proofs.lemmas.List.{length-set}
 use Rattle.std.proofs.lemmas.List.Elements.{All-set}
-use Rattle.btx_names.specs.NameTokens.{Hold}
+use Rattle.btx_names.specs.refinement.NameTokens.{Hold}
 use Rattle.btx_names.specs.declared.name_token.NameToken.{NameToken}
 use Rattle.btx_names.proofs.PartLemmas.{no_token, held_at, set_same, one_counted, one_bare_more, none_counted, none_bare}
 use Rattle.btx_names.proofs.token_list.count_bare.Goals as goal

@@ -1,6 +1,6 @@
 use Rattle.std.proofs.Common.{◌≡◌, ◌≤◌, ◌+◌, ℕ, List, length, take, drop}
 use Rattle.std.specs.List.{All}
-use Rattle.btx_names.specs.NameTokens.{Hold, tokens_in, lettered_in, lettered_of_bare}
+use Rattle.btx_names.specs.refinement.NameTokens.{Hold, tokens_in, lettered_in, lettered_of_bare}
 use Rattle.btx_names.proofs.token_list.count_bare.Given as goal
 
 abbrev pub invariant-loop-place : goal.invariant-loop-place

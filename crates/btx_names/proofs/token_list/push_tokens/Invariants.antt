@@ -1,7 +1,7 @@
 use Rattle.std.proofs.Common.{◌≡◌, ◌++◌}
 use Rattle.std.specs.List.{All}
-use Rattle.btx_names.specs.Tokens.{tokens_of}
-use Rattle.btx_names.specs.NameTokens.{Hold, tokens_in}
+use Rattle.btx_names.specs.language.Tokens.{tokens_of}
+use Rattle.btx_names.specs.refinement.NameTokens.{Hold, tokens_in}
 use Rattle.btx_names.proofs.token_list.push_tokens.Given as goal
 
 abbrev pub invariant-loop-token : goal.invariant-loop-token

@@ -1,5 +1,5 @@
 use Rattle.std.proofs.Common.{◌≡◌, ◌≤◌, length}
-use Rattle.btx_out.specs.Breaking.{last_white}
+use Rattle.btx_out.specs.language.Breaking.{last_white}
 use Rattle.btx_out.proofs.breaker.last_white.Given as goal
 
 -- from the end on there is no white, or none at index 3 or later

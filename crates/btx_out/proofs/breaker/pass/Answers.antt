@@ -1,5 +1,5 @@
 use Rattle.std.proofs.Common.{◌≡◌, ℕ, arith, ap, sym, ◌∙◌, length, rules}
-use Rattle.btx_out.specs.Breaking.{from_white}
+use Rattle.btx_out.specs.language.Breaking.{from_white}
 use Rattle.btx_out.proofs.BreakLemmas.{length-from_white}
 use Rattle.btx_out.proofs.GoingOnLemmas.{goes_passed, goes_ended, fails_passed, fails_ended}
 use Rattle.btx_out.proofs.breaker.pass.Goals as goal

@@ -1,5 +1,5 @@
 use Rattle.std.proofs.Common.{◌≡◌, arith, ap, sym, refl, ◌∙◌, length}
-use Rattle.btx_out.specs.Breaking.{skip_white}
+use Rattle.btx_out.specs.language.Breaking.{skip_white}
 use Rattle.btx_out.proofs.BreakLemmas.{length-skip_white}
 use Rattle.btx_out.proofs.GoingOnLemmas.{goes_swallowed, goes_begun}
 use Rattle.btx_out.proofs.breaker.swallow.Goals as goal

@@ -1,6 +1,6 @@
 use Rattle.std.proofs.Common.{◌≡◌, ◌≤◌, length}
 use Rattle.arrayvec.specs.ArrayVec.{array_vec_len}
-use Rattle.btx_out.specs.Parts.{GoesOn, left_of}
+use Rattle.btx_out.specs.refinement.Parts.{Advances, left_of}
 use Rattle.btx_out.proofs.breaker.take_all.Given as goal
 
 -- the bytes before `rest` were taken, and no write has failed
@@ -9,7 +9,7 @@ invariant-loop-rest g l =
     let sink = g.W.Sink in
     record {
       fits : array_vec_len l.line ≤ l.limit;
-      goes_on : GoesOn l.limit (left_of l.initial.state l.initial.line.items) l.bytes (left_of l.state l.line.items) l.rest (sink.received l.initial.sink) (sink.received l.sink);
+      goes_on : Advances l.limit (left_of l.initial.state l.initial.line.items) l.bytes (left_of l.state l.line.items) l.rest (sink.received l.initial.sink) (sink.received l.sink);
       counts : sink.failures l.sink ≡ sink.failures l.initial.sink;
     }
 

@@ -1,8 +1,8 @@
 use Rattle.std.proofs.Common.{◌≡◌, map, take}
-use Rattle.btx_bib.specs.Sources.{databases_of}
-use Rattle.btx_run.specs.Contents.{database_of}
+use Rattle.btx_bib.specs.refinement.Sources.{source_databases}
+use Rattle.btx_run.specs.language.Contents.{database_of}
 use Rattle.btx_run.proofs.contents.sources.Given as goal
 
 -- the files so far are sources
 abbrev pub invariant-loop-file : goal.invariant-loop-file
-invariant-loop-file l = databases_of l.sources.items ≡ map database_of (take l.file-index l.file-items)
+invariant-loop-file l = source_databases l.sources.items ≡ map database_of (take l.file-index l.file-items)

@@ -1,17 +1,17 @@
 use Rattle.std.proofs.Common.{rules, ◌≡◌, ◌∙◌, ap}
-use Rattle.btx_bst.specs.StyleText.{style_of}
-use Rattle.btx_machine.specs.Product.{product}
+use Rattle.btx_bst.specs.language.StyleText.{style_of}
+use Rattle.btx_machine.specs.language.Product.{style_product}
 use Rattle.btx_machine.proofs.ComesLemmas.{on_err}
 use Rattle.btx_machine.proofs.RunLemmas.{nothing_written}
-use Rattle.btx_run.specs.Contents.{style_in}
-use Rattle.btx_run.specs.Product.{work_in, work_of}
+use Rattle.btx_run.specs.language.Contents.{style_in}
+use Rattle.btx_run.specs.language.Product.{work_in, work_of}
 use Rattle.btx_run.proofs.ProductLemmas.{completes_of, counts_of_style, fails_of, found_is}
 use Rattle.btx_run.proofs.runner.execute_found.Goals as goal
 
 pub returns-in_err-style-clause-err : goal.returns-in_err-style-clause-err
 returns-in_err-style-clause-err g c =
     on_err c.from_residual.result (nothing_written (g.W.Sink.received c.args.bbl.now, g.L.Sink.received c.args.log.now)
-    (product (work_in c.args.job.now c.args.found.now c.args.options.now) c.args.told c.args.options.now.line) c.args.options.now.budget)
+    (style_product (work_in c.args.job.now c.args.found.now c.args.options.now) c.args.told c.args.options.now.line) c.args.options.now.budget)
 
 pub returns-in_err-style-clause-counts : goal.returns-in_err-style-clause-counts
 returns-in_err-style-clause-counts g c =
@@ -20,7 +20,7 @@ returns-in_err-style-clause-counts g c =
 pub returns-in_err-library-clause-err : goal.returns-in_err-library-clause-err
 returns-in_err-library-clause-err g c =
     on_err c.from_residual-in_err-library.result (nothing_written (g.W.Sink.received c.args.bbl.now, g.L.Sink.received c.args.log.now)
-    (product (work_in c.args.job.now c.args.found.now c.args.options.now) c.args.told c.args.options.now.line) c.args.options.now.budget)
+    (style_product (work_in c.args.job.now c.args.found.now c.args.options.now) c.args.told c.args.options.now.line) c.args.options.now.budget)
 
 pub returns-clause-ok : goal.returns-clause-ok
 returns-clause-ok g c =

@@ -1,7 +1,7 @@
 use Rattle.std.proofs.Common.{◌≡◌, ◌++◌, OnOk, ℤ, codes, subst, w32}
 use Rattle.std.proofs.lemmas.Int.{to_z-of_z}
 use Rattle.std.specs.Fmt.{signed_decimal}
-use Rattle.btx_step.specs.Notes.{not_ascii_text}
+use Rattle.btx_step.specs.language.Notes.{not_ascii_text}
 use Rattle.btx_step.proofs.lines.push_not_ascii.Goals as goal
 
 pub returns : goal.returns

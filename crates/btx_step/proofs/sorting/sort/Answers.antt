@@ -1,6 +1,6 @@
 use Rattle.std.proofs.Common.{rules}
 use Rattle.std.proofs.lemmas.Fn.{always_returns_same}
-use Rattle.btx_step.specs.Sorting.{by_key, sort_key}
+use Rattle.btx_step.specs.language.Sorting.{by_key, sort_key}
 use Rattle.btx_step.proofs.Ascent.{by_key_order, stable_sort_is}
 use Rattle.btx_step.proofs.sorting.sort.Goals as goal
 

@@ -1,5 +1,5 @@
-use Rattle.btx_text.specs.Elements.{elements_of, text_of}
-use Rattle.btx_strings.specs.Lengths.{take_characters}
+use Rattle.btx_text.specs.language.Elements.{elements_of, text_of}
+use Rattle.btx_strings.specs.language.Lengths.{take_characters}
 use Rattle.btx_strings.proofs.LengthLemmas.{IsFront}
 use Rattle.btx_strings.proofs.prefixes.front.Given as goal
 

@@ -1,7 +1,7 @@
 use Rattle.std.proofs.Common.{◌≡◌, ◌++◌}
 use Rattle.std.specs.List.{flat_map}
-use Rattle.btx_strings.specs.Controls.{glyphs_of}
-use Rattle.btx_strings.specs.Purify.{purified_glyph}
+use Rattle.btx_strings.specs.language.Controls.{glyphs_of}
+use Rattle.btx_strings.specs.language.Purify.{purified_glyph}
 use Rattle.btx_strings.proofs.purified.push_special.Given as goal
 
 abbrev pub invariant-loop-glyph : goal.invariant-loop-glyph

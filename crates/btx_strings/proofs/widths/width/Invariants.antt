@@ -1,6 +1,6 @@
 use Rattle.std.proofs.Common.{◌≡◌, ◌+◌, ◌*◌, ◌≤◌, length, sum_by}
-use Rattle.btx_text.specs.Elements.{text_of}
-use Rattle.btx_strings.specs.Width.{part_width, width_of}
+use Rattle.btx_text.specs.language.Elements.{text_of}
+use Rattle.btx_strings.specs.language.Width.{part_width, width_of}
 use Rattle.btx_strings.proofs.widths.width.Given as goal
 
 abbrev pub invariant-loop-element : goal.invariant-loop-element

@@ -1,5 +1,5 @@
 use Rattle.std.proofs.Common.{◌≡◌, ◌+◌, true, sum_by}
-use Rattle.btx_strings.specs.Width.{glyph_width, special_width}
+use Rattle.btx_strings.specs.language.Width.{glyph_width, special_width}
 use Rattle.btx_strings.proofs.ControlLemmas.{kept_from}
 use Rattle.btx_strings.proofs.widths.with_special.Given as goal
 

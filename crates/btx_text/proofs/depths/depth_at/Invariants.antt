@@ -1,5 +1,5 @@
 use Rattle.std.proofs.Common.{◌≡◌, ◌≤◌, take, fold}
-use Rattle.btx_text.specs.Elements.{depth_after}
+use Rattle.btx_text.specs.language.Elements.{depth_after}
 use Rattle.btx_text.proofs.depths.depth_at.Given as goal
 
 abbrev pub invariant-loop-byte : goal.invariant-loop-byte

@@ -1,5 +1,5 @@
 use Rattle.std.proofs.Common.{◌≡◌, ◌+◌, ◌≤◌, drop}
-use Rattle.btx_text.specs.Elements.{group_len}
+use Rattle.btx_text.specs.language.Elements.{group_len}
 use Rattle.btx_text.proofs.string_elements.group_len.Given as goal
 
 abbrev pub invariant-loop-i : goal.invariant-loop-i

@@ -1,5 +1,5 @@
 use Rattle.std.proofs.Common.{◌≡◌, arith}
-use Rattle.btx_text.specs.Lines.{trimmed}
+use Rattle.btx_text.specs.language.Lines.{trimmed}
 use Rattle.btx_text.proofs.trimming.without_trailing_white.Goals as goal
 
 pub returns : goal.returns

@@ -1,5 +1,5 @@
 use Rattle.std.proofs.Common.{◌≡◌, ◌≤◌, take, length}
-use Rattle.btx_text.specs.Lines.{trimmed}
+use Rattle.btx_text.specs.language.Lines.{trimmed}
 use Rattle.btx_text.proofs.trimming.without_trailing_white.Given as goal
 
 abbrev pub invariant-loop-end : goal.invariant-loop-end

@@ -1,6 +1,6 @@
 use Rattle.std.proofs.Common.{◌≡◌, map, true}
-use Rattle.btx_aux.specs.Grammar.{Cites, pieces_of}
-use Rattle.btx_aux.specs.Drafts.{learned_words}
+use Rattle.btx_aux.specs.language.Grammar.{Cites, pieces_of}
+use Rattle.btx_aux.specs.refinement.Drafts.{learned_words}
 use Rattle.btx_aux.proofs.draft.Draft.cite_each.Given as goal
 
 -- the pieces left do the rest

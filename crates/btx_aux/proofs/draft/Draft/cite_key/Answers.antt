@@ -1,8 +1,8 @@
 use Rattle.std.proofs.Common.{rules, ◌≡◌, ◌∷◌, ◌++◌, [], ◌∙◌, ap, sym, true, false, ℕ, List}
 use Rattle.std.specs.Str.{bytes_eq}
 use Rattle.std.proofs.lemmas.Result.{on_ok_weaker}
-use Rattle.btx_aux.specs.KeyTable.{listed_by}
-use Rattle.btx_text.specs.LogLines.{Line}
+use Rattle.btx_aux.specs.refinement.KeyTable.{listed_by}
+use Rattle.btx_text.specs.language.LogLines.{Line}
 use Rattle.btx_aux.proofs.DraftLemmas.{learned-key_new, learned-key_same, learned-key_other}
 use Rattle.btx_aux.proofs.draft.Draft.cite_key.Goals as goal
 

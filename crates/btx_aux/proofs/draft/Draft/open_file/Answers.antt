@@ -1,7 +1,7 @@
 use Rattle.std.proofs.Common.{◌∙◌, ◌∷◌, ◌++◌, [], ap, sym, List, ℕ}
 use Rattle.std.proofs.lemmas.Result.{on_ok_weaker}
-use Rattle.btx_aux.specs.Names.{with_name}
-use Rattle.btx_aux.specs.Notes.{TopFile, line_of}
+use Rattle.btx_aux.specs.language.Names.{with_name_once}
+use Rattle.btx_aux.specs.language.Notes.{TopFile, aux_note_line}
 use Rattle.btx_aux.proofs.DraftLemmas.{learned-Opens_top, learned-Opens_level}
 use Rattle.btx_aux.proofs.draft.Draft.open_file.Goals as goal
 
@@ -9,8 +9,8 @@ pub returns-then-level-eq0-clause-draft : goal.returns-then-level-eq0-clause-dra
 returns-then-level-eq0-clause-draft c =
     let draft = c.args.self.now in
     let name = c.args.name.now in
-    let files = c.in_ok-add.ensures ∙ ap (with_name draft.files) c.in_ok-copy.ensures.items in
-    let opened = λ (files : List (List ℕ)). record draft { files = files; log = draft.log ++ line_of (TopFile name) ∷ [] } in
+    let files = c.in_ok-add.ensures ∙ ap (with_name_once draft.files) c.in_ok-copy.ensures.items in
+    let opened = λ (files : List (List ℕ)). record draft { files = files; log = draft.log ++ aux_note_line (TopFile name) ∷ [] } in
     on_ok_weaker c.tell.result (λ e. e ∙ ap opened files ∙ sym (learned-Opens_top draft name c.args.level c.if-level-eq0.true)) c.tell.ensures
 
 pub returns-clause-draft : goal.returns-clause-draft

@@ -2,8 +2,8 @@ use Rattle.std.proofs.Common.{◌∙◌, ap}
 use Rattle.std.proofs.lemmas.Result.{on_ok_weaker}
 use Rattle.btx_aux.specs.declared.draft.Draft.{Draft}
 use Rattle.std.proofs.Common.{true}
-use Rattle.btx_aux.specs.Grammar.{pieces_of}
-use Rattle.btx_aux.specs.Pieces.{piece_from}
+use Rattle.btx_aux.specs.language.Grammar.{pieces_of}
+use Rattle.btx_aux.specs.refinement.Pieces.{piece_from}
 use Rattle.btx_aux.proofs.ReadLemmas.{cites_whole, bibdata_whole, bibstyle_whole, include_whole}
 use Rattle.btx_aux.proofs.draft.Draft.read_line.Goals as goal
 

@@ -1,6 +1,6 @@
 use Rattle.std.proofs.Common.{rules, ◌≡◌, ◌∙◌, false, true}
 use Rattle.std.proofs.lemmas.Result.{on_ok_weaker}
-use Rattle.btx_aux.specs.Grammar.{pieces_of}
+use Rattle.btx_aux.specs.language.Grammar.{pieces_of}
 use Rattle.btx_aux.proofs.DraftLemmas.{learned-bibdata}
 use Rattle.btx_aux.proofs.draft.Draft.take_bibdata.Goals as goal
 

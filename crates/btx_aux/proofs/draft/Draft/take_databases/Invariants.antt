@@ -1,6 +1,6 @@
 use Rattle.std.proofs.Common.{◌≡◌, true}
-use Rattle.btx_aux.specs.Grammar.{pieces_of}
-use Rattle.btx_aux.specs.Drafts.{with_databases}
+use Rattle.btx_aux.specs.language.Grammar.{pieces_of}
+use Rattle.btx_aux.specs.refinement.Drafts.{with_databases}
 use Rattle.btx_aux.proofs.draft.Draft.take_databases.Given as goal
 
 -- the pieces left do the rest

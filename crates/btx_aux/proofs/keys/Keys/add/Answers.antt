@@ -1,6 +1,6 @@
 use Rattle.std.proofs.Common.{◌≡◌, ◌∙◌, ap, sym, ◌∷◌, ◌++◌, [], List, ℕ, map, if◌then◌else◌, Bool}
-use Rattle.btx_text.specs.Keys.{folded}
-use Rattle.btx_aux.specs.Entries.{Bytes, texts_of}
+use Rattle.btx_text.specs.language.Keys.{folded}
+use Rattle.btx_aux.specs.refinement.Entries.{Bytes, texts_of}
 use Rattle.btx_aux.proofs.KeyLemmas.{absent_in, IsTableOf-push}
 use Rattle.btx_aux.proofs.NameLemmas.{texts_of-push}
 use Rattle.btx_aux.proofs.keys.Keys.add.Goals as goal

@@ -2,7 +2,7 @@ use Rattle.std.proofs.Common.{arith, ◌≡◌, ◌<◌, ◌∙◌, ap, sym, Lis
 use Rattle.std.specs.Prelude.{slice_get}
 use Rattle.std.proofs.lemmas.Option.{slice_get_past, slice_get-get_or}
 use Rattle.std.proofs.lemmas.Bool.Decides.{nat_tests}
-use Rattle.btx_aux.specs.Entries.{Bytes}
+use Rattle.btx_aux.specs.refinement.Entries.{Bytes}
 use Rattle.btx_aux.proofs.KeyLemmas.{listed_by-none, listed_by-some}
 use Rattle.btx_aux.proofs.keys.Keys.find.Goals as goal
 

@@ -1,7 +1,8 @@
 use Rattle.std.proofs.Common.{◌≡◌, ℕ, List, take}
-use Rattle.btx_aux.specs.Pairs.{files_of_pairs, first_file}
-use Rattle.btx_aux.specs.Entries.{pairs_in}
-use Rattle.btx_aux.specs.Borrowed.{pairs_of}
+use Rattle.btx_aux.specs.laws.Pairs.{files_of_pairs}
+use Rattle.btx_aux.specs.refinement.Pairs.{first_file}
+use Rattle.btx_aux.specs.refinement.Entries.{pairs_in}
+use Rattle.btx_aux.specs.refinement.Borrowed.{pairs_of}
 use Rattle.btx_aux.proofs.memory.MemoryFinder.new.Given as goal
 
 -- the table has the files of the pairs so far

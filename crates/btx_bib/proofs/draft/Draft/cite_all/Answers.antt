@@ -1,8 +1,8 @@
 use Rattle.std.proofs.Common.{◌≡◌, ◌∙◌, ap, sym, drop, get_or, [], List, ℕ}
 use Rattle.std.proofs.lemmas.List.{drop_all}
-use Rattle.btx_aux.specs.Entries.{Bytes, texts_of}
-use Rattle.btx_bib.specs.Drafts.{cited_all, cited_at, place_in}
-use Rattle.btx_bib.specs.Requests.{wanted}
+use Rattle.btx_aux.specs.refinement.Entries.{Bytes, texts_of}
+use Rattle.btx_bib.specs.refinement.Drafts.{cited_all, cited_at, place_in}
+use Rattle.btx_bib.specs.refinement.Requests.{wanted}
 use Rattle.btx_bib.proofs.DraftLemmas.{cited-next}
 use Rattle.btx_bib.proofs.draft.Draft.cite_all.Goals as goal
 

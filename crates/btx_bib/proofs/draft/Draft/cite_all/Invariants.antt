@@ -1,7 +1,7 @@
 use Rattle.std.proofs.Common.{◌≡◌, drop}
-use Rattle.btx_aux.specs.Entries.{texts_of}
-use Rattle.btx_bib.specs.Drafts.{cited_all}
-use Rattle.btx_bib.specs.Requests.{wanted}
+use Rattle.btx_aux.specs.refinement.Entries.{texts_of}
+use Rattle.btx_bib.specs.refinement.Drafts.{cited_all}
+use Rattle.btx_bib.specs.refinement.Requests.{wanted}
 use Rattle.btx_bib.proofs.draft.Draft.cite_all.Given as goal
 
 abbrev pub invariant-loop-key : goal.invariant-loop-key

@@ -1,6 +1,6 @@
 use Rattle.std.proofs.Common.{rules, ◌∙◌, ◌<◌, ap, length}
-use Rattle.btx_bib.specs.Finding.{changed_at}
-use Rattle.btx_bib.specs.Drafts.{with_entry}
+use Rattle.btx_bib.specs.refinement.Finding.{changed_at}
+use Rattle.btx_bib.specs.refinement.Drafts.{with_entry}
 use Rattle.btx_bib.proofs.FillingLemmas.{changed_at-past}
 use Rattle.btx_bib.proofs.PlaceLemmas.{changed_at-set}
 use Rattle.btx_bib.proofs.draft_slots.DraftSlots.fill.Goals as goal

@@ -1,5 +1,5 @@
 use Rattle.std.proofs.Common.{◌≡◌, ◌++◌}
-use Rattle.btx_bib.specs.Drafts.{settled_all}
+use Rattle.btx_bib.specs.refinement.Drafts.{settled_all}
 use Rattle.btx_bib.proofs.draft_slots.DraftSlots.settled.Given as goal
 
 abbrev pub invariant-loop-slot : goal.invariant-loop-slot

@@ -1,5 +1,5 @@
 use Rattle.std.proofs.Common.{◌∙◌, ap, false}
-use Rattle.btx_bib.specs.Grammar.Squeezing.{is_squeezed}
+use Rattle.btx_bib.specs.refinement.Grammar.Squeezing.{is_squeezed}
 use Rattle.btx_bib.proofs.GrammarLemmas.SqueezeLemmas.{squeezed-squeezed}
 use Rattle.btx_bib.proofs.gathering.Gathering.define_macro.Goals as goal
 

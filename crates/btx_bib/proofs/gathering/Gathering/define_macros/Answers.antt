@@ -1,8 +1,8 @@
 use Rattle.std.proofs.Common.{◌∙◌, ◌+◌, ap, sym, add-one, drop}
 use Rattle.std.specs.Option.{option_map}
-use Rattle.btx_bst.specs.NameTables.{macro_pair}
+use Rattle.btx_bst.specs.refinement.NameTables.{macro_pair}
 use Rattle.btx_bib.specs.declared.gathering.Gathering.{Gathering}
-use Rattle.btx_bib.specs.Readings.{kept_macros}
+use Rattle.btx_bib.specs.refinement.Readings.{kept_macros}
 use Rattle.btx_bib.proofs.WholeLemmas.{macro-next, macro-none}
 use Rattle.btx_bib.proofs.gathering.Gathering.define_macros.Goals as goal
 use Rattle.btx_bib.proofs.gathering.Gathering.define_macros.Goals.{in-Some+in_ok-define_macro, in_default}

@@ -1,5 +1,5 @@
 use Rattle.std.proofs.Common.{◌≡◌, drop}
-use Rattle.btx_bib.specs.Readings.{kept_macros}
+use Rattle.btx_bib.specs.refinement.Readings.{kept_macros}
 use Rattle.btx_bib.proofs.gathering.Gathering.define_macros.Given as goal
 
 -- the macros that are left do the rest

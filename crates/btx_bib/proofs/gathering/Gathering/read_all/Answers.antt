@@ -1,9 +1,9 @@
 use Rattle.std.proofs.Common.{◌≡◌, ◌∙◌, ◌++◌, ap, sym, drop, [], List, append-nil}
 use Rattle.std.proofs.lemmas.List.{drop_all}
 use Rattle.btx_bib.specs.declared.databases.Source.{Source}
-use Rattle.btx_bib.specs.Sources.{databases_of}
-use Rattle.btx_bib.specs.Readings.{kept_by_all, told_by_all}
-use Rattle.btx_bib.specs.Requests.{wanted}
+use Rattle.btx_bib.specs.refinement.Sources.{source_databases}
+use Rattle.btx_bib.specs.refinement.Readings.{kept_by_all, told_by_all}
+use Rattle.btx_bib.specs.refinement.Requests.{wanted}
 use Rattle.btx_bib.proofs.AlongLemmas.{all-next, all-told-next}
 use Rattle.btx_bib.proofs.gathering.Gathering.read_all.Goals as goal
 
@@ -21,12 +21,12 @@ pub returns-clause-state : goal.returns-clause-state
 returns-clause-state c =
     let asked = wanted c.args.request.now in
     let none : drop c.loop-source.source-index c.args.sources.now ≡ [] = drop_all c.loop-source.source-index c.args.sources.now c.loop-source-test.false in
-    ap (λ (ss : List Source). kept_by_all asked c.loop-source.self (databases_of ss)) (sym none) ∙ c.loop-source.invariant.state
+    ap (λ (ss : List Source). kept_by_all asked c.loop-source.self (source_databases ss)) (sym none) ∙ c.loop-source.invariant.state
 
 pub returns-clause-told : goal.returns-clause-told
 returns-clause-told c =
     let asked = wanted c.args.request.now in
     let none : drop c.loop-source.source-index c.args.sources.now ≡ [] = drop_all c.loop-source.source-index c.args.sources.now c.loop-source-test.false in
     sym (append-nil c.loop-source.messages)
-    ∙ ap (λ (ss : List Source). c.loop-source.messages ++ told_by_all asked c.loop-source.self (databases_of ss)) (sym none)
+    ∙ ap (λ (ss : List Source). c.loop-source.messages ++ told_by_all asked c.loop-source.self (source_databases ss)) (sym none)
     ∙ c.loop-source.invariant.told

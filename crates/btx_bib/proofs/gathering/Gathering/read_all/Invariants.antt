@@ -1,7 +1,7 @@
 use Rattle.std.proofs.Common.{◌≡◌, ◌++◌, drop}
-use Rattle.btx_bib.specs.Sources.{databases_of}
-use Rattle.btx_bib.specs.Readings.{kept_by_all, told_by_all}
-use Rattle.btx_bib.specs.Requests.{wanted}
+use Rattle.btx_bib.specs.refinement.Sources.{source_databases}
+use Rattle.btx_bib.specs.refinement.Readings.{kept_by_all, told_by_all}
+use Rattle.btx_bib.specs.refinement.Requests.{wanted}
 use Rattle.btx_bib.proofs.gathering.Gathering.read_all.Given as goal
 
 -- the databases that are left do the rest
@@ -9,6 +9,6 @@ abbrev pub invariant-loop-source : goal.invariant-loop-source
 invariant-loop-source l =
     let asked = wanted l.request in
     record {
-      state : kept_by_all asked l.self (databases_of (drop l.source-index l.sources)) ≡ kept_by_all asked l.initial.self (databases_of l.sources);
-      told : l.messages ++ told_by_all asked l.self (databases_of (drop l.source-index l.sources)) ≡ l.initial.messages ++ told_by_all asked l.initial.self (databases_of l.sources);
+      state : kept_by_all asked l.self (source_databases (drop l.source-index l.sources)) ≡ kept_by_all asked l.initial.self (source_databases l.sources);
+      told : l.messages ++ told_by_all asked l.self (source_databases (drop l.source-index l.sources)) ≡ l.initial.messages ++ told_by_all asked l.initial.self (source_databases l.sources);
     }

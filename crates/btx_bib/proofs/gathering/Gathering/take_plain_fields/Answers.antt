@@ -1,10 +1,10 @@
 use Rattle.std.proofs.Common.{◌∙◌, ◌++◌, List, ℕ, length, ap, sym, arith}
 use Rattle.btx_bib.specs.declared.grammar.commands.Wanted.{Wanted as Next}
 use Rattle.btx_bib.specs.declared.message.Message.{Message}
-use Rattle.btx_bib.specs.Gatherings.{all_kept, all_told, is_kept}
-use Rattle.btx_bib.specs.Grammar.PlainFields.{plain_step}
-use Rattle.btx_bib.specs.Known.{goes_on}
-use Rattle.btx_bib.specs.Requests.{wanted}
+use Rattle.btx_bib.specs.refinement.Gatherings.{all_kept, all_told, is_kept}
+use Rattle.btx_bib.specs.refinement.Grammar.PlainFields.{plain_step}
+use Rattle.btx_bib.specs.language.Known.{goes_on}
+use Rattle.btx_bib.specs.refinement.Requests.{wanted}
 use Rattle.btx_bib.proofs.GrammarLemmas.PlainLemmas.{left-shorter, plain-next, plain-shorter}
 use Rattle.btx_bib.proofs.GatheringLemmas.{turn-along, turn-told}
 use Rattle.btx_bib.proofs.gathering.Gathering.take_plain_fields.Goals as goal

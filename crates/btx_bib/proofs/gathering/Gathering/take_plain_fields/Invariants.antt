@@ -1,8 +1,8 @@
 use Rattle.std.proofs.Common.{◌≡◌, ◌≤◌, true, length}
-use Rattle.btx_bib.specs.Gatherings.{all_kept, all_told}
-use Rattle.btx_bib.specs.Known.{goes_on}
-use Rattle.btx_bib.specs.Requests.{wanted}
-use Rattle.btx_bib.specs.Told.{Database}
+use Rattle.btx_bib.specs.refinement.Gatherings.{all_kept, all_told}
+use Rattle.btx_bib.specs.language.Known.{goes_on}
+use Rattle.btx_bib.specs.refinement.Requests.{wanted}
+use Rattle.btx_bib.specs.language.Told.{Database}
 use Rattle.btx_bib.proofs.GrammarLemmas.LengthLemmas.{left}
 use Rattle.btx_bib.proofs.gathering.Gathering.take_plain_fields.Given as goal
 

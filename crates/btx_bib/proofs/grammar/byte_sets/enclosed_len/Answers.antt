@@ -1,6 +1,7 @@
 use Rattle.std.proofs.Common.{◌≡◌, ◌∙◌, ◌<◌, ◌+◌, ◌&&◌, eqb, false, sym, ap, get_or, length, length-drop, arith}
 use Rattle.std.proofs.lemmas.List.{take_rest}
-use Rattle.btx_bib.specs.Grammar.ByteSets.{ends_enclosed, enclosed_len, is_mark, unmarked_len}
+use Rattle.btx_bib.specs.language.Grammar.ByteSets.{ends_enclosed, enclosed_len}
+use Rattle.btx_bib.specs.refinement.Grammar.ByteSets.{is_mark, unmarked_len}
 use Rattle.btx_bib.proofs.GrammarLemmas.MarkLemmas.{enclosed-first, enclosed-further, depth_after-le}
 use Rattle.btx_bib.proofs.grammar.byte_sets.enclosed_len.Goals as goal
 

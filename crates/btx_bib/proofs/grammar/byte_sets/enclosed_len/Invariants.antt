@@ -1,5 +1,5 @@
 use Rattle.std.proofs.Common.{◌≡◌, ◌+◌, ◌-◌, ◌≤◌, drop, length}
-use Rattle.btx_bib.specs.Grammar.ByteSets.{enclosed_len}
+use Rattle.btx_bib.specs.language.Grammar.ByteSets.{enclosed_len}
 use Rattle.btx_bib.proofs.grammar.byte_sets.enclosed_len.Given as goal
 
 abbrev pub invariant-loop-byte : goal.invariant-loop-byte

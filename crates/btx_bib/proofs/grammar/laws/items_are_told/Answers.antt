@@ -1,4 +1,4 @@
-use Rattle.btx_bib.specs.Grammar.Items.{by_history}
+use Rattle.btx_bib.specs.laws.Grammar.Items.{by_history}
 use Rattle.btx_bib.proofs.GrammarLemmas.ItemEventLemmas.{item-tells}
 use Rattle.btx_bib.proofs.grammar.laws.items_are_told.Goals as goal
 

@@ -1,5 +1,5 @@
 use Rattle.std.proofs.Common.{◌≡◌, ◌+◌, take, arith}
-use Rattle.btx_bib.specs.Grammar.PlaceLines.{feeds_in}
+use Rattle.btx_bib.specs.refinement.Grammar.PlaceLines.{feeds_in}
 use Rattle.btx_bib.proofs.GrammarLemmas.PlaceLemmas.{feeds-block, feeds-fit, feeds-le, feeds-rest}
 use Rattle.btx_bib.proofs.grammar.line_counter.feeds_in.Goals as goal
 

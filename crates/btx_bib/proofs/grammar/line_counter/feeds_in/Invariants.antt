@@ -1,5 +1,5 @@
 use Rattle.std.proofs.Common.{◌≡◌, ◌-◌, ◌≤◌, take, length}
-use Rattle.btx_bib.specs.Grammar.PlaceLines.{feeds_in}
+use Rattle.btx_bib.specs.refinement.Grammar.PlaceLines.{feeds_in}
 use Rattle.btx_bib.proofs.grammar.line_counter.feeds_in.Given as goal
 
 abbrev pub invariant-loop-place : goal.invariant-loop-place

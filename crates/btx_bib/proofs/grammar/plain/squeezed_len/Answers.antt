@@ -1,10 +1,11 @@
 use Rattle.std.proofs.Common.{◌≡◌, ◌∙◌, ◌<◌, ◌≤◌, ◌&&◌, ◌+◌, ℕ, List, eqb, true, false, sym, get_or, length, refl, arith}
 use Rattle.std.proofs.lemmas.Bool.{eq-eqb, ne_eqb}
-use Rattle.btx_text.specs.Elements.{depth_after}
+use Rattle.btx_text.specs.language.Elements.{depth_after}
 use Rattle.btx_bib.specs.declared.grammar.byte_sets.Enclosure.{Enclosure}
 use Rattle.btx_bib.specs.declared.grammar.byte_sets.Enclosure.TheVariants.{Group, Quotes}
-use Rattle.btx_bib.specs.Grammar.ByteSets.{ends_enclosed, is_gap, is_word_byte}
-use Rattle.btx_bib.specs.Grammar.Squeezing.{stays_squeezed}
+use Rattle.btx_bib.specs.language.Grammar.ByteSets.{ends_enclosed, is_gap}
+use Rattle.btx_bib.specs.refinement.Grammar.ByteSets.{is_word_byte}
+use Rattle.btx_bib.specs.refinement.Grammar.Squeezing.{stays_squeezed}
 use Rattle.btx_bib.proofs.GrammarLemmas.MarkLemmas.{and-false, depth_after-le, enclosed-ends, enclosed-on, enclosed-word, word-gap}
 use Rattle.btx_bib.proofs.GrammarLemmas.SqueezeLemmas.{IsSqueezedTo, squeezed-further, squeezed-none}
 use Rattle.btx_bib.proofs.grammar.plain.squeezed_len.Goals as goal

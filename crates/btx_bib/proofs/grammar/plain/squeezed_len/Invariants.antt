@@ -1,5 +1,5 @@
 use Rattle.std.proofs.Common.{◌≡◌, ◌+◌, ◌≤◌, drop, eqb}
-use Rattle.btx_bib.specs.Grammar.ByteSets.{enclosed_len}
+use Rattle.btx_bib.specs.language.Grammar.ByteSets.{enclosed_len}
 use Rattle.btx_bib.proofs.GrammarLemmas.SqueezeLemmas.{IsSqueezedTo}
 use Rattle.btx_bib.proofs.grammar.plain.squeezed_len.Given as goal
 

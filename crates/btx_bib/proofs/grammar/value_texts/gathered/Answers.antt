@@ -1,8 +1,8 @@
 use Rattle.std.proofs.Common.{◌≡◌, ◌∙◌, ◌++◌, [], sym, ap, length, arith, refl}
 use Rattle.std.proofs.lemmas.List.{append-nil}
-use Rattle.btx_bib.specs.Grammar.PartViews.{part_view}
-use Rattle.btx_bib.specs.Grammar.Squeezing.{squeezed_after}
-use Rattle.btx_bib.specs.Grammar.ValueTexts.{joined_text, text_of_part}
+use Rattle.btx_bib.specs.refinement.Grammar.PartViews.{part_view}
+use Rattle.btx_bib.specs.refinement.Grammar.Squeezing.{squeezed_after}
+use Rattle.btx_bib.specs.language.Grammar.ValueTexts.{joined_text, text_of_part}
 use Rattle.btx_bib.proofs.GrammarLemmas.SqueezeLemmas.{part-goes, part-long}
 use Rattle.btx_bib.proofs.grammar.value_texts.gathered.Goals as goal
 

@@ -1,5 +1,5 @@
 use Rattle.std.proofs.Common.{◌≡◌, drop}
-use Rattle.btx_bib.specs.Grammar.Squeezing.{is_squeezed}
+use Rattle.btx_bib.specs.refinement.Grammar.Squeezing.{is_squeezed}
 use Rattle.btx_bib.proofs.grammar.value_texts.is_squeezed.Given as goal
 
 abbrev pub invariant-loop-byte : goal.invariant-loop-byte

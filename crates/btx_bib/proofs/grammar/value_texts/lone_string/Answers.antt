@@ -1,5 +1,5 @@
 use Rattle.std.proofs.Common.{◌≡◌, ◌∙◌, sym, ap, None}
-use Rattle.btx_bib.specs.Grammar.ValueTexts.{shaped, or_nothing}
+use Rattle.btx_bib.specs.language.Grammar.ValueTexts.{shaped, or_nothing}
 use Rattle.btx_bib.proofs.GrammarLemmas.SqueezeLemmas.{shaped-nothing}
 use Rattle.btx_bib.proofs.grammar.value_texts.lone_string.Goals as goal
 

@@ -1,7 +1,7 @@
 use Rattle.std.proofs.Common.{◌≡◌, ◌∙◌, ap, ℕ, List, Bool, ◌++◌, ◌∷◌, [], if◌then◌else◌}
 use Rattle.std.specs.Str.{bytes_eq}
 use Rattle.std.specs.List.{list_any}
-use Rattle.btx_aux.specs.Entries.{texts_of}
+use Rattle.btx_aux.specs.refinement.Entries.{texts_of}
 use Rattle.btx_bib.proofs.TableNameLemmas.{any-texts, texts_of-push}
 use Rattle.btx_bib.proofs.names.Names.add.Goals as goal
 

@@ -1,5 +1,10 @@
+use Rattle.std.proofs.Common.{◌∙◌, ap, map}
+use Rattle.btx_bib.specs.refinement.Values.{text_at}
 use Rattle.btx_bib.proofs.TextLemmas.{texts-missing}
 use Rattle.btx_bib.proofs.values.Values.missing.Goals as goal
 
 pub returns : goal.returns
-returns c = rw (c.in_ok-vec.ensures.items_if_clones_equal (λ y is. is)) (texts-missing _ _ _ c.missing.ensures)
+returns c =
+    let lent = c.in_ok-with_capacity.field-0.items in
+    let made = c.new.result.items in
+    ap (map (text_at lent made)) c.in_ok-missing.ensures ∙ texts-missing lent made c.args.count

@@ -1,5 +1,5 @@
 use Rattle.btx_bst.proofs.BodyLemmas.{map-take}
-use Rattle.btx_bst.specs.Ranges.{tokens_in}
+use Rattle.btx_bst.specs.refinement.Ranges.{tokens_in}
 use Rattle.btx_bst.proofs.bodies.Bodies.cut.Goals as goal
 
 pub returns : goal.returns

@@ -1,5 +1,5 @@
 use Rattle.std.proofs.Common.{◌≡◌, ◌<◌, ◌+◌, ◌^◌, length}
-use Rattle.btx_bst.specs.Places.{ink, ink_from}
+use Rattle.btx_bst.specs.language.Places.{ink, ink_from}
 use Rattle.btx_bst.proofs.cursor.Cursor.go_to_ink.Given as goal
 
 abbrev pub invariant-loop-self : goal.invariant-loop-self

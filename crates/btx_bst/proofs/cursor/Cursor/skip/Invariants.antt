@@ -1,5 +1,5 @@
 use Rattle.std.proofs.Common.{◌≡◌, ◌<◌, ◌+◌, ◌^◌, [], length}
-use Rattle.btx_bst.specs.Places.{skipped, skipped_from}
+use Rattle.btx_bst.specs.language.Places.{skipped, skipped_from}
 use Rattle.btx_bst.proofs.cursor.Cursor.skip.Given as goal
 
 abbrev pub invariant-loop-line : goal.invariant-loop-line

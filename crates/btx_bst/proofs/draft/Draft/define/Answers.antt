@@ -1,6 +1,6 @@
 use Rattle.std.proofs.Common.{◌≡◌, ◌∙◌, ap, arith, ℕ, List, length, Bor}
-use Rattle.btx_bst.specs.Views.{texts_view}
-use Rattle.btx_bst.specs.DraftViews.{draft_view}
+use Rattle.btx_bst.specs.refinement.Views.{texts_view}
+use Rattle.btx_bst.specs.refinement.DraftViews.{draft_view}
 use Rattle.btx_bst.proofs.BodyLemmas.{map-take, texts-length}
 use Rattle.btx_bst.proofs.StyleLemmas.{broken-grows}
 use Rattle.btx_bst.proofs.RoomLemmas.{body-room}

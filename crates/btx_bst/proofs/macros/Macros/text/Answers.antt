@@ -1,5 +1,5 @@
 use Rattle.std.proofs.Common.{◌∙◌, ap, option_copied}
-use Rattle.btx_bst.specs.Names.{Macros, macro_lower}
+use Rattle.btx_bst.specs.language.Names.{Macros, macro_lower}
 use Rattle.btx_bst.proofs.TableLemmas.{lookup-macros}
 use Rattle.btx_bst.proofs.macros.Macros.text.Goals as goal
 

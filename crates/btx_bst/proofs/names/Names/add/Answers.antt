@@ -1,6 +1,6 @@
 use Rattle.std.proofs.Common.{◌∙◌, ap, List, ℕ, arith}
-use Rattle.btx_bst.specs.Names.{Names, named_lower}
-use Rattle.btx_bst.specs.NameTables.{known_in}
+use Rattle.btx_bst.specs.language.Names.{Names, named_lower}
+use Rattle.btx_bst.specs.refinement.NameTables.{known_in}
 use Rattle.btx_bst.specs.declared.callee.Callee.TheVariants as callee
 use Rattle.btx_bst.proofs.FurtherLemmas.{put-keeps, further-field, further-entry_integer, further-entry_string, further-global_integer, further-global_string}
 use Rattle.btx_bst.proofs.names.Names.add.Goals as goal

@@ -1,6 +1,6 @@
 use Rattle.std.proofs.Common.{◌∙◌, ap, List, ℕ, Option, Some, arith, length}
-use Rattle.btx_bst.specs.Names.{Names, named_lower}
-use Rattle.btx_bst.specs.NameTables.{known_in}
+use Rattle.btx_bst.specs.language.Names.{Names, named_lower}
+use Rattle.btx_bst.specs.refinement.NameTables.{known_in}
 use Rattle.btx_bst.specs.declared.callee.Callee.TheVariants as callee
 use Rattle.btx_bst.proofs.FurtherLemmas.{put-keeps, pad-keeps, named-padded, padded-length, further-function}
 use Rattle.btx_bst.proofs.names.Names.add_function.Goals as goal

@@ -1,5 +1,5 @@
 use Rattle.std.proofs.Common.{◌∙◌, ap}
-use Rattle.btx_bst.specs.Names.{Names, named_lower}
+use Rattle.btx_bst.specs.language.Names.{Names, named_lower}
 use Rattle.btx_bst.proofs.names.Names.find.Goals as goal
 
 pub returns : goal.returns

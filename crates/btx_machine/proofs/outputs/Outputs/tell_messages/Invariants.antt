@@ -1,6 +1,6 @@
 use Rattle.std.proofs.Common.{◌≡◌, drop, map}
-use Rattle.btx_bib.specs.MessageTexts.{line_of}
-use Rattle.btx_machine.specs.Outputs.{SameSinks}
+use Rattle.btx_bib.specs.language.MessageTexts.{message_line}
+use Rattle.btx_machine.specs.refinement.Outputs.{SameSinks}
 use Rattle.btx_machine.proofs.SayLemmas.{Tells}
 use Rattle.btx_machine.proofs.outputs.Outputs.tell_messages.Given as goal
 
@@ -11,5 +11,5 @@ invariant-loop-message g l = record {
   sinks : SameSinks l.fn.self l.self;
   bbl_counts : l.self.bbl.failures ≡ l.fn.self.bbl.failures;
   log_counts : l.self.log.sink.failures ≡ l.fn.self.log.sink.failures;
-  same : Tells l.fn.self l.self (map line_of (drop l.message-index l.messages)) (map line_of l.messages);
+  same : Tells l.fn.self l.self (map message_line (drop l.message-index l.messages)) (map message_line l.messages);
 }

@@ -1,6 +1,6 @@
 use Rattle.std.proofs.Common.{◌≡◌, ◌<◌, ◌∙◌, sym, List, ◌∷◌, length, ap, arith, rules}
 use Rattle.std.proofs.lemmas.List.{take_rest}
-use Rattle.btx_names.specs.Formats.{Item}
+use Rattle.btx_names.specs.language.Formats.{FormatItem}
 use Rattle.btx_names.proofs.FormatLemmas.{items_of-group}
 use Rattle.btx_names.proofs.format_items.ItemsIterator.next.Goals as goal
 
@@ -18,5 +18,5 @@ returns-clause-steps c =
 
 pub returns-clause-goes : goal.returns-clause-goes
 returns-clause-goes c =
-    let len = ap (λ (items : List Item). length items) (returns-clause-steps c) in
+    let len = ap (λ (items : List FormatItem). length items) (returns-clause-steps c) in
     record { on = λ _. (tt, tt, omega (arith, len)); keeps = tt; rests = λ _. tt }

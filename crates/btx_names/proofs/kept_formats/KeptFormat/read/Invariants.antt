@@ -1,6 +1,6 @@
 use Rattle.std.proofs.Common.{◌≡◌, ◌++◌}
-use Rattle.btx_names.specs.Formats.{items_of}
-use Rattle.btx_names.specs.KeptItems.{items_in}
+use Rattle.btx_names.specs.language.Formats.{items_of}
+use Rattle.btx_names.specs.refinement.KeptItems.{items_in}
 use Rattle.btx_names.proofs.kept_formats.KeptFormat.read.Given as goal
 
 abbrev pub invariant-loop-item : goal.invariant-loop-item

@@ -1,10 +1,11 @@
 use Rattle.std.proofs.Common.{◌≡◌, ◌++◌, refl, sym, ◌∙◌, ap, List, length-append, length, take, drop, arith}
 use Rattle.std.proofs.lemmas.List.{length-drop}
-use Rattle.btx_names.specs.Tokens.{Token, tokens_of}
-use Rattle.btx_names.specs.NameParts.{parts_by, surname_of, unsplit, von_end}
-use Rattle.btx_names.specs.NameTokens.{tokens_in}
-use Rattle.btx_names.specs.PartViews.{part_tokens, parts_view}
-use Rattle.btx_names.specs.SectionViews.{first_of, jr_of}
+use Rattle.btx_names.specs.language.Tokens.{NameToken, tokens_of}
+use Rattle.btx_names.specs.language.NameParts.{parts_by, unsplit, von_end}
+use Rattle.btx_names.specs.laws.NameParts.{surname_of}
+use Rattle.btx_names.specs.refinement.NameTokens.{tokens_in}
+use Rattle.btx_names.specs.refinement.PartViews.{part_tokens, parts_view}
+use Rattle.btx_names.specs.refinement.SectionViews.{first_section, jr_of}
 use Rattle.btx_names.proofs.PartLemmas.{AreSplit, sections_split, split_by_commas, parts_when_one, first_when_split, von_when_split, last_when_split, jr_of_sections, same_parts}
 use Rattle.btx_names.proofs.name_parts.NameParts.of.Goals as goal
 
@@ -13,7 +14,7 @@ split_at-requires c =
     let is = c.requires.1 in
     let one = tokens_of (surname_of c.requires.0) in
     let two = tokens_of (jr_of c.requires.0) in
-    let three = tokens_of (first_of c.requires.0) in
+    let three = tokens_of (first_section c.requires.0) in
     rw (c.deref.ensures.value, c.deref-2.ensures.value) (omega (arith, ap length is.tokens, length-append one (two ++ three), length-append two three, is.surname))
 
 pub split_at-requires-2 : goal.split_at-requires-2
@@ -21,7 +22,7 @@ split_at-requires-2 c =
     let is = c.requires.1 in
     let one = tokens_of (surname_of c.requires.0) in
     let two = tokens_of (jr_of c.requires.0) in
-    let three = tokens_of (first_of c.requires.0) in
+    let three = tokens_of (first_section c.requires.0) in
     let all = tokens_in c.args.list.now.bytes.items c.args.list.now.tokens.items in
     let back : part_tokens c.split_at.result.1 ≡ drop c.args.list.now.surname all = rw (c.deref.ensures.value, c.deref-2.ensures.value) at c.split_at.ensures.back in
     omega (arith, ap length back, length-drop c.args.list.now.surname all, ap length is.tokens, length-append one (two ++ three), length-append two three, is.surname, is.jr)
@@ -33,8 +34,8 @@ returns-then-list c = λ sections is.
     let cut = sections_split c.args.list.now sections (tokens_in c.deref.result.now c.deref-2.result.now) (part_tokens c.split_at.result.0) (part_tokens c.split_at.result.1) (part_tokens c.split_at-2.result.0) (part_tokens c.split_at-2.result.1) is all c.split_at.ensures.front c.split_at.ensures.back c.split_at-2.ensures.front c.split_at-2.ensures.back in
     same_parts (parts_view c.with_commas.result) (parts_by sections)
     (c.with_commas.ensures.first ∙ cut.2 ∙ sym (first_when_split sections split))
-    (c.with_commas.ensures.von ∙ ap (λ (tokens : List Token). take (von_end tokens) tokens) cut.0 ∙ sym (von_when_split sections split))
-    (c.with_commas.ensures.last ∙ ap (λ (tokens : List Token). drop (von_end tokens) tokens) cut.0 ∙ sym (last_when_split sections split))
+    (c.with_commas.ensures.von ∙ ap (λ (tokens : List NameToken). take (von_end tokens) tokens) cut.0 ∙ sym (von_when_split sections split))
+    (c.with_commas.ensures.last ∙ ap (λ (tokens : List NameToken). drop (von_end tokens) tokens) cut.0 ∙ sym (last_when_split sections split))
     (c.with_commas.ensures.jr ∙ cut.1 ∙ sym (jr_of_sections sections))
 
 pub returns : goal.returns
@@ -43,7 +44,7 @@ returns c = λ sections is.
     let all : tokens_in c.deref.result.now c.deref-2.result.now ≡ tokens_in c.args.list.now.bytes.items c.args.list.now.tokens.items = rw (c.deref.ensures.value, c.deref-2.ensures.value) refl in
     let cut = sections_split c.args.list.now sections (tokens_in c.deref.result.now c.deref-2.result.now) (part_tokens c.split_at.result.0) (part_tokens c.split_at.result.1) (part_tokens c.split_at-2.result.0) (part_tokens c.split_at-2.result.1) is all c.split_at.ensures.front c.split_at.ensures.back c.split_at-2.ensures.front c.split_at-2.ensures.back in
     same_parts (parts_view c.without_commas.result) (parts_by sections)
-    (c.without_commas.ensures.first ∙ ap (λ (tokens : List Token). (unsplit tokens).first) cut.0 ∙ sym one.0)
-    (c.without_commas.ensures.von ∙ ap (λ (tokens : List Token). (unsplit tokens).von) cut.0 ∙ sym one.1)
-    (c.without_commas.ensures.last ∙ ap (λ (tokens : List Token). (unsplit tokens).last) cut.0 ∙ sym one.2)
+    (c.without_commas.ensures.first ∙ ap (λ (tokens : List NameToken). (unsplit tokens).first) cut.0 ∙ sym one.0)
+    (c.without_commas.ensures.von ∙ ap (λ (tokens : List NameToken). (unsplit tokens).von) cut.0 ∙ sym one.1)
+    (c.without_commas.ensures.last ∙ ap (λ (tokens : List NameToken). (unsplit tokens).last) cut.0 ∙ sym one.2)
     (c.without_commas.ensures.jr ∙ cut.1 ∙ sym (jr_of_sections sections))

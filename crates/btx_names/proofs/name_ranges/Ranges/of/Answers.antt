@@ -1,4 +1,4 @@
-use Rattle.btx_names.specs.PartViews.{part_tokens}
+use Rattle.btx_names.specs.refinement.PartViews.{part_tokens}
 use Rattle.btx_names.specs.declared.token_counts.TokenTest.TheVariants.{Von, Apart}
 use Rattle.btx_names.proofs.RangeLemmas.{up_to_last-le, before_first-le}
 use Rattle.btx_names.proofs.name_ranges.Ranges.of.Goals as goal

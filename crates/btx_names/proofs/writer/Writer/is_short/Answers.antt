@@ -1,6 +1,6 @@
 use Rattle.std.proofs.Common.{◌≡◌, true, false, [], drop, refl, sym}
 use Rattle.std.proofs.lemmas.List.{append-nil}
-use Rattle.btx_names.specs.FormattedNames.{is_short}
+use Rattle.btx_names.specs.language.FormattedNames.{is_short}
 use Rattle.btx_names.proofs.writer.Writer.is_short.Goals as goal
 
 pub returns-else-not-self : goal.returns-else-not-self

@@ -1,7 +1,8 @@
 use Rattle.std.proofs.Common.{rules, ◌≡◌, ◌∙◌, ◌++◌, ◌∷◌, [], List, None, Option, Some, ap, append-nil, sym}
 use Rattle.btx_aux.proofs.AnswerLemmas.{by_map}
-use Rattle.btx_run.specs.Files.Found.{NamedFile}
-use Rattle.btx_run.specs.Files.Readings.{as_list, database_read}
+use Rattle.btx_run.specs.language.Files.Found.{NamedFile}
+use Rattle.btx_run.specs.language.Files.Readings.{as_list}
+use Rattle.btx_run.specs.refinement.Files.Readings.{database_read}
 use Rattle.btx_run.proofs.ReadingLemmas.{adds_begun, adds_found}
 use Rattle.btx_run.proofs.TellingLemmas.{told_begins}
 use Rattle.btx_run.proofs.files.databases.add_database.Goals as goal

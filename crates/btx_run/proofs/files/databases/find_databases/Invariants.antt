@@ -1,8 +1,9 @@
 use Rattle.std.proofs.Common.{◌≡◌, take}
-use Rattle.btx_aux.specs.Answers.{ByAnswers}
-use Rattle.btx_aux.specs.Entries.{texts_of}
-use Rattle.btx_run.specs.Files.Asked.{AreAmong}
-use Rattle.btx_run.specs.Files.Readings.{IsRead, databases_read}
+use Rattle.btx_aux.specs.refinement.Answers.{ByAnswers}
+use Rattle.btx_aux.specs.refinement.Entries.{texts_of}
+use Rattle.btx_run.specs.refinement.Files.Asked.{AreAmong}
+use Rattle.btx_run.specs.language.Files.Readings.{databases_read}
+use Rattle.btx_run.specs.refinement.Files.Readings.{IsRead}
 use Rattle.btx_run.proofs.files.databases.find_databases.Given as goal
 
 -- the databases of the names so far were looked for, and no fetch and no write has failed

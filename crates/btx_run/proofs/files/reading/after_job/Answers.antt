@@ -1,7 +1,7 @@
 use Rattle.std.proofs.Common.{rules, ◌≡◌}
 use Rattle.btx_aux.specs.declared.end.End.TheVariants as aux
 use Rattle.btx_aux.proofs.AnswerLemmas.{by_map, by_none}
-use Rattle.btx_run.specs.Files.Asked.{names_in}
+use Rattle.btx_run.specs.refinement.Files.Asked.{names_in}
 use Rattle.btx_run.proofs.AskedLemmas.{among-none}
 use Rattle.btx_run.proofs.ReadingLemmas.{after_long, after_many, after_none, after_whole, reads_is}
 use Rattle.btx_run.proofs.files.reading.after_job.Goals as goal

@@ -2,7 +2,7 @@ use Rattle.std.proofs.Common.{rules, ◌≡◌, None, Some}
 use Rattle.btx_aux.proofs.AnswerLemmas.{by_map, by_none}
 use Rattle.btx_run.proofs.AskedLemmas.{among-named, among-none}
 use Rattle.btx_run.proofs.ReadingLemmas.{reads_is, style_is_named, style_unnamed}
-use Rattle.btx_run.specs.Files.Asked.{names_in}
+use Rattle.btx_run.specs.refinement.Files.Asked.{names_in}
 use Rattle.btx_run.proofs.files.reading.named_style.Goals as goal
 
 pub returns-in-Some-clause-reads : goal.returns-in-Some-clause-reads

@@ -1,5 +1,5 @@
 use Rattle.std.proofs.Common.{◌≡◌, replicate}
-use Rattle.btx_step.specs.Starts.{first_values}
+use Rattle.btx_step.specs.language.Starts.{first_values}
 use Rattle.btx_step.proofs.store.starts.first_entries.Given as goal
 
 abbrev pub invariant-loop-entry : goal.invariant-loop-entry

@@ -1,4 +1,4 @@
-use Rattle.btx_text.specs.Elements.{elements_of}
+use Rattle.btx_text.specs.language.Elements.{elements_of}
 use Rattle.btx_text.proofs.DivisionLemmas.{elements_of-divides}
 use Rattle.btx_text.proofs.string_elements.Elements.of_text.Goals as goal
 

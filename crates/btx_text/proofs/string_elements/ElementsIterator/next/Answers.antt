@@ -1,5 +1,5 @@
 use Rattle.std.proofs.Common.{◌∙◌, sym, List, length, ap, arith}
-use Rattle.btx_text.specs.Elements.{Part}
+use Rattle.btx_text.specs.language.Elements.{Element}
 use Rattle.btx_text.proofs.ElementLemmas.{elements_from-step}
 use Rattle.btx_text.proofs.string_elements.ElementsIterator.next.Goals as goal
 
@@ -11,5 +11,5 @@ returns-clause-steps c =
 
 pub returns-clause-goes : goal.returns-clause-goes
 returns-clause-goes c =
-    let len = ap (λ (parts : List Part). length parts) (returns-clause-steps c) in
+    let len = ap (λ (parts : List Element). length parts) (returns-clause-steps c) in
     record { on = λ _. (tt, tt, omega (arith, len)); keeps = tt; rests = λ _. tt }

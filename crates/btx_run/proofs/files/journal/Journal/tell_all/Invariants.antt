@@ -1,5 +1,5 @@
 use Rattle.std.proofs.Common.{◌≡◌, take}
-use Rattle.btx_run.specs.Files.Telling.{Tells}
+use Rattle.btx_run.specs.refinement.Files.Telling.{Tells}
 use Rattle.btx_run.proofs.files.journal.Journal.tell_all.Given as goal
 
 -- the lines so far were told, and no write has failed

@@ -1,0 +1,7 @@
+pub mod Files
+pub mod Fetches
+pub mod Grammar
+pub mod Names
+pub mod Events
+pub mod Notes
+pub mod Job

@@ -1,0 +1,12 @@
+pub mod Fetches
+pub mod Pairs
+pub mod Entries
+pub mod Borrowed
+pub mod Answers
+pub mod Pieces
+pub mod Commands
+pub mod Told
+pub mod KeyTable
+pub mod Drafts
+pub mod Reads
+pub mod Faults

@@ -1,7 +1,0 @@
--- The pieces of a message's text in the code.
-use Rattle.std.specs.Prelude.{ℕ, List, ◌++◌}
-use Rattle.btx_bib.specs.declared.message_texts.Wording.{Wording}
-
--- the text
-abbrev pub joined : Wording → List ℕ
-joined wording = wording.before.now ++ wording.first.now ++ wording.between.now ++ wording.second.now ++ wording.after.now

@@ -1,0 +1,15 @@
+pub mod Grammar
+pub mod Values
+pub mod Library
+pub mod Wanted
+pub mod Filling
+pub mod Entries
+pub mod Stored
+pub mod Listing
+pub mod Passes
+pub mod Requests
+pub mod Strings
+pub mod Known
+pub mod Told
+pub mod Databases
+pub mod MessageTexts

@@ -1,0 +1,75 @@
+-- What some databases give to a job, read one after the other.
+use Rattle.std.specs.Prelude.{ℕ, nat_lt, Bool, List, [], ◌++◌, fold, length, None, if◌then◌else◌}
+use Rattle.btx_text.specs.language.Limits.{greatest_file}
+use Rattle.btx_bib.specs.declared.end.End.{End}
+use Rattle.btx_bib.specs.declared.end.End.TheVariants as end
+use Rattle.btx_bib.specs.declared.grammar.commands.Wanted.TheVariants.{Item}
+use Rattle.btx_bib.specs.declared.message.Message.{Message}
+use Rattle.btx_bib.specs.language.Grammar.Items.{Placed, events_from}
+use Rattle.btx_bib.specs.language.Grammar.ValueTexts.{squeezed}
+use Rattle.btx_bib.specs.language.Library.{Library}
+use Rattle.btx_bib.specs.language.Wanted.{Request}
+use Rattle.btx_bib.specs.language.Strings.{defined}
+use Rattle.btx_bib.specs.language.Listing.{slots_of}
+use Rattle.btx_bib.specs.language.Passes.{entries_of, reference_messages}
+use Rattle.btx_bib.specs.language.Known.{Known, goes_on, with_current_stored, if_fits, keeping}
+use Rattle.btx_bib.specs.language.Told.{Database, Reading, read_next}
+
+-- ---- before the first database
+
+-- what is known before any macro or database is read: no strings, no entries and no preamble
+abbrev pub nothing : Known
+nothing = record { strings = []; stored = []; current = None; preamble = []; ending = end.Whole }
+
+-- a macro of the style, its name in lower case and its text, is a string whose text is the value
+abbrev pub with_macro : Known → List ℕ × List ℕ → Known
+with_macro known macro =
+    if goes_on known.ending then (let text = squeezed macro.1 in if_fits text known (record known { strings = defined known.strings macro.0 text })) else known
+
+-- what is known before the first database: each macro of the style is a string
+abbrev pub with_macros : List (List ℕ × List ℕ) → Known
+with_macros macros = fold with_macro nothing macros
+
+-- ---- one database
+
+-- a file is longer than a file may be
+abbrev pub is_database_too_long : Database → Bool
+is_database_too_long database = nat_lt greatest_file (length database.text)
+
+-- what stands in a database and what is wrong in it, item by item; which entries are repeated depends on what is known before it
+abbrev pub database_events : Request → Known → Database → List Placed
+database_events wanted known database = events_from (keeping wanted) known Item database.text
+
+-- a database is read event by event; at its end the entry that is being read is at its end too
+abbrev pub read_whole : Request → Reading → Database → Reading
+read_whole wanted reading database =
+    let last = fold (read_next wanted database) reading (database_events wanted reading.known database) in record last { known = with_current_stored last.known }
+
+-- reads a database, unless the reading has ended already; a file that is too long ends it
+abbrev pub read_one : Request → Reading → Database → Reading
+read_one wanted reading database =
+    if goes_on reading.known.ending then
+    (if is_database_too_long database then record reading { known = record reading.known { ending = end.FileLimit } } else read_whole wanted reading database)
+    else reading
+
+-- ---- all databases
+
+-- databases are read one after the other, from the style's macros on
+abbrev pub read_all : Request → List (List ℕ × List ℕ) → List Database → Reading
+read_all wanted macros databases = fold (read_one wanted) (record { known = with_macros macros; messages = [] }) databases
+
+-- the library made of what is known at the end: after a limit it has no entries and no preamble, and only the messages until then
+abbrev pub library_by : End → Request → Known → List Message → Library
+library_by end.Whole wanted known messages = record {
+  entries = entries_of (slots_of wanted known.stored);
+  preamble = known.preamble;
+  messages = messages ++ reference_messages (slots_of wanted known.stored);
+  ending = end.Whole;
+}
+library_by end.FileLimit wanted known messages = record { entries = []; preamble = []; messages = messages; ending = end.FileLimit }
+library_by end.StringLimit wanted known messages = record { entries = []; preamble = []; messages = messages; ending = end.StringLimit }
+
+-- what databases give to a job, where `macros` are those of its style
+unfoldable pub library_of : Request → List (List ℕ × List ℕ) → List Database → Library
+library_of wanted macros databases =
+    let reading = read_all wanted macros databases in library_by reading.known.ending wanted reading.known reading.messages

@@ -1,0 +1,8 @@
+pub mod Bytes
+pub mod ByteSets
+pub mod Tokens
+pub mod Values
+pub mod Fields
+pub mod Items
+pub mod ValueTexts
+pub mod PlaceLines

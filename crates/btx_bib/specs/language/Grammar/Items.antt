@@ -1,0 +1,137 @@
+-- Items as they are read: what follows an `@`, then the fields of an entry one by one, and the end.
+use Rattle.std.specs.Prelude.{ℕ, Bool, false, zero, suc, ◌+◌, ◌*◌, ◌==◌, List, [], ◌∷◌, length, Option, None, Some, Ok, Err, if◌then◌else◌, codes}
+use Rattle.std.specs.Str.{bytes_eq}
+use Rattle.std.specs.Option.{option_map}
+use Rattle.btx_text.specs.language.Keys.{folded}
+use Rattle.btx_bib.specs.declared.grammar.byte_sets.Delimiter.{Delimiter}
+use Rattle.btx_bib.specs.declared.grammar.commands.Command.{Command}
+use Rattle.btx_bib.specs.declared.grammar.commands.Command.TheVariants as command
+use Rattle.btx_bib.specs.declared.grammar.commands.Wanted.{Wanted}
+use Rattle.btx_bib.specs.declared.grammar.commands.Wanted.TheVariants.{Item, Closing, Fields}
+use Rattle.btx_bib.specs.declared.grammar.slip.Slip.{Slip}
+use Rattle.btx_bib.specs.declared.grammar.slip.Slip.TheVariants.{NoEquals, NoClosing, Repeated}
+use Rattle.btx_bib.specs.language.Grammar.Bytes.{at_sign, equals_sign}
+use Rattle.btx_bib.specs.language.Grammar.Tokens.{Parsed, followed_by, name_at, open_at, sign_at, key_at, closing_delimiter}
+use Rattle.btx_bib.specs.language.Grammar.Values.{Part, value_at}
+use Rattle.btx_bib.specs.language.Grammar.Fields.{Field, more_at}
+
+-- what is read: an `@comment`, a `@preamble`'s value, a `@string`'s name and value, an entry's type and key, a field, the end of
+-- the item, or what is wrong
+pub data Event : Type 0 where
+  Comment : Event
+  Preamble : (value : List Part) → Event
+  Definition : (name : List ℕ) (value : List Part) → Event
+  Entry : (kind key : List ℕ) → Event
+  FieldOf : (field : Field) → Event
+  End : Event
+  Wrong : (slip : Slip) → Event
+
+-- the command of a name, whose case is ignored: any other name is an entry's type
+unfoldable pub command_of : List ℕ → Command
+command_of name =
+    if bytes_eq (folded name) (codes "comment") then command.Comment
+    else if bytes_eq (folded name) (codes "preamble") then command.Preamble
+    else if bytes_eq (folded name) (codes "string") then command.Definition else command.Entry
+
+-- reads the first part of an item, given its command: the event, and what is expected next
+unfoldable pub head_of : Command → List ℕ → List ℕ → Parsed (Event × Wanted)
+head_of command.Comment name text = Ok ((Comment, Item), text)
+head_of command.Preamble name text =
+    followed_by (open_at text) (λ delimiter behind_open.
+    followed_by (value_at behind_open) (λ value rest. Ok ((Preamble value, Closing delimiter), rest)))
+head_of command.Definition name text =
+    followed_by (open_at text) (λ delimiter behind_open.
+    followed_by (name_at behind_open) (λ string behind_name.
+    followed_by (sign_at equals_sign NoEquals behind_name) (λ sign behind_sign.
+    followed_by (value_at behind_sign) (λ value rest. Ok ((Definition string value, Closing delimiter), rest)))))
+head_of command.Entry name text =
+    followed_by (open_at text) (λ delimiter behind_open.
+    followed_by (key_at delimiter behind_open) (λ key rest. Ok ((Entry name key, Fields delimiter), rest)))
+
+-- what follows an `@`, read up to the first event of the item: the event, and what is wanted next; or what is wrong
+unfoldable pub head_at : List ℕ → Parsed (Event × Wanted)
+head_at text = followed_by (name_at text) (λ name rest. head_of (command_of name) name rest)
+
+-- the end of an item as an event; an item is expected next
+abbrev pub item_end : Parsed (Unit {0}) → Parsed (Event × Wanted)
+item_end (Ok got) = Ok ((End, Item), got.1)
+item_end (Err wrong) = Err wrong
+
+-- a field as an event, after which the entry goes on; or the end of the entry, after which an item is expected
+abbrev pub field_event : Delimiter → Parsed (Option Field) → Parsed (Event × Wanted)
+field_event delimiter (Ok (None, rest)) = Ok ((End, Item), rest)
+field_event delimiter (Ok (Some field, rest)) = Ok ((FieldOf field, Fields delimiter), rest)
+field_event delimiter (Err wrong) = Err wrong
+
+-- what is read at a place, what is wanted next, and the text from there on
+pub record Step : Type 0 where
+  pub event : Event
+  pub wanted : Wanted
+  pub rest : List ℕ
+
+-- a reading as one step; after an error an item is expected
+abbrev pub step_by : Parsed (Event × Wanted) → Step
+step_by (Ok got) = record { event = got.0.0; wanted = got.0.1; rest = got.1 }
+step_by (Err wrong) = record { event = Wrong wrong.0; wanted = Item; rest = wrong.1 }
+
+-- the text behind the first `@`
+unfoldable pub behind_at : List ℕ → Option (List ℕ)
+behind_at [] = None
+behind_at (b ∷ bs) = if b == at_sign then Some bs else behind_at bs
+
+-- the next event of a text, given what is expected there; none if an item is expected and no `@` is left
+unfoldable pub expected_step : Wanted → List ℕ → Option Step
+expected_step Item text = option_map (λ rest. step_by (head_at rest)) (behind_at text)
+expected_step (Closing delimiter) text = Some (step_by (item_end (sign_at (closing_delimiter delimiter) (NoClosing delimiter) text)))
+expected_step (Fields delimiter) text = Some (step_by (field_event delimiter (more_at delimiter text)))
+
+-- an event, with its place: `rest` is the text from its end on
+pub record Placed : Type 0 where
+  pub event : Event
+  pub rest : List ℕ
+
+-- ---- what is known of the items before
+
+-- an event is the key of an entry, and the key is stored already
+abbrev pub is_repeated : (List ℕ → Bool) → Event → Bool
+is_repeated is_stored (Entry kind key) = is_stored key
+is_repeated is_stored _ = false
+
+-- an event, given which keys are stored: the key of a stored entry is the error `Repeated entry`, after which an item is expected
+abbrev pub as_known : (List ℕ → Bool) → Event × Wanted → Event × Wanted
+as_known is_stored got = if is_repeated is_stored got.0 then (Wrong Repeated, Item) else got
+
+-- what is read next, where some keys are stored: an entry that repeats one of them is a fault
+abbrev pub known_step : (List ℕ → Bool) → Option Step → Option Step
+known_step is_stored None = None
+known_step is_stored (Some step) =
+    let got = as_known is_stored (step.event, step.wanted) in Some (record { event = got.0; wanted = got.1; rest = step.rest })
+
+-- the next event of a text, given what is expected there and which keys are stored
+abbrev pub next_step : (List ℕ → Bool) → Wanted → List ℕ → Option Step
+next_step is_stored wanted text = known_step is_stored (expected_step wanted text)
+
+-- how what is known of the items before is kept, where S is the type of all that is known: which keys are stored, and what is known after a
+-- further event
+pub record Keeping (S : Type 0) : Type 0 where
+  pub is_stored : S → List ℕ → Bool
+  pub after : S → Event → S
+
+-- ---- the events of a text
+
+-- the events of a text from the next step on, if there is one: its event, and those that `others` give of the rest
+abbrev pub events_by : {S : Type 0} → Keeping S → (S → Wanted → List ℕ → List Placed) → S → Option Step → List Placed
+events_by keeping others state None = []
+events_by keeping others state (Some step) =
+    record { event = step.event; rest = step.rest } ∷ others (keeping.after state step.event) step.wanted step.rest
+
+-- at most `turns` events of a text; the bound is that of `events_from`, and is never reached
+unfoldable pub events_within : {S : Type 0} → Keeping S → ℕ → S → Wanted → List ℕ → List Placed
+events_within keeping zero state wanted text = []
+events_within keeping (suc turns) state wanted text =
+    events_by keeping (events_within keeping turns) state (next_step (keeping.is_stored state) wanted text)
+
+-- the events of a text, given what is known before it and what is expected first. The bound on their number is never reached, since each takes a
+-- byte or ends an item
+unfoldable pub events_from : {S : Type 0} → Keeping S → S → Wanted → List ℕ → List Placed
+events_from keeping state wanted text = events_within keeping (suc (2 * length text + 1)) state wanted text

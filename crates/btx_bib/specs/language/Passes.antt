@@ -1,0 +1,149 @@
+-- Cross-references (btxdoc, section 2.2's `crossref`; the two passes are those of the original). Each pass goes along the list, and
+-- each place is judged by the list as it is then.
+use Rattle.std.specs.Prelude.{ℕ, ◌&&◌, Bool, false, List, [], ◌∷◌, ◌++◌, Option, None, Some, is_some, if◌then◌else◌}
+use Rattle.std.specs.List.{find, flat_map}
+use Rattle.std.specs.Option.{option_or}
+use Rattle.btx_aux.specs.language.Names.{is_same_key}
+use Rattle.btx_bib.specs.declared.entry.Entry.{Entry}
+use Rattle.btx_bib.specs.declared.message.Message.{Message}
+use Rattle.btx_bib.specs.declared.message.Message.TheVariants.{BadReference, NestedReference, NoEntry}
+use Rattle.btx_bib.specs.declared.slots.Body.{Body}
+use Rattle.btx_bib.specs.declared.slots.Slot.{Slot}
+use Rattle.btx_bib.specs.language.Entries.{parent_in}
+
+-- the list after a pass that changes each place in turn: `judge` sees the list as it is then, of which the places `done` have been changed
+-- already
+abbrev pub passed : (List Slot → Slot → Slot) → List Slot → List Slot → List Slot
+passed judge done [] = done
+passed judge done (slot ∷ slots) = passed judge (done ++ judge (done ++ slot ∷ slots) slot ∷ []) slots
+
+-- the messages of a pass, in the order of the places: `tell` sees a place before `judge` changes it, so that a message can name a parent that the
+-- pass takes away
+abbrev pub pass_messages : (List Slot → Slot → Slot) → (List Slot → Slot → List Message) → List Slot → List Slot → List Message
+pass_messages judge tell done [] = []
+pass_messages judge tell done (slot ∷ slots) = tell (done ++ slot ∷ slots) slot ++ pass_messages judge tell (done ++ judge (done ++ slot ∷ slots) slot ∷ []) slots
+
+-- the values of an entry of the list; none if the place has no entry
+abbrev pub body_values : Option Body → List (Option (List ℕ))
+body_values None = []
+body_values (Some body) = body.values
+
+-- the key of the parent of the entry at a place
+abbrev pub parent_at : Slot → Option (List ℕ)
+parent_at slot = parent_in (body_values slot.body)
+
+-- the place of the list that has this key, whose case is ignored
+abbrev pub slot_at : List Slot → List ℕ → Option Slot
+slot_at slots key = find (λ (slot : Slot). is_same_key key slot.key) slots
+
+-- the place of the list for a parent, given its key, if there is one
+abbrev pub parent_slot : List Slot → Option (List ℕ) → Option Slot
+parent_slot slots None = None
+parent_slot slots (Some key) = slot_at slots key
+
+-- a place of the list with another entry
+abbrev pub with_body : Slot → Option Body → Slot
+with_body slot body = record slot { body = body }
+
+-- an entry with other values for its fields, if there is an entry
+abbrev pub with_field_values : Option Body → List (Option (List ℕ)) → Option Body
+with_field_values None values = None
+with_field_values (Some body) values = Some (record body { values = values })
+
+-- an entry's values, with the parent's value for each missing one
+abbrev pub or_values : List (Option (List ℕ)) → List (Option (List ℕ)) → List (Option (List ℕ))
+or_values [] parents = []
+or_values (value ∷ values) [] = value ∷ values
+or_values (value ∷ values) (parent ∷ parents) = option_or value parent ∷ or_values values parents
+
+-- an entry's values, where those that are missing are the parent's, and `crossref` is the parent's key as the list spells it
+abbrev pub inherited_values : List ℕ → List (Option (List ℕ)) → List (Option (List ℕ)) → List (Option (List ℕ))
+inherited_values key [] parents = []
+inherited_values key (value ∷ values) [] = Some key ∷ values
+inherited_values key (value ∷ values) (parent ∷ parents) = Some key ∷ or_values values parents
+
+-- the first pass at a place, given the place of the parent: the entry's `crossref` becomes the parent's key as the list spells it, and each field
+-- that the entry lacks takes the parent's value
+abbrev pub inherited_from : Option Slot → Slot → Slot
+inherited_from None slot = slot
+inherited_from (Some parent) slot = with_body slot (with_field_values slot.body (inherited_values parent.key (body_values slot.body) (body_values parent.body)))
+
+-- the first pass, at a place of the list: what the entry there lacks it takes from its parent, by what that has at that moment
+unfoldable pub inherited : List Slot → Slot → Slot
+inherited slots slot = inherited_from (parent_slot slots (parent_at slot)) slot
+
+-- values without the parent's key
+abbrev pub without_parent : List (Option (List ℕ)) → List (Option (List ℕ))
+without_parent [] = []
+without_parent (value ∷ values) = None ∷ values
+
+-- a place of the list whose entry has lost its `crossref`
+abbrev pub without_crossref : Slot → Slot
+without_crossref slot = with_body slot (with_field_values slot.body (without_parent (body_values slot.body)))
+
+-- the parent has an entry that stays
+abbrev pub is_parent : Option Slot → Bool
+is_parent None = false
+is_parent (Some parent) = is_some parent.body && parent.stays
+
+-- the second pass at a place, given the key of the parent that the entry there names: the entry loses its `crossref` if the parent has no entry or
+-- doesn't stay
+abbrev pub checked_by : Option (List ℕ) → List Slot → Slot → Slot
+checked_by None slots slot = slot
+checked_by (Some key) slots slot = if is_parent (slot_at slots key) then slot else without_crossref slot
+
+-- the second pass, at a place of the list: the entry there keeps its parent only if that has an entry that stays
+unfoldable pub checked : List Slot → Slot → Slot
+checked slots slot = checked_by (parent_at slot) slots slot
+
+-- the message, if `b` is true
+abbrev pub message_if : Bool → Message → List Message
+message_if b message = if b then message ∷ [] else []
+
+-- the message of a parent: that it has no entry, or that it has a parent
+abbrev pub parent_messages : List ℕ → List ℕ → Option Slot → List Message
+parent_messages child key None = BadReference child key ∷ []
+parent_messages child key (Some parent) = if is_some parent.body then message_if (is_some (parent_at parent)) (NestedReference child key) else BadReference child key ∷ []
+
+-- the messages about the parent that the entry at a place of the list names, if it names one
+abbrev pub check_messages_by : Option (List ℕ) → List Slot → Slot → List Message
+check_messages_by None slots slot = []
+check_messages_by (Some key) slots slot = parent_messages slot.key key (slot_at slots key)
+
+-- what the second pass logs of a place: that the parent has no entry, or that it has a parent itself
+unfoldable pub check_messages : List Slot → Slot → List Message
+check_messages slots slot = check_messages_by (parent_at slot) slots slot
+
+-- the entry at a place of the list, if there is one and it stays
+abbrev pub entry_by : List ℕ → Bool → Option Body → List Entry
+entry_by key stays None = []
+entry_by key stays (Some body) = if stays then record { key = key; kind = body.kind; values = body.values } ∷ [] else []
+
+-- the entry of the library at a place of the list, if one is there and stays
+abbrev pub entry_at : Slot → List Entry
+entry_at slot = entry_by slot.key slot.stays slot.body
+
+-- the message that a key has no entry, if it has none
+abbrev pub absence_by : List ℕ → Option Body → List Message
+absence_by key None = NoEntry key ∷ []
+absence_by key (Some body) = []
+
+-- the message of a place of the list, where its key has no entry
+abbrev pub absence_messages : Slot → List Message
+absence_messages slot = absence_by slot.key slot.body
+
+-- the list after the first pass: children have what they inherit
+abbrev pub after_first : List Slot → List Slot
+after_first slots = passed inherited [] slots
+
+-- the list after both passes: entries whose parents are missing or leave have lost their `crossref`
+abbrev pub after_second : List Slot → List Slot
+after_second slots = passed checked [] slots
+
+-- the entries of the list that stay, in order, after both passes
+unfoldable pub entries_of : List Slot → List Entry
+entries_of slots = flat_map entry_at (after_second (after_first slots))
+
+-- the messages of the passes: of parents, and then of keys that have no entry
+unfoldable pub reference_messages : List Slot → List Message
+reference_messages slots = pass_messages checked check_messages [] (after_first slots) ++ flat_map absence_messages (after_second (after_first slots))

@@ -1,0 +1,36 @@
+-- Which entries of the databases are stored. An entry is stored if `*` or its key is cited, or if it is the parent of an entry stored
+-- before it, and no entry stored before it has its key. Keys are compared without case (btxdoc, section 3).
+use Rattle.std.specs.Prelude.{ℕ, ◌||◌, Bool, List, [], ◌++◌, map, Option, None, Some, is_some}
+use Rattle.std.specs.List.{find, list_any, flat_map}
+use Rattle.btx_aux.specs.language.Names.{is_same_key}
+use Rattle.btx_bib.specs.language.Wanted.{Request}
+use Rattle.btx_bib.specs.language.Entries.{Given, parent_of, list_of_option}
+
+-- a key is one of some keys, where case is ignored
+abbrev pub is_any_key : List (List ℕ) → List ℕ → Bool
+is_any_key keys key = list_any (is_same_key key) keys
+
+-- the keys of these entries, in order
+abbrev pub keys_in : List Given → List (List ℕ)
+keys_in entries = map (λ (given : Given). given.key) entries
+
+-- the first of some entries whose key equals `key` without case
+abbrev pub entry_with_key : List Given → List ℕ → Option Given
+entry_with_key entries key = find (λ (given : Given). is_same_key key given.key) entries
+
+-- the keys that these entries have as their `crossref`, one for each entry that has a parent
+abbrev pub parents_in : Request → List Given → List (List ℕ)
+parents_in wanted entries = flat_map (λ (given : Given). list_of_option (parent_of wanted given)) entries
+
+-- the references that count for the list: the parents of stored entries; none with `*`
+abbrev pub references_by : Option ℕ → Request → List Given → List (List ℕ)
+references_by None wanted entries = parents_in wanted entries
+references_by (Some place) wanted entries = []
+
+-- the parents that stored entries name, one for each child; none with `*`, which lists every entry anyway
+abbrev pub references : Request → List Given → List (List ℕ)
+references wanted entries = references_by wanted.all wanted entries
+
+-- an entry with the key `key` is to be stored: `*` was cited, or the key was, or one of the stored entries names it as its parent
+abbrev pub is_wanted : Request → List Given → List ℕ → Bool
+is_wanted wanted stored key = is_some wanted.all || is_any_key (wanted.cited ++ references wanted stored) key

@@ -1,0 +1,7 @@
+pub mod Grammar
+pub mod Known
+pub mod Laws
+pub mod Parents
+pub mod Cuts
+pub mod Storing
+pub mod WorkedLibraries

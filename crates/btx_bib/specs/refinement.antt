@@ -1,0 +1,15 @@
+pub mod Grammar
+pub mod Spellings
+pub mod Values
+pub mod Finding
+pub mod Filling
+pub mod Drafts
+pub mod KnownFields
+pub mod Requests
+pub mod Strings
+pub mod Sources
+pub mod Sites
+pub mod Gatherings
+pub mod Readings
+pub mod Steps
+pub mod Wordings

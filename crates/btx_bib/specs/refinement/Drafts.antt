@@ -1,0 +1,100 @@
+-- What the code keeps of the list of keys while databases are read, and what an entry adds to it.
+use Rattle.std.specs.Prelude.{ℕ, ◌-◌, nat_eq, ◌||◌, Bool, true, false, List, [], ◌∷◌, ◌++◌, map, Option, None, Some, is_some, slice_get, if◌then◌else◌}
+use Rattle.std.specs.Option.{unwrap_or}
+use Rattle.std.specs.Str.{bytes_eq}
+use Rattle.btx_text.specs.language.Keys.{folded}
+use Rattle.btx_aux.specs.language.Names.{listed_as}
+use Rattle.btx_bib.specs.declared.draft.Draft.{Draft}
+use Rattle.btx_bib.specs.declared.draft.Standing.{Standing}
+use Rattle.btx_bib.specs.declared.draft.Standing.TheVariants.{Unwanted, Repeated, Wanted}
+use Rattle.btx_bib.specs.declared.draft_slots.DraftSlot.{DraftSlot}
+use Rattle.btx_bib.specs.declared.slots.Body.{Body}
+use Rattle.btx_bib.specs.declared.slots.Slot.{Slot}
+use Rattle.btx_bib.specs.refinement.Finding.{first_place, changed_at}
+use Rattle.btx_bib.specs.language.Wanted.{Request}
+use Rattle.btx_bib.specs.language.Entries.{parent_in}
+
+-- the place of a key
+abbrev pub place_in : Draft → List ℕ → Option ℕ
+place_in draft key = first_place (bytes_eq (folded key)) draft.names
+
+-- the place of a key that has no entry yet
+abbrev pub open_slot : Request → Bool → ℕ → List ℕ → DraftSlot
+open_slot request is_cited count key = record { key = key; is_cited = is_cited; wanting = request.fewest - count; body = None }
+
+-- a place that gets an entry
+abbrev pub with_entry : Body → List ℕ → DraftSlot → DraftSlot
+with_entry body key slot = record { key = if slot.is_cited then slot.key else key; is_cited = slot.is_cited; wanting = slot.wanting; body = Some body }
+
+-- a place that is referred to once more
+abbrev pub once_more : DraftSlot → DraftSlot
+once_more slot = record slot { wanting = slot.wanting - 1 }
+
+-- no key
+abbrev pub empty : Draft
+empty = record { names = []; slots = [] }
+
+-- the list after a cited key, which has this place
+abbrev pub cited_at : Request → List ℕ → Draft → Option ℕ → Draft
+cited_at request key draft (Some place) = draft
+cited_at request key draft None = record { names = draft.names ++ folded key ∷ []; slots = draft.slots ++ open_slot request true 0 key ∷ [] }
+
+-- the list after some cited keys
+abbrev pub cited_all : Request → Draft → List (List ℕ) → Draft
+cited_all request draft [] = draft
+cited_all request draft (key ∷ keys) = cited_all request (cited_at request key draft (place_in draft key)) keys
+
+-- there is an entry at a place
+abbrev pub has_body : Option DraftSlot → Bool
+has_body None = false
+has_body (Some slot) = is_some slot.body
+
+-- there is an entry at the place of a key
+abbrev pub has_entry : Draft → Option ℕ → Bool
+has_entry draft None = false
+has_entry draft (Some place) = has_body (slice_get draft.slots place)
+
+-- how an entry stands whose key isn't in the list, and whose key has this place
+abbrev pub new_standing : Option ℕ → Standing
+new_standing None = Unwanted
+new_standing (Some place) = Wanted
+
+abbrev pub standing_at : Request → Draft → Option ℕ → Standing
+standing_at request draft None = new_standing request.all
+standing_at request draft (Some place) = if has_body (slice_get draft.slots place) then Repeated else Wanted
+
+-- the list after a reference to a key, which has this place
+abbrev pub referred_at : Request → List ℕ → Draft → Option ℕ → Draft
+referred_at request key draft (Some place) = record draft { slots = changed_at place once_more draft.slots }
+referred_at request key draft None = record { names = draft.names ++ folded key ∷ []; slots = draft.slots ++ open_slot request false 1 key ∷ [] }
+
+-- the list after the reference of an entry, if it has one: with `*` it doesn't count
+abbrev pub referred_by : Option ℕ → Request → Draft → Option (List ℕ) → Draft
+referred_by (Some place) request draft parent = draft
+referred_by None request draft None = draft
+referred_by None request draft (Some key) = referred_at request key draft (place_in draft key)
+
+abbrev pub referred : Request → Draft → Option (List ℕ) → Draft
+referred request draft parent = referred_by request.all request draft parent
+
+-- the place of a key that isn't in the list yet: it is spelled as it was cited, or as its entry has it
+abbrev pub late_slot : Request → List ℕ → Option (List ℕ) → DraftSlot
+late_slot request key cited = open_slot request (is_some cited) 0 (unwrap_or cited key)
+
+-- the list with an entry put where its key has this place, or at a new place
+abbrev pub put_at : Request → List ℕ → Body → Draft → Option ℕ → Draft
+put_at request key body draft (Some place) = record draft { slots = changed_at place (with_entry body key) draft.slots }
+put_at request key body draft None = record { names = draft.names ++ folded key ∷ []; slots = draft.slots ++ with_entry body key (late_slot request key (listed_as request.cited key)) ∷ [] }
+
+-- the list after an entry that is stored, whose key has this place
+unfoldable pub stored_at : Request → List ℕ → Body → Draft → Option ℕ → Draft
+stored_at request key body draft place = referred request (put_at request key body draft place) (parent_in body.values)
+
+-- ---- once all databases are read
+
+-- a place of the list: its entry stays if it was cited, or lacks no reference
+abbrev pub settled : DraftSlot → Slot
+settled slot = record { key = slot.key; stays = slot.is_cited || nat_eq slot.wanting 0; body = slot.body }
+
+abbrev pub settled_all : List DraftSlot → List Slot
+settled_all slots = map settled slots

@@ -1,0 +1,11 @@
+pub mod ByteSets
+pub mod Tokens
+pub mod Values
+pub mod PartViews
+pub mod FieldViews
+pub mod EventViews
+pub mod ValueTexts
+pub mod Squeezing
+pub mod PlainFields
+pub mod Reads
+pub mod PlaceLines

@@ -1,0 +1,50 @@
+-- White that is made one space while the bytes are read.
+use Rattle.std.specs.Prelude.{◌≡◌, ℕ, ◌==◌, ◌&&◌, ◌||◌, ◌-◌, not, Bool, true, false, cond, List, [], ◌∷◌, length, slice_index, take, if◌then◌else◌}
+use Rattle.btx_bib.specs.declared.grammar.byte_sets.ByteSet.TheVariants.{Gap}
+use Rattle.btx_bib.specs.declared.grammar.value_ends.Ends.{Ends}
+use Rattle.btx_bib.specs.declared.grammar.value_ends.Ends.TheVariants.{Kept, Trimmed}
+use Rattle.btx_bib.specs.declared.grammar.byte_sets.Enclosure.{Enclosure}
+use Rattle.btx_bib.specs.language.Grammar.Bytes.{space}
+use Rattle.btx_bib.specs.language.Grammar.ByteSets.{enclosed_len, is_gap, past}
+
+-- bytes after a byte that was white or not: the first byte of a run becomes the space
+abbrev pub squeezed_after : Bool → List ℕ → List ℕ
+squeezed_after white [] = []
+squeezed_after white (b ∷ bs) = cond (is_gap b) (cond white (squeezed_after true bs) (space ∷ squeezed_after true bs)) (b ∷ squeezed_after false bs)
+
+-- the last byte was white
+abbrev pub white_after : Bool → List ℕ → Bool
+white_after white [] = white
+white_after white (b ∷ bs) = white_after (is_gap b) bs
+
+-- ---- texts that are values as they stand
+
+-- no white but single spaces, after a byte that was white or not
+unfoldable pub is_squeezed : Bool → List ℕ → Bool
+is_squeezed white [] = true
+is_squeezed white (b ∷ bs) = if is_gap b then (b == space && not white) && is_squeezed true bs else is_squeezed false bs
+
+-- a byte leaves what is before it squeezed, whose last byte was white or not
+abbrev pub stays_squeezed : Bool → ℕ → Bool
+stays_squeezed white b = not (is_gap b) || (b == space && not white)
+
+-- what is enclosed is of this length, and squeezed, and doesn't begin with white
+abbrev pub IsSqueezedLen : Enclosure → List ℕ → ℕ → Type 0
+IsSqueezedLen enclosure text len = (len ≡ enclosed_len enclosure 0 text) × (is_squeezed true (take len text) ≡ true)
+
+-- the last byte is white; there is none in an empty text
+abbrev pub ends_in_gap : List ℕ → Bool
+ends_in_gap text = is_gap (slice_index text (length text - 1))
+
+-- the text is squeezed, and trimmed where it is a field's
+abbrev pub stands : Ends → List ℕ → Bool
+stands Kept text = is_squeezed false text
+stands Trimmed text = is_squeezed true text && not (ends_in_gap text)
+
+-- one byte of white at the end goes
+abbrev pub without_last_gap : List ℕ → List ℕ
+without_last_gap text = if ends_in_gap text then take (length text - 1) text else text
+
+-- so does the white at the beginning
+abbrev pub without_gaps : List ℕ → List ℕ
+without_gaps text = without_last_gap (past Gap text)

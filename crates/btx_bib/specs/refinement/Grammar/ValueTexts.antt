@@ -1,0 +1,21 @@
+-- What calls answer that make the text of a value.
+use Rattle.std.specs.Prelude.{◌≡◌, ◌<◌, ◌≤◌, ℕ, List, length, Result, Ok, Err}
+use Rattle.std.specs.declared.alloc.Global.{Global}
+use Rattle.std.specs.declared.vec.Vec.{Vec}
+use Rattle.btx_text.specs.language.Limits.{greatest_string}
+use Rattle.btx_text.specs.declared.fault.Fault.{Fault}
+use Rattle.btx_text.specs.declared.fault.Fault.TheVariants.{Memory, StringLimit}
+
+-- this text, where it is within the limit of strings; the fault of the limit exactly where it is longer; want of memory says nothing
+abbrev pub MakesText : Result (List ℕ) Fault → List ℕ → Type 0
+MakesText (Ok made) text = (made ≡ text) × (length text ≤ greatest_string)
+MakesText (Err Memory) text = Unit {0}
+MakesText (Err StringLimit) text = greatest_string < length text
+MakesText (Err _) text = ⊥
+
+-- the same within this limit, while it is gathered
+abbrev pub GathersWithin : ℕ → Result (Vec ℕ Global) Fault → List ℕ → Type 0
+GathersWithin most (Ok made) text = (made.items ≡ text) × (length text ≤ most)
+GathersWithin most (Err Memory) text = Unit {0}
+GathersWithin most (Err StringLimit) text = most < length text
+GathersWithin most (Err _) text = ⊥

@@ -1,9 +1,0 @@
--- Bodies as ranges of one list of tokens.
-use Rattle.std.specs.Prelude.{List, slice_range}
-use Rattle.btx_bst.specs.Bodies.{Body}
-use Rattle.btx_bst.specs.declared.token.Token.{Token}
-use Rattle.btx_bst.specs.declared.bodies.Range.{Range}
-
--- the body in a range
-abbrev pub tokens_in : List Token → Range → Body
-tokens_in tokens range = slice_range tokens range.from range.to

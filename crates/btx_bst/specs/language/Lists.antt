@@ -1,0 +1,111 @@
+-- Arguments of commands: braces, names and lists of names.
+use Rattle.std.specs.Prelude.{ℕ, zero, suc, ◌==◌, List, [], ◌∷◌, take, drop, Option, None, Some, if◌then◌else◌}
+use Rattle.btx_text.specs.language.Bytes.{double_quote, open_brace, close_brace}
+use Rattle.btx_text.specs.language.Keys.{folded}
+use Rattle.btx_bst.specs.declared.callee.Callee.{Callee}
+use Rattle.btx_bst.specs.declared.callee.Kind.{Kind}
+use Rattle.btx_bst.specs.language.Places.{Place, ink, further, size}
+use Rattle.btx_bst.specs.language.Complaints.{Complaint, NoOpen, NoClose, NoName, NoCommand, NoQuote, Defined, EndOfFile}
+use Rattle.btx_bst.specs.language.Reads.{Read, Took, Slip}
+use Rattle.btx_bst.specs.language.Fronts.{name_len, letters_len, quote_len}
+use Rattle.btx_bst.specs.language.Names.{Names, named, with_name}
+use Rattle.btx_bst.specs.language.Turns.{Turn, Again, Ends, turns_within}
+
+-- reads the byte `brace` at a place that isn't in whitespace or a comment, or says what is wrong: `complaint`, or that the file ends
+abbrev pub brace_in : ℕ → Complaint → Place → List ℕ → Read (Unit {0})
+brace_in brace complaint place [] = Slip EndOfFile place
+brace_in brace complaint place (b ∷ bs) = if b == brace then Took tt (further place bs) else Slip complaint place
+
+-- the `{` that stands next, behind white and comments, or the complaint that it is missing
+abbrev pub opening : Place → Read (Unit {0})
+opening place = brace_in open_brace NoOpen (ink place) (ink place).line
+
+-- the `}` that stands next, behind white and comments, or the complaint that it is missing
+abbrev pub closing : Place → Read (Unit {0})
+closing place = brace_in close_brace NoClose (ink place) (ink place).line
+
+-- the first `n` bytes of a line, and the place after them; the complaint if `n` is 0
+abbrev pub front_of : Complaint → Place → List ℕ → ℕ → Read (List ℕ)
+front_of complaint place line zero = Slip complaint place
+front_of complaint place line (suc n) = Took (take (suc n) line) (further place (drop (suc n) line))
+
+-- the name at a place that isn't in whitespace or a comment, whose line goes on as the bytes given; or the complaint that there is none
+abbrev pub name_in : Place → List ℕ → Read (List ℕ)
+name_in place [] = Slip EndOfFile place
+name_in place (b ∷ bs) = front_of NoName place (b ∷ bs) (name_len (b ∷ bs))
+
+-- the name that stands next, behind white and comments, or the complaint that there is none
+abbrev pub next_name : Place → Read (List ℕ)
+next_name place = name_in (ink place) (ink place).line
+
+-- the letters at a place that isn't in whitespace or a comment, as a command's word has them; or the complaint that there are none
+abbrev pub letters_at : Place → Read (List ℕ)
+letters_at place = front_of NoCommand place place.line (letters_len place.line)
+
+-- the text of a quoted string, and the place after the quote that ends it; or the complaint that its line has no such quote
+abbrev pub quoted_text : Place → List ℕ → List ℕ → Read (List ℕ)
+quoted_text place text [] = Slip NoQuote place
+quoted_text place text (quote ∷ rest) = Took text (further place rest)
+
+-- the text in quotes at a place that isn't in whitespace or a comment; or the complaint that a quote is missing
+abbrev pub quoted_in : Place → List ℕ → Read (List ℕ)
+quoted_in place [] = Slip EndOfFile place
+quoted_in place (b ∷ bs) = if b == double_quote then quoted_text place (take (quote_len bs) bs) (drop (quote_len bs) bs) else Slip NoQuote place
+
+-- the text in quotes that stands next, behind white and comments, or the complaint that a quote is missing
+abbrev pub quoted_at : Place → Read (List ℕ)
+quoted_at place = quoted_in (ink place) (ink place).line
+
+-- how far the reading of a list of names has come: the names that are known so far, those of the list among them, and the place
+pub record Listing : Type 0 where
+  pub names : Names
+  pub place : Place
+
+-- a list that is being read, of the names that are known so far and the place
+abbrev pub listing : Names → Place → Listing
+listing names place = record { names = names; place = place }
+
+-- how a list ends: with its `}`, or with a complaint; the names so far stay
+pub record Listed : Type 0 where
+  pub complaint : Option Complaint
+  pub listing : Listing
+
+-- the end of a list, of the complaint if there is one, the names that are known then, and the place
+abbrev pub listed : Option Complaint → Names → Place → Listed
+listed complaint names place = record { complaint = complaint; listing = listing names place }
+
+-- declares a name of a list; if it names something already, that is an error and ends the list
+abbrev pub with_new : Kind → Names → List ℕ → Place → Option Callee → Turn Listing Listed
+with_new kind names name place None = Again (listing (with_name kind (folded name) names) place)
+with_new kind names name place (Some other) = Ends (listed (Some (Defined name)) names place)
+
+-- declares the next name of a list, or ends the list with what is wrong
+abbrev pub name_turn : Kind → Names → Read (List ℕ) → Turn Listing Listed
+name_turn kind names (Slip complaint place) = Ends (listed (Some complaint) names place)
+name_turn kind names (Took name place) = with_new kind names name place (named names name)
+
+-- ends the list at its `}`, or reads the next name of it
+abbrev pub list_turn_in : Kind → Names → Read (Unit {0}) → Turn Listing Listed
+list_turn_in kind names (Took _ behind) = Ends (listed None names behind)
+list_turn_in kind names (Slip complaint before) = name_turn kind names (next_name before)
+
+-- reads the next name of a list, or its `}`
+unfoldable pub list_turn : Kind → Listing → Turn Listing Listed
+list_turn kind listing = list_turn_in kind listing.names (closing listing.place)
+
+-- the result if the bound on turns is reached. It never is, since each turn reads a byte at least
+abbrev pub unlisted : Listing → Listed
+unlisted listing = listed (Some EndOfFile) listing.names listing.place
+
+-- the names up to the `}` of a list
+unfoldable pub list_end : Kind → Listing → Listed
+list_end kind listing = turns_within (list_turn kind) unlisted (suc (size listing.place)) listing
+
+-- a list of names in braces
+abbrev pub list_read : Kind → Names → Read (Unit {0}) → Listed
+list_read kind names (Slip complaint place) = listed (Some complaint) names place
+list_read kind names (Took _ place) = list_end kind (listing names place)
+
+-- the list of names in braces that stands next: each of its names is declared, as a field or a variable of the kind
+abbrev pub list_at : Kind → Names → Place → Listed
+list_at kind names place = list_read kind names (opening place)

@@ -1,0 +1,87 @@
+-- The names that are known, each with what it names. Case is ignored (btxhak, section 5.1), so names are kept in lower case. Functions,
+-- fields and variables share one set of names; those of each kind are numbered from 0, in the order in which they are declared.
+use Rattle.std.specs.Prelude.{ℕ, ◌-◌, Bool, false, List, [], ◌∷◌, ◌++◌, length, Option, None, Some, option_map, slice_index_or, position, replicate, codes}
+use Rattle.std.specs.Option.{option_or}
+use Rattle.std.specs.Map.{lookup}
+use Rattle.std.specs.Str.{bytes_eq}
+use Rattle.btx_text.specs.language.Keys.{folded}
+use Rattle.btx_bst.specs.declared.callee.Callee.{Callee}
+use Rattle.btx_bst.specs.declared.callee.Callee.TheVariants as callee
+use Rattle.btx_bst.specs.declared.callee.Callee.TheVariants.{User, Field, EntryInteger, EntryString, GlobalInteger, GlobalString}
+use Rattle.btx_bst.specs.declared.callee.Kind.{Kind}
+use Rattle.btx_bst.specs.declared.callee.Kind.TheVariants as kind
+use Rattle.btx_bst.specs.language.BuiltIns.{built_in_of, built_in_name}
+
+-- the names of the style's functions, of which some are nameless, of its fields and of its variables. The number of each thing is the place of its
+-- name in its list
+pub record Names : Type 0 where
+  pub functions : List (Option (List ℕ))
+  pub fields : List (List ℕ)
+  pub entry_integers : List (List ℕ)
+  pub entry_strings : List (List ℕ)
+  pub global_integers : List (List ℕ)
+  pub global_strings : List (List ℕ)
+
+-- a function, given its name, if it has one, is called `name`
+abbrev pub has_name : List ℕ → Option (List ℕ) → Bool
+has_name name None = false
+has_name name (Some other) = bytes_eq name other
+
+-- the place of a name in a list of names, counted from 0, if it is there
+abbrev pub number_in : List (List ℕ) → List ℕ → Option ℕ
+number_in names name = position (bytes_eq name) names
+
+-- what a name in lower case names, if it names anything: a built-in function, a function of the style, a field, or a variable
+unfoldable pub named_lower : Names → List ℕ → Option Callee
+named_lower names name =
+    option_or (option_map callee.BuiltIn (built_in_of name))
+    (option_or (option_map User (position (has_name name) names.functions))
+    (option_or (option_map Field (number_in names.fields name))
+    (option_or (option_map EntryInteger (number_in names.entry_integers name))
+    (option_or (option_map EntryString (number_in names.entry_strings name))
+    (option_or (option_map GlobalInteger (number_in names.global_integers name))
+    (option_map GlobalString (number_in names.global_strings name)))))))
+
+-- what a name names, in any case of letters, if it names anything
+abbrev pub named : Names → List ℕ → Option Callee
+named names name = named_lower names (folded name)
+
+-- the name of a function as messages and `stack$` show it: `{}` if it is nameless
+abbrev pub shown_name : Option (List ℕ) → List ℕ
+shown_name None = codes "{}"
+shown_name (Some name) = name
+
+-- the name of a built-in function, a function, a field or a variable; a nameless function is shown as `{}`
+abbrev pub name_of : Names → Callee → List ℕ
+name_of names (callee.BuiltIn built_in) = built_in_name built_in
+name_of names (User number) = shown_name (slice_index_or names.functions number None)
+name_of names (Field number) = slice_index_or names.fields number []
+name_of names (EntryInteger number) = slice_index_or names.entry_integers number []
+name_of names (EntryString number) = slice_index_or names.entry_strings number []
+name_of names (GlobalInteger number) = slice_index_or names.global_integers number []
+name_of names (GlobalString number) = slice_index_or names.global_strings number []
+
+-- the names with a further one, `name` in lower case, for a field or a variable of the kind that is given
+abbrev pub with_name : Kind → List ℕ → Names → Names
+with_name kind.Field name names = record names { fields = names.fields ++ name ∷ [] }
+with_name kind.EntryInteger name names = record names { entry_integers = names.entry_integers ++ name ∷ [] }
+with_name kind.EntryString name names = record names { entry_strings = names.entry_strings ++ name ∷ [] }
+with_name kind.GlobalInteger name names = record names { global_integers = names.global_integers ++ name ∷ [] }
+with_name kind.GlobalString name names = record names { global_strings = names.global_strings ++ name ∷ [] }
+
+-- the list of functions, filled up with nameless ones to `count` functions
+abbrev pub padded : ℕ → List (Option (List ℕ)) → List (Option (List ℕ))
+padded count functions = functions ++ replicate (count - length functions) None
+
+-- the names with a function called `name`, in lower case, which has this number; the numbers just below it belong to the nameless functions of its
+-- body
+abbrev pub with_function : ℕ → List ℕ → Names → Names
+with_function number name names = record names { functions = padded number names.functions ++ Some name ∷ [] }
+
+-- the macros: names in lower case, each with its text
+abbrev pub Macros : Type 0
+Macros = List (List ℕ × List ℕ)
+
+-- the text of the macro of a name in lower case
+abbrev pub macro_lower : Macros → List ℕ → Option (List ℕ)
+macro_lower macros name = lookup (bytes_eq name) macros

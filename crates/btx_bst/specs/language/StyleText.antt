@@ -1,0 +1,67 @@
+-- The style of a text: its items, one after another.
+use Rattle.std.specs.Prelude.{ℕ, suc, false, List, [], ◌∷◌, Option, None, Some}
+use Rattle.btx_text.specs.language.Keys.{folded}
+use Rattle.btx_bst.specs.declared.command.Command.{Command}
+use Rattle.btx_bst.specs.language.Places.{Place, ink, size, skipped, beginning}
+use Rattle.btx_bst.specs.language.Complaints.{Complaint, NotCommand}
+use Rattle.btx_bst.specs.language.Lists.{letters_at}
+use Rattle.btx_bst.specs.language.Items.{Message}
+use Rattle.btx_bst.specs.language.Style.{Style}
+use Rattle.btx_bst.specs.language.Names.{Names}
+use Rattle.btx_bst.specs.language.Predefined.{predefined}
+use Rattle.btx_bst.specs.language.Outcomes.{CommandOutcome, outcome, after_read, with_item}
+use Rattle.btx_bst.specs.language.Commands.{command_at, command_named}
+use Rattle.btx_bst.specs.language.Turns.{Turn, Again, Ends, turns_within}
+
+-- how far the reading of a style has come: the style so far, and the place where it goes on
+pub record StyleState : Type 0 where
+  pub style : Style
+  pub place : Place
+
+-- how far the reading of a style has come, of the style so far and the place
+abbrev pub style_state : Style → Place → StyleState
+style_state style place = record { style = style; place = place }
+
+-- how the reading of a style goes on after a command: at the place where that ends, or, if something was wrong, behind the next empty line, with a
+-- message
+abbrev pub resumed : Option Complaint → Style → Place → StyleState
+resumed None style place = style_state style place
+resumed (Some complaint) style place = style_state (with_item (Message complaint place.number) style) (skipped place)
+
+-- goes on after a command: directly after it, or after a complaint at the next empty line
+abbrev pub resumed_after : CommandOutcome → StyleState
+resumed_after outcome = resumed outcome.complaint outcome.style outcome.place
+
+-- what a command comes to, given its word and which of the ten it is; an error if it is none of them
+abbrev pub word_outcome : Style → Place → List ℕ → Option Command → CommandOutcome
+word_outcome style place word None = outcome (Some (NotCommand word)) style place
+word_outcome style place word (Some command) = command_at command style place
+
+-- reads a command, which begins with a word of letters
+abbrev pub command_outcome : Style → Place → CommandOutcome
+command_outcome style place = after_read style (letters_at place) (λ word behind. word_outcome style behind word (command_named (folded word)))
+
+-- at a place that isn't in whitespace or a comment: reads a command; at the end of the text the style ends
+abbrev pub item_in : Style → Place → List ℕ → Turn StyleState Style
+item_in style place [] = Ends style
+item_in style place (b ∷ bs) = Again (resumed_after (command_outcome style place))
+
+-- the command that stands next is read, or the text ends and with it the style
+unfoldable pub item_turn : StyleState → Turn StyleState Style
+item_turn state = item_in state.style (ink state.place) (ink state.place).line
+
+-- the style as it has been read so far
+abbrev pub style_so_far : StyleState → Style
+style_so_far state = state.style
+
+-- the style after all commands that are left. The bound on turns is never reached: each turn but the last one reads or skips a byte at least
+unfoldable pub style_from : StyleState → Style
+style_from state = turns_within item_turn style_so_far (suc (size state.place)) state
+
+-- a style of which nothing has been read: it has the name of its file, and the names that are known before it
+abbrev pub unread_style : List ℕ → Names → Style
+unread_style file names = record { file = file; items = []; names = names; macros = []; bodies = []; texts = []; has_entry = false; before_read = None }
+
+-- the style whose file has the name `file` and the bytes `text`
+unfoldable pub style_of : List ℕ → List ℕ → Style
+style_of file text = style_from (style_state (unread_style file predefined) (beginning text))

@@ -1,0 +1,105 @@
+-- The words of a body.
+use Rattle.std.specs.Prelude.{ℕ, zero, suc, ◌+◌, ◌-◌, ◌*◌, ◌^◌, ◌==◌, ℤ, pos, negsuc, nat_lt, fold, Option, None, Some, Bool, true, false, List, [], ◌∷◌, take, drop, if◌then◌else◌}
+use Rattle.btx_text.specs.language.Bytes.{double_quote, hash, single_quote, open_brace, close_brace}
+use Rattle.btx_bst.specs.language.Places.{Place, ink, further}
+use Rattle.btx_bst.specs.language.Fronts.{word_len, quote_len, digits_len, is_word_end}
+use Rattle.btx_bst.specs.language.Complaints.{Complaint, BadInteger, TextAfter}
+
+-- a word: a brace, a string, an integer, a name behind a `'`, a name, a literal that is left out with what is wrong with it, a `"` whose string
+-- doesn't end, or the end of the file
+pub data BodyWord : Type 0 where
+  Open : BodyWord
+  Close : BodyWord
+  String : (text : List ℕ) → BodyWord
+  Integer : (value : ℤ) → BodyWord
+  Quoted : (name : List ℕ) → BodyWord
+  Name : (name : List ℕ) → BodyWord
+  Faulty : (complaint : Complaint) → BodyWord
+  Unended : BodyWord
+  Ended : BodyWord
+
+-- a word, and what is left of the line behind it
+pub record Front : Type 0 where
+  pub word : BodyWord
+  pub rest : List ℕ
+
+-- a word at the front of a line, with the rest of the line
+abbrev pub front : BodyWord → List ℕ → Front
+front word rest = record { word = word; rest = rest }
+
+-- a string, and the rest of the line after its closing quote: whitespace, `}`, `%` or the end of the line must follow, else everything up to one
+-- of these is skipped and the string is an error
+abbrev pub string_before : List ℕ → List ℕ → Front
+string_before text rest = if is_word_end rest then front (String text) rest else front (Faulty TextAfter) (drop (word_len rest) rest)
+
+-- the string whose text is `text`, up to the next quote; what is left of the line then begins with that quote. Without a quote the string has no
+-- end, and `line` is left.
+abbrev pub string_ended : List ℕ → List ℕ → List ℕ → Front
+string_ended line text [] = front Unended line
+string_ended line text (quote ∷ rest) = string_before text rest
+
+-- the string that begins behind a quote
+abbrev pub string_at : List ℕ → Front
+string_at line = string_ended line (take (quote_len line) line) (drop (quote_len line) line)
+
+-- a number with one more decimal digit behind it
+abbrev pub with_digit : ℕ → ℕ → ℕ
+with_digit n d = n * 10 + (d - 48)
+
+-- the number that the decimal digits stand for; 0 without digits
+unfoldable pub digits_value : List ℕ → ℕ
+digits_value digits = fold with_digit 0 digits
+
+-- a number with its sign, if it fits into 32 bits
+unfoldable pub signed : Bool → ℕ → Option ℤ
+signed false n = if nat_lt n (2 ^ 31) then Some (pos n) else None
+signed true zero = Some (pos 0)
+signed true (suc n) = if nat_lt n (2 ^ 31) then Some (negsuc n) else None
+
+-- `-`
+abbrev pub minus_sign : ℕ
+minus_sign = 45
+
+-- an integer and the rest of the line after its digits; it is an error if it isn't one of 32 bits or if text follows directly
+abbrev pub integer_before : List ℕ → List ℕ → Option ℤ → Front
+integer_before line rest None = front (Faulty BadInteger) (drop (word_len line) line)
+integer_before line rest (Some value) = if is_word_end rest then front (Integer value) rest else front (Faulty TextAfter) (drop (word_len rest) rest)
+
+-- the integer behind a `#`, by its number of digits: `line` is the text behind the `#`, `rest` the same without the minus, if there is one; without
+-- a digit it is an error
+abbrev pub integer_front : List ℕ → Bool → List ℕ → ℕ → Front
+integer_front line minus rest zero = front (Faulty BadInteger) (drop (word_len line) line)
+integer_front line minus rest (suc n) = integer_before line (drop (suc n) rest) (signed minus (digits_value (take (suc n) rest)))
+
+-- the integer that begins behind a `#`: a minus may stand before its digits
+unfoldable pub integer_at : List ℕ → Front
+integer_at [] = front (Faulty BadInteger) []
+integer_at (b ∷ bs) = if b == minus_sign then integer_front (b ∷ bs) true bs (digits_len bs) else integer_front (b ∷ bs) false (b ∷ bs) (digits_len (b ∷ bs))
+
+-- the word at the front of a line whose first byte `b` is no whitespace and no `%`
+unfoldable pub word_front : ℕ → List ℕ → Front
+word_front b bs =
+    if b == open_brace then front Open bs
+    else if b == close_brace then front Close bs
+    else if b == double_quote then string_at bs
+    else if b == hash then integer_at bs
+    else if b == single_quote then front (Quoted (take (word_len bs) bs)) (drop (word_len bs) bs)
+    else front (Name (b ∷ take (word_len bs) bs)) (drop (word_len bs) bs)
+
+-- a word and the place behind it
+pub record Met : Type 0 where
+  pub word : BodyWord
+  pub place : Place
+
+-- a word that was met, of the word and the place behind it
+abbrev pub met : BodyWord → Place → Met
+met word place = record { word = word; place = place }
+
+-- the word at a place that isn't in whitespace or a comment; there is none at the end of the text
+abbrev pub met_in : Place → List ℕ → Met
+met_in place [] = met Ended place
+met_in place (b ∷ bs) = met (word_front b bs).word (further place (word_front b bs).rest)
+
+-- the word of a body that stands next, behind white and comments, and the place behind it
+abbrev pub met_at : Place → Met
+met_at place = met_in (ink place) (ink place).line

@@ -1,0 +1,16 @@
+pub mod Names
+pub mod References
+pub mod Meanings
+pub mod Order
+pub mod Spelling
+pub mod ItemSpelling
+pub mod Counts
+pub mod Macros
+pub mod Nexts
+pub mod Written
+pub mod Passages
+pub mod FirstNames
+pub mod WorkedStyles
+pub mod TokenSpelling
+pub mod WordSpelling
+pub mod CommandSpelling

@@ -1,0 +1,10 @@
+pub mod Spelled
+pub mod KeptNames
+pub mod Names
+pub mod NameTables
+pub mod Ranges
+pub mod Weights
+pub mod Views
+pub mod Pending
+pub mod DraftViews
+pub mod StyleReads

@@ -1,0 +1,23 @@
+-- The tables of names, a kind each.
+use Rattle.std.specs.Prelude.{ℕ, List}
+use Rattle.btx_bst.specs.declared.callee.Callee.{Callee}
+use Rattle.btx_bst.specs.declared.callee.Callee.TheVariants.{Field, EntryInteger, EntryString, GlobalInteger, GlobalString}
+use Rattle.btx_bst.specs.declared.callee.Kind.{Kind}
+use Rattle.btx_bst.specs.declared.callee.Kind.TheVariants as kind
+use Rattle.btx_bst.specs.language.Names.{Names}
+
+-- the names of a kind
+abbrev pub names_of_kind : Kind → Names → List (List ℕ)
+names_of_kind kind.Field names = names.fields
+names_of_kind kind.EntryInteger names = names.entry_integers
+names_of_kind kind.EntryString names = names.entry_strings
+names_of_kind kind.GlobalInteger names = names.global_integers
+names_of_kind kind.GlobalString names = names.global_strings
+
+-- the field or variable of a kind and a number
+abbrev pub callee_of : Kind → ℕ → Callee
+callee_of kind.Field number = Field number
+callee_of kind.EntryInteger number = EntryInteger number
+callee_of kind.EntryString number = EntryString number
+callee_of kind.GlobalInteger number = GlobalInteger number
+callee_of kind.GlobalString number = GlobalString number

@@ -1,0 +1,12 @@
+pub mod States
+pub mod Saying
+pub mod Steps
+pub mod Meaning
+pub mod MeaningBySteps
+pub mod Commands
+pub mod Items
+pub mod Reports
+pub mod Product
+pub mod DirectDepth
+pub mod Written
+pub mod KeepingStep

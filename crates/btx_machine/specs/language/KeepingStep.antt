@@ -1,0 +1,45 @@
+-- What a run has written when it ends, and where a write or a request for memory failed; of sinks that don't tell their bytes nothing is said.
+use Rattle.std.specs.Prelude.{◌≡◌, ℕ, ◌+◌, ◌<◌, ◌⊎◌}
+use Rattle.std.specs.Io.KnownBytes.{Appends}
+use Rattle.btx_out.specs.language.Pieces.{AppendsBeginning, AppendsAtLeast}
+use Rattle.btx_machine.specs.language.Written.{Received}
+use Rattle.btx_machine.specs.declared.report.Report.{Report}
+use Rattle.btx_machine.specs.language.Product.{Product, log_of}
+
+-- the report is the product's, and both outputs received its bytes
+pub record Completes (report : Report) (before after : Received) (product : Product) : Type 0 where
+  pub report_is : report ≡ product.report
+  pub bbl_whole : Appends before.0 after.0 product.bbl
+  pub log_whole : Appends before.1 after.1 (log_of product)
+
+-- both outputs are prefixes of a product's
+pub record BothBegin (before after : Received) (product : Product) : Type 0 where
+  pub bbl_begins : AppendsBeginning before.0 after.0 product.bbl
+  pub log_begins : AppendsBeginning before.1 after.1 (log_of product)
+
+-- both outputs begin with a product's, the log's last line aside
+pub record BothExtend (before after : Received) (product : Product) : Type 0 where
+  pub bbl_extends : AppendsAtLeast before.0 after.0 product.bbl
+  pub log_extends : AppendsAtLeast before.1 after.1 product.told
+
+-- there is a number of steps n below the budget such that each output begins with what a run of n steps writes, the log's last line aside, and
+-- is a prefix of what a run of n + 1 steps writes
+pub record WithinOneStep (before after : Received) (make : ℕ → Product) (budget : ℕ) : Type 0 where
+  pub steps : ℕ
+  pub within : steps < budget
+  pub extends : BothExtend before after (make steps)
+  pub begins : BothBegin before after (make (steps + 1))
+
+-- the two outputs keep step: both are prefixes of what a run without a step writes, or both broke off within the same step
+abbrev pub KeepsStep : Received → Received → (ℕ → Product) → ℕ → Type 0
+KeepsStep before after make budget = BothBegin before after (make 0) ⊎ WithinOneStep before after make budget
+
+-- the log's last line comes only behind the whole list: the list was written to its end, or nothing of that line was written
+abbrev pub LastLineBehindList : Received → Received → Product → Type 0
+LastLineBehindList before after product = Appends before.0 after.0 product.bbl ⊎ AppendsBeginning before.1 after.1 product.told
+
+-- after a fault both outputs are prefixes of the product's and keep step, and nothing of the log's last line is written before the whole list
+pub record AtFault (before after : Received) (make : ℕ → Product) (budget : ℕ) : Type 0 where
+  pub beginnings : BothBegin before after (make budget)
+  pub last_line : LastLineBehindList before after (make budget)
+  pub step : KeepsStep before after make budget

@@ -1,0 +1,71 @@
+-- The product of a run whose files are read: what it writes from there on, and what it answers.
+use Rattle.std.specs.Prelude.{ℕ, ◌-◌, List, [], ◌++◌}
+use Rattle.std.specs.List.{flat_map}
+use Rattle.btx_out.specs.language.Breaking.{wrap, written_of}
+use Rattle.btx_out.specs.language.Breakers.{written_at_end}
+use Rattle.btx_step.specs.language.Jobs.{Job}
+use Rattle.btx_step.specs.language.Starts.{first_store}
+use Rattle.btx_machine.specs.declared.ending.Ending.{Ending}
+use Rattle.btx_machine.specs.declared.ending.Ending.TheVariants as ending
+use Rattle.btx_machine.specs.declared.report.Report.{Report}
+use Rattle.btx_machine.specs.declared.report.Told.{Told}
+use Rattle.btx_machine.specs.language.States.{Out, State, state, Outcome, Done, Stopped, Limit}
+use Rattle.btx_machine.specs.language.Saying.{ended_line}
+use Rattle.btx_machine.specs.language.Reports.{end_as, log_counts, report_of, last_line}
+use Rattle.btx_machine.specs.language.Items.{do_items}
+
+-- the list of references, the log before its last line (`told`), and the report, which that line gives
+pub record Product : Type 0 where
+  pub bbl : List ℕ
+  pub told : List ℕ
+  pub report : Report
+
+-- the whole log: its last line gives the report
+abbrev pub log_of : Product → List ℕ
+log_of product = product.told ++ ended_line (last_line product.report)
+
+-- what has been written of the list so far, which is broken into lines for a length of `line_length` bytes: the lines that have ended, and the part of
+-- the pending one that can't change
+abbrev pub so_far : ℕ → Out → List ℕ
+so_far line_length out = written_of line_length out.lines out.pending
+
+-- the list of references at an end, in lines of at most `line_length` bytes: where the run finished, a pending line that isn't empty is ended; else
+-- what is sure of it stands
+abbrev pub bbl_at : ℕ → Ending → Out → List ℕ
+bbl_at line_length ending.Finished out = flat_map (wrap line_length) out.lines ++ written_at_end line_length out.pending
+bbl_at line_length ending.Stopped out = so_far line_length out
+bbl_at line_length (ending.Limit kind) out = so_far line_length out
+
+-- the report of a run that ended so in a state
+abbrev pub report_at : Ending → ℕ → State → Report
+report_at end steps s = report_of (end_as end) steps s.store.deepest (log_counts s.out.warnings s.out.errors)
+
+-- the product of a run that ended in a state after some steps: the list of references, the log before its last line, and the report
+abbrev pub product_at : ℕ → Ending → ℕ → State → Product
+product_at line_length end steps s = record { bbl = bbl_at line_length end s.out; told = s.out.log; report = report_at end steps s }
+
+-- the product of an outcome, with a budget; a stopped run took all its steps
+abbrev pub product_of : ℕ → ℕ → Outcome → Product
+product_of line_length budget (Done s left) = product_at line_length ending.Finished (budget - left) s
+product_of line_length budget (Stopped s) = product_at line_length ending.Stopped budget s
+product_of line_length budget (Limit kind s left) = product_at line_length (ending.Limit kind) (budget - left) s
+
+-- no output yet; the counts are those of the warnings and errors that were logged before
+abbrev pub no_out : Told → Out
+no_out told = record { lines = []; pending = []; log = []; warnings = told.warnings; errors = told.errors }
+
+-- the state before the first command: nothing is written, and all variables have the values with which they begin
+abbrev pub first : Job → Told → State
+first job told = state (first_store job) (no_out told)
+
+-- the outcome of the style's commands and messages, one after another, from the first state on
+abbrev pub executed : Job → Told → ℕ → Outcome
+executed job told budget = do_items job job.style.items [] budget (first job told)
+
+-- the product of a style, in lines of at most `line_length` bytes, with a budget; `told` counts what was logged before
+abbrev pub style_product : Job → Told → ℕ → ℕ → Product
+style_product job told line_length budget = product_of line_length budget (executed job told budget)
+
+-- the product of a run that ends before its style is executed
+abbrev pub product_early : Report → Product
+product_early report = record { bbl = []; told = []; report = report }

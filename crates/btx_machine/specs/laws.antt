@@ -1,0 +1,11 @@
+pub mod States
+pub mod Meaning
+pub mod MeaningBySteps
+pub mod MeaningLaws
+pub mod WorkedBodies
+pub mod Goings
+pub mod Budgets
+pub mod WorkedReports
+pub mod ProductLaws
+pub mod StepsNeeded
+pub mod DirectDepth

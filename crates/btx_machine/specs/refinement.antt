@@ -1,0 +1,11 @@
+pub mod States
+pub mod Outputs
+pub mod Faults
+pub mod Written
+pub mod Running
+pub mod Frame
+pub mod Frames
+pub mod Marks
+pub mod Positions
+pub mod Progress
+pub mod Closing

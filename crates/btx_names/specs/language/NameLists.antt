@@ -1,0 +1,36 @@
+-- The names of a string. Names are joined by `and`, and an `and` inside braces joins none (btxdoc, section 4, at names; btxhak, section 5.3,
+-- at `num.names$`).
+use Rattle.std.specs.Prelude.{ℕ, zero, suc, ◌==◌, ◌&&◌, Bool, List, [], ◌∷◌, length, nat_le, slice_index, if◌then◌else◌}
+use Rattle.std.specs.Char.{to_ascii_lowercase}
+use Rattle.btx_text.specs.language.Class.{is_white}
+use Rattle.btx_text.specs.language.Elements.{depth_after}
+use Rattle.btx_text.specs.language.Lines.{in_front}
+
+-- ---- separators
+
+-- byte `b` is the letter `lower`, in either case
+abbrev pub is_letter : ℕ → ℕ → Bool
+is_letter lower b = to_ascii_lowercase b == lower
+
+-- a text begins with a white byte, `and` in any case, and a white byte
+unfoldable pub is_separator : List ℕ → Bool
+is_separator text =
+    nat_le 5 (length text) && is_white (slice_index text 0)
+    && is_letter 97 (slice_index text 1) && is_letter 110 (slice_index text 2) && is_letter 100 (slice_index text 3)
+    && is_white (slice_index text 4)
+
+-- ---- names
+
+-- the pieces of a text between its separators, from brace depth `depth` on. The whitespace round an `and` belongs to the pieces, so that two
+-- separators may share a byte of it; the first `skip` bytes are the letters of a separator
+unfoldable pub pieces_from : ℕ → ℕ → List ℕ → List (List ℕ)
+pieces_from skip depth [] = [] ∷ []
+pieces_from (suc skip) depth (b ∷ bs) = pieces_from skip depth bs
+pieces_from zero depth (b ∷ bs) =
+    if depth == 0 && is_separator (b ∷ bs) then (b ∷ []) ∷ pieces_from 3 0 bs
+    else in_front b (pieces_from 0 (depth_after depth b) bs)
+
+-- the names of a string: the empty string has none
+unfoldable pub names_of : List ℕ → List (List ℕ)
+names_of [] = []
+names_of (b ∷ bs) = pieces_from 0 0 (b ∷ bs)

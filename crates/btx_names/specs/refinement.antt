@@ -1,0 +1,14 @@
+pub mod TokenViews
+pub mod Lettered
+pub mod Places
+pub mod NameTokens
+pub mod TokenLists
+pub mod Steps
+pub mod SectionViews
+pub mod PartViews
+pub mod ItemViews
+pub mod Becomes
+pub mod Right
+pub mod NamesFrom
+pub mod KeptNames
+pub mod KeptItems

@@ -1,0 +1,4 @@
+pub mod Lengths
+pub mod Breaking
+pub mod Places
+pub mod States

@@ -1,0 +1,6 @@
+pub mod Names
+pub mod Counts
+pub mod Telling
+pub mod Found
+pub mod Lines
+pub mod Readings

@@ -1,0 +1,17 @@
+-- Files that were found.
+use Rattle.std.specs.Prelude.{ℕ, List, Option}
+use Rattle.std.specs.Option.{option_map}
+use Rattle.btx_aux.specs.language.Files.{Files}
+
+-- a file: its name and its bytes
+pub record NamedFile : Type 0 where
+  pub name : List ℕ
+  pub bytes : List ℕ
+
+-- a file, of its name and its bytes
+abbrev pub named_file : List ℕ → List ℕ → NamedFile
+named_file name bytes = record { name = name; bytes = bytes }
+
+-- the file of a name, if it is there
+abbrev pub file_at : Files → List ℕ → Option NamedFile
+file_at files name = option_map (named_file name) (files name)

@@ -1,0 +1,104 @@
+-- What the reading of a job's files gives, up to the execution of the style. The `.aux` files come first; then the style is looked for, and
+-- then the databases that they name (btxdoc, section 2), each in turn. A database is judged when the style reads it, not here.
+use Rattle.std.specs.Prelude.{ℕ, ◌+◌, List, [], ◌∷◌, ◌++◌, length, Option, None, Some, if◌then◌else◌}
+use Rattle.std.specs.List.{flat_map}
+use Rattle.btx_aux.specs.language.Files.{Files}
+use Rattle.btx_aux.specs.language.Job.{AuxJob, job_of_files}
+use Rattle.btx_aux.specs.declared.end.End.{End as AuxEnd}
+use Rattle.btx_aux.specs.declared.end.End.TheVariants as aux
+use Rattle.btx_text.specs.language.LogLines.{Line}
+use Rattle.btx_run.specs.declared.files.found.FilesRead.{FilesRead}
+use Rattle.btx_run.specs.declared.files.found.FilesRead.TheVariants.{Ends, Found}
+use Rattle.btx_machine.specs.declared.ending.Limit.TheVariants as kind
+use Rattle.btx_machine.specs.declared.report.End.TheVariants as ended
+use Rattle.btx_run.specs.language.Files.Lines.{database_line, no_style_line, style_line, no_database_line}
+use Rattle.btx_run.specs.language.Files.Names.{is_file_too_long, top_name}
+use Rattle.btx_run.specs.language.Files.Found.{NamedFile, file_at}
+
+-- a part of the reading: its lines of the log, and what it gives
+pub record Logged (T : Type 0) : Type 0 where
+  pub told : List Line
+  pub gives : T
+
+-- a part of the reading, made of its log lines and its result
+abbrev pub logged : {T : Type 0} → List Line → T → Logged T
+logged told gives = record { told = told; gives = gives }
+
+-- a part of the reading with further log lines before its own
+abbrev pub behind : {T : Type 0} → List Line → Logged T → Logged T
+behind lines part = logged (lines ++ part.told) part.gives
+
+-- ---- databases
+
+-- an optional file as a list of one or of none
+abbrev pub as_list : Option NamedFile → List NamedFile
+as_list None = []
+as_list (Some file) = file ∷ []
+
+-- the files of these names that are there, in order
+abbrev pub files_found : Files → List (List ℕ) → List NamedFile
+files_found files names = flat_map (λ name. as_list (file_at files name)) names
+
+-- the log line of a database, which has this number if it is found
+abbrev pub database_logged : ℕ → List ℕ → Option NamedFile → Line
+database_logged number name None = no_database_line name
+database_logged number name (Some file) = database_line number name
+
+-- the log lines of the databases, which are numbered as they are found
+abbrev pub databases_logged : Files → List (List ℕ) → List (List ℕ) → List Line
+databases_logged files earlier [] = []
+databases_logged files earlier (name ∷ names) =
+    database_logged (length (files_found files earlier) + 1) name (file_at files name) ∷ databases_logged files (earlier ++ name ∷ []) names
+
+-- the databases of these names: those that are there
+abbrev pub databases_read : Files → List (List ℕ) → Logged (List NamedFile)
+databases_read files names = logged (databases_logged files [] names) (files_found files names)
+
+-- ---- the style
+
+-- a style with the databases that were found
+abbrev pub with_style : NamedFile → Logged (List NamedFile) → Logged FilesRead
+with_style style part = logged part.told (Found (record { style = style; databases = part.gives }))
+
+-- the reading after the style was found: a style that is too long ends the run, and no database is looked for
+abbrev pub style_found : NamedFile → Logged (List NamedFile) → Logged FilesRead
+style_found style databases = if is_file_too_long style.bytes then logged [] (Ends (ended.Limit kind.File)) else with_style style databases
+
+-- the reading from the search for the style on; if the style is missing, the run ends
+abbrev pub style_sought : List ℕ → Option NamedFile → Logged (List NamedFile) → Logged FilesRead
+style_sought name None databases = logged (no_style_line name ∷ []) (Ends ended.Finished)
+style_sought name (Some style) databases = behind (style_line name ∷ []) (style_found style databases)
+
+-- the style of this name, once it is looked for: without it the run ends
+unfoldable pub style_read : Files → AuxJob → List ℕ → Option NamedFile → Logged FilesRead
+style_read files job name style = style_sought name style (databases_read files job.databases)
+
+-- the style that the `.aux` files name, if they name one: without one the run ends
+unfoldable pub style_named : Files → AuxJob → Option (List ℕ) → Logged FilesRead
+style_named files job None = logged [] (Ends ended.Finished)
+style_named files job (Some name) = style_read files job name (file_at files name)
+
+-- ---- the job
+
+-- what follows the `.aux` files, by how their reading ended: only if all of them was read the style is looked for
+abbrev pub after_aux : AuxEnd → Logged FilesRead → Logged FilesRead
+after_aux aux.Whole style = style
+after_aux aux.TooManyOpen style = logged [] (Ends (ended.Limit kind.Files))
+after_aux aux.TopMissing style = logged [] (Ends ended.NoTopFile)
+after_aux aux.FileLimit style = logged [] (Ends (ended.Limit kind.File))
+
+-- what follows the `.aux` files of a job: its style and its databases, unless their reading ended before
+unfoldable pub after_job : Files → AuxJob → AuxEnd → Logged FilesRead
+after_job files job end = after_aux end (style_named files job job.style)
+
+-- what was logged of the `.aux` files, and what follows them
+abbrev pub files_read : Files → AuxJob → Logged FilesRead
+files_read files job = behind job.log (after_job files job job.ending)
+
+-- what the `.aux` files of the job of this name say
+abbrev pub job_named : Files → List ℕ → AuxJob
+job_named files name = job_of_files files (top_name name)
+
+-- the whole reading of the files of the job of this name
+abbrev pub reading_of : Files → List ℕ → Logged FilesRead
+reading_of files name = files_read files (job_named files name)

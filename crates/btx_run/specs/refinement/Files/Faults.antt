@@ -1,0 +1,22 @@
+-- What a fault says of the finder and the outputs.
+use Rattle.std.specs.Prelude.{Result, Ok, Err}
+use Rattle.btx_text.specs.language.Counts.{Change, Stays, OneOfThreeRises}
+use Rattle.btx_text.specs.refinement.Counts.{OneOfTwoRises}
+use Rattle.btx_text.specs.declared.fault.Fault.{Fault}
+use Rattle.btx_text.specs.declared.fault.Fault.TheVariants.{Memory, Device, FileLimit, StringLimit}
+
+-- the answer is a value, want of memory or the device's fault, and exactly at the device's fault one of the two counts rose, by one
+abbrev pub CountsOfTwo : {T : Type 0} → Result T Fault → Change → Change → Type 0
+CountsOfTwo (Ok value) a b = Stays a × Stays b
+CountsOfTwo (Err Memory) a b = Stays a × Stays b
+CountsOfTwo (Err Device) a b = OneOfTwoRises a b
+CountsOfTwo (Err FileLimit) a b = ⊥
+CountsOfTwo (Err StringLimit) a b = ⊥
+
+-- the same of a call over the finder and both outputs
+abbrev pub CountsOfThree : {T : Type 0} → Result T Fault → Change → Change → Change → Type 0
+CountsOfThree (Ok value) a b c = Stays a × Stays b × Stays c
+CountsOfThree (Err Memory) a b c = Stays a × Stays b × Stays c
+CountsOfThree (Err Device) a b c = OneOfThreeRises a b c
+CountsOfThree (Err FileLimit) a b c = ⊥
+CountsOfThree (Err StringLimit) a b c = ⊥

@@ -1,0 +1,52 @@
+-- What calls answer that read files, and what they log.
+use Rattle.std.specs.Prelude.{ℕ, ◌+◌, ◌≤◌, List, [], ◌∷◌, ◌++◌, length, Option, Result, Ok, Err, ◌≡◌}
+use Rattle.btx_aux.specs.language.Files.{Files}
+use Rattle.btx_aux.specs.language.Job.{AuxJob}
+use Rattle.btx_text.specs.declared.fault.Fault.{Fault}
+use Rattle.btx_text.specs.language.Limits.{greatest_file}
+use Rattle.btx_out.specs.language.Pieces.{AppendsBeginning}
+use Rattle.btx_run.specs.declared.files.found.FilesRead.{FilesRead}
+use Rattle.btx_run.specs.declared.files.found.FilesRead.TheVariants.{Ends, Found}
+use Rattle.btx_run.specs.language.Files.Telling.{bytes_of_lines}
+use Rattle.btx_run.specs.refinement.Files.Telling.{LogReceived, Counted, Tells}
+use Rattle.btx_run.specs.language.Files.Found.{NamedFile, file_at}
+use Rattle.btx_run.specs.language.Files.Readings.{Logged, logged, as_list, database_logged, databases_read, style_found}
+
+-- ---- databases
+
+-- a database that is looked for, which would be found as the one of this number
+abbrev pub database_read : Files → ℕ → List ℕ → Logged (Option NamedFile)
+database_read files number name = logged (database_logged number name (file_at files name) ∷ []) (file_at files name)
+
+-- ---- the style
+
+-- what follows a style that was found: one that is too long ends the run, else the databases are looked for
+unfoldable pub after_style : Files → AuxJob → NamedFile → Logged FilesRead
+after_style files job style = style_found style (databases_read files job.databases)
+
+-- a style that is executed is no longer than a file may be
+abbrev pub StyleFits : FilesRead → Type 0
+StyleFits (Ends end) = Unit {0}
+StyleFits (Found found) = length found.style.bytes ≤ greatest_file
+
+-- ---- what an answer and the log say of a part of the reading
+
+-- the part was read: the answer is what it gives, and its lines were logged
+pub record IsRead {T : Type 0} (value : T) (counted : Counted) (log : LogReceived) (part : Logged T) : Type 0 where
+  pub gives : value ≡ part.gives
+  pub tells : Tells counted log part.told
+
+-- a part that was read, or at a fault a prefix of its lines
+abbrev pub ReadsAs : {T : Type 0} → Result T Fault → Counted → LogReceived → Logged T → Type 0
+ReadsAs (Ok value) counted log part = IsRead value counted log part
+ReadsAs (Err fault) counted log part = AppendsBeginning log.0 log.1 (bytes_of_lines part.told)
+
+-- a database was logged, and is kept behind those before it if it was found
+pub record IsAdded (before after : List NamedFile) (counted : Counted) (log : LogReceived) (part : Logged (Option NamedFile)) : Type 0 where
+  pub kept : after ≡ before ++ as_list part.gives
+  pub tells : Tells counted log part.told
+
+-- a database that was added so, or at a fault a prefix of what is logged of it
+abbrev pub AddsAs : {T : Type 0} → Result T Fault → List NamedFile → List NamedFile → Counted → LogReceived → Logged (Option NamedFile) → Type 0
+AddsAs (Ok value) before after counted log part = IsAdded before after counted log part
+AddsAs (Err fault) before after counted log part = AppendsBeginning log.0 log.1 (bytes_of_lines part.told)

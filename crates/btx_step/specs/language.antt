@@ -1,0 +1,16 @@
+pub mod Stores
+pub mod Jobs
+pub mod Answers
+pub mod Operands
+pub mod Arithmetic
+pub mod Strings
+pub mod Names
+pub mod Control
+pub mod Stacks
+pub mod Variables
+pub mod Entries
+pub mod Table
+pub mod Steps
+pub mod Notes
+pub mod Sorting
+pub mod Starts

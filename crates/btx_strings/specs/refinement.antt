@@ -1,0 +1,5 @@
+pub mod Limit
+pub mod Answers
+pub mod Glyphs
+pub mod Pieces
+pub mod CaseState

@@ -1,0 +1,9 @@
+pub mod Bytes
+pub mod Class
+pub mod Keys
+pub mod Lines
+pub mod Counts
+pub mod Sequences
+pub mod Elements
+pub mod Limits
+pub mod LogLines

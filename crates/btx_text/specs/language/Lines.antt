@@ -1,0 +1,28 @@
+-- The lines of a text: it is cut at its line feeds, and each line loses the white at its end. What follows the last line feed is a
+-- line too, unless nothing does.
+use Rattle.std.specs.Prelude.{ℕ, ◌==◌, List, [], ◌∷◌, map, if◌then◌else◌}
+use Rattle.btx_text.specs.language.Class.{is_white}
+
+-- byte `b` added at the front of the first piece; without a piece it is one itself
+abbrev pub in_front : ℕ → List (List ℕ) → List (List ℕ)
+in_front b [] = (b ∷ []) ∷ []
+in_front b (piece ∷ pieces) = (b ∷ piece) ∷ pieces
+
+-- the text cut at its line feeds; the part after the last line feed counts only if it has a byte
+unfoldable pub line_pieces : List ℕ → List (List ℕ)
+line_pieces [] = []
+line_pieces (b ∷ bs) = if b == 10 then [] ∷ line_pieces bs else in_front b (line_pieces bs)
+
+-- whitespace `b` is kept only if something follows it on its line
+abbrev pub white_before : ℕ → List ℕ → List ℕ
+white_before b [] = []
+white_before b (c ∷ cs) = b ∷ c ∷ cs
+
+-- a line without the whitespace at its end
+unfoldable pub trimmed : List ℕ → List ℕ
+trimmed [] = []
+trimmed (b ∷ bs) = if is_white b then white_before b (trimmed bs) else b ∷ trimmed bs
+
+-- the lines of a text, each without the whitespace at its end
+abbrev pub lines_of : List ℕ → List (List ℕ)
+lines_of text = map trimmed (line_pieces text)

@@ -1,0 +1,6 @@
+-- The byte that ends a line.
+use Rattle.std.specs.Prelude.{ℕ}
+
+-- the end of a line
+abbrev pub line_feed : ℕ
+line_feed = 10

@@ -1,0 +1,4 @@
+pub mod Counts
+pub mod Elements
+pub mod Parts
+pub mod Texts
