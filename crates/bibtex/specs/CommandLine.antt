@@ -8,17 +8,12 @@ use Rattle.clap.specs.Words.{App, IsAmong, IsUnsignedIn, Kinds, Row, Rule, Text,
 use Rattle.clap.specs.declared.builder.action.ArgAction.TheVariants.{SetTrue}
 use Rattle.clap.specs.declared.builder.value_parser.ValueParser.TheVariants.{Names, Unsigned}
 use Rattle.clap.specs.declared.error.kind.ErrorKind.{ErrorKind}
-use Rattle.clap.specs.declared.error.kind.ErrorKind.TheVariants.{DisplayHelp, DisplayVersion, OutOfMemory}
 use Rattle.btx_text.specs.declared.element_kind.TextMode.{TextMode}
 use Rattle.btx_text.specs.declared.element_kind.TextMode.TheVariants.{Bytes, Utf8}
 use Rattle.btx_run.specs.declared.options.Options.{Options}
-use Rattle.btx_run.specs.declared.run_fault.RunFault.TheVariants as run_fault
-use Rattle.bibtex.specs.Status.{status_at}
+use Rattle.bibtex.specs.Status.{fault_exit, refusal_exit, refused_memory}
 use Rattle.bibtex.specs.declared.given.Refusal.{Refusal}
-use Rattle.bibtex.specs.declared.given.Refusal.TheVariants.{Memory, Mistake, Shown}
 use Rattle.bibtex.specs.declared.given.Settings.{Settings}
-use Rattle.bibtex.specs.declared.outcome.Exit.{Exit}
-use Rattle.bibtex.specs.declared.outcome.Exit.TheVariants as exit
 
 -- ---- the rules
 
@@ -169,27 +164,10 @@ pub record HasNumbers (rows : List Row) : Type 0 where
 
 -- ---- what is not run
 
--- the end of a refusal whose text, if it has one, could be printed
-abbrev pub refusal_exit : Refusal → Exit
-refusal_exit (Shown _) = exit.Shown
-refusal_exit (Mistake _) = exit.Refused
-refusal_exit Memory = exit.Failed run_fault.Memory
-
--- the exit status of a refusal
-abbrev pub status_of_refusal : Refusal → ℕ
-status_of_refusal refusal = status_at (refusal_exit refusal)
-
--- that of a fault of the words: help and the version are shown, all mistakes are refused, and memory may be refused
-abbrev pub refusal_status : ErrorKind → ℕ
-refusal_status DisplayHelp = status_at exit.Shown
-refusal_status DisplayVersion = status_at exit.Shown
-refusal_status OutOfMemory = status_at (exit.Failed run_fault.Memory)
-refusal_status _ = status_at exit.Refused
-
--- words with these faults: they are run only where they have none, and a refusal has the status of one of them, or of refused memory
+-- words with these faults: they are run only where they have none, and a refusal comes to the end of one of them, or of refused memory
 abbrev pub RefusesBy : Kinds → Result Settings Refusal → Type 0
 RefusesBy faults result = MatchResult result (λ _. faults ≡ [])
-    (λ refusal. (status_of_refusal refusal ≡ 5) ⊎ ((fault : ErrorKind) × IsAmong fault faults × (status_of_refusal refusal ≡ refusal_status fault)))
+    (λ refusal. (refusal_exit refusal ≡ refused_memory) ⊎ ((fault : ErrorKind) × IsAmong fault faults × (refusal_exit refusal ≡ fault_exit fault)))
 
 abbrev pub Refuses : List Text → Result Settings Refusal → Type 0
 Refuses words result = (app : App) × IsBibtex app × RefusesBy (fault_of app words) result

@@ -2,7 +2,8 @@
 ghost use Rattle.std.specs.Prelude.{◌≡◌, ◌⊎◌, IfOk, codes, map, string_bytes, unwrap_or};
 ghost use Rattle.clap.specs.Words.{FailsBy, fault_of, first_of, found_of, kind_of, matches_of, one_of, rows_of};
 ghost use Rattle.clap.specs.Simple.{App};
-ghost use Rattle.bibtex.specs.CommandLine.{AreOptionsOf, HasNumbers, IsBibtex, IsFlag, IsGivenFrom, IsNameOf, IsSettingsOf, Refuses, mode_of, most_steps, number_or, refusal_status, status_of_refusal};
+ghost use Rattle.bibtex.specs.CommandLine.{AreOptionsOf, HasNumbers, IsBibtex, IsFlag, IsGivenFrom, IsNameOf, IsSettingsOf, Refuses, mode_of, most_steps, number_or};
+ghost use Rattle.bibtex.specs.Status.{fault_exit, refusal_exit, refused_memory};
 
 use crate::given::{Refusal, Settings};
 use crate::options::bibtex_command;
@@ -107,7 +108,7 @@ fn name_of(job: &str) -> &str
 
 // What is answered for words that are not run.
 fn refusal_of(alloc: Global, error: &Error) -> Refusal
-    ensures { (status_of_refusal result ≡ 5) ⊎ (status_of_refusal result ≡ refusal_status (kind_of error.now)) }
+    ensures { (refusal_exit result ≡ refused_memory) ⊎ (refusal_exit result ≡ fault_exit (kind_of error.now)) }
 {
     let kind = error.kind();
     if matches!(kind, ErrorKind::OutOfMemory) {

@@ -1,6 +1,6 @@
 //! What a command line says.
 ghost use Rattle.std.specs.Prelude.{◌≡◌};
-ghost use Rattle.bibtex.specs.CommandLine.{refusal_exit};
+ghost use Rattle.bibtex.specs.Status.{refusal_exit};
 
 use crate::outcome::Exit;
 use btx_run::{Options, RunFault};

@@ -2,11 +2,12 @@
 #![tactic(auto)]
 
 ghost use Rattle.std.specs.Prelude.{◌≡◌, [], ◌∷◌, map, string_bytes};
+ghost use Rattle.std.specs.IoError.{error_kind};
+ghost use Rattle.std.specs.Process.{exit_status};
 ghost use Rattle.bibtex.specs.Acts.{WereDone, ToldFault, reporting};
-ghost use Rattle.bibtex.specs.CommandLine.{status_of_refusal};
-ghost use Rattle.bibtex.specs.Ends.{ComesTo, IsTold};
+ghost use Rattle.bibtex.specs.Ends.{AreWordsOf, ComesTo, EndsFor, ExitsWith, IsTold, IsUnread};
 ghost use Rattle.bibtex.specs.Spelling.{hint_of};
-ghost use Rattle.bibtex.specs.Status.{exit_of, status_at, told_by};
+ghost use Rattle.bibtex.specs.Status.{exit_of, refusal_exit, status_at, told_by};
 
 mod command_line;
 mod directory;
@@ -30,15 +31,21 @@ use outcome::Exit;
 use outputs::{Outputs, SystemOutputs};
 use spelling::hint;
 use std::alloc::Global;
+use std::env::Args;
 use std::io::ErrorKind;
 use std::process::ExitCode;
-use std::rt::{Env, Files};
+use std::rt::Files;
 use std::{env, fs, io};
 use system::{RealSystem, System};
 
-// The words of the command line, the program's name first.
-fn words(rt: &(impl Env + AllocGlobal)) -> io::Result<Vec<String>> {
-    let words = env::args(rt)?.collect(rt.alloc())?;
+// What is told of words that are no text.
+const NO_TEXT: &str = "error: invalid UTF-8 was detected in one or more arguments\n";
+
+// The words of the command line, the program's name first, from the system's answer when it was asked for them.
+fn words(alloc: Global, args: io::Result<Args>) -> io::Result<Vec<String>>
+    ensures { AreWordsOf args result }
+{
+    let words = args?.collect(alloc)?;
     Ok(words)
 }
 
@@ -53,7 +60,7 @@ fn tell_fault<O: Outputs>(outputs: &mut O, fault: RunFault) -> Exit
 
 // Prints or tells why words are not run, a mistake with a hint, and gives the program's end: the refusal's, unless its text can't be printed.
 fn tell_refusal<O: Outputs>(outputs: &mut O, refusal: &Refusal, hint: &str) -> Exit
-    ensures status { told_by (status_of_refusal refusal.now) (status_at result) }
+    ensures exit { told_by (refusal_exit refusal.now) result }
     ensures told { IsTold hint.now refusal.now (O.acts outputs.old) (O.acts outputs.new) result }
 {
     match refusal {
@@ -98,6 +105,54 @@ fn answer<S: System + Drop, O: Outputs>(
     }
 }
 
+// Tells why the words of the command line couldn't be read, and gives the program's end.
+fn tell_unread<O: Outputs>(outputs: &mut O, error: &io::Error) -> Exit
+    ensures { IsUnread (error_kind error.now) (O.acts outputs.old) (O.acts outputs.new) result }
+{
+    match error.kind() {
+        ErrorKind::OutOfMemory => tell_fault(outputs, RunFault::Memory),
+        _ => {
+            outputs.tell(NO_TEXT, "");
+            Exit::Refused
+        }
+    }
+}
+
+// Does what the words ask for, or tells why they couldn't be read, and gives the program's end.
+fn end_of<S: System + Drop, O: Outputs>(
+    alloc: Global,
+    system: S,
+    outputs: &mut O,
+    words: io::Result<Vec<String>>,
+) -> Exit
+    ensures { EndsFor (S.content system) O.List.contents words (O.acts outputs.old) (O.acts outputs.new) result }
+{
+    match words {
+        Ok(words) => answer(alloc, system, outputs, words.as_slice()),
+        Err(error) => tell_unread(outputs, &error),
+    }
+}
+
+// The exit code of the program's end.
+fn exit_code(exit: Exit) -> ExitCode
+    ensures { exit_status result ≡ status_at exit }
+{
+    ExitCode::from(exit.status())
+}
+
+// The whole program, over the files of a system and the system's answer when it was asked for the words of the command line.
+fn run_command_line<S: System + Drop, O: Outputs>(
+    alloc: Global,
+    system: S,
+    outputs: &mut O,
+    args: io::Result<Args>,
+) -> ExitCode
+    ensures { ExitsWith (S.content system) O.List.contents args (O.acts outputs.old) (O.acts outputs.new) (exit_status result) }
+{
+    let words = words(alloc, args);
+    exit_code(end_of(alloc, system, outputs, words))
+}
+
 // Opens the null device as often as there are standard streams, so that no file of the job takes the place of one that is closed.
 fn hold_places<R: Files>(rt: &R) -> [Option<R::File>; 3] {
     let hold = || fs::open(rt, "/dev/null").ok();
@@ -107,23 +162,41 @@ fn hold_places<R: Files>(rt: &R) -> [Option<R::File>; 3] {
 fn main(rt: HostRuntime) -> ExitCode {
     let _places = hold_places(&rt);
     let mut outputs = SystemOutputs::new(&rt);
-    let exit = match words(&rt) {
-        Ok(words) => answer(
-            rt.alloc(),
-            RealSystem::new(&rt),
-            &mut outputs,
-            words.as_slice(),
-        ),
-        Err(error) if error.kind() == ErrorKind::OutOfMemory => {
-            tell_fault(&mut outputs, RunFault::Memory)
+    run_command_line(
+        rt.alloc(),
+        RealSystem::new(&rt),
+        &mut outputs,
+        env::args(&rt),
+    )
+}
+
+#[cfg(test)]
+mod tests {
+    use super::*;
+    use std::test::Fail;
+
+    // The exit code for the system's answer when it was asked for the words.
+    fn code_for(
+        rt: &(impl Files + Print + Eprint + AllocGlobal),
+        args: io::Result<Args>,
+    ) -> ExitCode {
+        let mut outputs = SystemOutputs::new(rt);
+        run_command_line(rt.alloc(), RealSystem::new(rt), &mut outputs, args)
+    }
+
+    #[test]
+    fn exits_for_words(rt: HostRuntime) -> Result<(), Fail> {
+        let mut words = Vec::new(rt.alloc());
+        words.push(String::from_str(rt.alloc(), "bibtex")?)?;
+        assert!(rt; code_for(&rt, Ok(words.into_iter())) == ExitCode::from(1));
+        Ok(())
+    }
+
+    #[test]
+    fn exits_for_unread_words(rt: HostRuntime) {
+        for (kind, status) in [(ErrorKind::InvalidData, 1), (ErrorKind::OutOfMemory, 5)] {
+            let args = Err(io::Error::from(kind));
+            assert!(rt; code_for(&rt, args) == ExitCode::from(status));
         }
-        Err(_) => {
-            outputs.tell(
-                "error: invalid UTF-8 was detected in one or more arguments\n",
-                "",
-            );
-            Exit::Refused
-        }
-    };
-    ExitCode::from(exit.status())
+    }
 }

@@ -1,8 +1,8 @@
 //! How the program ends.
-ghost use Rattle.std.specs.Prelude.{◌≡◌};
+ghost use Rattle.std.specs.Prelude.{◌≡◌, ◌↔◌, ◌<◌};
 ghost use Rattle.std.specs.IoError.{error_kind};
 ghost use Rattle.bibtex.specs.FileErrors.{output_fault};
-ghost use Rattle.bibtex.specs.Status.{exit_of, status_at};
+ghost use Rattle.bibtex.specs.Status.{IsWell, exit_of, status_at};
 
 use btx_run::{Report, RunFault};
 use std::io;
@@ -32,9 +32,12 @@ impl Exit {
         }
     }
 
-    /// The exit status: 0 and 1 for words that aren't run, the report's for a job that ran, 5 for want of memory, 6 for a device.
+    /// The exit status: 0 and 1 for words that aren't run, the report's for a job that ran, 5 for want of memory, 6 for a device. It is 0 exactly
+    /// where nothing went wrong; and a fault's status is none that a report has.
     pub fn status(self) -> u8
-        ensures { result ≡ status_at self }
+        ensures table { result ≡ status_at self }
+        ensures well { (result ≡ 0) ↔ IsWell self }
+        ensures fault { (fault : RunFault) → self ≡ Exit.Failed fault → 4 < result }
     {
         match self {
             Exit::Shown => 0,
