@@ -14,6 +14,7 @@ pub mod OutLemmas
 pub mod ComesLemmas
 pub mod SayLemmas
 pub mod WorkLemmas
+pub mod WriteLemmas
 pub mod Resume
 pub mod Moves
 pub mod Grows

@@ -108,8 +108,8 @@ impl<'s, W: Sink, L: Sink> Outputs<'s, W, L> {
         }
     }
 
-    // Adds to the pending line of the list of references.
-    fn write(&mut self, bytes: &[u8]) -> Result<(), Fault>
+    /// Adds to the pending line of the list of references.
+    pub fn write(&mut self, bytes: &[u8]) -> Result<(), Fault>
         requires { Writes self.old }
         ensures ok { OnOk result (Becomes self.old self.new (λ out. wrote bytes.now out)) }
         ensures err { OnErr result (Stops self.old self.new (λ out. wrote bytes.now out)) }
@@ -119,8 +119,8 @@ impl<'s, W: Sink, L: Sink> Outputs<'s, W, L> {
         self.breaker.put(bytes, self.bbl)
     }
 
-    // Ends the pending line.
-    fn end_line(&mut self) -> Result<(), Fault>
+    /// Ends the pending line.
+    pub fn end_line(&mut self) -> Result<(), Fault>
         requires { Writes self.old }
         ensures ok { OnOk result (Becomes self.old self.new (λ out. pending_ended out)) }
         ensures err { OnErr result (Stops self.old self.new (λ out. pending_ended out)) }

@@ -1,16 +1,20 @@
 -- What the sinks have received of the list and the log.
-use Rattle.std.specs.Prelude.{◌≡◌, ℕ, ◌+◌, ◌<◌, List, Option}
+use Rattle.std.specs.Prelude.{◌≡◌, ℕ, ◌+◌, ◌<◌, Bool, true, false, List, Option}
 use Rattle.std.specs.Io.KnownBytes.{Appends}
+use Rattle.btx_bst.specs.declared.token.Token.{Token}
 use Rattle.btx_out.specs.laws.Breaking.{left}
 use Rattle.btx_out.specs.refinement.Breakers.{holding}
 use Rattle.btx_out.specs.laws.Lengths.{IsLineLength}
 use Rattle.btx_out.specs.language.Pieces.{AppendsAtLeast, AppendsBeginning}
+use Rattle.btx_step.specs.declared.next.Next.TheVariants as next
+use Rattle.btx_step.specs.language.Jobs.{Job}
 use Rattle.btx_machine.specs.declared.ending.Ending.{Ending}
 use Rattle.btx_machine.specs.declared.ending.Ending.TheVariants as endings
 use Rattle.btx_machine.specs.refinement.Outputs.{Outputs, Work}
-use Rattle.btx_machine.specs.language.States.{Out, State, state, Outcome, Stopped}
+use Rattle.btx_machine.specs.language.States.{Out, State, state, effect, Outcome, Stopped}
 use Rattle.btx_machine.specs.laws.States.{final_state}
 use Rattle.btx_machine.specs.refinement.States.{outcome_of}
+use Rattle.btx_machine.specs.language.Steps.{token_effect}
 use Rattle.btx_machine.specs.language.Product.{so_far}
 use Rattle.btx_machine.specs.language.Written.{Received}
 
@@ -57,6 +61,11 @@ pub record Leads (start : Start) (work : Work) (claim : State → Type 0) : Type
 -- from every state that the work stands for, it comes to one of which something holds
 abbrev pub Comes : Work → Work → (State → State → Type 0) → Type 0
 Comes old new claim = (start : Start) (out : Out) → StandsFor start old.outputs out → Leads start new (claim (state old.store out))
+
+-- the step of a token was taken, whatever it wrote, and nothing follows it; or it wasn't taken, and nothing has changed
+abbrev pub Takes : Bool → Job → Token → Work → Work → Type 0
+Takes true job x old new = Comes old new (λ s t. effect next.Nothing t ≡ token_effect job x s)
+Takes false job x old new = new ≡ old
 
 -- from every state that the work stands for, no more is written than up to another
 abbrev pub Fails : Work → Outputs → (State → State) → Type 0
