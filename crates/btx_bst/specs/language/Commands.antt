@@ -72,17 +72,13 @@ function_ended style lowered (Whole inside) =
 abbrev pub inside_at : Style → Place → Inside
 inside_at style place = record { place = place; tokens = []; around = []; bodies = style.bodies; texts = style.texts; items = style.items }
 
--- the rest of a FUNCTION behind its new name: the `}` of the name, and the body in braces
-abbrev pub function_body : Style → List ℕ → Place → CommandOutcome
-function_body style name place =
+-- FUNCTION with the name `name`, given what has that already: an error if something does; else the `}` of the name and the body in braces follow
+abbrev pub function_of : Style → List ℕ → Place → Option Callee → CommandOutcome
+function_of style name place (Some other) = outcome (Some (Defined name)) style place
+function_of style name place None =
     after_read style (closing place) (λ _ place.
     after_read style (opening place) (λ _ place.
     function_ended style (folded name) (body_end style.names (inside_at style place))))
-
--- FUNCTION with the name `name`, given what has that already: an error if something does
-abbrev pub function_of : Style → List ℕ → Place → Option Callee → CommandOutcome
-function_of style name place (Some other) = outcome (Some (Defined name)) style place
-function_of style name place None = function_body style name place
 
 -- FUNCTION gives a new name to a function: the name in braces, and its body in braces (btxhak, section 5.2)
 unfoldable pub function_command : Style → Place → CommandOutcome
@@ -138,19 +134,16 @@ sort_command style place = if has_read style then outcome None (with_item Sort s
 unfoldable pub declare : Kind → Item → Style → Place → CommandOutcome
 declare kind item style place = after_list style (list_at kind style.names place) (λ style place. outcome None (with_item item style) place)
 
--- the rest of a MACRO behind its new name: the `}` of the name, and the text in quotes, in braces
-abbrev pub macro_text : Style → List ℕ → Place → CommandOutcome
-macro_text style name place =
+-- MACRO with the name `name`, given the text of the macro that has it already: an error if one does; else the `}` of the name follows, and the text in
+-- quotes, in braces
+abbrev pub macro_of : Style → List ℕ → Place → Option (List ℕ) → CommandOutcome
+macro_of style name place (Some other) = outcome (Some (Defined name)) style place
+macro_of style name place None =
     after_read style (closing place) (λ _ place.
     after_read style (opening place) (λ _ place.
     after_read style (quoted_at place) (λ text place.
     after_read style (closing place) (λ _ place.
     outcome None (with_item Macro (record style { macros = style.macros ++ (folded name, text) ∷ [] })) place))))
-
--- MACRO with the name `name`, given the text of the macro that has it already: an error if one does
-abbrev pub macro_of : Style → List ℕ → Place → Option (List ℕ) → CommandOutcome
-macro_of style name place (Some other) = outcome (Some (Defined name)) style place
-macro_of style name place None = macro_text style name place
 
 -- the arguments of a MACRO: in braces a name that no other macro has, and in braces its text
 abbrev pub macro_name : Style → Place → CommandOutcome

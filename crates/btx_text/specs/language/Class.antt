@@ -32,13 +32,11 @@ is_digit = is_between 48 57
 abbrev pub is_sep : ℕ → Bool
 is_sep b = b == 126 || b == 45
 
--- the bytes from 33 up that no name has: `" # % ' ( ) , = { }`
-abbrev pub is_sign : ℕ → Bool
-is_sign b = b == 34 || b == 35 || b == 37 || b == 39 || b == 40 || b == 41 || b == 44 || b == 61 || b == 123 || b == 125
-
 -- a byte that can stand in a name, in styles and in databases: from 33 up, and none of `" # % ' ( ) , = { }`
 abbrev pub is_name_byte : ℕ → Bool
-is_name_byte b = nat_le 33 b && not (is_sign b)
+is_name_byte b =
+    nat_le 33 b
+    && not (b == 34 || b == 35 || b == 37 || b == 39 || b == 40 || b == 41 || b == 44 || b == 61 || b == 123 || b == 125)
 
 -- a byte that a name begins with, in styles and in databases: no digit
 abbrev pub begins_name : ℕ → Bool
