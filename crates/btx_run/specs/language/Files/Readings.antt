@@ -64,14 +64,10 @@ with_style style part = logged part.told (Found (record { style = style; databas
 abbrev pub style_found : NamedFile → Logged (List NamedFile) → Logged FilesRead
 style_found style databases = if is_file_too_long style.bytes then logged [] (Ends (ended.Limit kind.File)) else with_style style databases
 
--- the reading from the search for the style on; if the style is missing, the run ends
-abbrev pub style_sought : List ℕ → Option NamedFile → Logged (List NamedFile) → Logged FilesRead
-style_sought name None databases = logged (no_style_line name ∷ []) (Ends ended.Finished)
-style_sought name (Some style) databases = behind (style_line name ∷ []) (style_found style databases)
-
--- the style of this name, once it is looked for: without it the run ends
+-- the style of this name, once it is looked for, and then the databases: without it the run ends
 unfoldable pub style_read : Files → AuxJob → List ℕ → Option NamedFile → Logged FilesRead
-style_read files job name style = style_sought name style (databases_read files job.databases)
+style_read files job name None = logged (no_style_line name ∷ []) (Ends ended.Finished)
+style_read files job name (Some style) = behind (style_line name ∷ []) (style_found style (databases_read files job.databases))
 
 -- the style that the `.aux` files name, if they name one: without one the run ends
 unfoldable pub style_named : Files → AuxJob → Option (List ℕ) → Logged FilesRead
@@ -80,16 +76,12 @@ style_named files job (Some name) = style_read files job name (file_at files nam
 
 -- ---- the job
 
--- what follows the `.aux` files, by how their reading ended: only if all of them was read the style is looked for
-abbrev pub after_aux : AuxEnd → Logged FilesRead → Logged FilesRead
-after_aux aux.Whole style = style
-after_aux aux.TooManyOpen style = logged [] (Ends (ended.Limit kind.Files))
-after_aux aux.TopMissing style = logged [] (Ends ended.NoTopFile)
-after_aux aux.FileLimit style = logged [] (Ends (ended.Limit kind.File))
-
--- what follows the `.aux` files of a job: its style and its databases, unless their reading ended before
+-- what follows the `.aux` files of a job, by how their reading ended: its style and its databases, only if all of them was read
 unfoldable pub after_job : Files → AuxJob → AuxEnd → Logged FilesRead
-after_job files job end = after_aux end (style_named files job job.style)
+after_job files job aux.Whole = style_named files job job.style
+after_job files job aux.TooManyOpen = logged [] (Ends (ended.Limit kind.Files))
+after_job files job aux.TopMissing = logged [] (Ends ended.NoTopFile)
+after_job files job aux.FileLimit = logged [] (Ends (ended.Limit kind.File))
 
 -- what was logged of the `.aux` files, and what follows them
 abbrev pub files_read : Files → AuxJob → Logged FilesRead
