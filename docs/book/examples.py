@@ -80,6 +80,7 @@ WORDS = {
         "IsScalar": lambda c: c < 0xD800 or 0xE000 <= c < 0x110000, "Some": some, "Ok": lambda x: ("Ok", x), "Err": lambda e: ("Err", e),
         "is_some": lambda o: o != NONE, "is_none": lambda o: o == NONE, "option_map": lambda f, o: o if o == NONE else some(f(o[1])),
         "option_and_then": lambda f, o: o if o == NONE else f(o[1]), "option_or": lambda o, p: p if o == NONE else o,
+        "option_to_list": lambda o: [] if o == NONE else [o[1]], "onto_first": lambda x, xs: [[x] + xs[0], *xs[1:]] if xs else [[x]],
         "option_map_or": lambda f, o, d: d if o == NONE else f(o[1]), "unwrap_or": lambda o, d: d if o == NONE else o[1], "IsTrue": lambda b: b,
         "IfOk": lambda r, P: r[0] != "Ok" or P(r[1]), "OnOk": lambda r, P: r[0] != "Ok" or P, "OnErr": lambda r, P: r[0] != "Err" or P,
         "IfSome": lambda o, P: o == NONE or P(o[1])}.items()}}

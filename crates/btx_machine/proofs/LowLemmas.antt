@@ -50,6 +50,7 @@ use Rattle.btx_step.specs.language.Names as names
 use Rattle.btx_step.specs.language.Stacks as stacks
 use Rattle.btx_step.specs.language.Strings as strings
 use Rattle.btx_step.specs.language.Variables as variables
+use Rattle.btx_step.specs.refinement.Variables as kept_variables
 use Rattle.btx_step.specs.language.Steps.{built_in_run, function_run, step_of}
 
 -- it is so
@@ -334,8 +335,8 @@ module _ (r : ℕ) where
   run_low job (callee.Field i) s b h = field_low job i s.current s h
   run_low job (callee.EntryInteger i) s b h = entry_integer_low i s.current s h
   run_low job (callee.EntryString i) s b h = entry_string_low i s.current s h
-  run_low job (callee.GlobalInteger i) s b h = integer_low said.Nothing (variables.integer_in (slice_get s.integers i)) s h
-  run_low job (callee.GlobalString i) s b h = string_low said.Nothing (variables.string_in (slice_get s.strings i)) s h
+  run_low job (callee.GlobalInteger i) s b h = integer_low said.Nothing (kept_variables.integer_in (slice_get s.integers i)) s h
+  run_low job (callee.GlobalString i) s b h = string_low said.Nothing (kept_variables.string_in (slice_get s.strings i)) s h
 
   -- an `if$` or a `while$`, over two of the first functions
   pub choice_low : (job : Job) (f : BuiltIn) (s : Store) → So (is_choice (Some (token.Run (callee.BuiltIn f)))) → TwoUnder s.literals → Low r (step_of job (token.Run (callee.BuiltIn f)) s)

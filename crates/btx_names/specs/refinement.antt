@@ -12,3 +12,4 @@ pub mod Right
 pub mod NamesFrom
 pub mod KeptNames
 pub mod KeptItems
+pub mod Answered

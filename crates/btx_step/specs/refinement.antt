@@ -4,3 +4,4 @@ pub mod Answers
 pub mod Table
 pub mod Quick
 pub mod Pairs
+pub mod Variables

@@ -1,13 +1,14 @@
 -- The events of a job: all that its `.aux` files say and all that becomes of them, in reading order. An `\@input` line is followed
 -- at once by what becomes of its file: the file is opened exactly if its name ends in `.aux`, nothing earlier names that file,
 -- the finder's content has it and fewer than 20 files are open; the events of an opened file follow at once.
-use Rattle.std.specs.Prelude.{ℕ, zero, suc, ◌+◌, ◌-◌, nat_lt, not, ◌&&◌, Bool, true, false, List, [], ◌∷◌, ◌++◌, map, length, Option, None, Some, if◌then◌else◌, codes}
+use Rattle.std.specs.Prelude.{ℕ, zero, suc, ◌+◌, ◌-◌, not, ◌&&◌, Bool, true, false, List, [], ◌∷◌, ◌++◌, map, Option, None, Some, if◌then◌else◌, codes}
 use Rattle.std.specs.List.{flat_map}
-use Rattle.btx_text.specs.language.Limits.{greatest_file}
+use Rattle.btx_text.specs.language.Limits.{is_too_long}
 use Rattle.btx_text.specs.language.Lines.{lines_of}
 use Rattle.btx_aux.specs.language.Files.{Files}
-use Rattle.btx_aux.specs.language.Names.{has_ending, is_among, distinct}
+use Rattle.btx_aux.specs.language.Names.{has_ending, distinct}
 use Rattle.btx_aux.specs.language.Grammar.{Taken, EventKind, Includes, Opens, Absent, Full, TooLong, NoTop, words_of, end_by, is_whole}
+use Rattle.btx_text.specs.language.Lists.{is_among}
 
 -- an event, with its place: a file and a line of it, from 1 up, or 0 for the file as a whole
 pub record AuxEvent : Type 0 where
@@ -70,10 +71,6 @@ expanded files reading earlier (event ∷ events) =
     let with_event = earlier ++ event ∷ [] in
     let more = followed files reading with_event event (asked_of (files_named earlier) event.word) in
     (event ∷ more) ++ expanded files reading (with_event ++ more) events
-
--- the text has more bytes than a file may have
-abbrev pub is_too_long : List ℕ → Bool
-is_too_long text = nat_lt greatest_file (length text)
 
 -- the events of an opened file after its opening, given whether it is too long: then just that, and else those of its lines
 abbrev pub inside : Bool → Files → FileEvents → List AuxEvent → List ℕ → List ℕ → List AuxEvent

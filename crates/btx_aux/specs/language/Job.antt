@@ -7,11 +7,12 @@ use Rattle.std.specs.Option.{option_map_or}
 use Rattle.btx_aux.specs.declared.end.End.{End}
 use Rattle.btx_aux.specs.declared.end.End.TheVariants as end
 use Rattle.btx_aux.specs.language.Files.{Files}
-use Rattle.btx_aux.specs.language.Names.{has_ending, with_ending, is_among, with_name_once, distinct, listed_as, with_key}
+use Rattle.btx_aux.specs.language.Names.{has_ending, with_ending, with_name_once, distinct, listed_as, with_key}
 use Rattle.btx_aux.specs.language.Grammar.{Piece, Taken, Cut, EventKind, Cites, Databases, Styles, Includes, Opens, Absent, end_by, is_whole}
 use Rattle.btx_aux.specs.language.Events.{AuxEvent, files_named, job_events}
 use Rattle.btx_text.specs.language.LogLines.{Line}
 use Rattle.btx_aux.specs.language.Notes.{AuxComplaint, Slipped, AnotherBibdata, AnotherBibstyle, CaseMismatch, SecondStar, WrongExtension, AlreadyMet, NotOpened, RepeatedDatabase, AuxNote, TopFile, LevelFile, Wrong, NoCitations, NoBibdata, NoBibstyle, aux_note_line}
+use Rattle.btx_text.specs.language.Lists.{only_if, is_among}
 
 -- ---- reading along the events
 
@@ -102,18 +103,13 @@ style_name_of events = style_name_in (bibstyle_of events)
 
 -- ---- the log
 
--- the complaint, if the test is true
-abbrev pub complain_if : Bool → AuxComplaint → List AuxComplaint
-complain_if true complaint = complaint ∷ []
-complain_if false complaint = []
-
 -- what is wrong with the pieces of the first `\bibdata` line: a faulty piece, or a database that is named again. `databases` are those that its
 -- earlier pieces name
 abbrev pub database_complaints : List (List ℕ) → List Piece → List AuxComplaint
 database_complaints databases [] = []
 database_complaints databases (Taken name ∷ pieces) =
     let database = with_ending (codes ".bib") name in
-    complain_if (is_among databases database) (RepeatedDatabase database) ++ database_complaints (with_name_once databases database) pieces
+    only_if (is_among databases database) (RepeatedDatabase database) ++ database_complaints (with_name_once databases database) pieces
 database_complaints databases (Cut slip ∷ pieces) = Slipped slip ∷ database_complaints databases pieces
 
 -- the error in a piece, if the piece is faulty
@@ -126,13 +122,13 @@ slip_complaints (Cut slip) = Slipped slip ∷ []
 -- of another ending than `.aux` or of a file that is named already, and a file that isn't there
 abbrev pub complaints_by : List (List ℕ) → Option ℕ → Bool → Bool → List (List ℕ) → EventKind → List AuxComplaint
 complaints_by keys all bibdata bibstyle files (Cites (Taken key)) =
-    if is_star key then complain_if (is_some all) SecondStar
-    else option_map_or (λ (earlier : List ℕ). complain_if (not (bytes_eq earlier key)) (CaseMismatch earlier key)) (listed_as keys key) []
+    if is_star key then only_if (is_some all) SecondStar
+    else option_map_or (λ (earlier : List ℕ). only_if (not (bytes_eq earlier key)) (CaseMismatch earlier key)) (listed_as keys key) []
 complaints_by keys all bibdata bibstyle files (Cites (Cut slip)) = Slipped slip ∷ []
 complaints_by keys all bibdata bibstyle files (Databases pieces) = if bibdata then AnotherBibdata ∷ [] else database_complaints [] pieces
 complaints_by keys all bibdata bibstyle files (Styles piece) = if bibstyle then AnotherBibstyle ∷ [] else slip_complaints piece
 complaints_by keys all bibdata bibstyle files (Includes (Taken name)) =
-    if has_ending (codes ".aux") name then complain_if (is_among files name) (AlreadyMet name) else WrongExtension name ∷ []
+    if has_ending (codes ".aux") name then only_if (is_among files name) (AlreadyMet name) else WrongExtension name ∷ []
 complaints_by keys all bibdata bibstyle files (Includes (Cut slip)) = Slipped slip ∷ []
 complaints_by keys all bibdata bibstyle files (Absent name) = NotOpened name ∷ []
 complaints_by keys all bibdata bibstyle files _ = []
@@ -155,11 +151,6 @@ abbrev pub end_of : List AuxEvent → End
 end_of [] = end.Whole
 end_of (event ∷ events) = if is_whole (end_by event.word) then end_of events else end_by event.word
 
--- the note, if the test is true
-abbrev pub aux_note_if : Bool → AuxNote → List AuxNote
-aux_note_if true note = note ∷ []
-aux_note_if false note = []
-
 -- the list of keys is empty
 abbrev pub is_empty : List (List ℕ) → Bool
 is_empty [] = true
@@ -168,7 +159,7 @@ is_empty (key ∷ keys) = false
 -- what is missing in a whole reading: any key and `*`; a `\bibdata` line, unless `bibdata` is true; a `\bibstyle` line, unless `bibstyle` is true
 abbrev pub missing_notes : List (List ℕ) → Option ℕ → Bool → Bool → List AuxNote
 missing_notes keys all bibdata bibstyle =
-    aux_note_if (is_empty keys && is_none all) NoCitations ++ aux_note_if (not bibdata) NoBibdata ++ aux_note_if (not bibstyle) NoBibstyle
+    only_if (is_empty keys && is_none all) NoCitations ++ only_if (not bibdata) NoBibdata ++ only_if (not bibstyle) NoBibstyle
 
 -- the notes at the end: after a whole reading, what is missing; else none
 abbrev pub closing_notes : End → List (List ℕ) → Option ℕ → Bool → Bool → List AuxNote

@@ -1,6 +1,6 @@
 -- What some databases give to a job, read one after the other.
-use Rattle.std.specs.Prelude.{ℕ, nat_lt, Bool, List, [], ◌++◌, fold, length, None, if◌then◌else◌}
-use Rattle.btx_text.specs.language.Limits.{greatest_file}
+use Rattle.std.specs.Prelude.{ℕ, List, [], ◌++◌, fold, None, if◌then◌else◌}
+use Rattle.btx_text.specs.language.Limits.{is_too_long}
 use Rattle.btx_bib.specs.declared.end.End.{End}
 use Rattle.btx_bib.specs.declared.end.End.TheVariants as end
 use Rattle.btx_bib.specs.declared.grammar.commands.Wanted.TheVariants.{Item}
@@ -32,10 +32,6 @@ with_macros macros = fold with_macro nothing macros
 
 -- ---- one database
 
--- a file is longer than a file may be
-abbrev pub is_database_too_long : Database → Bool
-is_database_too_long database = nat_lt greatest_file (length database.text)
-
 -- what stands in a database and what is wrong in it, item by item; which entries are repeated depends on what is known before it
 abbrev pub database_events : Request → Known → Database → List Placed
 database_events wanted known database = events_from (keeping wanted) known Item database.text
@@ -49,7 +45,7 @@ read_whole wanted reading database =
 abbrev pub read_one : Request → Reading → Database → Reading
 read_one wanted reading database =
     if goes_on reading.known.ending then
-    (if is_database_too_long database then record reading { known = record reading.known { ending = end.FileLimit } } else read_whole wanted reading database)
+    (if is_too_long database.text then record reading { known = record reading.known { ending = end.FileLimit } } else read_whole wanted reading database)
     else reading
 
 -- ---- all databases

@@ -1,6 +1,6 @@
 -- What is known of the databases while they are read, item by item: the strings, the entries that are stored, the preamble, and whether
 -- the reading has ended at a limit, after which nothing more is known. What an item is, is the grammar's.
-use Rattle.std.specs.Prelude.{ℕ, nat_lt, not, ◌&&◌, Bool, true, false, List, [], ◌∷◌, ◌++◌, length, Option, None, Some, is_some, if◌then◌else◌}
+use Rattle.std.specs.Prelude.{ℕ, nat_lt, not, ◌&&◌, Bool, true, false, List, [], ◌∷◌, ◌++◌, length, Option, None, Some, is_some, if◌then◌else◌, option_to_list}
 use Rattle.btx_text.specs.language.Keys.{folded}
 use Rattle.btx_text.specs.language.Limits.{greatest_string}
 use Rattle.btx_bib.specs.declared.end.End.{End}
@@ -12,7 +12,7 @@ use Rattle.btx_bib.specs.language.Grammar.ValueTexts.{value_text}
 use Rattle.btx_bib.specs.language.Wanted.{Request}
 use Rattle.btx_bib.specs.language.Strings.{Strings, string_value, other_value, defined}
 use Rattle.btx_bib.specs.language.Filling.{value_by}
-use Rattle.btx_bib.specs.language.Entries.{Given, list_of_option, field_values}
+use Rattle.btx_bib.specs.language.Entries.{Given, field_values}
 use Rattle.btx_bib.specs.language.Stored.{entry_with_key, is_wanted}
 
 -- the strings, the entries that are stored, the one of these that is being read, the values of all `@preamble`s joined, and how the
@@ -32,7 +32,7 @@ goes_on end.StringLimit = false
 
 -- the stored entries, with the one that is being read
 abbrev pub stored_in : Known → List Given
-stored_in known = known.stored ++ list_of_option known.current
+stored_in known = known.stored ++ option_to_list known.current
 
 -- what is known once the entry that is being read has ended: it is stored
 abbrev pub with_current_stored : Known → Known

@@ -5,6 +5,7 @@ ghost use Rattle.btx_step.specs.language.Answers.{answer};
 ghost use Rattle.btx_step.specs.refinement.Answers.{silence};
 ghost use Rattle.btx_step.specs.language.Names as spec;
 ghost use Rattle.btx_step.specs.language.Table.{runs};
+ghost use Rattle.btx_text.specs.language.Lists.{only_if};
 
 use super::Store;
 use crate::job::Job;
@@ -132,7 +133,7 @@ fn name_said<'a>(
 
 // A line where something was wrong.
 fn push_if<'a>(notes: &mut Notes<'a>, is_wrong: bool, note: Note<'a>) -> Result<(), AllocError>
-    ensures { OnOk result (notes.new ≡ notes.old ++ spec.note_if is_wrong note.entry) }
+    ensures { OnOk result (notes.new ≡ notes.old ++ only_if is_wrong note.entry) }
 {
     if is_wrong {
         notes.push(note)?;

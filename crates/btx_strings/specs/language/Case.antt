@@ -9,10 +9,11 @@ use Rattle.btx_text.specs.declared.element_kind.Kind.TheVariants.{Byte, Special}
 use Rattle.btx_text.specs.declared.element_kind.TextMode.TheVariants.{Bytes}
 use Rattle.btx_text.specs.language.Elements.{Element, elements_of, backslash}
 use Rattle.btx_strings.specs.language.Answers.{no_complaints, wrong_conversion}
-use Rattle.btx_strings.specs.language.Controls.{Glyph, Control, Plain, glyphs_of, is_among, without_white}
+use Rattle.btx_strings.specs.language.Controls.{Glyph, Control, Plain, glyphs_of, without_white}
 use Rattle.btx_strings.specs.declared.answers.Complaints.{Complaints}
 use Rattle.btx_strings.specs.declared.conversions.Conversion.{Conversion}
 use Rattle.btx_strings.specs.declared.conversions.Conversion.TheVariants.{Title, Lower, Upper}
+use Rattle.btx_text.specs.language.Lists.{is_among}
 
 -- ---- the conversion
 

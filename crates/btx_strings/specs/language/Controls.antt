@@ -1,10 +1,9 @@
 -- The control sequences of special characters (btxhak, section 5.3, at `purify$`, and btxdoc, section 4, at accented and foreign
 -- characters). A glyph of a special character is a control sequence, or any other byte.
 use Rattle.std.specs.Prelude.{ℕ, zero, suc, ◌==◌, ◌||◌, ◌&&◌, Bool, false, List, [], ◌∷◌, length, take, codes, take_while, if◌then◌else◌}
-use Rattle.std.specs.List.{list_any}
-use Rattle.std.specs.Str.{bytes_eq}
 use Rattle.btx_text.specs.language.Class.{is_alpha, is_white}
 use Rattle.btx_text.specs.language.Elements.{open_brace, close_brace, backslash}
+use Rattle.btx_text.specs.language.Lists.{is_among}
 
 -- a control sequence, by what stands after its backslash, or a byte by itself
 pub data Glyph : Type 0 where
@@ -37,10 +36,6 @@ unfoldable pub glyphs_of : List ℕ → List Glyph
 glyphs_of text = glyphs_from 0 text
 
 -- ---- foreign ones
-
--- one of the names is `name`
-abbrev pub is_among : List (List ℕ) → List ℕ → Bool
-is_among names name = list_any (bytes_eq name) names
 
 -- the letters that a control sequence stands for: both of five foreign ones, the first of eight others, none of any other
 unfoldable pub letters_of : List ℕ → List ℕ

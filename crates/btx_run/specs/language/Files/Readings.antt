@@ -1,6 +1,6 @@
 -- What the reading of a job's files gives, up to the execution of the style. The `.aux` files come first; then the style is looked for, and
 -- then the databases that they name (btxdoc, section 2), each in turn. A database is judged when the style reads it, not here.
-use Rattle.std.specs.Prelude.{ℕ, ◌+◌, List, [], ◌∷◌, ◌++◌, length, Option, None, Some, if◌then◌else◌}
+use Rattle.std.specs.Prelude.{ℕ, ◌+◌, List, [], ◌∷◌, ◌++◌, length, Option, None, Some, if◌then◌else◌, option_to_list}
 use Rattle.std.specs.List.{flat_map}
 use Rattle.btx_aux.specs.language.Files.{Files}
 use Rattle.btx_aux.specs.language.Job.{AuxJob, job_of_files}
@@ -12,8 +12,9 @@ use Rattle.btx_run.specs.declared.files.found.FilesRead.TheVariants.{Ends, Found
 use Rattle.btx_machine.specs.declared.ending.Limit.TheVariants as kind
 use Rattle.btx_machine.specs.declared.report.End.TheVariants as ended
 use Rattle.btx_run.specs.language.Files.Lines.{database_line, no_style_line, style_line, no_database_line}
-use Rattle.btx_run.specs.language.Files.Names.{is_file_too_long, top_name}
+use Rattle.btx_run.specs.language.Files.Names.{top_name}
 use Rattle.btx_run.specs.language.Files.Found.{NamedFile, file_at}
+use Rattle.btx_text.specs.language.Limits.{is_too_long}
 
 -- a part of the reading: its lines of the log, and what it gives
 pub record Logged (T : Type 0) : Type 0 where
@@ -30,14 +31,9 @@ behind lines part = logged (lines ++ part.told) part.gives
 
 -- ---- databases
 
--- an optional file as a list of one or of none
-abbrev pub as_list : Option NamedFile → List NamedFile
-as_list None = []
-as_list (Some file) = file ∷ []
-
 -- the files of these names that are there, in order
 abbrev pub files_found : Files → List (List ℕ) → List NamedFile
-files_found files names = flat_map (λ name. as_list (file_at files name)) names
+files_found files names = flat_map (λ name. option_to_list (file_at files name)) names
 
 -- the log line of a database, which has this number if it is found
 abbrev pub database_logged : ℕ → List ℕ → Option NamedFile → Line
@@ -62,7 +58,7 @@ with_style style part = logged part.told (Found (record { style = style; databas
 
 -- the reading after the style was found: a style that is too long ends the run, and no database is looked for
 abbrev pub style_found : NamedFile → Logged (List NamedFile) → Logged FilesRead
-style_found style databases = if is_file_too_long style.bytes then logged [] (Ends (ended.Limit kind.File)) else with_style style databases
+style_found style databases = if is_too_long style.bytes then logged [] (Ends (ended.Limit kind.File)) else with_style style databases
 
 -- the style of this name, once it is looked for, and then the databases: without it the run ends
 unfoldable pub style_read : Files → AuxJob → List ℕ → Option NamedFile → Logged FilesRead
