@@ -5,3 +5,9 @@ pub mod Table
 pub mod Quick
 pub mod Pairs
 pub mod Variables
+pub mod Strings
+pub mod Arithmetic
+pub mod Entries
+pub mod Names
+pub mod Stacks
+pub mod Control

@@ -4,6 +4,7 @@ ghost use Rattle.btx_bst.specs.declared.built_in.BuiltIn.TheVariants as built_in
 ghost use Rattle.btx_step.specs.language.Answers.{answer};
 ghost use Rattle.btx_step.specs.refinement.Answers.{silence};
 ghost use Rattle.btx_step.specs.language.Names as spec;
+ghost use Rattle.btx_step.specs.refinement.Names as kept_spec;
 ghost use Rattle.btx_step.specs.language.Table.{runs};
 ghost use Rattle.btx_text.specs.language.Lists.{only_if};
 
@@ -21,7 +22,7 @@ impl<'a> Store<'a> {
     // `num.names$`
     pub(super) fn count_names(&mut self, said: &mut Said<'a>) -> Result<Next, AllocError>
         requires { said.old ≡ silence }
-        ensures { IfOk result (λ next. answer next said.new self.new ≡ runs built_in.NumNames spec.counts_names self.old) }
+        ensures { IfOk result (λ next. answer next said.new self.new ≡ runs built_in.NumNames kept_spec.counts_names self.old) }
     {
         match self.literals.pop(self.alloc)? {
             Some(Literal::Text(names)) => {
