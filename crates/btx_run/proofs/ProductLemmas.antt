@@ -33,12 +33,13 @@ use Rattle.btx_run.specs.declared.files.found.FilesRead.{FilesRead}
 use Rattle.btx_run.specs.declared.files.found.JobFiles.{JobFiles}
 use Rattle.btx_run.specs.declared.options.Options.{Options}
 use Rattle.btx_run.specs.language.Files.Counts.{Counts, counts_of}
-use Rattle.btx_run.specs.language.Files.Readings.{Logged, files_read, job_named}
-use Rattle.btx_run.specs.refinement.Files.Readings.{IsRead}
+use Rattle.btx_run.specs.language.Files.Readings.{Logged, job_named}
+use Rattle.btx_run.specs.refinement.Files.Readings.{IsRead, files_read}
 use Rattle.btx_run.specs.language.Files.Telling.{bytes_of_lines}
 use Rattle.btx_run.specs.refinement.Files.Telling.{Tells}
 use Rattle.btx_run.specs.language.Contents.{database_of, style_in}
-use Rattle.btx_run.specs.language.Product.{product, product_of_files, product_of_reading, product_with, logged_before, counts_in, work_in, work_of}
+use Rattle.btx_run.specs.language.Product.{product, product_of_files, product_of_reading, product_with, logged_before, counts_in, work_in}
+use Rattle.btx_run.specs.refinement.Product.{work_of}
 
 -- ---- what the style works on
 

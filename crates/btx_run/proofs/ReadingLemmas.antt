@@ -12,7 +12,7 @@ use Rattle.btx_aux.specs.language.Files.{Files, file_of}
 use Rattle.btx_out.specs.language.Pieces.{AppendsBeginning}
 use Rattle.btx_out.proofs.PieceLemmas.{beginning-none_same}
 use Rattle.btx_run.specs.language.Files.Counts.{Counts}
-use Rattle.btx_run.specs.language.Files.Found.{NamedFile, file_at, named_file}
+use Rattle.btx_run.specs.language.Files.Found.{NamedFile, file_at}
 use Rattle.btx_aux.specs.language.Job.{AuxJob}
 use Rattle.btx_aux.specs.declared.end.End.{End as AuxEnd}
 use Rattle.btx_aux.specs.declared.end.End.TheVariants as aux
@@ -27,6 +27,7 @@ use Rattle.btx_run.specs.language.Files.Readings.{Logged, after_job, behind, dat
 use Rattle.btx_run.specs.refinement.Files.Readings.{AddsAs, IsAdded, IsRead, ReadsAs, after_style, database_read}
 use Rattle.btx_run.proofs.TellingLemmas.{part_begins, rest_begins, tells_both, tells_nothing}
 use Rattle.std.specs.Prelude.{option_to_list}
+use Rattle.btx_run.specs.refinement.Files.Found.{named_file}
 
 -- ---- contents
 

@@ -2,7 +2,7 @@
 ghost use Rattle.std.specs.Prelude.{◌≡◌, ◌+◌, ◌++◌, ◌∷◌, [], length, IfOk, IfSome, OnOk};
 ghost use Rattle.btx_aux.specs.refinement.Answers.{ByAnswers};
 ghost use Rattle.btx_aux.specs.refinement.Faults.{CountsOfOne};
-ghost use Rattle.btx_run.specs.language.Files.Found.{file_at, named_file};
+ghost use Rattle.btx_run.specs.language.Files.Found.{file_at};
 
 use btx_aux::Finder;
 use btx_machine::End;
@@ -18,6 +18,7 @@ pub struct FoundFile<'a> {
 }
 
 impl<'a> Model for FoundFile<'a> {
+    ghost use Rattle.btx_run.specs.refinement.Files.Found.{};
     ghost use Rattle.btx_run.specs.language.Files.Found.{NamedFile};
 
     ghost Value = { NamedFile };

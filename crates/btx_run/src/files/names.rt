@@ -1,7 +1,7 @@
 //! The names of a job's files.
 ghost use Rattle.std.specs.Prelude.{◌≡◌, IfOk};
-ghost use Rattle.btx_run.specs.language.Files.Names.{top_name};
 ghost use Rattle.btx_text.specs.language.Limits.{is_too_long};
+ghost use Rattle.btx_run.specs.refinement.Files.Names.{top_name};
 
 use btx_text::GREATEST_FILE;
 use std::alloc::{AllocError, Global};

@@ -1,6 +1,6 @@
 -- What the reading of a job's files gives, up to the execution of the style. The `.aux` files come first; then the style is looked for, and
 -- then the databases that they name (btxdoc, section 2), each in turn. A database is judged when the style reads it, not here.
-use Rattle.std.specs.Prelude.{ℕ, ◌+◌, List, [], ◌∷◌, ◌++◌, length, Option, None, Some, if◌then◌else◌, option_to_list}
+use Rattle.std.specs.Prelude.{ℕ, ◌+◌, List, [], ◌∷◌, ◌++◌, length, Option, None, Some, if◌then◌else◌, option_to_list, codes}
 use Rattle.std.specs.List.{flat_map}
 use Rattle.btx_aux.specs.language.Files.{Files}
 use Rattle.btx_aux.specs.language.Job.{AuxJob, job_of_files}
@@ -12,9 +12,9 @@ use Rattle.btx_run.specs.declared.files.found.FilesRead.TheVariants.{Ends, Found
 use Rattle.btx_machine.specs.declared.ending.Limit.TheVariants as kind
 use Rattle.btx_machine.specs.declared.report.End.TheVariants as ended
 use Rattle.btx_run.specs.language.Files.Lines.{database_line, no_style_line, style_line, no_database_line}
-use Rattle.btx_run.specs.language.Files.Names.{top_name}
 use Rattle.btx_run.specs.language.Files.Found.{NamedFile, file_at}
 use Rattle.btx_text.specs.language.Limits.{is_too_long}
+use Rattle.btx_aux.specs.language.Names.{with_ending}
 
 -- a part of the reading: its lines of the log, and what it gives
 pub record Logged (T : Type 0) : Type 0 where
@@ -52,13 +52,9 @@ databases_read files names = logged (databases_logged files [] names) (files_fou
 
 -- ---- the style
 
--- a style with the databases that were found
-abbrev pub with_style : NamedFile → Logged (List NamedFile) → Logged FilesRead
-with_style style part = logged part.told (Found (record { style = style; databases = part.gives }))
-
 -- the reading after the style was found: a style that is too long ends the run, and no database is looked for
 abbrev pub style_found : NamedFile → Logged (List NamedFile) → Logged FilesRead
-style_found style databases = if is_too_long style.bytes then logged [] (Ends (ended.Limit kind.File)) else with_style style databases
+style_found style databases = if is_too_long style.bytes then logged [] (Ends (ended.Limit kind.File)) else logged databases.told (Found (record { style = style; databases = databases.gives }))
 
 -- the style of this name, once it is looked for, and then the databases: without it the run ends
 unfoldable pub style_read : Files → AuxJob → List ℕ → Option NamedFile → Logged FilesRead
@@ -79,14 +75,12 @@ after_job files job aux.TooManyOpen = logged [] (Ends (ended.Limit kind.Files))
 after_job files job aux.TopMissing = logged [] (Ends ended.NoTopFile)
 after_job files job aux.FileLimit = logged [] (Ends (ended.Limit kind.File))
 
--- what was logged of the `.aux` files, and what follows them
-abbrev pub files_read : Files → AuxJob → Logged FilesRead
-files_read files job = behind job.log (after_job files job job.ending)
-
--- what the `.aux` files of the job of this name say
+-- what the `.aux` files of the job of this name say; the top-level file has the job's name with `.aux`, unless that ends so
 abbrev pub job_named : Files → List ℕ → AuxJob
-job_named files name = job_of_files files (top_name name)
+job_named files name = job_of_files files (with_ending (codes ".aux") name)
 
--- the whole reading of the files of the job of this name
+-- the whole reading of the files of the job of this name: what was logged of the `.aux` files, and what follows them
 abbrev pub reading_of : Files → List ℕ → Logged FilesRead
-reading_of files name = files_read files (job_named files name)
+reading_of files name =
+    let job = job_named files name in
+    behind job.log (after_job files job job.ending)

@@ -10,7 +10,7 @@ use Rattle.btx_run.specs.declared.files.found.FilesRead.TheVariants.{Ends, Found
 use Rattle.btx_run.specs.language.Files.Telling.{bytes_of_lines}
 use Rattle.btx_run.specs.refinement.Files.Telling.{LogReceived, Counted, Tells}
 use Rattle.btx_run.specs.language.Files.Found.{NamedFile, file_at}
-use Rattle.btx_run.specs.language.Files.Readings.{Logged, logged, database_logged, databases_read, style_found}
+use Rattle.btx_run.specs.language.Files.Readings.{Logged, logged, database_logged, databases_read, style_found, behind, after_job}
 
 -- ---- databases
 
@@ -50,3 +50,11 @@ pub record IsAdded (before after : List NamedFile) (counted : Counted) (log : Lo
 abbrev pub AddsAs : {T : Type 0} → Result T Fault → List NamedFile → List NamedFile → Counted → LogReceived → Logged (Option NamedFile) → Type 0
 AddsAs (Ok value) before after counted log part = IsAdded before after counted log part
 AddsAs (Err fault) before after counted log part = AppendsBeginning log.0 log.1 (bytes_of_lines part.told)
+
+-- a style with the databases that were found
+abbrev pub with_style : NamedFile → Logged (List NamedFile) → Logged FilesRead
+with_style style part = logged part.told (Found (record { style = style; databases = part.gives }))
+
+-- what was logged of the `.aux` files, and what follows them
+abbrev pub files_read : Files → AuxJob → Logged FilesRead
+files_read files job = behind job.log (after_job files job job.ending)

@@ -1,4 +1,4 @@
--- The name of a job's first file, and how long a file may be.
+-- The name of a job's first file, as the code's clause has it.
 use Rattle.std.specs.Prelude.{ℕ, List, ◌++◌, nat_eq, codes, if◌then◌else◌}
 use Rattle.std.specs.List.{ends_with}
 
