@@ -1,11 +1,11 @@
 -- The product of a job: what a whole run writes and answers. It composes what the reading of the files gives, what the style's text and the
 -- databases hold, and what executing the style then does; each stands in definitions of its own.
-use Rattle.std.specs.Prelude.{ℕ, List, ◌++◌}
+use Rattle.std.specs.Prelude.{ℕ, List, ◌++◌, []}
 use Rattle.btx_text.specs.language.LogLines.{Line}
 use Rattle.btx_aux.specs.language.Files.{Files}
 use Rattle.btx_aux.specs.language.Job.{AuxJob}
 use Rattle.btx_step.specs.language.Jobs.{Job}
-use Rattle.btx_machine.specs.language.Product.{Product, product_early, style_product}
+use Rattle.btx_machine.specs.language.Product.{Product, style_product}
 use Rattle.btx_machine.specs.language.Reports.{report_of, log_counts}
 use Rattle.btx_machine.specs.declared.report.Told.{Told}
 use Rattle.btx_run.specs.declared.files.found.FilesRead.{FilesRead}
@@ -37,7 +37,7 @@ logged_before lines product = record product { told = bytes_of_lines lines ++ pr
 
 -- what follows the reading of the files, after these lines of the log, with a budget: the run ends at once, or the style is executed
 abbrev pub product_of_files : AuxJob → FilesRead → Options → Told → ℕ → Product
-product_of_files job (Ends ending) options told budget = product_early (report_of ending 0 0 told)
+product_of_files job (Ends ending) options told budget = record { bbl = []; told = []; report = report_of ending 0 0 told }
 product_of_files job (Found found) options told budget = style_product (work_in job found options) told options.line budget
 
 -- the product of a job whose files were read so, with a budget: what was logged, and what follows
