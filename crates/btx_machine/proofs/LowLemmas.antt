@@ -32,9 +32,9 @@ use Rattle.btx_step.specs.declared.stand_in.StandIn.{StandIn}
 use Rattle.btx_step.specs.declared.stand_in.StandIn.TheVariants as stand_in
 use Rattle.btx_step.specs.language.Jobs.{Job}
 use Rattle.btx_step.specs.language.Stores.{Store}
-use Rattle.btx_step.specs.language.Answers.{Answer, answer, quiet, says, with_literals, pushes, pushes_text, complained, complains, refuses, outside, truth}
+use Rattle.btx_step.specs.language.Answers.{Answer, answer, quiet, says, with_literals, pushes, pushes_text, complained, complains, truth}
 use Rattle.btx_step.specs.language.Operands.{Operand, Does, Push, Back, on_operands}
-use Rattle.btx_step.specs.language.Table.{row, misses_entry, runs_missing}
+use Rattle.btx_step.specs.language.Table.{row, runs_missing}
 use Rattle.btx_step.proofs.RuleLemmas.{Each, Taken, by_rule, pushed_by}
 use Rattle.btx_strings.specs.language.Positions.{add_period_of, substring_of}
 use Rattle.btx_strings.specs.language.Case.{change_case_of, case_complaints}
@@ -55,6 +55,8 @@ use Rattle.btx_step.specs.language.Strings as strings
 use Rattle.btx_step.specs.language.Variables as variables
 use Rattle.btx_step.specs.refinement.Variables as kept_variables
 use Rattle.btx_step.specs.language.Steps.{built_in_run, function_run, step_of}
+use Rattle.btx_step.specs.refinement.Answers.{outside, refuses}
+use Rattle.btx_step.specs.refinement.Table.{misses_entry}
 
 -- it is so
 abbrev pub So : Bool → Type 0

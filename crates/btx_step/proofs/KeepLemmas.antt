@@ -20,7 +20,7 @@ use Rattle.btx_step.specs.language.Stores.{Store}
 use Rattle.btx_step.specs.language.Answers.{Answer, answer, with_literals, pushes, pushes_text, complained}
 use Rattle.btx_step.specs.laws.Leaves.{StandUnder}
 use Rattle.btx_step.specs.language.Operands.{Operand, Does, Push, Back, on_operands}
-use Rattle.btx_step.specs.language.Table.{row, misses_entry}
+use Rattle.btx_step.specs.language.Table.{row}
 use Rattle.btx_step.specs.language.Arithmetic as arithmetic
 use Rattle.btx_step.specs.refinement.Arithmetic as kept_arithmetic
 use Rattle.btx_step.specs.language.Entries as entries
@@ -29,6 +29,7 @@ use Rattle.btx_step.specs.refinement.Stacks as stacks
 use Rattle.btx_step.specs.language.Strings as strings
 use Rattle.btx_step.specs.refinement.Variables as variables
 use Rattle.btx_step.proofs.RuleLemmas.{Each, Taken, by_rule}
+use Rattle.btx_step.specs.refinement.Table.{misses_entry}
 
 -- a step left all but the literals of a store, and these literals below its results
 pub record Keeps (all : Store) (below : List Literal) (a : Answer) : Type 0 where

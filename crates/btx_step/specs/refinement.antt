@@ -11,3 +11,6 @@ pub mod Entries
 pub mod Names
 pub mod Stacks
 pub mod Control
+pub mod Steps
+pub mod Sorting
+pub mod Starts

@@ -5,7 +5,8 @@ ghost use Rattle.btx_step.specs.language.Answers.{answer, quiet};
 ghost use Rattle.btx_step.specs.refinement.Answers.{silence};
 ghost use Rattle.btx_step.specs.language.Entries as spec;
 ghost use Rattle.btx_step.specs.refinement.Entries as kept_spec;
-ghost use Rattle.btx_step.specs.language.Table.{runs, runs_missing, misses_entry};
+ghost use Rattle.btx_step.specs.language.Table.{runs, runs_missing};
+ghost use Rattle.btx_step.specs.refinement.Table.{misses_entry};
 
 use super::Store;
 use crate::job::Job;
