@@ -5,7 +5,7 @@ use Rattle.btx_bib.specs.declared.end.End.{End}
 use Rattle.btx_bib.specs.declared.end.End.TheVariants as end
 use Rattle.btx_bib.specs.declared.grammar.commands.Wanted.TheVariants.{Item}
 use Rattle.btx_bib.specs.declared.message.Message.{Message}
-use Rattle.btx_bib.specs.language.Grammar.Items.{Placed, events_from}
+use Rattle.btx_bib.specs.language.Grammar.Items.{events_from}
 use Rattle.btx_bib.specs.language.Grammar.ValueTexts.{squeezed}
 use Rattle.btx_bib.specs.language.Library.{Library}
 use Rattle.btx_bib.specs.language.Wanted.{Request}
@@ -32,14 +32,11 @@ with_macros macros = fold with_macro nothing macros
 
 -- ---- one database
 
--- what stands in a database and what is wrong in it, item by item; which entries are repeated depends on what is known before it
-abbrev pub database_events : Request → Known → Database → List Placed
-database_events wanted known database = events_from (keeping wanted) known Item database.text
-
 -- a database is read event by event; at its end the entry that is being read is at its end too
 abbrev pub read_whole : Request → Reading → Database → Reading
 read_whole wanted reading database =
-    let last = fold (read_next wanted database) reading (database_events wanted reading.known database) in record last { known = with_current_stored last.known }
+    let last = fold (read_next wanted database) reading (events_from (keeping wanted) reading.known Item database.text) in
+    record last { known = with_current_stored last.known }
 
 -- reads a database, unless the reading has ended already; a file that is too long ends it
 abbrev pub read_one : Request → Reading → Database → Reading

@@ -41,10 +41,6 @@ abbrev pub parent_slot : List Slot → Option (List ℕ) → Option Slot
 parent_slot slots None = None
 parent_slot slots (Some key) = slot_at slots key
 
--- a place of the list with another entry
-abbrev pub with_body : Slot → Option Body → Slot
-with_body slot body = record slot { body = body }
-
 -- an entry with other values for its fields, if there is an entry
 abbrev pub with_field_values : Option Body → List (Option (List ℕ)) → Option Body
 with_field_values None values = None
@@ -66,7 +62,8 @@ inherited_values key (value ∷ values) (parent ∷ parents) = Some key ∷ or_v
 -- that the entry lacks takes the parent's value
 abbrev pub inherited_from : Option Slot → Slot → Slot
 inherited_from None slot = slot
-inherited_from (Some parent) slot = with_body slot (with_field_values slot.body (inherited_values parent.key (body_values slot.body) (body_values parent.body)))
+inherited_from (Some parent) slot =
+    record slot { body = with_field_values slot.body (inherited_values parent.key (body_values slot.body) (body_values parent.body)) }
 
 -- the first pass, at a place of the list: what the entry there lacks it takes from its parent, by what that has at that moment
 unfoldable pub inherited : List Slot → Slot → Slot
@@ -79,7 +76,7 @@ without_parent (value ∷ values) = None ∷ values
 
 -- a place of the list whose entry has lost its `crossref`
 abbrev pub without_crossref : Slot → Slot
-without_crossref slot = with_body slot (with_field_values slot.body (without_parent (body_values slot.body)))
+without_crossref slot = record slot { body = with_field_values slot.body (without_parent (body_values slot.body)) }
 
 -- the parent has an entry that stays
 abbrev pub is_parent : Option Slot → Bool

@@ -18,10 +18,6 @@ text_of_part strings (Quoted text) = text
 text_of_part strings (Digits text) = text
 text_of_part strings (Named string) = unwrap_or (strings string.name) []
 
--- the texts of a value's parts, joined, before whitespace is squeezed
-abbrev pub joined_text : StringValues → List Part → List ℕ
-joined_text strings parts = flat_map (text_of_part strings) parts
-
 -- every run of white becomes one space: of each run the last byte stays, as a space
 unfoldable pub squeezed : List ℕ → List ℕ
 squeezed [] = []
@@ -43,4 +39,4 @@ shaped Trimmed text = without_last_space (without_first_space (squeezed text))
 
 -- the text that a value stands for: its parts joined, its whitespace squeezed, and the space at each end trimmed or kept
 abbrev pub value_text : Ends → StringValues → List Part → List ℕ
-value_text ends strings parts = shaped ends (joined_text strings parts)
+value_text ends strings parts = shaped ends (flat_map (text_of_part strings) parts)
