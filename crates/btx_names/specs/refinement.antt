@@ -13,3 +13,7 @@ pub mod NamesFrom
 pub mod KeptNames
 pub mod KeptItems
 pub mod Answered
+pub mod Formats
+pub mod Tokens
+pub mod VonTokens
+pub mod NameParts
