@@ -5,11 +5,12 @@ use Rattle.std.proofs.lemmas.Bool.{and_parts, leb-true, ne_eqb}
 use Rattle.std.proofs.lemmas.Bool.Decides.{nat_tests}
 use Rattle.std.proofs.Math.Bool.{and-false}
 use Rattle.std.specs.Prelude.{nat_le, slice_index}
-use Rattle.btx_text.specs.language.Class.{is_between, is_white}
+use Rattle.btx_text.specs.language.Class.{is_white}
 use Rattle.btx_text.specs.language.Elements.{depth_after}
 use Rattle.btx_names.specs.language.NameLists.{is_letter, is_separator, pieces_from, names_of}
 use Rattle.btx_names.specs.refinement.Steps.{first_name_len}
 use Rattle.std.specs.List.{onto_first}
+use Rattle.std.specs.Int.{is_in_range}
 
 -- ---- the length of the first name
 
@@ -28,7 +29,7 @@ name_len_all depth s i h = rw (drop_all i s h) refl
 
 -- a byte from `!` to `z` is neither white nor a brace
 abbrev is_plain : ℕ → Bool
-is_plain = is_between 33 122
+is_plain = is_in_range 33 122
 
 depth_after-plain : (depth b : ℕ) → is_plain b ≡ true → depth_after depth b ≡ depth
 depth_after-plain depth b plain = grind (arith, nat_tests)

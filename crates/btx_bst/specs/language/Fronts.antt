@@ -1,7 +1,8 @@
 -- Fronts of a line: runs of bytes that pass a test.
 use Rattle.std.specs.Prelude.{ℕ, suc, ◌==◌, ◌||◌, not, Bool, true, List, [], ◌∷◌, if◌then◌else◌}
 use Rattle.btx_text.specs.language.Bytes.{double_quote, percent, close_brace}
-use Rattle.btx_text.specs.language.Class.{is_white, is_upper, is_lower, is_digit, is_name_byte}
+use Rattle.btx_text.specs.language.Class.{is_white, is_name_byte}
+use Rattle.std.specs.Char.{is_ascii_uppercase, is_ascii_lowercase, is_ascii_digit}
 
 -- how many bytes stand before the first that passes a test, or all
 unfoldable pub len_till : (ℕ → Bool) → List ℕ → ℕ
@@ -10,7 +11,7 @@ len_till test (b ∷ bs) = if test b then 0 else suc (len_till test bs)
 
 -- a byte that is no letter: the word of a command ends before it
 abbrev pub is_no_letter : ℕ → Bool
-is_no_letter b = not (is_upper b || is_lower b)
+is_no_letter b = not (is_ascii_uppercase b || is_ascii_lowercase b)
 
 -- a byte that no name has: a name ends before it
 abbrev pub ends_name : ℕ → Bool
@@ -22,7 +23,7 @@ ends_word b = is_white b || b == close_brace || b == percent
 
 -- a byte that is no digit: an integer ends before it
 abbrev pub is_no_digit : ℕ → Bool
-is_no_digit b = not (is_digit b)
+is_no_digit b = not (is_ascii_digit b)
 
 -- how many digits a line begins with
 abbrev pub digits_len : List ℕ → ℕ
@@ -35,7 +36,7 @@ letters_len = len_till is_no_letter
 -- how many bytes the name has that a line begins with, if it begins with one: a name doesn't begin with a digit
 abbrev pub name_len : List ℕ → ℕ
 name_len [] = 0
-name_len (b ∷ bs) = if is_digit b then 0 else len_till ends_name (b ∷ bs)
+name_len (b ∷ bs) = if is_ascii_digit b then 0 else len_till ends_name (b ∷ bs)
 
 -- how many bytes stand before the end of a word of a body
 abbrev pub word_len : List ℕ → ℕ

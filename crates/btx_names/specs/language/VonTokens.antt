@@ -2,13 +2,13 @@
 -- over, one in a special character isn't.
 use Rattle.std.specs.Prelude.{ℕ, ◌==◌, ◌&&◌, Bool, false, List, [], ◌∷◌, Option, Some, None, unwrap_or, length, drop, find, take_while, slice_index, nat_lt, if◌then◌else◌}
 use Rattle.std.specs.Option.{option_map_or}
-use Rattle.btx_text.specs.language.Class.{is_alpha, is_lower}
+use Rattle.btx_text.specs.language.Class.{is_alpha}
 use Rattle.btx_text.specs.declared.element_kind.Kind.{Kind}
 use Rattle.btx_text.specs.declared.element_kind.Kind.TheVariants.{Byte, Special}
 use Rattle.btx_text.specs.declared.element_kind.TextMode.TheVariants.{Bytes}
 use Rattle.btx_text.specs.language.Elements.{Element, elements_of}
 use Rattle.btx_strings.specs.language.Controls.{letters_of}
-use Rattle.std.specs.Char.{is_ascii_alphabetic}
+use Rattle.std.specs.Char.{is_ascii_alphabetic, is_ascii_lowercase}
 
 -- a control sequence is a foreign letter, as `\oe` and `\L`: it stands for one or two letters when a string is purified
 abbrev pub is_foreign : List ℕ → Bool
@@ -16,20 +16,20 @@ is_foreign name = nat_lt 0 (length (letters_of name))
 
 -- a text's first letter is there and in lower case
 abbrev pub begins_lower : List ℕ → Bool
-begins_lower text = option_map_or is_lower (find is_ascii_alphabetic text) false
+begins_lower text = option_map_or is_ascii_lowercase (find is_ascii_alphabetic text) false
 
 -- a special character counts as lower case: its first control sequence is a foreign letter in lower case, as in `{\oe}`; or that is no foreign
 -- letter, and the first letter after it is lower case, as in `{\'e}`. Letters of later control sequences count too.
 unfoldable pub is_lower_special : List ℕ → Bool
 is_lower_special text =
     let name = take_while is_alpha (drop 2 text) in
-    if is_foreign name then is_lower (slice_index name 0) else begins_lower (drop (length name) (drop 2 text))
+    if is_foreign name then is_ascii_lowercase (slice_index name 0) else begins_lower (drop (length name) (drop 2 text))
 
 -- what an element says of its token: `Some true` for lower case, `Some false` for upper case, and nothing where it doesn't decide. Special
 -- characters and the letters at depth 0 decide.
 abbrev pub casing_of : Kind → ℕ → List ℕ → Option Bool
 casing_of Special depth text = Some (is_lower_special text)
-casing_of Byte depth text = if depth == 0 && is_ascii_alphabetic (slice_index text 0) then Some (is_lower (slice_index text 0)) else None
+casing_of Byte depth text = if depth == 0 && is_ascii_alphabetic (slice_index text 0) then Some (is_ascii_lowercase (slice_index text 0)) else None
 casing_of _ depth text = None
 
 -- the first of the elements that decides says lower case; if none decides, it is false

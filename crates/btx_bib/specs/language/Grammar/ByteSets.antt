@@ -1,6 +1,6 @@
 -- The bytes that the words of a database are made of, and the runs of them.
 use Rattle.std.specs.Prelude.{ℕ, suc, ◌==◌, ◌||◌, ◌&&◌, not, Bool, false, List, [], ◌∷◌, take, drop, if◌then◌else◌}
-use Rattle.btx_text.specs.language.Class.{is_white, is_digit, is_name_byte}
+use Rattle.btx_text.specs.language.Class.{is_white, is_name_byte}
 use Rattle.btx_text.specs.language.Elements.{depth_after, close_brace}
 use Rattle.btx_bib.specs.declared.grammar.byte_sets.Delimiter.TheVariants.{Braces, Parens}
 use Rattle.btx_bib.specs.declared.grammar.byte_sets.ByteSet.{ByteSet}
@@ -8,6 +8,7 @@ use Rattle.btx_bib.specs.declared.grammar.byte_sets.ByteSet.TheVariants.{Gap, Na
 use Rattle.btx_bib.specs.declared.grammar.byte_sets.Enclosure.{Enclosure}
 use Rattle.btx_bib.specs.declared.grammar.byte_sets.Enclosure.TheVariants.{Group, Quotes}
 use Rattle.btx_bib.specs.language.Grammar.Bytes.{comma, line_feed, quote}
+use Rattle.std.specs.Char.{is_ascii_digit}
 
 -- whitespace, or the end of a line: what may stand between the words and signs of a database
 abbrev pub is_gap : ℕ → Bool
@@ -17,7 +18,7 @@ is_gap b = is_white b || b == line_feed
 abbrev pub is_in : ByteSet → ℕ → Bool
 is_in Gap b = is_gap b
 is_in NameByte b = is_name_byte b
-is_in Digit b = is_digit b
+is_in Digit b = is_ascii_digit b
 is_in (KeyByte Braces) b = not (is_gap b || b == comma || b == close_brace)
 is_in (KeyByte Parens) b = not (is_gap b || b == comma)
 
