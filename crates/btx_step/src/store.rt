@@ -55,7 +55,7 @@ pub struct Store<'a> {
 
 impl<'a> Model for Store<'a> {
     ghost use Rattle.btx_step.specs.language.Stores.{Store as Stored};
-ghost use Rattle.btx_step.specs.refinement.Steps.{with_current, with_depth};
+    ghost use Rattle.btx_step.specs.refinement.Steps.{with_current, with_depth};
 
     ghost Value = { Stored };
 

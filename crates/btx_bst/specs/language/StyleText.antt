@@ -57,6 +57,6 @@ style_from state = turns_within item_turn (λ (state : StyleState). state.style)
 unfoldable pub style_of : List ℕ → List ℕ → Style
 style_of file text =
     style_from (
-        style_state
-            (record { file = file; items = []; names = predefined; macros = []; bodies = []; texts = []; has_entry = false; before_read = None })
-            (beginning text))
+    style_state
+    (record { file = file; items = []; names = predefined; macros = []; bodies = []; texts = []; has_entry = false; before_read = None })
+    (beginning text))
