@@ -6,6 +6,7 @@ ghost use Rattle.btx_text.specs.language.Limits.{greatest_string};
 ghost use Rattle.btx_step.specs.language.Control.{tested, tested_as};
 ghost use Rattle.btx_step.specs.refinement.Quick.{next_of_push};
 ghost use Rattle.btx_step.specs.language.Steps.{built_in_run, function_run, step_of};
+ghost use Rattle.btx_step.specs.refinement.Steps.{with_current, with_depth};
 ghost use Rattle.btx_stack.specs.declared.literal.Literal.TheVariants as literal;
 ghost use Rattle.btx_step.specs.declared.said.Said.{Said as Words};
 ghost use Rattle.btx_step.specs.declared.said.Said.TheVariants as words;
@@ -55,7 +56,6 @@ pub struct Store<'a> {
 
 impl<'a> Model for Store<'a> {
     ghost use Rattle.btx_step.specs.language.Stores.{Store as Stored};
-    ghost use Rattle.btx_step.specs.refinement.Steps.{with_current, with_depth};
 
     ghost Value = { Stored };
 
