@@ -3,6 +3,7 @@ ghost use Rattle.std.specs.Prelude.{◌≡◌, ◌+◌, ◌++◌, ◌∷◌, [],
 ghost use Rattle.btx_aux.specs.refinement.Answers.{ByAnswers};
 ghost use Rattle.btx_aux.specs.refinement.Faults.{CountsOfOne};
 ghost use Rattle.btx_run.specs.language.Files.Found.{file_at};
+ghost use Rattle.btx_run.specs.refinement.Files.Found.{named_file};
 
 use btx_aux::Finder;
 use btx_machine::End;
@@ -18,7 +19,6 @@ pub struct FoundFile<'a> {
 }
 
 impl<'a> Model for FoundFile<'a> {
-    ghost use Rattle.btx_run.specs.refinement.Files.Found.{};
     ghost use Rattle.btx_run.specs.language.Files.Found.{NamedFile};
 
     ghost Value = { NamedFile };
