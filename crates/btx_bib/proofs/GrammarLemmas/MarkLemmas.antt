@@ -111,11 +111,11 @@ no-word b k other h = at (eqb b k) refl where
 pub word-gap : (b : ℕ) → is_word_byte b ≡ true → is_gap b ≡ false
 word-gap b h = rw (no-word b 32 refl h, no-word b 9 refl h, no-word b 13 refl h, no-word b 10 refl h) refl
 
-word-ends : (e : Enclosure) (b : ℕ) → is_word_byte b ≡ true → ends_enclosed e b ≡ false
+pub word-ends : (e : Enclosure) (b : ℕ) → is_word_byte b ≡ true → ends_enclosed e b ≡ false
 word-ends Group b h = no-word b 125 refl h
 word-ends Quotes b h = rw (no-word b 34 refl h, no-word b 125 refl h) refl
 
-word-depth : (d b : ℕ) → is_word_byte b ≡ true → depth_after d b ≡ d
+pub word-depth : (d b : ℕ) → is_word_byte b ≡ true → depth_after d b ≡ d
 word-depth d b h = rw (no-word b 123 refl h, no-word b 125 refl h) refl
 
 -- a byte that doesn't end what is enclosed is passed over
