@@ -45,7 +45,8 @@ impl<'a> Slots<'a> {
     ghost use Rattle.std.specs.Str.{bytes_eq};
     ghost use Rattle.btx_text.specs.language.Keys.{folded};
     ghost use Rattle.btx_bib.specs.refinement.Finding.{changed_at, first_place};
-    ghost use Rattle.btx_bib.specs.language.Passes.{without_crossref, with_body, with_field_values};
+    ghost use Rattle.btx_bib.specs.refinement.Passes.{with_body};
+    ghost use Rattle.btx_bib.specs.language.Passes.{without_crossref, with_field_values};
     ghost use Rattle.btx_bib.specs.refinement.Steps.{slot_by};
 
     /// No place.
@@ -127,7 +128,8 @@ impl<'a> Slots<'a> {
 impl<'a> Slot<'a> {
     ghost use Rattle.std.specs.Prelude.{◌≡◌, ◌≤◌, [], length, IfOk, OnOk, is_some};
     ghost use Rattle.btx_text.specs.language.Limits.{greatest_string};
-    ghost use Rattle.btx_bib.specs.language.Passes.{without_crossref, inherited_values, parent_at, body_values, with_body, with_field_values};
+    ghost use Rattle.btx_bib.specs.refinement.Passes.{with_body};
+    ghost use Rattle.btx_bib.specs.language.Passes.{without_crossref, inherited_values, parent_at, body_values, with_field_values};
 
     /// The key of the parent once more.
     pub fn parent(&self, alloc: Global) -> Result<Option<Text<'a>>, AllocError>

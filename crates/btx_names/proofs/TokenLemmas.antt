@@ -5,7 +5,8 @@ use Rattle.btx_text.specs.language.Elements.{depth_after}
 use Rattle.btx_names.specs.declared.runs.Stop.TheVariants.{Break}
 use Rattle.btx_names.specs.refinement.Steps.{skip_breaks}
 use Rattle.btx_names.specs.language.Runs.{is_break, run_len}
-use Rattle.btx_names.specs.language.Tokens.{NameToken, token_at, tokens_from, tokens_of}
+use Rattle.btx_names.specs.language.Tokens.{NameToken, tokens_from, tokens_of}
+use Rattle.btx_names.specs.refinement.Tokens.{token_at}
 
 -- ---- what stands before the first token
 

@@ -12,3 +12,8 @@ pub mod Right
 pub mod NamesFrom
 pub mod KeptNames
 pub mod KeptItems
+pub mod Answered
+pub mod Formats
+pub mod Tokens
+pub mod VonTokens
+pub mod NameParts

@@ -36,7 +36,7 @@ pub struct KeptName {
 }
 
 impl KeptName {
-    ghost use Rattle.btx_names.specs.language.Answered.{complaints_with};
+    ghost use Rattle.btx_names.specs.refinement.Answered.{complaints_with};
     ghost use Rattle.btx_names.specs.refinement.KeptNames.{IsFound, kept_bytes};
     ghost use Rattle.btx_names.specs.refinement.PartViews.{parts_view};
 

@@ -5,8 +5,9 @@ ghost use Rattle.btx_strings.specs.language.Answers.{no_complaints};
 ghost use Rattle.btx_strings.specs.refinement.Answers.{Answers};
 ghost use Rattle.btx_strings.specs.language.Controls.{glyphs_of};
 ghost use Rattle.btx_strings.specs.refinement.Glyphs.{glyph_of};
-ghost use Rattle.btx_strings.specs.language.Purify.{purified_byte, purified_glyph, purified_part, purify_of};
+ghost use Rattle.btx_strings.specs.language.Purify.{purified_byte, purified_glyph, purify_of};
 ghost use Rattle.btx_text.specs.refinement.Parts.{part_of};
+ghost use Rattle.btx_strings.specs.refinement.Purify.{purified_part};
 
 use crate::answers::{Answer, Complaints};
 use crate::controls::{Glyph, Glyphs, letters};

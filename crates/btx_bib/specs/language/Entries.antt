@@ -51,8 +51,3 @@ parent_of wanted given = parent_in (field_values wanted given.fields)
 -- what the list has of an entry: the number of the style's function for its type, and its values
 unfoldable pub body_of : Request → Given → Body
 body_of wanted given = record { kind = wanted.kind (folded given.kind); values = field_values wanted given.fields }
-
--- an optional value as a list of one or of none
-abbrev pub list_of_option : {T : Type 0} → Option T → List T
-list_of_option None = []
-list_of_option (Some x) = x ∷ []

@@ -42,13 +42,9 @@ string_ended line text (quote ∷ rest) = string_before text rest
 abbrev pub string_at : List ℕ → Front
 string_at line = string_ended line (take (quote_len line) line) (drop (quote_len line) line)
 
--- a number with one more decimal digit behind it
-abbrev pub with_digit : ℕ → ℕ → ℕ
-with_digit n d = n * 10 + (d - 48)
-
 -- the number that the decimal digits stand for; 0 without digits
 unfoldable pub digits_value : List ℕ → ℕ
-digits_value digits = fold with_digit 0 digits
+digits_value digits = fold (λ (n d : ℕ). n * 10 + (d - 48)) 0 digits
 
 -- a number with its sign, if it fits into 32 bits
 unfoldable pub signed : Bool → ℕ → Option ℤ

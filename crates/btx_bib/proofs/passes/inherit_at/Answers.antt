@@ -5,10 +5,11 @@ use Rattle.std.proofs.lemmas.Result.{IfOk-weaker}
 use Rattle.btx_text.specs.language.Keys.{folded}
 use Rattle.btx_bib.specs.declared.slots.Slot.{Slot}
 use Rattle.btx_bib.specs.refinement.Finding.{first_place}
-use Rattle.btx_bib.specs.language.Passes.{inherited, parent_at, with_body, with_field_values}
+use Rattle.btx_bib.specs.language.Passes.{inherited, parent_at, with_field_values}
 use Rattle.btx_bib.specs.refinement.Steps.{slot_by}
 use Rattle.btx_bib.proofs.PassLemmas.{parent-length, changed_at-agree, changed_at-keep, changed_at-none, slot_at-by, inherited-alone, inherited-by}
 use Rattle.btx_bib.proofs.passes.inherit_at.Goals as goal
+use Rattle.btx_bib.specs.refinement.Passes.{with_body}
 
 pub returns-in_default : goal.returns-in_default
 returns-in_default c =

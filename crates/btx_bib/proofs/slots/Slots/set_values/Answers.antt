@@ -1,10 +1,11 @@
 use Rattle.std.proofs.Common.{rules, ◌∙◌, ◌<◌, ap, length}
 use Rattle.btx_bib.specs.declared.slots.Slot.{Slot}
 use Rattle.btx_bib.specs.refinement.Finding.{changed_at}
-use Rattle.btx_bib.specs.language.Passes.{with_body, with_field_values}
+use Rattle.btx_bib.specs.language.Passes.{with_field_values}
 use Rattle.btx_bib.proofs.FillingLemmas.{changed_at-past}
 use Rattle.btx_bib.proofs.PlaceLemmas.{changed_at-set}
 use Rattle.btx_bib.proofs.slots.Slots.set_values.Goals as goal
+use Rattle.btx_bib.specs.refinement.Passes.{with_body}
 
 pub returns-in_ok-set_values : goal.returns-in_ok-set_values
 returns-in_ok-set_values c =
