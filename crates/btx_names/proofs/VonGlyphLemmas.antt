@@ -17,9 +17,8 @@ use Rattle.btx_strings.proofs.ReadingLemmas.{glyphs_of-reads}
 use Rattle.btx_names.specs.language.VonTokens.{is_foreign, begins_lower, is_lower_special, casing_of}
 use Rattle.btx_names.specs.laws.VonGlyphs.{are_lower}
 use Rattle.btx_names.proofs.SplitLemmas.{never}
-use Rattle.btx_names.specs.refinement.VonTokens.{is_cased}
 use Rattle.btx_names.specs.laws.VonTokens.{casing}
-use Rattle.std.specs.Char.{is_ascii_lowercase}
+use Rattle.std.specs.Char.{is_ascii_alphabetic, is_ascii_lowercase}
 
 -- ---- the text of a special character
 
@@ -42,7 +41,7 @@ one_byte : (b : ℕ) (bs : List ℕ) → is_alpha b ≡ false → says (b ∷ []
 unfolding letters_of
 one_byte b bs other =
     let no : (v : ℕ) → not (is_alpha v) ≡ false → eqb b v ≡ false = λ v letter. never (λ x. not (is_alpha x)) b v (not_from_false (is_alpha b) other) letter in
-    let cased : is_cased b ≡ false = (or_parts (is_cased b) (leb 128 b) other).0 in
+    let cased : is_ascii_alphabetic b ≡ false = (or_parts (is_ascii_alphabetic b) (leb 128 b) other).0 in
     rw (no 111 refl, no 79 refl, no 97 refl, no 65 refl, no 115 refl, no 105 refl, no 106 refl, no 108 refl, no 76 refl, cased) refl
 
 lone_says : (bs : List ℕ) → length (take_while is_alpha bs) ≡ 0 → says (lone bs) bs ≡ says [] bs

@@ -15,5 +15,4 @@ pub mod KeptItems
 pub mod Answered
 pub mod Formats
 pub mod Tokens
-pub mod VonTokens
 pub mod NameParts

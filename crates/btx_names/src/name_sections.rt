@@ -1,7 +1,7 @@
 //! The sections of a name, which commas part.
 ghost use Rattle.std.specs.Prelude.{◌≡◌, MatchOption, None, Some};
 ghost use Rattle.btx_names.specs.language.NameParts as spec;
-ghost use Rattle.btx_names.specs.refinement.NameParts as kept_spec;
+ghost use Rattle.btx_names.specs.refinement.NameParts as refined;
 ghost use Rattle.btx_names.specs.laws.NameParts as law;
 
 use crate::runs::{Stop, is_break, run_len};
@@ -101,7 +101,7 @@ pub fn ends_in_comma(name: &[u8]) -> bool
 
 // The last byte of a text that is neither white nor `~` nor `-`.
 fn last_ink(text: &[u8]) -> Option<u8>
-    ensures { result ≡ kept_spec.last_ink text.now }
+    ensures { result ≡ refined.last_ink text.now }
 {
     text.iter()
         .rev()
