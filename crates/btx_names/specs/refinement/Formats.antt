@@ -1,4 +1,4 @@
--- Parts of a piece of a format, as the code's clauses have them.
+-- Parts of a piece of a format, as proofs name them.
 use Rattle.std.specs.Prelude.{ℕ, List, drop, if◌then◌else◌}
 use Rattle.btx_names.specs.language.Formats.{is_doubled, FormatPiece, FormatItem, has_no_letter, Name, Illegal}
 
