@@ -7,7 +7,6 @@ ghost use Rattle.btx_bib.specs.refinement.Grammar.PartViews.{part_view};
 ghost use Rattle.btx_bib.specs.refinement.Grammar.PlainFields.{HasString, IsPlainPart, part_in_view};
 ghost use Rattle.btx_bib.specs.refinement.Grammar.Squeezing as squeezing;
 ghost use Rattle.btx_bib.specs.language.Grammar.ValueTexts as spec;
-ghost use Rattle.btx_bib.specs.refinement.Grammar.ValueTexts as kept_spec;
 ghost use Rattle.btx_bib.specs.refinement.Grammar.ValueTexts as refined;
 
 use crate::grammar::byte_sets::{ByteSet, ends_in_gap, is_gap};
@@ -278,7 +277,7 @@ fn gathered<'a, S: Strings<'a>>(
     was_white: bool,
     most: usize,
 ) -> Result<Vec<u8>, Fault>
-    ensures { refined.GathersWithin most result (squeezing.squeezed_after was_white (kept_spec.joined_text (S.values strings.now) value.now)) }
+    ensures { refined.GathersWithin most result (squeezing.squeezed_after was_white (refined.joined_text (S.values strings.now) value.now)) }
 {
     let mut text = Vec::new(alloc);
     let mut white = was_white;

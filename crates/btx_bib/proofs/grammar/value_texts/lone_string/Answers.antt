@@ -1,4 +1,4 @@
-use Rattle.std.proofs.Common.{◌≡◌, ◌∙◌, sym, ap, None}
+use Rattle.std.proofs.Common.{◌≡◌, ◌∙◌, [], sym, ap, None, unwrap_or}
 use Rattle.btx_bib.specs.language.Grammar.ValueTexts.{shaped}
 use Rattle.btx_bib.proofs.GrammarLemmas.SqueezeLemmas.{shaped-nothing}
 use Rattle.btx_bib.proofs.grammar.value_texts.lone_string.Goals as goal
