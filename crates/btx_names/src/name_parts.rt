@@ -24,12 +24,12 @@ impl<'t> NameParts<'t> {
     ghost use Rattle.btx_names.specs.refinement.TokenLists.{IsListOf};
 
     /// The parts of a name, of the list of its tokens.
-    pub fn of(list: &'t TokenList) -> NameParts<'t>
+    pub fn of(names: &'t [u8], list: &'t TokenList) -> NameParts<'t>
         requires { (sections : spec.Sections) × IsListOf list.now sections }
         ensures { (sections : spec.Sections) → IsListOf list.now sections → parts_view result ≡ spec.parts_by sections }
     {
         let all = Part {
-            bytes: &list.bytes,
+            bytes: names,
             tokens: &list.tokens,
         };
         let (surname, others) = all.split_at(list.surname);
