@@ -9,7 +9,7 @@ use btx_text::depths::depth_after;
 
 // Whether a separator stands where the brace depth is given: a white byte, `and` in any case, and a white byte, at depth 0.
 #[tactic(auto, unfolding(crate::specs::language::NameLists::is_separator))]
-fn separates(depth: usize, text: &[u8]) -> bool
+pub(crate) fn separates(depth: usize, text: &[u8]) -> bool
     ensures { result ≡ (depth == 0 && spec.is_separator text.now) }
 {
     depth == 0
