@@ -74,11 +74,11 @@ no_token (b ∷ bs) none = at (last_ink bs) (is_ink b) refl (no_token bs) (sym (
 -- ---- from front to back
 
 -- a text, whose brace depth is given, ends in a comma
-ends : ℕ → List ℕ → Bool
+unfoldable pub ends : ℕ → List ℕ → Bool
 ends depth s = option_map_or (λ b. eqb b 44) (last_ink s) false && eqb (fold depth_after depth s) 0
 
 -- a comma here that no token follows, or one later
-ends_push : (depth b : ℕ) (bs : List ℕ) → ends depth (b ∷ bs) ≡ (((eqb depth 0 && eqb b 44) && is_all_breaks bs) || ends (depth_after depth b) bs)
+pub ends_push : (depth b : ℕ) (bs : List ℕ) → ends depth (b ∷ bs) ≡ (((eqb depth 0 && eqb b 44) && is_all_breaks bs) || ends (depth_after depth b) bs)
 unfolding ends
 ends_push depth b bs = rw (last_push b bs) (at (last_ink bs) refl) where
   deep : ℕ

@@ -189,10 +189,10 @@ one_turn_more mode bytes tokens place next default lt held none is =
 
 -- ---- the sections of a name in the list of its tokens
 
-pub sections_split : (list : TokenList) (sections : Sections) (all surname others jr first : List Token) → IsListOf list sections → all ≡ tokens_in list.bytes.items list.tokens.items →
+pub sections_split : (bytes : List ℕ) (list : TokenList) (sections : Sections) (all surname others jr first : List Token) → IsListOf bytes list sections → all ≡ tokens_in bytes list.tokens.items →
     surname ≡ take list.surname all → others ≡ drop list.surname all → jr ≡ take list.jr others → first ≡ drop list.jr others →
     (surname ≡ tokens_of (surname_of sections)) × (jr ≡ tokens_of (jr_of sections)) × (first ≡ tokens_of (first_section sections))
-sections_split list sections all surname others jr first is kept one two three four =
+sections_split bytes list sections all surname others jr first is kept one two three four =
     let a = tokens_of (surname_of sections) in
     let b = tokens_of (jr_of sections) in
     let d = tokens_of (first_section sections) in

@@ -1,8 +1,8 @@
-pub mod TokenViews
 pub mod Lettered
 pub mod Places
 pub mod NameTokens
 pub mod TokenLists
+pub mod ReadNames
 pub mod Steps
 pub mod SectionViews
 pub mod PartViews

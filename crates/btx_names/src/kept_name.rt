@@ -1,9 +1,12 @@
 //! A name with the list that it stands in.
 ghost use Rattle.std.specs.Prelude.{◌≡◌, ◌≤◌, ◌||◌, drop, length, slice_get, IfOk, MatchOption, None, Some, [], IsTrue};
+ghost use Rattle.std.specs.List.{All};
 ghost use Rattle.btx_names.specs.refinement.NamesFrom.{names_from};
 ghost use Rattle.btx_names.specs.language.NameLists.{names_of};
 ghost use Rattle.btx_names.specs.language.NameParts as spec;
+ghost use Rattle.btx_names.specs.refinement.NameTokens.{Hold};
 ghost use Rattle.btx_names.specs.refinement.Places.{bytes_at};
+ghost use Rattle.btx_names.specs.refinement.Steps.{first_name_len};
 ghost use Rattle.btx_names.specs.refinement.TokenLists.{IsListOf};
 
 use crate::name_parts::NameParts;
@@ -29,8 +32,10 @@ pub struct KeptName {
     has_third_comma: bool,
     ghost inside: { place.from ≤ length names.items },
     ghost onwards: { drop before (names_of names.items) ≡ names_from names.items place.from },
+    ghost measured: { place.len ≡ first_name_len 0 (drop place.from names.items) },
     ghost named: { slice_get (names_of names.items) before ≡ Some (bytes_at names.items place) },
-    ghost divided: { IsListOf list (spec.sections_of (bytes_at names.items place)) },
+    ghost held: { All (Hold names.items) list.tokens.items },
+    ghost divided: { IsListOf names.items list (spec.sections_of (bytes_at names.items place)) },
     ghost ending: { ends_in_comma ≡ spec.ends_in_comma (bytes_at names.items place) },
     ghost third: { has_third_comma ≡ spec.has_third_comma (spec.sections_of (bytes_at names.items place)) },
 }
@@ -186,6 +191,10 @@ fn next_start(names: &[u8], start: usize) -> Option<usize>
 
 // Where the name behind the one of a place begins, if there is one.
 fn start_behind(names: &[u8], place: Place) -> Option<usize>
+    requires inside { place.from ≤ length names.now }
+    requires measured { place.len ≡ first_name_len 0 (drop place.from names.now) }
+    ensures { MatchOption result (drop 1 (names_from names.now place.from) ≡ [])
+        (λ next. (next ≤ length names.now) × (drop 1 (names_from names.now place.from) ≡ names_from names.now next)) }
 {
     if names.len() - place.from - place.len < 3 {
         return None;

@@ -19,14 +19,17 @@ pub struct NameParts<'t> {
 }
 
 impl<'t> NameParts<'t> {
+    ghost use Rattle.std.specs.List.{All};
     ghost use Rattle.btx_names.specs.language.NameParts as spec;
+    ghost use Rattle.btx_names.specs.refinement.NameTokens.{Hold};
     ghost use Rattle.btx_names.specs.refinement.PartViews.{part_tokens, parts_view};
     ghost use Rattle.btx_names.specs.refinement.TokenLists.{IsListOf};
 
-    /// The parts of a name, of the list of its tokens.
+    /// The parts of a name, of the list of its tokens and the list of names that has their bytes.
     pub fn of(names: &'t [u8], list: &'t TokenList) -> NameParts<'t>
-        requires { (sections : spec.Sections) × IsListOf list.now sections }
-        ensures { (sections : spec.Sections) → IsListOf list.now sections → parts_view result ≡ spec.parts_by sections }
+        requires sections { (sections : spec.Sections) × IsListOf names.now list.now sections }
+        requires held { All (Hold names.now) list.now.tokens.items }
+        ensures { (sections : spec.Sections) → IsListOf names.now list.now sections → parts_view result ≡ spec.parts_by sections }
     {
         let all = Part {
             bytes: names,

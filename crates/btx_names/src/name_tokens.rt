@@ -1,7 +1,6 @@
-//! The tokens of a name, one at a time.
+//! What joins the tokens of a name.
 ghost use Rattle.std.specs.Prelude.{◌≡◌};
-ghost use Rattle.btx_names.specs.language.Tokens.{joint_of, tokens_of};
-ghost use Rattle.btx_names.specs.refinement.Steps.{skip_breaks};
+ghost use Rattle.btx_names.specs.language.Tokens.{joint_of};
 
 /// What joins a token to the next one.
 #[derive(Clone, Copy, Debug, PartialEq, Eq)]

@@ -32,7 +32,13 @@ impl TokenList {
     }
 
     /// Tokens of a name, of which the first `surname` stand in the first section, and the next `jr` in the second of three.
-    pub fn of(tokens: Vec<NameToken>, has_commas: bool, surname: usize, jr: usize) -> TokenList {
+    pub fn of(tokens: Vec<NameToken>, has_commas: bool, surname: usize, jr: usize) -> TokenList
+        ensures tokens { (bytes : List ℕ) → tokens_in bytes result.tokens.items ≡ tokens_in bytes tokens.items }
+        ensures held { (bytes : List ℕ) → All (Hold bytes) tokens.items → All (Hold bytes) result.tokens.items }
+        ensures commas { result.has_commas ≡ has_commas }
+        ensures surname { result.surname ≡ surname }
+        ensures jr { result.jr ≡ jr }
+    {
         let mut tokens = tokens;
         count_bare(&mut tokens);
         TokenList {
