@@ -1,4 +1,4 @@
--- The last byte of a name that isn't passed over, as the code's clauses have it.
+-- The last byte of a name that isn't passed over, as proofs name it.
 use Rattle.std.specs.Prelude.{ℕ, ◌||◌, Bool, not, List, Option, find, reverse}
 use Rattle.btx_text.specs.language.Class.{is_white, is_sep}
 
