@@ -10,6 +10,7 @@ ghost use Rattle.btx_names.specs.refinement.Steps.{first_name_len};
 ghost use Rattle.btx_names.specs.refinement.TokenLists.{IsListOf};
 
 use crate::name_parts::NameParts;
+use crate::name_ranges::Ranges;
 use crate::name_reading::ReadName;
 use crate::place::Place;
 use crate::separators::name_len;
@@ -26,6 +27,8 @@ pub struct KeptName {
     // Its place in the list.
     place: Place,
     list: TokenList,
+    // Where its parts begin.
+    ranges: Ranges,
     // Whether it ends in a comma.
     ends_in_comma: bool,
     // Whether it has a third comma.
@@ -127,11 +130,13 @@ impl KeptName {
             return Ok(None);
         };
         let read = ReadName::at(&names, from, list)?;
+        let ranges = Ranges::of(&names, &read.list);
         Ok(Some(KeptName {
             names,
             before,
             place: read.place,
             list: read.list,
+            ranges,
             ends_in_comma: read.ends_in_comma,
             has_third_comma: read.has_third_comma,
         }))
@@ -141,7 +146,7 @@ impl KeptName {
     pub fn parts(&self) -> NameParts<'_>
         ensures { parts_view result ≡ spec.parts_of (kept_bytes self.now) }
     {
-        NameParts::of(&self.names, &self.list)
+        NameParts::of(&self.names, &self.list, self.ranges)
     }
 
     /// Whether something is wrong with it.

@@ -4,9 +4,10 @@ ghost use Rattle.btx_names.specs.refinement.PartViews.{part_tokens};
 ghost use Rattle.btx_names.specs.language.NameParts as spec;
 
 use crate::part::Part;
+use crate::token_list::TokenList;
 use crate::token_counts::{TokenTest, before_first, up_to_last_before_final};
 
-/// Where von and Last begin in a name without commas, as counts of tokens.
+/// Where von and Last begin in the section of the surname, as counts of tokens.
 #[derive(Clone, Copy, Debug)]
 pub struct Ranges {
     /// How many tokens stand before von.
@@ -16,13 +17,24 @@ pub struct Ranges {
 }
 
 impl Ranges {
-    /// Where von and Last begin in a name without commas.
-    #[tactic(auto, using(crate::proofs::RangeLemmas::ranges))]
-    pub fn of(name: Part<'_>) -> Ranges
-        ensures von_start { result.von_start ≡ spec.von_start (part_tokens name.entry) }
-        ensures last_start { result.last_start ≡ spec.last_start (part_tokens name.entry) }
-        ensures ordered { result.von_start ≤ result.last_start }
-        ensures bound { result.last_start ≤ length (part_tokens name.entry) }
+    /// Where von and Last begin.
+    pub fn of(names: &[u8], list: &TokenList) -> Ranges {
+        let all = Part {
+            bytes: names,
+            tokens: &list.tokens,
+        };
+        let (surname, _) = all.split_at(list.surname);
+        if list.has_commas {
+            return Ranges {
+                von_start: 0,
+                last_start: von_end(surname),
+            };
+        }
+        Ranges::without_commas(surname)
+    }
+
+    // Where von and Last begin in a name without commas.
+    fn without_commas(name: Part<'_>) -> Ranges
     {
         let end = von_end(name);
         if end > 0 {
