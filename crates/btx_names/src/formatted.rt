@@ -66,7 +66,7 @@ fn write_format(
     format: &[u8],
 ) -> Result<bool, Fault>
     requires { writer.old.text.items ≡ [] }
-    ensures { WritesLegal greatest_string (is_legal format.now) result writer.new.text.items (formatted writer.old.mode (parts_view parts.entry) format.now) }
+    ensures { WritesLegal greatest_string (is_legal format.now) result writer.new.text.items (formatted writer.old.mode (parts_view parts.now) format.now) }
 {
     if let Some(kept) = formats.find(format) {
         return write_items(writer, parts, kept);
@@ -83,7 +83,7 @@ fn write_items(
     format: &KeptFormat,
 ) -> Result<bool, Fault>
     requires { writer.old.text.items ≡ [] }
-    ensures { WritesLegal greatest_string (is_legal format.now.text.items) result writer.new.text.items (formatted writer.old.mode (parts_view parts.entry) format.now.text.items) }
+    ensures { WritesLegal greatest_string (is_legal format.now.text.items) result writer.new.text.items (formatted writer.old.mode (parts_view parts.now) format.now.text.items) }
 {
     for item in format.items() {
         push_item(writer, item.as_item(), parts)?;
@@ -94,7 +94,7 @@ fn write_items(
 // Writes the parts of a name in a format; false where the format is illegal.
 fn write_legal(writer: &mut Writer, parts: &NameParts<'_>, format: &[u8]) -> Result<bool, Fault>
     requires { writer.old.text.items ≡ [] }
-    ensures { WritesLegal greatest_string (is_legal format.now) result writer.new.text.items (formatted writer.old.mode (parts_view parts.entry) format.now) }
+    ensures { WritesLegal greatest_string (is_legal format.now) result writer.new.text.items (formatted writer.old.mode (parts_view parts.now) format.now) }
 {
     match write_until_illegal(writer, parts, format) {
         Err(Fault::StringLimit) if !is_legal(format) => Ok(false),
@@ -109,7 +109,7 @@ fn write_until_illegal(
     format: &[u8],
 ) -> Result<bool, Fault>
     requires { writer.old.text.items ≡ [] }
-    ensures { WritesUntilIllegal greatest_string (is_legal format.now) result writer.new.text.items (formatted writer.old.mode (parts_view parts.entry) format.now) }
+    ensures { WritesUntilIllegal greatest_string (is_legal format.now) result writer.new.text.items (formatted writer.old.mode (parts_view parts.now) format.now) }
 {
     for item in Items::of(format) {
         if matches!(item, Item::Illegal) {
@@ -122,7 +122,7 @@ fn write_until_illegal(
 
 // Adds what an item of a format gives.
 fn push_item(writer: &mut Writer, item: Item<'_>, parts: &NameParts<'_>) -> Result<(), Fault>
-    ensures text { Becomes greatest_string result writer.new.text.items (writer.old.text.items ++ item_text writer.old.mode (parts_view parts.entry) (item_view item.entry)) }
+    ensures text { Becomes greatest_string result writer.new.text.items (writer.old.text.items ++ item_text writer.old.mode (parts_view parts.now) (item_view item.entry)) }
     ensures mode { writer.new.mode ≡ writer.old.mode }
 {
     match item {
@@ -135,7 +135,7 @@ fn push_item(writer: &mut Writer, item: Item<'_>, parts: &NameParts<'_>) -> Resu
 
 // The part of a name that a piece of a format asks for.
 fn part_of<'t>(parts: &NameParts<'t>, part: PartName) -> Part<'t>
-    ensures { part_tokens result ≡ tokens_of_part part (parts_view parts.entry) }
+    ensures { part_tokens result ≡ tokens_of_part part (parts_view parts.now) }
 {
     match part {
         PartName::First => parts.first,

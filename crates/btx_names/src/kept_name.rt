@@ -7,7 +7,7 @@ ghost use Rattle.btx_names.specs.language.NameParts as spec;
 ghost use Rattle.btx_names.specs.refinement.NameTokens.{Hold};
 ghost use Rattle.btx_names.specs.refinement.Places.{bytes_at};
 ghost use Rattle.btx_names.specs.refinement.Steps.{first_name_len};
-ghost use Rattle.btx_names.specs.refinement.TokenLists.{IsListOf};
+ghost use Rattle.btx_names.specs.refinement.TokenLists.{AreRangesOf, IsListOf};
 
 use crate::name_parts::NameParts;
 use crate::name_ranges::Ranges;
@@ -39,6 +39,7 @@ pub struct KeptName {
     ghost named: { slice_get (names_of names.items) before ≡ Some (bytes_at names.items place) },
     ghost held: { All (Hold names.items) list.tokens.items },
     ghost divided: { IsListOf names.items list (spec.sections_of (bytes_at names.items place)) },
+    ghost ranged: { AreRangesOf names.items list ranges },
     ghost ending: { ends_in_comma ≡ spec.ends_in_comma (bytes_at names.items place) },
     ghost third: { has_third_comma ≡ spec.has_third_comma (spec.sections_of (bytes_at names.items place)) },
 }

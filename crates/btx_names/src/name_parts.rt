@@ -1,5 +1,5 @@
 //! The four parts of a name: First, von, Last and Jr.
-ghost use Rattle.std.specs.Prelude.{◌≡◌, ◌≤◌, length};
+ghost use Rattle.std.specs.Prelude.{◌≡◌};
 
 use crate::name_ranges::Ranges;
 use crate::part::Part;
@@ -23,12 +23,13 @@ impl<'t> NameParts<'t> {
     ghost use Rattle.btx_names.specs.language.NameParts as spec;
     ghost use Rattle.btx_names.specs.refinement.NameTokens.{Hold};
     ghost use Rattle.btx_names.specs.refinement.PartViews.{part_tokens, parts_view};
-    ghost use Rattle.btx_names.specs.refinement.TokenLists.{IsListOf};
+    ghost use Rattle.btx_names.specs.refinement.TokenLists.{AreRangesOf, IsListOf};
 
     /// The parts of a name, of the list of its tokens, the list of names that has their bytes, and where its parts begin.
     pub fn of(names: &'t [u8], list: &'t TokenList, ranges: Ranges) -> NameParts<'t>
         requires sections { (sections : spec.Sections) × IsListOf names.now list.now sections }
         requires held { All (Hold names.now) list.now.tokens.items }
+        requires ranges { AreRangesOf names.now list.now ranges }
         ensures { (sections : spec.Sections) → IsListOf names.now list.now sections → parts_view result ≡ spec.parts_by sections }
     {
         let all = Part {
