@@ -6,8 +6,8 @@ ghost use Rattle.btx_names.specs.refinement.NameTokens.{Hold};
 ghost use Rattle.btx_names.specs.refinement.PartViews.{part_tokens};
 
 use crate::part::Part;
-use crate::token_list::TokenList;
 use crate::token_counts::{TokenTest, before_first, up_to_last_before_final};
+use crate::token_list::TokenList;
 
 /// Where von and Last begin in the section of the surname, as counts of tokens.
 #[derive(Clone, Copy, Debug)]

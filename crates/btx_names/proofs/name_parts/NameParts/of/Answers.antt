@@ -39,7 +39,7 @@ returns c = λ sections is.
     let before : part_tokens c.split_at-3.result.0 ≡ take ranges.von_start surname = rw cut.0 at c.split_at-3.ensures.front in
     let first : part_tokens c.if-list.result ≡ cond c.args.list.now.has_commas (tokens_of (first_section sections)) (take ranges.von_start surname) =
     elim c.if-list.branch [
-      then-list w ↦ rw (w.if-list.true, w.result-is) cut.2
+      | then-list w ↦ rw (w.if-list.true, w.result-is) cut.2
       | else-list w ↦ rw (w.if-list.false, w.result-is) before
     ] in
     let e : ranges.von_start + (ranges.last_start - ranges.von_start) ≡ ranges.last_start = omega (arith, within.0) in
