@@ -7,9 +7,10 @@ ghost use Rattle.btx_names.specs.language.NameParts as spec;
 ghost use Rattle.btx_names.specs.refinement.NameTokens.{Hold};
 ghost use Rattle.btx_names.specs.refinement.Places.{bytes_at};
 ghost use Rattle.btx_names.specs.refinement.Steps.{first_name_len};
-ghost use Rattle.btx_names.specs.refinement.TokenLists.{IsListOf};
+ghost use Rattle.btx_names.specs.refinement.TokenLists.{AreRangesOf, IsListOf};
 
 use crate::name_parts::NameParts;
+use crate::name_ranges::Ranges;
 use crate::name_reading::ReadName;
 use crate::place::Place;
 use crate::separators::name_len;
@@ -26,6 +27,8 @@ pub struct KeptName {
     // Its place in the list.
     place: Place,
     list: TokenList,
+    // Where its parts begin.
+    ranges: Ranges,
     // Whether it ends in a comma.
     ends_in_comma: bool,
     // Whether it has a third comma.
@@ -36,6 +39,7 @@ pub struct KeptName {
     ghost named: { slice_get (names_of names.items) before ≡ Some (bytes_at names.items place) },
     ghost held: { All (Hold names.items) list.tokens.items },
     ghost divided: { IsListOf names.items list (spec.sections_of (bytes_at names.items place)) },
+    ghost ranged: { AreRangesOf names.items list ranges },
     ghost ending: { ends_in_comma ≡ spec.ends_in_comma (bytes_at names.items place) },
     ghost third: { has_third_comma ≡ spec.has_third_comma (spec.sections_of (bytes_at names.items place)) },
 }
@@ -127,11 +131,13 @@ impl KeptName {
             return Ok(None);
         };
         let read = ReadName::at(&names, from, list)?;
+        let ranges = Ranges::of(&names, &read.list);
         Ok(Some(KeptName {
             names,
             before,
             place: read.place,
             list: read.list,
+            ranges,
             ends_in_comma: read.ends_in_comma,
             has_third_comma: read.has_third_comma,
         }))
@@ -141,7 +147,7 @@ impl KeptName {
     pub fn parts(&self) -> NameParts<'_>
         ensures { parts_view result ≡ spec.parts_of (kept_bytes self.now) }
     {
-        NameParts::of(&self.names, &self.list)
+        NameParts::of(&self.names, &self.list, self.ranges)
     }
 
     /// Whether something is wrong with it.

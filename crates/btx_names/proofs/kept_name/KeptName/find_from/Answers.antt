@@ -4,7 +4,14 @@ use Rattle.btx_names.specs.refinement.NamesFrom.{names_from}
 use Rattle.btx_names.specs.refinement.ReadNames.{IsNameAt}
 use Rattle.btx_names.specs.refinement.Steps.{first_name_len}
 use Rattle.btx_names.proofs.KeptLemmas.{found_name, found_rest}
+use Rattle.btx_names.proofs.PartLemmas.{surname_inside}
 use Rattle.btx_names.proofs.kept_name.KeptName.find_from.Goals as goal
+
+pub of-ranges-requires-clause-surname : goal.of-ranges-requires-clause-surname
+of-ranges-requires-clause-surname c =
+    let names = c.args.names.items in
+    let is : IsNameAt names c.in-Some.from c.in_ok-read.read = rw c.deref-2.ensures.value at c.in_ok-read.ensures in
+    surname_inside names c.in_ok-read.read.list _ is.list
 
 pub invariant_of-result : goal.invariant_of-result
 invariant_of-result c =
@@ -21,6 +28,7 @@ invariant_of-result c =
       named = rw (is.len, is.begins) (found_name names (names_of names) from c.args.before onwards);
       held = is.held;
       divided = is.list;
+      ranged = rw c.deref-3.ensures.value at c.of-ranges.ensures;
       ending = is.ending;
       third = is.third;
     }
