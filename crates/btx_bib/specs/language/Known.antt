@@ -50,8 +50,8 @@ has_value wanted given name = is_some (value_by (wanted.field (folded name)) (fi
 abbrev pub with_field : Given → List ℕ → List ℕ → Given
 with_field given name text = record given { fields = given.fields ++ record { name = name; value = text } ∷ [] }
 
--- what is known after a field, of the stored entry that is being read, or of an entry that isn't stored: a field is kept if it is declared and the
--- entry has no value for it yet
+-- what is known after a field: it is kept if its entry is stored, the style declares the field, and the entry has no value for it yet. Any other
+-- field changes nothing
 abbrev pub after_field : Request → Known → Option Given → Field → Known
 after_field wanted known None field = known
 after_field wanted known (Some given) field =
@@ -59,8 +59,8 @@ after_field wanted known (Some given) field =
     (let text = value_text Trimmed (string_value known.strings) field.value in if_fits text known (record known { current = Some (with_field given field.name text) }))
     else known
 
--- what is known after an event: a `@preamble` is appended, a `@string` defined, a wanted entry becomes the one that is being read, without a field
--- yet, and a field goes to that entry
+-- what is known after an event: a `@preamble` is appended, and a `@string` defined. An entry's key first stores the entry that was being read, and a
+-- wanted entry becomes the one that is being read, without a field yet; a field goes to that entry. `Close` is the end of an item
 abbrev pub after_event : Request → Known → Event → Known
 after_event wanted known Comment = known
 after_event wanted known (Preamble value) =

@@ -36,7 +36,8 @@ abbrev pub is_own : Option (List ℕ) → List ℕ → Bool
 is_own None name = false
 is_own (Some own) name = is_same_key own name
 
--- the message for a part of a value: a name without a string, or the own name in the definition of `own`
+-- the message for a part of a value: a warning if it is a name to which no `@string` and no macro gives a text, or the very name that is being
+-- defined (`own`)
 abbrev pub name_messages : Database → Strings → Option (List ℕ) → Part → List Message
 name_messages database strings own (Braced text) = []
 name_messages database strings own (Quoted text) = []

@@ -119,7 +119,8 @@ run_command command item style place =
     run_of item style name place (function_in (named style.names name))))
     else outcome (Some (BeforeRead command)) style place
 
--- SORT orders the list by the sort keys of its entries; it stands behind READ (btxhak, section 5.2)
+-- SORT orders the list by the sort keys of its entries, the strings that the style assigned to the entry variable `sort.key$`; it stands behind READ
+-- (btxhak, section 5.2)
 unfoldable pub sort_command : Style → Place → CommandOutcome
 sort_command style place = if has_read style then outcome None (with_item Sort style) place else outcome (Some (BeforeRead command.Sort)) style place
 

@@ -10,7 +10,8 @@ use Rattle.btx_bst.specs.declared.token.Token.TheVariants.{Quote, Run}
 use Rattle.btx_bst.specs.language.Bodies.{FunctionBody}
 use Rattle.btx_bst.specs.language.Style.{Style}
 
--- `call.type$`, executed or as a literal
+-- `call.type$`, executed or as a literal. This test and the next three take the token at a place of a body; `None`, past the body's end, passes none
+-- of them
 unfoldable pub is_call_type : Option Token → Bool
 is_call_type (Some (Quote (callee.BuiltIn CallType))) = true
 is_call_type (Some (Run (callee.BuiltIn CallType))) = true

@@ -14,7 +14,8 @@ use Rattle.btx_machine.specs.language.Saying.{ended_line}
 use Rattle.btx_machine.specs.language.Reports.{end_as, log_counts, report_of, last_line}
 use Rattle.btx_machine.specs.language.Items.{do_items}
 
--- the list of references, the log before its last line (`told`), and the report, which that line gives
+-- the list of references, the log before its last line (here `told`; elsewhere in this chapter that is also two counts), and the report, which that
+-- line gives
 pub record Product : Type 0 where
   pub bbl : List ℕ
   pub told : List ℕ

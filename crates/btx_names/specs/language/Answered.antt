@@ -23,7 +23,7 @@ nth_name names number = option_and_then (slice_get (names_of names)) (names_befo
 unfoldable pub one_name_text : TextMode → List ℕ → List ℕ → List ℕ
 one_name_text mode name format = if is_legal format then formatted mode (parts_of name) format else []
 
--- what `format.name$` finds wrong with a name and a format: a comma at the name's end, a third comma, an illegal format
+-- what `format.name$` finds wrong with a name and a format: a comma at the name's end (`x11`), a third comma (`x12`), an illegal format (`x13`)
 unfoldable pub one_name_complaints : List ℕ → List ℕ → Complaints
 one_name_complaints name format =
     record no_complaints { x11 = ends_in_comma name; x12 = has_third_comma (sections_of name); x13 = not (is_legal format) }

@@ -52,8 +52,8 @@ behind_between rest =
 abbrev pub has_no_letter : List ℕ → Bool
 has_no_letter text = run_len Letter 0 text == length text
 
--- the item of a group with a part's letter, given the text before that, the letter, what follows it, and the part: it is illegal if a further letter
--- stands in it outside inner braces
+-- the item of a group whose first letter names a part (`part`), given the text before that letter, the letter, and what follows it. It is illegal if
+-- a further letter stands in it outside inner braces
 unfoldable pub piece_item : List ℕ → ℕ → List ℕ → PartName → FormatItem
 piece_item before letter rest part =
     let behind = if is_doubled letter rest then drop 1 rest else rest in

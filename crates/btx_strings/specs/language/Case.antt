@@ -36,7 +36,8 @@ case_of _ b = to_ascii_lowercase b
 abbrev pub bare : List (List ℕ)
 bare = codes "i" ∷ codes "j" ∷ codes "ss" ∷ []
 
--- a control sequence in another case: `\i`, `\j` and `\ss` become letters, ten foreign ones are lowered or raised, and all others stay
+-- a control sequence in another case. In upper case `\i`, `\j` and `\ss` become `I`, `J` and `SS`, and `\o \oe \ae \aa \l` are raised; in lower case
+-- and in a title `\O \OE \AE \AA \L` are lowered; all others stay
 unfoldable pub cased_control : Conversion → List ℕ → List ℕ
 cased_control Upper name =
     if is_among bare name then map to_ascii_uppercase name

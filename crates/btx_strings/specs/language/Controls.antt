@@ -37,7 +37,8 @@ glyphs_of text = glyphs_from 0 text
 
 -- ---- foreign ones
 
--- the letters that a control sequence stands for: both of five foreign ones, the first of eight others, none of any other
+-- the letters that a control sequence stands for: of `\oe \OE \ae \AE \ss` both letters of its name, of `\i \j \o \O \l \L \aa \AA` the first one, of
+-- any other none
 unfoldable pub letters_of : List ℕ → List ℕ
 letters_of name =
     if is_among (codes "oe" ∷ codes "OE" ∷ codes "ae" ∷ codes "AE" ∷ codes "ss" ∷ []) name then name

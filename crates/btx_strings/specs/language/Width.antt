@@ -7,7 +7,7 @@ use Rattle.btx_text.specs.declared.element_kind.TextMode.TheVariants.{Bytes}
 use Rattle.btx_text.specs.language.Elements.{Element, elements_of}
 use Rattle.btx_strings.specs.language.Controls.{Glyph, Control, Plain, glyphs_of, is_brace, letters_of, without_white}
 
--- the widths of the bytes from 0 on; the bytes past the table have none
+-- the widths of the bytes from 0 to 126, in hundredths of a point; bytes past the table have the width 0
 abbrev pub widths : List ℕ
 widths =
     replicate 32 0

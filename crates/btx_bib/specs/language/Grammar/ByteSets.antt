@@ -14,7 +14,7 @@ use Rattle.std.specs.Char.{is_ascii_digit}
 abbrev pub is_gap : ℕ → Bool
 is_gap b = is_white b || b == line_feed
 
--- the byte is in the set; a key ends at whitespace and at a comma, and in braces at a `}` too
+-- the byte is in the set; a key ends at whitespace, the end of a line or a comma, and in braces also at a `}`
 abbrev pub is_in : ByteSet → ℕ → Bool
 is_in Gap b = is_gap b
 is_in NameByte b = is_name_byte b

@@ -56,12 +56,13 @@ databases_read files names = logged (databases_logged files [] names) (files_fou
 abbrev pub style_found : NamedFile → Logged (List NamedFile) → Logged FilesRead
 style_found style databases = if is_too_long style.bytes then logged [] (Ends (ended.Limit kind.File)) else logged databases.told (Found (record { style = style; databases = databases.gives }))
 
--- the style of this name, once it is looked for, and then the databases: without it the run ends
+-- the style of this name, once it is looked for, and then the databases. If there is no such file that is an error, and the run ends as `finished`,
+-- with the status 2
 unfoldable pub style_read : Files → AuxJob → List ℕ → Option NamedFile → Logged FilesRead
 style_read files job name None = logged (no_style_line name ∷ []) (Ends ended.Finished)
 style_read files job name (Some style) = behind (style_line name ∷ []) (style_found style (databases_read files job.databases))
 
--- the style that the `.aux` files name, if they name one: without one the run ends
+-- the style that the `.aux` files name, and then the databases. If they name none, which is an error of the `.aux` files, the run ends as `finished`
 unfoldable pub style_named : Files → AuxJob → Option (List ℕ) → Logged FilesRead
 style_named files job None = logged [] (Ends ended.Finished)
 style_named files job (Some name) = style_read files job name (file_at files name)
