@@ -14,11 +14,11 @@ ALLOWED = re.compile(r"// allowed: (\d+) (.+?)(?: -- .*)?$")
 
 
 class Section:
-    """A part of a chapter: its modules with their definitions, its rules and its examples."""
+    """A part of a chapter: its modules with their definitions, its rules, and its examples with what it says of some of them."""
 
     def __init__(self, title):
         self.title, self.modules, self.rules, self.examples, self.reason, self.parts = title, [], [], [], None, []
-        self.number = None
+        self.captions, self.number = {}, None
 
     @property
     def definitions(self):
@@ -68,6 +68,8 @@ def read_line(chapter, line):
         section.rules += rest.split("; ")
     elif word == "example":
         section.examples.append(rest.strip())
+    elif word == "caption" and section.examples:
+        section.captions[section.examples[-1]] = rest.strip()
     elif word == "none":
         section.reason = rest.strip()
     else:
@@ -238,7 +240,8 @@ def job_example(name):
     if job is None:
         raise LookupError(f"there is no job `{name}`")
     made = Definition("tests", "job", name, JOBS / "worked_jobs.py", 1)
-    shown = [("the style behind READ", job.text), ("the options", job.options or None), ("the list", job.bbl),
+    options = " ".join(f"--{option.replace('_', '-')} {value}" for option, value in job.options.items())
+    shown = [("the style behind READ", job.text), ("the options", options or None), ("the list", job.bbl),
              ("messages", [it.decode("latin-1") for it in job.messages or []] or None), ("the end", job.end), ("steps", job.steps), ("bodies open at most", job.deepest)]
     made.lines = [f"{what}: {short(value)}" for what, value in shown if value is not None]
     return Example("tests/reference/worked_jobs.py, " + name, made, name)

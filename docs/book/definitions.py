@@ -33,12 +33,14 @@ class Word:
 
 
 class Definition:
-    """What has a name: `kind` is 'equations', 'record', 'data', 'rust', 'trait', 'law', 'contract' or 'row'; `file` and `line` say where it stands."""
+    """What has a name: `kind` is 'equations', 'record', 'data', 'rust', 'trait', 'law', 'contract' or 'row'; `file` and `line` say where it stands.
+    `renamed` has each name that its file alone has for something, with the name that this has where it is defined."""
 
     def __init__(self, module, kind, name, file, line):
         self.module, self.kind, self.name, self.file, self.line = module, kind, name, file, line
         self.comment, self.lines, self.heading, self.bound = [], [], None, set()
         self.links, self.uses, self.words, self.unknown, self.users = {}, [], set(), set(), []
+        self.renamed = {}
         self.place, self.reach, self.carriers = None, None, []
 
     @property
@@ -119,7 +121,8 @@ class Reader:
         self.now.comment, self.now.heading, self.comment, self.heading = self.comment, self.heading, [], None
         self.now.lines.append((kind + " " if kind else "") + name + rest)
         if self.given:
-            self.now.lines.append(f"  -- for any `{self.given}`")
+            first = ", ".join(f"`{name}`" for group in re.findall(r"\(([\w ]+) :", self.given) for name in group.split())
+            self.now.lines.append(f"  -- for any `{self.given}`" + (f"; definitions outside give {first} first" if first else ""))
             self.now.bound |= {name for group in re.findall(r"[({]([^:]*) :", self.given) for name in group.split()}
         self.module.names[name] = self.now
         self.module.definitions.append(self.now)
@@ -244,6 +247,7 @@ def resolve_rust(made):
         names -= set(re.findall(r"(?m)^\s+([A-Z]\w*)(?=[,({])", code))
     for name in sorted(names - {made.name}):
         target = target_of(*brought.names[name]) if made.is_model and name in brought.names else None
+        note_renamed(made, name, brought.names.get(name) if target else None)
         link(made, name, target or (Word(name) if name in EVERYWHERE else type_in(made.file, name)))
 
 
@@ -294,6 +298,12 @@ def link(definition, written, target):
         definition.links[written] = target
         if target not in definition.uses:
             definition.uses.append(target)
+
+
+def note_renamed(definition, written, imported):
+    """Says of a name, as a definition has it, what it is called where it is defined, if a `use` line of the file gives it another one."""
+    if imported and imported[1] != written:
+        definition.renamed[written] = imported[1]
 
 
 def clauses(definition):
@@ -368,6 +378,7 @@ def resolve_clause(definition, home, clause, bound):
             link(definition, f"{first}.{rest[0]}", target_of(home.aliases[first], rest[0]))
         elif isinstance(home.names.get(first), tuple):
             link(definition, first, target_of(*home.names[first]))
+            note_renamed(definition, first, home.names[first])
         elif home.names.get(first):
             link(definition, first, home.names[first])
         elif first in EVERYWHERE:

@@ -95,6 +95,11 @@ def carried_by(definition, most=2):
     return ", ".join(f"`{name}`" for name in found[:most]) + more
 
 
+def caption(section, name, example):
+    """What is said of an example: the section's own words, or the comment at its row. (A job has a name alone.)"""
+    return prose([section.captions.get(name) or ("" if example.row.kind == "job" else example.caption)])
+
+
 def words_of(example, known):
     """The words that an example's file has for its rows, each with its comment (`gives`: a function that only changes the stack), but for those that are known
     already, which become known."""
@@ -114,6 +119,16 @@ def what_it_is(definition):
     """What a definition is to a reader: a part of the language, or of a law about it."""
     kinds = {"contract": "the contract of a call", "law": "a law", "trait": "what a file source or an output promises", "rust": "a type of the program"}
     return kinds.get(definition.kind) or {"language": "language", "laws": "only in laws"}[definition.reach]
+
+
+def renamed_in(definition):
+    """The names that a definition's file alone has for something, each with what that is: its name, and the type that has it as a case."""
+    found = []
+    for written, original in sorted(definition.renamed.items()):
+        target = definition.links.get(written)
+        if getattr(target, "place", None):
+            found.append((written, "" if target.name == original else f"the case `{original}` of ", target))
+    return found
 
 
 def bytes_in(definition):

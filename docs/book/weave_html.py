@@ -90,14 +90,15 @@ def definition_html(it):
     comment = text(layout.prose(it.comment)) or "<em>(no comment)</em>"
     uses, users = layout.uses_elsewhere(it), layout.users_of(it)
     foot = [text(", ".join(layout.bytes_in(it)))] * bool(layout.bytes_in(it))
+    foot += [text(f"`{written}` is {what}") + references([target]) for written, what, target in layout.renamed_in(it)]
     foot += [f"uses {references(uses, 99)}"] * bool(uses) + [f"used in {references(users)}"] * bool(users)
     heading = f"<h4>{text(it.heading[0].upper() + it.heading[1:])}</h4>" if it.heading else ""
     return (f'{heading}<section id="{it.id}" class="{it.reach}"><p><span>{it.number}</span> {comment}</p>{code(it)}'
             f'<footer>{" · ".join(foot)}</footer><aside>{margin}</aside></section>')
 
 
-def example_html(example, known):
-    caption = f" {text(layout.prose([example.caption]))}" if example.caption and example.row.kind != "job" else ""
+def example_html(example, said, known):
+    caption = f" {text(said)}" if said else ""
     words = "".join(f"<li>{text(word)}</li>" for word in layout.words_of(example, known))
     return (f'<div class="example"><p><span>Example</span>{caption}</p>{code(example.row)}' + (f"<ul>{words}</ul>" if words else "")
             + f"<footer>{html.escape(example.shown)}, which is checked</footer></div>")
@@ -110,7 +111,8 @@ def section_html(section, examples, known):
     if linked_rules:
         of_manuals = f" The manuals: {manuals.sentence(section)}." if manuals.followed_by(section) else ""
         out.append(f'<p class="rule">The rule in words: {linked_rules}.{of_manuals}</p>')
-    out += [example_html(examples[name], known) for name in section.examples if name in examples]
+    for name, example in ((name, examples[name]) for name in section.examples if name in examples):
+        out.append(example_html(example, layout.caption(section, name, example), known))
     for module, found in section.parts:
         intros = " ".join(f'{text(layout.prose(intro))} <span class="file">{file}</span>' for file, intro in chapters.files_of(module, found))
         out.append(f'<p class="intro" id="m-{module.replace("::", ".").replace("/", ".")}">{intros}</p>')

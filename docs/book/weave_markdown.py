@@ -44,6 +44,7 @@ def definition_markdown(it):
     uses, users = layout.uses_elsewhere(it), layout.users_of(it)
     foot = [f"{it.crate}, {layout.what_it_is(it)}" + (f", carried by {carried}" if carried else "")]
     foot += [", ".join(layout.bytes_in(it))] * bool(layout.bytes_in(it))
+    foot += [f"`{written}` is {what}{references([target])}" for written, what, target in layout.renamed_in(it)]
     foot += [f"uses {references(uses, 99)}"] * bool(uses) + [f"used in {references(users)}"] * bool(users)
     heading = f"#### {it.heading[0].upper() + it.heading[1:]}\n\n" if it.heading else ""
     return f"{heading}[]{{#{anchor(it)}}}**{it.number}** {layout.prose(it.comment) or '*(no comment)*'}\n\n{code(it)}\n\n*{'; '.join(foot)}*\n"
@@ -54,8 +55,9 @@ def section_markdown(section, examples, known):
     linked_rules = ", ".join(f"[{rule}](#{anchors[rule]})" for rule in section.rules if rule in anchors)
     of_manuals = f" The manuals: {manuals.sentence(section)}." if manuals.followed_by(section) else ""
     out = [f"## {section.number} {section.title} {{#s{section.number} .unnumbered}}\n"] + [f"The rule in words: {linked_rules}.{of_manuals}\n"] * bool(linked_rules)
-    for example in (examples[name] for name in section.examples if name in examples):
-        caption = f". {layout.prose([example.caption])}" if example.caption and example.row.kind != "job" else "."
+    for name, example in ((name, examples[name]) for name in section.examples if name in examples):
+        said = layout.caption(section, name, example)
+        caption = f". {said}" if said else "."
         words = "".join(f"- {word}\n" for word in layout.words_of(example, known))
         out.append(f"**Example**{caption}\n\n{code(example.row)}\n\n{words}\n*{example.shown}, which is checked*\n")
     for module, found in section.parts:

@@ -4,13 +4,14 @@ use Rattle.std.specs.Prelude.{codes}
 use Rattle.std.specs.Str.{bytes_eq}
 use Rattle.std.specs.List.{find, list_any, flat_map}
 use Rattle.btx_aux.specs.declared.draft.Draft.{Draft}
-use Rattle.btx_aux.specs.language.Names.{listed_as, is_same_key, with_ending, is_among, with_name_once}
+use Rattle.btx_aux.specs.language.Names.{listed_as, is_same_key, with_ending, with_name_once}
 use Rattle.btx_aux.specs.language.Grammar.{Piece, Taken, Cut, Cites, Databases, Opens}
 use Rattle.btx_aux.specs.language.Events.{event_at}
 use Rattle.btx_text.specs.language.LogLines.{Line}
 use Rattle.btx_aux.specs.language.Notes.{AuxComplaint, TopFile, LevelFile, CaseMismatch, RepeatedDatabase, Slipped, AuxNote, aux_note_line, Wrong}
-use Rattle.btx_aux.specs.language.Job.{is_star, taken_with, database_complaints, complain_if}
+use Rattle.btx_aux.specs.language.Job.{is_star, taken_with, database_complaints}
 use Rattle.btx_aux.specs.refinement.Drafts.{learned, asked_in, with_notes, with_database, with_databases, complaining}
+use Rattle.btx_text.specs.language.Lists.{only_if, is_among}
 
 -- a draft with a further line in its log
 abbrev pub complained : Draft → AuxComplaint → ℕ → List ℕ → Draft
@@ -89,7 +90,7 @@ with_databases-once file line draft (Taken name ∷ pieces) =
     let database = with_ending (codes ".bib") name in
     let after = record draft { databases = fold with_name_once draft.databases (flat_map (taken_with (codes ".bib")) (Taken name ∷ pieces)) } in
     with_databases-once file line (with_database file line draft name) pieces
-    ∙ complaining_twice file line after (complain_if (is_among draft.databases database) (RepeatedDatabase database)) (database_complaints (with_name_once draft.databases database) pieces)
+    ∙ complaining_twice file line after (only_if (is_among draft.databases database) (RepeatedDatabase database)) (database_complaints (with_name_once draft.databases database) pieces)
 with_databases-once file line draft (Cut slip ∷ pieces) =
     let after = record draft { databases = fold with_name_once draft.databases (flat_map (taken_with (codes ".bib")) pieces) } in
     with_databases-once file line (complaining file line draft (Slipped slip ∷ [])) pieces

@@ -8,11 +8,12 @@ use Rattle.std.proofs.lemmas.Cmp.{nat_list_eq_equiv}
 use Rattle.std.proofs.lemmas.Map.Keys.{IsDistinct-cons, IsDistinct-head, IsDistinct-push, IsDistinct-tail}
 use Rattle.std.proofs.lemmas.Slice.Eq.{bytes_eq-Decides, ends_is}
 use Rattle.btx_aux.specs.language.Files.{Files}
-use Rattle.btx_aux.specs.language.Names.{has_ending, is_among, with_ending, with_name_once}
+use Rattle.btx_aux.specs.language.Names.{has_ending, with_ending, with_name_once}
 use Rattle.btx_aux.specs.language.Grammar.{Piece, Taken, Cut}
 use Rattle.btx_aux.specs.language.Events.{job_events}
 use Rattle.btx_aux.specs.language.Job.{bibdata_of, bibstyle_of, databases_in, job_of_files, style_name_in, taken_with}
 use Rattle.btx_aux.proofs.AnswerLemmas.{all-both}
+use Rattle.btx_text.specs.language.Lists.{is_among}
 
 -- ---- endings
 

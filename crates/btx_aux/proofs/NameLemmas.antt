@@ -4,8 +4,9 @@ use Rattle.std.specs.Str.{bytes_eq}
 use Rattle.std.specs.List.{list_any}
 use Rattle.indexmap.specs.IndexSet.{insert_key}
 use Rattle.btx_aux.specs.refinement.Entries.{Bytes, texts_of}
-use Rattle.btx_aux.specs.language.Names.{is_among, with_name_once}
+use Rattle.btx_aux.specs.language.Names.{with_name_once}
 use Rattle.btx_aux.proofs.TableLemmas.{same_key}
+use Rattle.btx_text.specs.language.Lists.{is_among}
 
 pub is_among-texts_of : (names : List Bytes) (name : List ℕ) → list_any (λ (other : Bytes). bytes_eq name other.items) names ≡ is_among (texts_of names) name
 is_among-texts_of [] name = refl

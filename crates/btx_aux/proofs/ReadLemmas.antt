@@ -7,11 +7,13 @@ use Rattle.btx_aux.specs.declared.command.Command.TheVariants.{Citation, Bibdata
 use Rattle.btx_aux.specs.declared.end.End.TheVariants as end
 use Rattle.btx_aux.specs.language.Files.{Files, file_of}
 use Rattle.btx_aux.specs.language.Grammar.{Piece, Cites, Databases, Styles, Includes, Opens, Absent, words_of, words_of_command, words_at, is_whole, pieces_of, piece_of}
-use Rattle.btx_aux.specs.language.Events.{AuxEvent, event_at, said, said_from, asked_of, is_too_long}
+use Rattle.btx_aux.specs.language.Events.{AuxEvent, event_at, said, said_from, asked_of}
 use Rattle.btx_aux.specs.refinement.Drafts.{learned, learned_words, asked_in}
 use Rattle.btx_aux.specs.refinement.Reads.{after, Opening, included, asked_for, run, within, opened_by}
 use Rattle.btx_aux.proofs.DraftLemmas.{asked_in-Cites}
-use Rattle.btx_text.specs.language.Lines.{in_front, line_pieces, trimmed, lines_of}
+use Rattle.btx_text.specs.language.Lines.{line_pieces, trimmed, lines_of}
+use Rattle.std.specs.List.{onto_first}
+use Rattle.btx_text.specs.language.Limits.{is_too_long}
 
 module _ (files : Files) (opening : Opening) where
   pub run-append : (draft : Draft) (xs ys : List AuxEvent) → run files opening draft (xs ++ ys) ≡ run files opening (run files opening draft xs) ys
@@ -205,7 +207,7 @@ module _ (files : Files) where
 
 -- ---- the number of lines
 
-in_front_one : (b : ℕ) (pieces : List (List ℕ)) → length (in_front b pieces) ≤ length pieces + 1
+in_front_one : (b : ℕ) (pieces : List (List ℕ)) → length (onto_first b pieces) ≤ length pieces + 1
 in_front_one b [] = omega arith
 in_front_one b (piece ∷ pieces) = omega arith
 
@@ -213,7 +215,7 @@ pieces_few : (text : List ℕ) → length (line_pieces text) ≤ length text
 unfolding line_pieces
 pieces_few [] = omega arith
 pieces_few (b ∷ bs) = by (eqb b 10) (pieces_few bs) where
-  by : (t : Bool) → length (line_pieces bs) ≤ length bs → length (cond t ([] ∷ line_pieces bs) (in_front b (line_pieces bs))) ≤ length (b ∷ bs)
+  by : (t : Bool) → length (line_pieces bs) ≤ length bs → length (cond t ([] ∷ line_pieces bs) (onto_first b (line_pieces bs))) ≤ length (b ∷ bs)
   by true few = omega arith
   by false few = omega (arith, in_front_one b (line_pieces bs))
 

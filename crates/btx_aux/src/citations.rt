@@ -2,11 +2,12 @@
 ghost use Rattle.std.specs.Prelude.{◌≡◌, ◌∷◌, ◌++◌, map, not, IfOk, IfSome, OnOk};
 ghost use Rattle.btx_aux.specs.refinement.Answers.{AsksTop, ByAnswers};
 ghost use Rattle.btx_aux.specs.refinement.Faults.{CountsOfOne};
-ghost use Rattle.btx_aux.specs.language.Job.{job_of_files, missing_notes, aux_note_if};
+ghost use Rattle.btx_aux.specs.language.Job.{job_of_files, missing_notes};
 ghost use Rattle.btx_aux.specs.refinement.Drafts.{blank};
 ghost use Rattle.btx_aux.specs.refinement.Reads.{closed, topped};
 ghost use Rattle.btx_aux.specs.language.Notes.{aux_note_line};
 ghost use Rattle.btx_aux.specs.refinement.Told.{note_told};
+ghost use Rattle.btx_text.specs.language.Lists.{only_if};
 
 use crate::draft::Draft;
 use crate::end::End;
@@ -101,7 +102,7 @@ fn tell_unless(
     is_there: bool,
     note: Note<'_>,
 ) -> Result<(), AllocError>
-    ensures { OnOk result (draft.new ≡ record draft.old { log = draft.old.log ++ map aux_note_line (aux_note_if (not is_there) (note_told note.entry)) }) }
+    ensures { OnOk result (draft.new ≡ record draft.old { log = draft.old.log ++ map aux_note_line (only_if (not is_there) (note_told note.entry)) }) }
 {
     if is_there {
         return Ok(());

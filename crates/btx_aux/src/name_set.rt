@@ -1,7 +1,8 @@
 //! Names, each once, found by a table.
 ghost use Rattle.std.specs.Prelude.{◌≡◌, [], OnOk};
 ghost use Rattle.btx_aux.specs.refinement.Entries.{texts_of};
-ghost use Rattle.btx_aux.specs.language.Names.{is_among, with_name_once};
+ghost use Rattle.btx_aux.specs.language.Names.{with_name_once};
+ghost use Rattle.btx_text.specs.language.Lists.{is_among};
 
 use indexmap::IndexSet;
 use std::alloc::{AllocError, Global};

@@ -1,10 +1,10 @@
 //! The reading of the `.aux` files.
 ghost use Rattle.std.specs.Prelude.{◌≡◌, ◌≤◌, length, map, true, OnOk};
-ghost use Rattle.btx_text.specs.language.Limits.{greatest_file};
+ghost use Rattle.btx_text.specs.language.Limits.{greatest_file, is_too_long};
 ghost use Rattle.btx_aux.specs.refinement.Answers.{ByAnswers};
 ghost use Rattle.btx_aux.specs.refinement.Faults.{CountsOfOne};
 ghost use Rattle.btx_aux.specs.language.Grammar.{is_whole, words_of};
-ghost use Rattle.btx_aux.specs.language.Events.{event_at, is_too_long, said};
+ghost use Rattle.btx_aux.specs.language.Events.{event_at, said};
 ghost use Rattle.btx_aux.specs.refinement.Reads.{AddsNames, AsksFirst, included, names_opened, opened_by, run};
 
 use crate::draft::Draft;

@@ -11,7 +11,6 @@ use Rattle.btx_bib.specs.declared.message.Message.{Message}
 use Rattle.btx_bib.specs.language.Grammar.Items.{Event, Comment, Preamble, Definition, Entry, FieldOf, End, Wrong, Placed, Step, events_from, is_repeated, known_step, next_step, expected_step}
 use Rattle.btx_bib.specs.language.Known.{Known, known_after, after_event, with_current_stored, goes_on, keeping, stored_in}
 use Rattle.btx_bib.specs.laws.Known.{after_all}
-use Rattle.btx_bib.specs.language.Databases.{is_database_too_long}
 use Rattle.btx_bib.specs.language.Stored.{entry_with_key}
 use Rattle.btx_bib.specs.language.Told.{Database, event_messages}
 use Rattle.btx_bib.specs.language.Wanted.{Request}
@@ -22,6 +21,7 @@ use Rattle.btx_bib.proofs.ApartLemmas.{known_all, known_one, told_all, told_alon
 use Rattle.btx_bib.proofs.GrammarLemmas.LengthLemmas.{events-none, events-some, events-less, left}
 use Rattle.btx_bib.proofs.GatheringLemmas.{ended-along, ended-told, none-along, none-told, turn-along, turn-told}
 use Rattle.btx_bib.proofs.KeptLemmas.{IsFresh, Sound, closed-kept, closed-sound, event-kept, event-said, event-sound, kept_of, stored-kept}
+use Rattle.btx_text.specs.language.Limits.{is_too_long}
 
 -- ---- one source, and the others
 
@@ -153,7 +153,7 @@ module _ (wanted : Request) where
     -- ---- a whole database
 
     pub one-kept : (known : Known) → Sound wanted known → kept_one wanted (kept_of wanted known) database ≡ kept_of wanted (known_one wanted known database)
-    one-kept known sound = at (goes_on known.ending) (is_database_too_long database) where
+    one-kept known sound = at (goes_on known.ending) (is_too_long database.text) where
       along : Agrees known Item database.text
       along = agrees known Item database.text sound
 
@@ -164,10 +164,10 @@ module _ (wanted : Request) where
       at true false = ap (closed wanted) along.0 ∙ closed-kept wanted (after_all wanted known (known_events known Item database.text)) along.2
 
     pub one-told : (known : Known) → Sound wanted known → told_by_one wanted (kept_of wanted known) database ≡ told_one wanted known database
-    one-told known sound = ap (λ (ms : List Message). if goes_on known.ending then (if is_database_too_long database then [] else ms) else []) (agrees known Item database.text sound).1
+    one-told known sound = ap (λ (ms : List Message). if goes_on known.ending then (if is_too_long database.text then [] else ms) else []) (agrees known Item database.text sound).1
 
     pub one-sound : (known : Known) → Sound wanted known → Sound wanted (known_one wanted known database)
-    one-sound known sound = at (goes_on known.ending) (is_database_too_long database) where
+    one-sound known sound = at (goes_on known.ending) (is_too_long database.text) where
       at : (b long : Bool) → Sound wanted (if b then (if long then record known { ending = FileLimit } else with_current_stored (after_all wanted known (known_events known Item database.text))) else known)
       at false long = sound
       at true true = sound

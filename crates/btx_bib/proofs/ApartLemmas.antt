@@ -2,12 +2,15 @@
 use Rattle.std.proofs.Common.{◌≡◌, ℕ, Bool, true, false, if◌then◌else◌, List, [], ◌∷◌, ◌++◌, fold, sym, ap, ◌∙◌, append_assoc, append-nil}
 use Rattle.btx_bib.specs.declared.end.End.TheVariants as end
 use Rattle.btx_bib.specs.declared.message.Message.{Message}
-use Rattle.btx_bib.specs.language.Databases.{database_events, is_database_too_long, read_all, read_one, read_whole, with_macros}
+use Rattle.btx_bib.specs.language.Databases.{read_all, read_one, read_whole, with_macros}
 use Rattle.btx_bib.specs.language.Grammar.Items.{Placed}
 use Rattle.btx_bib.specs.language.Known.{Known, known_after, with_current_stored, goes_on}
 use Rattle.btx_bib.specs.laws.Known.{after_all}
-use Rattle.btx_bib.specs.language.Told.{Database, Reading, read_next, messages_at}
+use Rattle.btx_bib.specs.language.Told.{Database, Reading, read_next}
 use Rattle.btx_bib.specs.language.Wanted.{Request}
+use Rattle.btx_text.specs.language.Limits.{is_too_long}
+use Rattle.btx_bib.specs.refinement.Told.{messages_at}
+use Rattle.btx_bib.specs.laws.Databases.{database_events}
 
 -- ---- each by itself
 
@@ -19,11 +22,11 @@ told_along wanted database known (placed ∷ events) = messages_at wanted databa
 -- what is known after a database, and its messages
 abbrev pub known_one : Request → Known → Database → Known
 known_one wanted known database =
-    if goes_on known.ending then (if is_database_too_long database then record known { ending = end.FileLimit } else with_current_stored (after_all wanted known (database_events wanted known database))) else known
+    if goes_on known.ending then (if is_too_long database.text then record known { ending = end.FileLimit } else with_current_stored (after_all wanted known (database_events wanted known database))) else known
 
 abbrev pub told_one : Request → Known → Database → List Message
 told_one wanted known database =
-    if goes_on known.ending then (if is_database_too_long database then [] else told_along wanted database known (database_events wanted known database)) else []
+    if goes_on known.ending then (if is_too_long database.text then [] else told_along wanted database known (database_events wanted known database)) else []
 
 -- what is known after all databases, and their messages
 abbrev pub known_all : Request → Known → List Database → Known
@@ -69,7 +72,7 @@ module _ (wanted : Request) where
     one-by true false = ap (λ (last : Reading). record last { known = with_current_stored last.known }) (along-apart database (database_events wanted reading.known database) reading)
 
     one-apart : read_one wanted reading database ≡ going_on reading (known_one wanted reading.known database) (told_one wanted reading.known database)
-    one-apart = one-by (goes_on reading.known.ending) (is_database_too_long database)
+    one-apart = one-by (goes_on reading.known.ending) (is_too_long database.text)
 
   all-apart : (databases : List Database) (reading : Reading) → fold (read_one wanted) reading databases ≡ going_on reading (known_all wanted reading.known databases) (told_all wanted reading.known databases)
   all-apart [] reading = none-further reading reading.known

@@ -4,7 +4,7 @@ use Rattle.std.specs.Option.{option_map}
 use Rattle.std.proofs.lemmas.Bool.Decides.{nat_tests}
 use Rattle.std.proofs.lemmas.Grind.{fold-append}
 use Rattle.std.proofs.lemmas.List.{length-append}
-use Rattle.btx_text.specs.language.Limits.{greatest_file, greatest_string}
+use Rattle.btx_text.specs.language.Limits.{greatest_file, greatest_string, is_too_long}
 use Rattle.btx_bib.specs.declared.end.End.{End}
 use Rattle.btx_bib.specs.declared.end.End.TheVariants as end
 use Rattle.btx_bib.specs.declared.grammar.commands.Command.{Command}
@@ -17,21 +17,25 @@ use Rattle.btx_bib.specs.declared.grammar.value_ends.Ends.TheVariants.{Kept, Tri
 use Rattle.btx_bib.specs.declared.message.Message.{Message}
 use Rattle.btx_bib.specs.language.Grammar.Tokens.{Parsed, followed_by, name_at, open_at, sign_at, key_at}
 use Rattle.btx_bib.specs.language.Grammar.Fields.{Field}
-use Rattle.btx_bib.specs.language.Grammar.Items.{Event, Comment, Preamble, Definition, Entry, FieldOf, End as Close, Wrong, Placed, Step, Keeping, head_of, head_at, command_of, item_end, step_by, behind_at, expected_step, is_repeated, known_step, next_step, events_by, events_within, events_from}
+use Rattle.btx_bib.specs.language.Grammar.Items.{Event, Comment, Preamble, Definition, Entry, FieldOf, End as Close, Wrong, Placed, Step, Keeping, head_of, head_at, command_of, step_by, behind_at, expected_step, is_repeated, known_step, next_step, events_by, events_within, events_from}
 use Rattle.btx_bib.specs.language.Grammar.Values.{Part, Braced, Quoted, Digits, Named, value_at}
-use Rattle.btx_bib.specs.language.Grammar.ValueTexts.{StringValues, text_of_part, joined_text, shaped, value_text}
+use Rattle.btx_bib.specs.language.Grammar.ValueTexts.{StringValues, text_of_part, shaped, value_text}
 use Rattle.btx_bib.specs.language.Wanted.{Request}
 use Rattle.btx_bib.specs.language.Strings.{string_value, other_value, defined}
 use Rattle.btx_bib.specs.language.Entries.{Given}
 use Rattle.btx_bib.specs.language.Stored.{entry_with_key}
-use Rattle.btx_bib.specs.language.Known.{Known, goes_on, stored_in, with_current_stored, if_fits, after_field, after_key, after_event, known_after, keeping, keeps_field, with_field}
+use Rattle.btx_bib.specs.language.Known.{Known, goes_on, stored_in, with_current_stored, if_fits, after_field, after_event, known_after, keeping, with_field}
 use Rattle.btx_bib.specs.laws.Known.{after_all}
 use Rattle.btx_bib.specs.language.Told.{Database}
-use Rattle.btx_bib.specs.language.Databases.{library_of, library_by, is_database_too_long, database_events, read_all, with_macros}
+use Rattle.btx_bib.specs.language.Databases.{library_of, library_by, read_all, with_macros}
 use Rattle.btx_bib.specs.laws.Cuts.{IsCutBetweenItems, GivesTheSame, CutGivesTheSame}
 use Rattle.btx_bib.proofs.ApartLemmas.{known_one, known_all, known-apart}
 use Rattle.btx_bib.proofs.GrammarLemmas.LongerLemmas.{part_on, event_on, placed_on, reading-on}
 use Rattle.btx_bib.proofs.GrammarLemmas.ReadingLemmas.{is_reading, one_reading}
+use Rattle.btx_bib.specs.refinement.Grammar.ValueTexts.{joined_text}
+use Rattle.btx_bib.specs.refinement.Known.{keeps_field, after_key}
+use Rattle.btx_bib.specs.refinement.Grammar.Items.{item_end}
+use Rattle.btx_bib.specs.laws.Databases.{database_events}
 
 -- ---- what is read, without places
 
@@ -374,18 +378,18 @@ events_from-closed wanted known text = events-closed wanted _ known Item text (i
 
 -- ---- one database or two
 
-is-read : (wanted : Request) (known : Known) (database : Database) → goes_on known.ending ≡ true → is_database_too_long database ≡ false → known_one wanted known database ≡ with_current_stored (fold (known_after wanted) known (read_in wanted known database))
+is-read : (wanted : Request) (known : Known) (database : Database) → goes_on known.ending ≡ true → is_too_long database.text ≡ false → known_one wanted known database ≡ with_current_stored (fold (known_after wanted) known (read_in wanted known database))
 is-read wanted known database on short =
-    ap (λ (b : Bool). if b then (if is_database_too_long database then record known { ending = end.FileLimit } else with_current_stored (after_all wanted known (database_events wanted known database))) else known) on
+    ap (λ (b : Bool). if b then (if is_too_long database.text then record known { ending = end.FileLimit } else with_current_stored (after_all wanted known (database_events wanted known database))) else known) on
     ∙ ap (λ (b : Bool). if b then record known { ending = end.FileLimit } else with_current_stored (after_all wanted known (database_events wanted known database))) short
     ∙ ap with_current_stored (sym (alone-all wanted known (database_events wanted known database)))
 
 is-ended : (wanted : Request) (known : Known) (database : Database) → goes_on known.ending ≡ false → known_one wanted known database ≡ known
 is-ended wanted known database ended =
-    ap (λ (b : Bool). if b then (if is_database_too_long database then record known { ending = end.FileLimit } else with_current_stored (after_all wanted known (database_events wanted known database))) else known) ended
+    ap (λ (b : Bool). if b then (if is_too_long database.text then record known { ending = end.FileLimit } else with_current_stored (after_all wanted known (database_events wanted known database))) else known) ended
 
 -- a second database, after what a first one left
-then-read : (wanted : Request) (before : Known) (second : Database) → is_database_too_long second ≡ false
+then-read : (wanted : Request) (before : Known) (second : Database) → is_too_long second.text ≡ false
     → known_one wanted (with_current_stored before) second ≡ with_current_stored (fold (known_after wanted) before (read_in wanted (with_current_stored before) second))
 then-read wanted before second short = by_end (goes_on before.ending) refl where
   by_end : (b : Bool) → goes_on before.ending ≡ b → known_one wanted (with_current_stored before) second ≡ with_current_stored (fold (known_after wanted) before (read_in wanted (with_current_stored before) second))
@@ -399,7 +403,7 @@ shorter part whole le short = by_test (nat_lt greatest_file part) refl where
   by_test true h = absurd (grind (arith, nat_tests))
 
 -- what is read in the whole is what is read in the first and then what is read in the second
-cut-is-read : (wanted : Request) (known : Known) (whole first second : Database) → IsCutBetweenItems wanted known whole first second → goes_on known.ending ≡ true → is_database_too_long first ≡ false
+cut-is-read : (wanted : Request) (known : Known) (whole first second : Database) → IsCutBetweenItems wanted known whole first second → goes_on known.ending ≡ true → is_too_long first.text ≡ false
     → read_in wanted known whole ≡ read_in wanted known first ++ read_in wanted (known_one wanted known first) second
 cut-is-read wanted known whole first second cut on short =
     let events = database_events wanted known first in
@@ -414,16 +418,16 @@ cut-is-read wanted known whole first second cut on short =
     ∙ ap (λ (others : List Placed). alone events ++ alone others) (sym (events_from-closed wanted middle second.text))
     ∙ ap (λ (k : Known). alone events ++ read_in wanted k second) (sym left)
 
-cut-reads : (wanted : Request) (known : Known) (whole first second : Database) → IsCutBetweenItems wanted known whole first second → is_database_too_long whole ≡ false
+cut-reads : (wanted : Request) (known : Known) (whole first second : Database) → IsCutBetweenItems wanted known whole first second → is_too_long whole.text ≡ false
     → known_one wanted (known_one wanted known first) second ≡ known_one wanted known whole
 cut-reads wanted known whole first second cut short = by_end (goes_on known.ending) refl where
   long : length whole.text ≡ length first.text + length second.text
   long = ap (λ (text : List ℕ). length text) cut.0 ∙ length-append first.text second.text
 
-  first-short : is_database_too_long first ≡ false
+  first-short : is_too_long first.text ≡ false
   first-short = shorter (length first.text) (length whole.text) (omega (arith, long)) short
 
-  second-short : is_database_too_long second ≡ false
+  second-short : is_too_long second.text ≡ false
   second-short = shorter (length second.text) (length whole.text) (omega (arith, long)) short
 
   by_end : (b : Bool) → goes_on known.ending ≡ b → known_one wanted (known_one wanted known first) second ≡ known_one wanted known whole

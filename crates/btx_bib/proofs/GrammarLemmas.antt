@@ -4,6 +4,7 @@ pub mod ValueLemmas
 pub mod ItemLemmas
 pub mod LengthLemmas
 pub mod PlainLemmas
+pub mod PlainByteLemmas
 pub mod SpellingLemmas
 pub mod SqueezeLemmas
 pub mod TrimLemmas

@@ -1,6 +1,6 @@
 -- What is kept while databases are read is what is known of them.
 use Rattle.std.proofs.Common.{◌≡◌, ℕ, arith, Bool, true, false, not, ◌&&◌, ◌||◌, if◌then◌else◌, List, [], ◌∷◌, ◌++◌, length, Option, None, Some, is_some, refl, sym, ap, subst, ◌∙◌, append-nil}
-use Rattle.std.specs.Prelude.{nat_lt, slice_get}
+use Rattle.std.specs.Prelude.{nat_lt, slice_get, option_to_list}
 use Rattle.std.specs.Option.{option_map}
 use Rattle.btx_text.specs.language.Keys.{folded}
 use Rattle.btx_text.specs.language.Limits.{greatest_string}
@@ -16,10 +16,10 @@ use Rattle.btx_bib.specs.declared.message.Message.TheVariants as message
 use Rattle.btx_bib.specs.language.Grammar.Fields.{Field}
 use Rattle.btx_bib.specs.language.Grammar.Items.{Event, Comment, Preamble, Definition, Entry, FieldOf, End, Wrong, is_repeated}
 use Rattle.btx_bib.specs.language.Grammar.ValueTexts.{value_text}
-use Rattle.btx_bib.specs.language.Known.{Known, with_current_stored, after_event, after_field, after_key, if_fits, stored_in, keeps_field, with_field}
+use Rattle.btx_bib.specs.language.Known.{Known, with_current_stored, after_event, after_field, if_fits, stored_in, with_field}
 use Rattle.btx_bib.specs.language.Told.{Database, event_messages, field_messages, type_messages, value_messages, spot_at, spot_before}
 use Rattle.btx_bib.specs.language.Wanted.{Request}
-use Rattle.btx_bib.specs.language.Entries.{Given, body_of, list_of_option, field_values}
+use Rattle.btx_bib.specs.language.Entries.{Given, body_of, field_values}
 use Rattle.btx_bib.specs.language.Filling.{value_by}
 use Rattle.btx_bib.specs.refinement.Finding.{changed_at}
 use Rattle.btx_bib.specs.language.Stored.{entry_with_key, is_wanted}
@@ -30,6 +30,7 @@ use Rattle.btx_bib.specs.refinement.Gatherings.{begun, begun_by, closed, closed_
 use Rattle.btx_bib.proofs.FillingLemmas.{values_from-none, values_from-push, with_value-new}
 use Rattle.btx_bib.proofs.SlotLemmas.{entry_of-new}
 use Rattle.btx_bib.proofs.StoringLemmas.{draft, Covered, Covered-stored, none-of, standing-draft, standing_of, stored_at-draft}
+use Rattle.btx_bib.specs.refinement.Known.{keeps_field, after_key}
 
 module _ (wanted : Request) where
   -- the entry that is being read, as it is kept
@@ -54,14 +55,14 @@ module _ (wanted : Request) where
   abbrev pub Sound : Known → Type 0
   Sound known = Covered wanted known.stored × IsNew known.stored known.current
 
-  closed-by : (known : Known) (current : Option Given) → Covered wanted known.stored → IsNew known.stored current → closed_by wanted (kept_of (record known { current = current })) (option_map pending_of current) ≡ kept_of (record known { stored = known.stored ++ list_of_option current; current = None })
+  closed-by : (known : Known) (current : Option Given) → Covered wanted known.stored → IsNew known.stored current → closed_by wanted (kept_of (record known { current = current })) (option_map pending_of current) ≡ kept_of (record known { stored = known.stored ++ option_to_list current; current = None })
   closed-by known None covered new = ap (λ (stored : List Given). kept_of (record known { stored = stored; current = None })) (sym (append-nil known.stored))
   closed-by known (Some given) covered new = ap (λ (d : Draft). record (kept_of known) { draft = d; current = None }) (stored_at-draft wanted known.stored given new.1 covered new.0)
 
   pub closed-kept : (known : Known) → Sound known → closed wanted (kept_of known) ≡ kept_of (with_current_stored known)
   closed-kept known sound = closed-by known known.current sound.0 sound.1
 
-  covered-by : (stored : List Given) (current : Option Given) → Covered wanted stored → IsNew stored current → Covered wanted (stored ++ list_of_option current)
+  covered-by : (stored : List Given) (current : Option Given) → Covered wanted stored → IsNew stored current → Covered wanted (stored ++ option_to_list current)
   covered-by stored None covered new = subst (λ (s : List Given). Covered wanted s) (sym (append-nil stored)) covered
   covered-by stored (Some given) covered new = Covered-stored wanted stored given covered new.0 new.1
 
@@ -101,7 +102,7 @@ module _ (wanted : Request) where
       ∙ standing-is (is_some (entry_with_key stored key)) (is_wanted wanted stored key)
 
   stored-by : (stored : List Given) (current : Option Given) (key : List ℕ) → Covered wanted stored → IsNew stored current
-      → (is_pending (option_map pending_of current) key || has_entry (draft wanted stored) (place_in (draft wanted stored) key)) ≡ is_some (entry_with_key (stored ++ list_of_option current) key)
+      → (is_pending (option_map pending_of current) key || has_entry (draft wanted stored) (place_in (draft wanted stored) key)) ≡ is_some (entry_with_key (stored ++ option_to_list current) key)
   stored-by stored None key covered new = has_entry-draft stored key covered ∙ ap (λ (s : List Given). is_some (entry_with_key s key)) (sym (append-nil stored))
   stored-by stored (Some given) key covered new =
       ap (λ (b : Bool). is_same_key given.key key || b) (has_entry-draft stored key covered)

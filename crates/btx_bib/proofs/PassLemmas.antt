@@ -1,15 +1,19 @@
 -- The passes, place by place.
-use Rattle.std.proofs.Common.{◌≡◌, ℕ, zero, suc, arith, ◌+◌, ◌<◌, Bool, true, false, cond, if◌then◌else◌, List, [], ◌∷◌, ◌++◌, take, drop, length, Option, None, Some, refl, sym, ap, subst, ◌∙◌, add-one, append_assoc}
+use Rattle.std.proofs.Common.{◌≡◌, ℕ, zero, suc, arith, ◌+◌, ◌<◌, ◌≤◌, IfSome, Bool, true, false, cond, if◌then◌else◌, List, [], ◌∷◌, ◌++◌, take, drop, length, Option, None, Some, refl, sym, ap, subst, ◌∙◌, add-one, append_assoc, nat_eq}
 use Rattle.std.specs.Prelude.{slice_get}
 use Rattle.std.specs.Str.{bytes_eq}
-use Rattle.std.specs.Option.{option_map}
+use Rattle.std.specs.Option.{option_map, option_map_or}
 use Rattle.btx_text.specs.language.Keys.{folded}
 use Rattle.btx_aux.specs.language.Names.{is_same_key}
 use Rattle.btx_bib.specs.declared.message.Message.{Message}
 use Rattle.btx_bib.specs.declared.slots.Slot.{Slot}
 use Rattle.btx_bib.specs.refinement.Finding.{first_place, changed_at}
-use Rattle.btx_bib.specs.language.Passes.{passed, pass_messages, parent_at, parent_slot, slot_at, inherited, inherited_from, checked, checked_by, is_parent, without_crossref, check_messages, check_messages_by, parent_messages}
+use Rattle.btx_bib.specs.language.Passes.{body_values, inherited_values, with_field_values, passed, pass_messages, parent_at, parent_slot, slot_at, inherited, inherited_from, checked, checked_by, is_parent, without_crossref, check_messages, check_messages_by, parent_messages}
 use Rattle.btx_bib.specs.refinement.Steps.{lower_keys, slot_by, told_by}
+use Rattle.btx_bib.specs.refinement.Passes.{with_body}
+use Rattle.btx_bib.specs.declared.slots.Body.{Body}
+use Rattle.btx_bib.proofs.ValueLemmas.{inherited-same}
+use Rattle.std.proofs.lemmas.Bool.Decides.{nat_tests}
 use Rattle.btx_bib.proofs.ListedKeyLemmas.{folded-same}
 
 pub changed_at-agree : (xs : List Slot) (p : ℕ) (x : Slot) (f g : Slot → Slot) → slice_get xs p ≡ Some x → f x ≡ g x → changed_at p f xs ≡ changed_at p g xs
@@ -153,6 +157,98 @@ module _ (judge : List Slot → Slot → Slot) where
 pub told_by-here : (slots : List Slot) (o : Option Slot) → told_by slots o ≡ told_here checked check_messages slots o
 told_by-here slots None = refl
 told_by-here slots (Some slot) = refl
+
+-- ---- an entry that is away while it inherits
+
+abbrev pub away : Slot → Slot
+away slot = with_body slot None
+
+at-place : (slots : List Slot) (place : ℕ) (slot : Slot) → slice_get slots place ≡ Some slot → slice_get (changed_at place away slots) place ≡ Some (away slot)
+at-place [] place slot at = cc
+at-place (s ∷ slots) zero slot at = let is : s ≡ slot = cc in ap (λ (x : Slot). Some (away x)) is
+at-place (s ∷ slots) (suc place) slot at = at-place slots place slot at
+
+at-other : (slots : List Slot) (place other : ℕ) → (other ≡ place → ⊥) → slice_get (changed_at place away slots) other ≡ slice_get slots other
+at-other [] place other apart = refl
+at-other (s ∷ slots) zero zero apart = absurd (apart refl)
+at-other (s ∷ slots) zero (suc other) apart = refl
+at-other (s ∷ slots) (suc place) zero apart = refl
+at-other (s ∷ slots) (suc place) (suc other) apart = at-other slots place other (λ is. apart (ap suc is))
+
+changed-twice : (slots : List Slot) (place : ℕ) (f g : Slot → Slot) → changed_at place g (changed_at place f slots) ≡ changed_at place (λ slot. g (f slot)) slots
+changed-twice [] place f g = refl
+changed-twice (s ∷ slots) zero f g = refl
+changed-twice (s ∷ slots) (suc place) f g = ap (λ (rest : List Slot). s ∷ rest) (changed-twice slots place f g)
+
+-- what values become by those of a parent, if there is one
+abbrev pub given_by : Option Slot → List (Option (List ℕ)) → List (Option (List ℕ))
+given_by None values = values
+given_by (Some parent) values = inherited_values parent.key values (body_values parent.body)
+
+given-from : (slot : Slot) (body : Body) (o : Option Slot) → slot.body ≡ Some body → with_body slot (Some (record body { values = given_by o body.values })) ≡ inherited_from o slot
+given-from slot body None is = ap (with_body slot) (sym is)
+given-from slot body (Some parent) is = rw is refl
+
+given-own : (slot : Slot) (body : Body) → slot.body ≡ Some body → given_by (Some (away slot)) body.values ≡ given_by (Some slot) body.values
+given-own slot body is = rw is (inherited-same slot.key body.values)
+
+given-there : (slots : List Slot) (place parent : ℕ) (slot : Slot) (body : Body) → slice_get slots place ≡ Some slot → slot.body ≡ Some body →
+    given_by (slice_get (changed_at place away slots) parent) body.values ≡ given_by (slice_get slots parent) body.values
+given-there slots place parent slot body there is = by_test (nat_eq parent place) refl where
+  by_test : (b : Bool) → nat_eq parent place ≡ b → given_by (slice_get (changed_at place away slots) parent) body.values ≡ given_by (slice_get slots parent) body.values
+  by_test true same =
+      let one : parent ≡ place = grind (arith, nat_tests) in
+      ap (λ (p : ℕ). given_by (slice_get (changed_at place away slots) p) body.values) one
+      ∙ ap (λ (o : Option Slot). given_by o body.values) (at-place slots place slot there)
+      ∙ given-own slot body is
+      ∙ ap (λ (o : Option Slot). given_by o body.values) (sym there)
+      ∙ ap (λ (p : ℕ). given_by (slice_get slots p) body.values) (sym one)
+  by_test false apart = ap (λ (o : Option Slot). given_by o body.values) (at-other slots place parent (λ same. grind (arith, nat_tests)))
+
+-- the entry at a place, if there is one
+abbrev pub body_in : Option Slot → Option Body
+body_in o = option_map_or (λ (slot : Slot). slot.body) o None
+
+pub given-back : (slots : List Slot) (place parent : ℕ) (body : Body) → Some body ≡ body_in (slice_get slots place) →
+    changed_at place (λ slot. with_body slot (Some (record body { values = given_by (slice_get (changed_at place away slots) parent) body.values }))) (changed_at place away slots) ≡ changed_at place (inherited_from (slice_get slots parent)) slots
+given-back slots place parent body is = at (slice_get slots place) refl is where
+  values : List (Option (List ℕ))
+  values = given_by (slice_get (changed_at place away slots) parent) body.values
+
+  at : (o : Option Slot) → slice_get slots place ≡ o → Some body ≡ body_in o → changed_at place (λ slot. with_body slot (Some (record body { values = values }))) (changed_at place away slots) ≡ changed_at place (inherited_from (slice_get slots parent)) slots
+  at None there none = cc
+  at (Some slot) there whole =
+      changed-twice slots place away (λ slot. with_body slot (Some (record body { values = values })))
+      ∙ changed_at-agree slots place slot (λ s. with_body s (Some (record body { values = values }))) (inherited_from (slice_get slots parent)) there
+      (ap (λ (vs : List (Option (List ℕ))). with_body slot (Some (record body { values = vs }))) (given-there slots place parent slot body there (sym whole)) ∙ given-from slot body (slice_get slots parent) (sym whole))
+
+-- nothing is inherited where no entry is
+alone : (slot : Slot) (o : Option Slot) → slot.body ≡ None → inherited_from o slot ≡ slot
+alone slot None is = refl
+alone slot (Some parent) is = ap (λ (body : Option Body). with_body slot (with_field_values body (inherited_values parent.key (body_values slot.body) (body_values parent.body)))) is ∙ ap (with_body slot) (sym is)
+
+pub given-none : (slots : List Slot) (place parent : ℕ) → None ≡ body_in (slice_get slots place) → changed_at place away slots ≡ changed_at place (inherited_from (slice_get slots parent)) slots
+given-none slots place parent is = at (slice_get slots place) refl is where
+  at : (o : Option Slot) → slice_get slots place ≡ o → None ≡ body_in o → changed_at place away slots ≡ changed_at place (inherited_from (slice_get slots parent)) slots
+  at None there none = sym (changed_at-none slots place away there) ∙ changed_at-none slots place (inherited_from (slice_get slots parent)) there
+  at (Some slot) there none = changed_at-agree slots place slot away (inherited_from (slice_get slots parent)) there (ap (with_body slot) none ∙ sym (alone slot (slice_get slots parent) (sym none)))
+
+some-short : (o : Option Slot) (slot : Slot) (most : ℕ) → IfSome o (λ (slot : Slot). length slot.key ≤ most) → o ≡ Some slot → length slot.key ≤ most
+some-short None slot most short is = cc
+some-short (Some s) slot most short is = let same : s ≡ slot = cc in subst (λ (x : Slot). length x.key ≤ most) same short
+
+pub away-short : (slots : List Slot) (place parent : ℕ) (slot : Slot) (most : ℕ) → IfSome (slice_get slots parent) (λ (slot : Slot). length slot.key ≤ most) →
+    slice_get (changed_at place away slots) parent ≡ Some slot → length slot.key ≤ most
+away-short [] place parent slot most short is = cc
+away-short (s ∷ slots) zero zero slot most short is = some-short (Some (away s)) slot most short is
+away-short (s ∷ slots) zero (suc parent) slot most short is = some-short (slice_get slots parent) slot most short is
+away-short (s ∷ slots) (suc place) zero slot most short is = some-short (Some s) slot most short is
+away-short (s ∷ slots) (suc place) (suc parent) slot most short is = away-short slots place parent slot most short is
+
+pub past-none : (slots : List Slot) (place : ℕ) → length slots ≤ place → slice_get slots place ≡ None
+past-none [] place past = refl
+past-none (s ∷ slots) zero past = absurd (omega arith)
+past-none (s ∷ slots) (suc place) past = past-none slots place (omega arith)
 
 -- ---- the length of a parent's key
 

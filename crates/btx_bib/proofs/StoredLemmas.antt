@@ -12,11 +12,13 @@ use Rattle.btx_bib.specs.language.Grammar.Items.{Event, Comment, Preamble, Defin
 use Rattle.btx_bib.specs.language.Grammar.ValueTexts.{value_text}
 use Rattle.btx_bib.specs.language.Wanted.{Request}
 use Rattle.btx_bib.specs.language.Strings.{string_value, other_value, defined}
-use Rattle.btx_bib.specs.language.Entries.{Given, list_of_option}
+use Rattle.btx_bib.specs.language.Entries.{Given}
 use Rattle.btx_bib.specs.language.Stored.{entry_with_key, is_any_key, is_wanted, keys_in, parents_in, references_by}
-use Rattle.btx_bib.specs.language.Known.{Known, goes_on, stored_in, with_current_stored, if_fits, after_field, after_key, after_event, known_after, keeping, keeps_field, with_field}
+use Rattle.btx_bib.specs.language.Known.{Known, goes_on, stored_in, with_current_stored, if_fits, after_field, after_event, known_after, keeping, with_field}
 use Rattle.btx_bib.specs.laws.Storing.{is_asked_for, is_entry, WantedNewAreStored, OthersStoreNone}
 use Rattle.btx_bib.proofs.ListedKeyLemmas.{is_any_key-append}
+use Rattle.std.specs.Prelude.{option_to_list}
+use Rattle.btx_bib.specs.refinement.Known.{keeps_field, after_key}
 
 -- ---- an entry
 
@@ -98,7 +100,7 @@ field-keys wanted known (Some given) field is = by_test (keeps_field wanted give
   taken : keys_of (record known { current = Some (with_field given field.name text) }) ≡ keys_of known
   taken =
       keys-behind known.stored (with_field given field.name text) given refl
-      ∙ ap (λ (current : Option Given). keys_in (known.stored ++ list_of_option current)) is
+      ∙ ap (λ (current : Option Given). keys_in (known.stored ++ option_to_list current)) is
 
   by_test : (b : Bool) → keys_of (if b then if_fits text known (record known { current = Some (with_field given field.name text) }) else known) ≡ keys_of known
   by_test true = fits-keys text known (record known { current = Some (with_field given field.name text) }) taken

@@ -1,6 +1,6 @@
 -- What is kept of the list after the stored entries is what these entries come to.
 use Rattle.std.proofs.Common.{◌≡◌, ℕ, zero, suc, arith, ◌+◌, Bool, true, false, ◌||◌, cond, if◌then◌else◌, List, [], ◌∷◌, ◌++◌, map, fold, Option, None, Some, is_some, refl, sym, ap, subst, ◌∙◌, append_assoc, append-nil, take, drop}
-use Rattle.std.specs.Prelude.{count_by, slice_get}
+use Rattle.std.specs.Prelude.{count_by, slice_get, option_to_list}
 use Rattle.std.specs.Str.{bytes_eq}
 use Rattle.std.specs.Option.{option_map}
 use Rattle.std.specs.List.{find, list_any, flat_map, IsDistinct}
@@ -14,7 +14,7 @@ use Rattle.btx_bib.specs.declared.draft_slots.DraftSlot.{DraftSlot}
 use Rattle.btx_bib.specs.declared.slots.Slot.{Slot}
 use Rattle.btx_bib.specs.language.Wanted.{Request}
 use Rattle.btx_bib.specs.refinement.Finding.{first_place, changed_at}
-use Rattle.btx_bib.specs.language.Entries.{Given, body_of, list_of_option, parent_of}
+use Rattle.btx_bib.specs.language.Entries.{Given, body_of, parent_of}
 use Rattle.btx_bib.specs.language.Stored.{is_any_key, entry_with_key, references, references_by, is_wanted}
 use Rattle.btx_bib.specs.language.Listing.{added, first_cited, list_keys, last_cited, slot_of, slots_of}
 use Rattle.btx_bib.specs.refinement.Drafts.{cited_all, cited_at, empty, place_in, open_slot, with_entry, once_more, has_body, settled_all, late_slot, new_standing, put_at, referred_at, referred_by, standing_at, stored_at}
@@ -136,19 +136,19 @@ module _ (wanted : Request) where
 
   -- what a stored entry adds to the list and to the references
   abbrev more_by : Option ℕ → Given → List (List ℕ)
-  more_by None entry = list_of_option (parent_of wanted entry)
+  more_by None entry = option_to_list (parent_of wanted entry)
   more_by (Some place) entry = entry.key ∷ []
 
   abbrev counted_by : Option ℕ → Given → List (List ℕ)
-  counted_by None entry = list_of_option (parent_of wanted entry)
+  counted_by None entry = option_to_list (parent_of wanted entry)
   counted_by (Some place) entry = []
 
   added-push : (all : Option ℕ) (stored : List Given) (entry : Given) → added all wanted (stored ++ entry ∷ []) ≡ added all wanted stored ++ more_by all entry
-  added-push None stored entry = flat_map-push (λ (e : Given). list_of_option (parent_of wanted e)) stored entry
+  added-push None stored entry = flat_map-push (λ (e : Given). option_to_list (parent_of wanted e)) stored entry
   added-push (Some place) stored entry = map-push (λ (e : Given). e.key) stored entry
 
   references-push : (all : Option ℕ) (stored : List Given) (entry : Given) → references_by all wanted (stored ++ entry ∷ []) ≡ references_by all wanted stored ++ counted_by all entry
-  references-push None stored entry = flat_map-push (λ (e : Given). list_of_option (parent_of wanted e)) stored entry
+  references-push None stored entry = flat_map-push (λ (e : Given). option_to_list (parent_of wanted e)) stored entry
   references-push (Some place) stored entry = refl
 
   asked-push : (stored : List Given) (entry : Given) → asked (stored ++ entry ∷ []) ≡ asked stored ++ more_by wanted.all entry
@@ -293,15 +293,15 @@ module _ (wanted : Request) where
         → referred_by None wanted (shape (keys stored) (references wanted stored)) parent ≡ draft longer
     referred-parent plain covered there None is =
         let ks : keys longer ≡ keys stored =
-        keys-push stored entry ∙ ap (λ (o : Option ℕ). fold with_key (keys stored) (more_by o entry)) plain ∙ ap (λ (p : Option (List ℕ)). fold with_key (keys stored) (list_of_option p)) is in
+        keys-push stored entry ∙ ap (λ (o : Option ℕ). fold with_key (keys stored) (more_by o entry)) plain ∙ ap (λ (p : Option (List ℕ)). fold with_key (keys stored) (option_to_list p)) is in
         let parents : references wanted longer ≡ references wanted stored =
-        references-push wanted.all stored entry ∙ ap (λ (o : Option ℕ). references wanted stored ++ counted_by o entry) plain ∙ ap (λ (p : Option (List ℕ)). references wanted stored ++ list_of_option p) is ∙ append-nil (references wanted stored) in
+        references-push wanted.all stored entry ∙ ap (λ (o : Option ℕ). references wanted stored ++ counted_by o entry) plain ∙ ap (λ (p : Option (List ℕ)). references wanted stored ++ option_to_list p) is ∙ append-nil (references wanted stored) in
         ap (λ (xs : List (List ℕ)). shape xs (references wanted stored)) (sym ks) ∙ ap (λ (xs : List (List ℕ)). shape (keys longer) xs) (sym parents)
     referred-parent plain covered there (Some parent) is =
         let ks : keys longer ≡ with_key (keys stored) parent =
-        keys-push stored entry ∙ ap (λ (o : Option ℕ). fold with_key (keys stored) (more_by o entry)) plain ∙ ap (λ (p : Option (List ℕ)). fold with_key (keys stored) (list_of_option p)) is in
+        keys-push stored entry ∙ ap (λ (o : Option ℕ). fold with_key (keys stored) (more_by o entry)) plain ∙ ap (λ (p : Option (List ℕ)). fold with_key (keys stored) (option_to_list p)) is in
         let parents : references wanted longer ≡ more plain parent =
-        references-push wanted.all stored entry ∙ ap (λ (o : Option ℕ). references wanted stored ++ counted_by o entry) plain ∙ ap (λ (p : Option (List ℕ)). references wanted stored ++ list_of_option p) is in
+        references-push wanted.all stored entry ∙ ap (λ (o : Option ℕ). references wanted stored ++ counted_by o entry) plain ∙ ap (λ (p : Option (List ℕ)). references wanted stored ++ option_to_list p) is in
         referred-at plain parent covered there
         ∙ ap (λ (xs : List (List ℕ)). shape xs (more plain parent)) (sym ks) ∙ ap (λ (xs : List (List ℕ)). shape (keys longer) xs) (sym parents)
 

@@ -43,11 +43,7 @@ places-set [] field short place is = refl
 places-set (first ∷ shorts) zero short place is = ap (λ (new : Place). new ∷ map place_in shorts) is
 places-set (first ∷ shorts) (suc field) short place is = ap (λ (rest : List Place). place_in first ∷ rest) (places-set shorts field short place is)
 
-pub places-push : (shorts : List ShortPlace) (short : ShortPlace) (place : Place) → place_in short ≡ place → map place_in (shorts ++ short ∷ []) ≡ map place_in shorts ++ place ∷ []
-places-push [] short place is = ap (λ (new : Place). new ∷ []) is
-places-push (first ∷ shorts) short place is = ap (λ (rest : List Place). place_in first ∷ rest) (places-push shorts short place is)
-
-pub ruleset place_steps = (places-set, places-push, length-map)
+pub ruleset place_steps = (places-set, length-map)
 
 -- ---- one value more
 
@@ -90,13 +86,6 @@ module _ (lent made lent' made' : List (List ℕ)) (new : List ℕ) (place : Pla
   texts-kept (first ∷ places) h =
       ap (λ (value : Option (List ℕ)). value ∷ map (text_at lent' made') places) (added.others first h.0).0
       ∙ ap (λ (rest : List (Option (List ℕ))). text_at lent made first ∷ rest) (texts-kept places h.1)
-
-  -- one field more
-  pub texts-push : (places : List Place) → All (IsWithin (length lent) (length made)) places → map (text_at lent' made') (places ++ place ∷ []) ≡ map (text_at lent made) places ++ Some new ∷ []
-  texts-push places within =
-      map-append (text_at lent' made') places (place ∷ [])
-      ∙ ap (λ (values : List (Option (List ℕ))). values ++ text_at lent' made' place ∷ []) (texts-kept places (recursion_from_All _ places within))
-      ∙ ap (λ (value : Option (List ℕ)). map (text_at lent made) places ++ value ∷ []) added.there
 
   -- a field with another value
   pub texts-put : (places : List Place) (field : ℕ) → All (IsWithin (length lent) (length made)) places → map (text_at lent' made') (slice_set places field place) ≡ changed_at field (λ (old : Option (List ℕ)). Some new) (map (text_at lent made) places)

@@ -1,45 +1,94 @@
 -- Values by place, with those of a parent.
-use Rattle.std.proofs.Common.{◌≡◌, ℕ, zero, suc, arith, ◌+◌, ◌<◌, List, [], ◌∷◌, ◌++◌, take, length, Option, None, Some, refl, sym, ap, ◌∙◌, add-one}
+use Rattle.std.proofs.Common.{◌≡◌, ℕ, zero, suc, arith, ◌+◌, ◌<◌, ◌≤◌, List, [], ◌∷◌, ◌++◌, take, drop, length, append-nil, Option, None, Some, is_some, true, refl, sym, ap, ◌∙◌, add-one}
+use Rattle.std.proofs.lemmas.List.{take_all, drop_all}
 use Rattle.std.specs.Option.{option_or}
+use Rattle.btx_bib.specs.refinement.Finding.{changed_at}
 use Rattle.btx_bib.specs.language.Values.{field_value}
 use Rattle.btx_bib.specs.language.Passes.{or_values, inherited_values}
+use Rattle.btx_bib.proofs.FillingLemmas.{with_value-kept}
 
 or_none : (o : Option (List ℕ)) → o ≡ option_or o None
 or_none None = refl
 or_none (Some x) = refl
 
-value_at-or : (own parents : List (Option (List ℕ))) (place : ℕ) → place < length own → option_or (field_value place own) (field_value place parents) ≡ field_value place (or_values own parents)
-value_at-or [] parents place h = absurd (omega arith)
-value_at-or (v ∷ own) [] place h = sym (or_none (field_value place (v ∷ own)))
-value_at-or (v ∷ own) (p ∷ parents) zero h = refl
-value_at-or (v ∷ own) (p ∷ parents) (suc place) h = value_at-or own parents place (omega arith)
+or_same : (o : Option (List ℕ)) → option_or o o ≡ o
+or_same None = refl
+or_same (Some x) = refl
 
-pub value_at-first : (key : List ℕ) (own parents : List (Option (List ℕ))) (place : ℕ) → place < length own → place ≡ 0 → Some key ≡ field_value place (inherited_values key own parents)
-value_at-first key [] parents place h z = absurd (omega arith)
-value_at-first key (v ∷ own) [] zero h z = refl
-value_at-first key (v ∷ own) (p ∷ parents) zero h z = refl
-value_at-first key (v ∷ own) parents (suc place) h z = absurd (omega arith)
+or-same : (own : List (Option (List ℕ))) → or_values own own ≡ own
+or-same [] = refl
+or-same (v ∷ own) = ap (λ (first : Option (List ℕ)). first ∷ or_values own own) (or_same v) ∙ ap (λ (rest : List (Option (List ℕ))). v ∷ rest) (or-same own)
 
-pub value_at-later : (key : List ℕ) (own parents : List (Option (List ℕ))) (place : ℕ) → place < length own → 0 < place → option_or (field_value place own) (field_value place parents) ≡ field_value place (inherited_values key own parents)
-value_at-later key [] parents place h z = absurd (omega arith)
-value_at-later key (v ∷ own) parents zero h z = absurd (omega arith)
-value_at-later key (v ∷ own) [] (suc place) h z = sym (or_none (field_value place own))
-value_at-later key (v ∷ own) (p ∷ parents) (suc place) h z = value_at-or own parents place (omega arith)
+-- what is inherited from one's own values, where those are away, and where they are there
+pub inherited-same : (key : List ℕ) (own : List (Option (List ℕ))) → inherited_values key own [] ≡ inherited_values key own own
+inherited-same key [] = refl
+inherited-same key (v ∷ own) = ap (λ (rest : List (Option (List ℕ))). Some key ∷ rest) (sym (or-same own))
 
 length-or : (own parents : List (Option (List ℕ))) → length (or_values own parents) ≡ length own
 length-or [] parents = refl
 length-or (v ∷ own) [] = refl
 length-or (v ∷ own) (p ∷ parents) = ap suc (length-or own parents)
 
-pub length-inherited : (key : List ℕ) (own parents : List (Option (List ℕ))) → length (inherited_values key own parents) ≡ length own
+length-inherited : (key : List ℕ) (own parents : List (Option (List ℕ))) → length (inherited_values key own parents) ≡ length own
 length-inherited key [] parents = refl
 length-inherited key (v ∷ own) [] = refl
 length-inherited key (v ∷ own) (p ∷ parents) = ap suc (length-or own parents)
 
-take-value : (values : List (Option (List ℕ))) (place : ℕ) → place < length values → take place values ++ field_value place values ∷ [] ≡ take (suc place) values
-take-value [] place h = absurd (omega arith)
-take-value (v ∷ values) zero h = refl
-take-value (v ∷ values) (suc place) h = ap (λ (rest : List (Option (List ℕ))). v ∷ rest) (take-value values place (omega arith))
+-- ---- one value of the parent's
 
-pub take-next : (values : List (Option (List ℕ))) (place : ℕ) (value : Option (List ℕ)) → place < length values → value ≡ field_value place values → take place values ++ value ∷ [] ≡ take (place + 1) values
-take-next values place value h is = ap (λ (v : Option (List ℕ)). take place values ++ v ∷ []) is ∙ take-value values place h ∙ ap (λ (n : ℕ). take n values) (sym (add-one place))
+pub filled-none : (own : List (Option (List ℕ))) (place : ℕ) → own ≡ changed_at place (λ value. option_or value None) own
+filled-none [] place = refl
+filled-none (v ∷ own) zero = ap (λ (first : Option (List ℕ)). first ∷ own) (or_none v)
+filled-none (v ∷ own) (suc place) = ap (λ (rest : List (Option (List ℕ))). v ∷ rest) (filled-none own place)
+
+pub filled-kept : (own : List (Option (List ℕ))) (place : ℕ) (o : Option (List ℕ)) → is_some (field_value place own) ≡ true → own ≡ changed_at place (λ value. option_or value o) own
+filled-kept own place None kept = filled-none own place
+filled-kept own place (Some new) kept = with_value-kept own place new kept
+
+-- ---- values of which those before a place are inherited
+
+abbrev pub inherited_to : ℕ → List ℕ → List (Option (List ℕ)) → List (Option (List ℕ)) → List (Option (List ℕ))
+inherited_to place key own parents = take place (inherited_values key own parents) ++ drop place own
+
+pub inherited-first : (key : List ℕ) (own parents : List (Option (List ℕ))) →
+    changed_at 0 (λ value. Some key) own ≡ inherited_to 1 key (changed_at 0 (λ value. Some key) own) parents
+inherited-first key [] parents = refl
+inherited-first key (v ∷ own) [] = refl
+inherited-first key (v ∷ own) (p ∷ parents) = refl
+
+-- the first value is the parent's key, whatever it was
+pub inherited-over : (key : List ℕ) (own parents : List (Option (List ℕ))) → inherited_values key (changed_at 0 (λ value. Some key) own) parents ≡ inherited_values key own parents
+inherited-over key [] parents = refl
+inherited-over key (v ∷ own) [] = refl
+inherited-over key (v ∷ own) (p ∷ parents) = refl
+
+none-next : (place : ℕ) (own : List (Option (List ℕ))) → changed_at place (λ value. option_or value None) (take place own ++ drop place own) ≡ take (suc place) own ++ drop (suc place) own
+none-next zero [] = refl
+none-next (suc place) [] = refl
+none-next zero (v ∷ own) = ap (λ (first : Option (List ℕ)). first ∷ own) (sym (or_none v))
+none-next (suc place) (v ∷ own) = ap (λ (rest : List (Option (List ℕ))). v ∷ rest) (none-next place own)
+
+or-next : (place : ℕ) (own parents : List (Option (List ℕ))) →
+    changed_at place (λ value. option_or value (field_value place parents)) (take place (or_values own parents) ++ drop place own) ≡ take (suc place) (or_values own parents) ++ drop (suc place) own
+or-next zero [] parents = refl
+or-next (suc place) [] parents = refl
+or-next place (v ∷ own) [] = none-next place (v ∷ own)
+or-next zero (v ∷ own) (p ∷ parents) = refl
+or-next (suc place) (v ∷ own) (p ∷ parents) = ap (λ (rest : List (Option (List ℕ))). option_or v p ∷ rest) (or-next place own parents)
+
+inherited-behind : (place : ℕ) (key : List ℕ) (own parents : List (Option (List ℕ))) →
+    changed_at (suc place) (λ value. option_or value (field_value (suc place) parents)) (inherited_to (suc place) key own parents) ≡ inherited_to (suc (suc place)) key own parents
+inherited-behind place key [] parents = refl
+inherited-behind place key (v ∷ own) [] = ap (λ (rest : List (Option (List ℕ))). Some key ∷ rest) (none-next place own)
+inherited-behind place key (v ∷ own) (p ∷ parents) = ap (λ (rest : List (Option (List ℕ))). Some key ∷ rest) (or-next place own parents)
+
+pub inherited-next : (place : ℕ) (key : List ℕ) (own parents : List (Option (List ℕ))) → 0 < place →
+    changed_at place (λ value. option_or value (field_value place parents)) (inherited_to place key own parents) ≡ inherited_to (place + 1) key own parents
+inherited-next zero key own parents behind = absurd (omega arith)
+inherited-next (suc place) key own parents behind = inherited-behind place key own parents ∙ ap (λ n. inherited_to n key own parents) (sym (add-one (suc place)))
+
+pub inherited-whole : (place : ℕ) (key : List ℕ) (own parents : List (Option (List ℕ))) → length own ≤ place → inherited_to place key own parents ≡ inherited_values key own parents
+inherited-whole place key own parents past =
+    ap (λ rest. take place (inherited_values key own parents) ++ rest) (drop_all place own past)
+    ∙ append-nil (take place (inherited_values key own parents))
+    ∙ take_all place (inherited_values key own parents) (omega (arith, length-inherited key own parents))

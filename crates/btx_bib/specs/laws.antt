@@ -5,3 +5,4 @@ pub mod Parents
 pub mod Cuts
 pub mod Storing
 pub mod WorkedLibraries
+pub mod Databases

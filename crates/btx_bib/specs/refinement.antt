@@ -13,3 +13,6 @@ pub mod Gatherings
 pub mod Readings
 pub mod Steps
 pub mod Wordings
+pub mod Passes
+pub mod Told
+pub mod Known

@@ -1,7 +1,6 @@
 //! Laws of libraries. Each is the contract of a function with nothing to do.
 ghost use Rattle.std.specs.Prelude.{◌≡◌, List, ℕ};
 ghost use Rattle.btx_bib.specs.laws.Cuts.{CutGivesTheSame};
-ghost use Rattle.btx_bib.specs.language.Databases.{database_events};
 ghost use Rattle.btx_bib.specs.language.Grammar.Items.{Placed};
 ghost use Rattle.btx_bib.specs.laws.Grammar.Reading.{IsReading};
 ghost use Rattle.btx_bib.specs.language.Known.{Known, keeping};
@@ -13,6 +12,7 @@ ghost use Rattle.btx_bib.specs.laws.Parents.{InheritsFromParent, NoParentLeaves,
 ghost use Rattle.btx_bib.specs.laws.Grammar.WorkedTexts as texts;
 ghost use Rattle.btx_bib.specs.laws.WorkedLibraries as worked;
 ghost use Rattle.btx_bib.specs.laws.Storing.{LastDefinitionCounts, LastMacroCounts, OthersKeepTheirs, OthersStoreNone, WantedNewAreStored};
+ghost use Rattle.btx_bib.specs.laws.Databases.{database_events};
 
 /// No two entries of a list have one key, whose case is ignored.
 pub fn keys_differ()

@@ -1,10 +1,12 @@
 //! Keys and names in lower case.
-ghost use Rattle.std.specs.Prelude.{◌≡◌, false, IfOk};
+ghost use Rattle.std.specs.Prelude.{◌≡◌, ◌+◌, ◌≤◌, false, length, IfOk};
 ghost use Rattle.btx_text.specs.language.Keys.{folded};
+ghost use Rattle.btx_bib.specs.refinement.Spellings.{AreLower};
 
 use btx_text::fold_key;
 use std::alloc::{AllocError, Global};
 use std::marker::Model;
+use std::simd::prelude::*;
 
 // Where the bytes are.
 #[derive(Drop)]
@@ -53,8 +55,22 @@ impl<'t> Lowered<'t> {
     }
 }
 
-// Whether a text has one of the letters `A-Z`.
-fn has_capital(text: &[u8]) -> bool
+// Bytes are looked at in blocks of this number of them.
+const BLOCK: usize = 8;
+
+// Whether the block at a place has one of the letters `A-Z`. Other bytes come out above the 26 letters, those below `A` by wrapping round.
+#[inline(always)]
+fn has_capital_in_block(text: &[u8], place: usize) -> bool
+    requires { place + 8 ≤ length text.now }
+    ensures { result ≡ false → AreLower text.now place (place + 8) }
+{
+    let block = u8x8::from_slice(&text[place..]);
+    let is_capital = (block - u8x8::splat(b'A')).simd_lt(u8x8::splat(26));
+    is_capital.to_bitmask() != 0
+}
+
+// Whether a short text has one of the letters `A-Z`.
+fn has_capital_in_few(text: &[u8]) -> bool
     ensures { result ≡ false → folded text.now ≡ text.now }
 {
     for byte in text {
@@ -63,6 +79,24 @@ fn has_capital(text: &[u8]) -> bool
         }
     }
     false
+}
+
+// Whether a text has one of the letters `A-Z`. The last block ends where the text does, so it may share bytes with the one before it.
+fn has_capital(text: &[u8]) -> bool
+    ensures { result ≡ false → folded text.now ≡ text.now }
+{
+    if text.len() < BLOCK {
+        return has_capital_in_few(text);
+    }
+    let last = text.len() - BLOCK;
+    let mut place = 0;
+    while place < last {
+        if has_capital_in_block(text, place) {
+            return true;
+        }
+        place += BLOCK;
+    }
+    has_capital_in_block(text, last)
 }
 
 /// A key or a name in lower case.

@@ -6,6 +6,7 @@ ghost use Rattle.btx_bib.specs.language.Passes.{absence_messages, after_first, a
 ghost use Rattle.btx_bib.specs.refinement.Steps.{lower_keys, told_by};
 
 use crate::entry::Entry;
+use crate::lowering::in_lower_case;
 use crate::message::{Message, Messages};
 use crate::names::Names;
 use crate::slots::{Body, Slot, Slots};
@@ -29,11 +30,11 @@ fn inherit_at(
     let Some(key) = slot.parent(alloc)? else {
         return Ok(());
     };
-    let Some(parent) = slots.find(alloc, names, key.as_bytes())? else {
+    let lowered = in_lower_case(alloc, key.as_bytes())?;
+    let Some(parent) = names.position(lowered.as_bytes()) else {
         return Ok(());
     };
-    let values = slot.values_from(alloc, parent)?;
-    slots.set_values(place, values)
+    slots.inherit(alloc, place, parent)
 }
 
 // The first pass: each entry takes what it lacks from its parent.

@@ -96,7 +96,7 @@ impl Model for Places {
 }
 
 impl Places {
-    ghost use Rattle.std.specs.Prelude.{◌≡◌, ◌<◌, ◌∷◌, ◌++◌, [], IfOk, OnErr, OnOk, length, replicate, slice_get, slice_set};
+    ghost use Rattle.std.specs.Prelude.{◌≡◌, ◌<◌, [], IfOk, OnErr, OnOk, length, replicate, slice_get, slice_set};
 
     /// So many fields are missing.
     pub fn missing(alloc: Global, count: usize) -> Result<Places, AllocError>
@@ -114,15 +114,6 @@ impl Places {
         Places {
             kept: Kept::Short(Vec::new(alloc)),
         }
-    }
-
-    /// No field, with room for `count` of them.
-    pub fn with_room(alloc: Global, count: usize) -> Result<Places, AllocError>
-        ensures { IfOk result (λ places. places ≡ []) }
-    {
-        Ok(Places {
-            kept: Kept::Short(Vec::with_capacity(alloc, count)?),
-        })
     }
 
     /// How many fields there are.
@@ -185,37 +176,6 @@ impl Places {
             Kept::Long(list) => list[field] = Place::Missing,
             Kept::Short(list) => list[field] = ShortPlace::missing(),
         }
-    }
-
-    /// There is no field any more.
-    pub fn clear_all(&mut self)
-        ensures { self.new ≡ [] }
-    {
-        match &mut self.kept {
-            Kept::Long(list) => list.clear(),
-            Kept::Short(list) => list.clear(),
-        }
-    }
-
-    /// Adds the place of one more field.
-    #[inline(always)]
-    #[tactic(auto, using(crate::proofs::TextLemmas::place_steps))]
-    pub fn push(&mut self, alloc: Global, place: Place) -> Result<(), AllocError>
-        ensures ok { OnOk result (self.new ≡ self.old ++ place ∷ []) }
-        ensures err { OnErr result (self.new ≡ self.old) }
-    {
-        match &mut self.kept {
-            Kept::Long(list) => list.push(place)?,
-            Kept::Short(list) => match ShortPlace::of(place) {
-                Some(short) => list.push(short)?,
-                None => {
-                    let mut long = lengthened(alloc, list.as_slice())?;
-                    long.push(place)?;
-                    self.kept = Kept::Long(long);
-                }
-            },
-        }
-        Ok(())
     }
 }
 

@@ -41,11 +41,14 @@ impl<'a> Model for Slots<'a> {
 }
 
 impl<'a> Slots<'a> {
-    ghost use Rattle.std.specs.Prelude.{◌≡◌, [], ◌∷◌, ◌++◌, IfOk, OnOk, length, option_copied, slice_get};
+    ghost use Rattle.std.specs.Prelude.{◌≡◌, ◌≤◌, [], ◌∷◌, ◌++◌, None, Some, IfOk, IfSome, OnOk, length, option_copied, slice_get};
     ghost use Rattle.std.specs.Str.{bytes_eq};
     ghost use Rattle.btx_text.specs.language.Keys.{folded};
+    ghost use Rattle.btx_text.specs.language.Limits.{greatest_string};
     ghost use Rattle.btx_bib.specs.refinement.Finding.{changed_at, first_place};
-    ghost use Rattle.btx_bib.specs.language.Passes.{without_crossref, with_body, with_field_values};
+    ghost use Rattle.btx_bib.specs.refinement.Passes.{with_body};
+    ghost use Rattle.btx_bib.specs.language.Passes.{inherited_from, without_crossref};
+    ghost use Rattle.std.specs.Option.{option_map_or};
     ghost use Rattle.btx_bib.specs.refinement.Steps.{slot_by};
 
     /// No place.
@@ -102,14 +105,41 @@ impl<'a> Slots<'a> {
         Ok(self.by_name(names, lowered.as_bytes()))
     }
 
-    /// Gives the entry at a place other values.
-    pub fn set_values(&mut self, place: usize, values: Values<'a>) -> Result<(), AllocError>
-        ensures { OnOk result (self.new ≡ changed_at place (λ slot. with_body slot (with_field_values slot.body values.entry)) self.old) }
+    // Takes the entry at a place away.
+    fn take_body(&mut self, place: usize) -> Option<Body<'a>>
+        ensures body { result ≡ option_map_or (λ slot. slot.body) (slice_get self.old place) None }
+        ensures slots { self.new ≡ changed_at place (λ slot. with_body slot None) self.old }
     {
         if place < self.list.len() {
             let slot = &mut self.list[place];
-            slot.set_values(values)?;
+            return slot.body.take();
         }
+        None
+    }
+
+    // Puts an entry at a place.
+    fn put_body(&mut self, place: usize, body: Body<'a>)
+        ensures { self.new ≡ changed_at place (λ slot. with_body slot (Some body.entry)) self.old }
+    {
+        if place < self.list.len() {
+            let slot = &mut self.list[place];
+            slot.put_body(body);
+        }
+    }
+
+    /// The entry at a place takes the values that it lacks from its parent, which stands at another. It is away while it does: so one that is its own
+    /// parent finds none there, and keeps those that it has.
+    pub fn inherit(&mut self, alloc: Global, place: usize, parent: usize) -> Result<(), AllocError>
+        requires { IfSome (slice_get self.old parent) (λ slot. length slot.key ≤ greatest_string) }
+        ensures { OnOk result (self.new ≡ changed_at place (inherited_from (slice_get self.old parent)) self.old) }
+    {
+        let Some(mut body) = self.take_body(place) else {
+            return Ok(());
+        };
+        if let Some(slot) = self.at(parent) {
+            slot.give_values(alloc, &mut body.values)?;
+        }
+        self.put_body(place, body);
         Ok(())
     }
 
@@ -125,9 +155,10 @@ impl<'a> Slots<'a> {
 }
 
 impl<'a> Slot<'a> {
-    ghost use Rattle.std.specs.Prelude.{◌≡◌, ◌≤◌, [], length, IfOk, OnOk, is_some};
+    ghost use Rattle.std.specs.Prelude.{◌≡◌, ◌≤◌, [], length, Some, IfOk, OnOk, is_some};
     ghost use Rattle.btx_text.specs.language.Limits.{greatest_string};
-    ghost use Rattle.btx_bib.specs.language.Passes.{without_crossref, inherited_values, parent_at, body_values, with_body, with_field_values};
+    ghost use Rattle.btx_bib.specs.refinement.Passes.{with_body};
+    ghost use Rattle.btx_bib.specs.language.Passes.{without_crossref, inherited_values, parent_at, body_values};
 
     /// The key of the parent once more.
     pub fn parent(&self, alloc: Global) -> Result<Option<Text<'a>>, AllocError>
@@ -160,25 +191,20 @@ impl<'a> Slot<'a> {
         }
     }
 
-    /// The values, where those that are missing are the parent's.
-    pub fn values_from(&self, alloc: Global, parent: &Slot<'a>) -> Result<Values<'a>, AllocError>
-        requires { length parent.now.key ≤ greatest_string }
-        ensures { IfOk result (λ values. values ≡ inherited_values parent.now.key (body_values self.now.body) (body_values parent.now.body)) }
+    // Gives a child's values what they lack.
+    fn give_values(&self, alloc: Global, child: &mut Values<'a>) -> Result<(), AllocError>
+        requires { length self.now.key ≤ greatest_string }
+        ensures { OnOk result (child.new ≡ inherited_values self.now.key child.old (body_values self.now.body)) }
     {
         let none = Values::new(alloc);
-        let own = self.values_or(&none);
-        let parents = parent.values_or(&none);
-        own.inherited(alloc, &parent.key, parents)
+        child.inherit(alloc, &self.key, self.values_or(&none))
     }
 
-    // Gives the entry other values.
-    fn set_values(&mut self, values: Values<'a>) -> Result<(), AllocError>
-        ensures { OnOk result (self.new ≡ with_body self.old (with_field_values self.old.body values.entry)) }
+    // Has this entry from now on.
+    fn put_body(&mut self, body: Body<'a>)
+        ensures { self.new ≡ with_body self.old (Some body.entry) }
     {
-        match &mut self.body {
-            Some(body) => body.values.replace(values),
-            None => Ok(()),
-        }
+        self.body = Some(body);
     }
 
     // Takes the entry its parent.

@@ -1,5 +1,5 @@
 //! The values of the declared fields.
-use crate::places::{Place, Places};
+use crate::places::Places;
 use crate::spelling::Spelling;
 use crate::texts::Texts;
 use btx_text::Text;
@@ -9,7 +9,7 @@ use std::marker::Model;
 // Room for the values of an entry: most have no more.
 const MOSTLY_GIVEN: usize = 16;
 
-// Room for the values that an entry inherits: most inherit no more.
+// Room for the values that an entry inherits, and for its parent's key: most need no more.
 const MOSTLY_INHERITED: usize = 8;
 
 /// For each declared field its value, or that it is missing.
@@ -33,7 +33,7 @@ impl<'a> Model for Values<'a> {
 }
 
 impl<'a> Values<'a> {
-    ghost use Rattle.std.specs.Prelude.{◌≡◌, ◌<◌, ◌≤◌, [], ◌∷◌, ◌++◌, Some, IfOk, IfSome, OnOk, length, option_copied, is_some};
+    ghost use Rattle.std.specs.Prelude.{◌≡◌, ◌≤◌, [], Some, IfOk, IfSome, OnOk, length, option_copied, is_some};
     ghost use Rattle.btx_text.specs.language.Limits.{greatest_string};
     ghost use Rattle.btx_bib.specs.language.Values.{field_value};
     ghost use Rattle.btx_bib.specs.refinement.Finding.{changed_at};
@@ -112,20 +112,6 @@ impl<'a> Values<'a> {
         Ok(())
     }
 
-    // Adds one field.
-    #[inline(always)]
-    fn push(&mut self, alloc: Global, value: Option<Text<'a>>) -> Result<(), AllocError>
-        ensures { OnOk result (self.new ≡ self.old ++ value.entry ∷ []) }
-    {
-        let Some(text) = value else {
-            self.places.push(alloc, Place::Missing)?;
-            return Ok(());
-        };
-        let place = self.texts.add(text)?;
-        self.places.push(alloc, place)?;
-        Ok(())
-    }
-
     /// Gives back the room that no value takes. With a parent there is room for what most children inherit, so that their values
     /// needn't move then.
     pub fn trim(&mut self) -> Result<(), AllocError>
@@ -157,62 +143,37 @@ impl<'a> Values<'a> {
         self.has(0)
     }
 
-    // A field's value, or the parent's.
+    // Takes the value of a field from the parent, if it is missing.
     #[inline(always)]
-    fn value_or(
-        &self,
-        alloc: Global,
-        field: usize,
-        parent: &Values<'a>,
-    ) -> Result<Option<Text<'a>>, AllocError>
-        ensures { IfOk result (λ value. value ≡ option_or (field_value field self.now) (field_value field parent.now)) }
+    fn fill(&mut self, alloc: Global, field: usize, parent: &Values<'a>) -> Result<(), AllocError>
+        ensures { OnOk result (self.new ≡ changed_at field (λ own. option_or own (field_value field parent.now)) self.old) }
     {
-        match self.copied(alloc, field)? {
-            Some(value) => Ok(Some(value)),
-            None => parent.copied(alloc, field),
+        if self.has(field) {
+            return Ok(());
+        }
+        match parent.copied(alloc, field)? {
+            Some(value) => self.put(alloc, field, value),
+            None => Ok(()),
         }
     }
 
-    // A field's value, or the parent's. The first is the parent's key.
-    #[inline(always)]
-    fn inherited_at(
-        &self,
-        alloc: Global,
-        field: usize,
-        key: &Spelling<'a>,
-        parent: &Values<'a>,
-    ) -> Result<Option<Text<'a>>, AllocError>
-        requires field { field < length self.now }
-        requires key { length key.now ≤ greatest_string }
-        ensures { IfOk result (λ value. value ≡ field_value field (inherited_values key.now self.now parent.now)) }
-    {
-        if field == 0 {
-            return Ok(Some(key.to_text(alloc)?));
-        }
-        self.value_or(alloc, field, parent)
-    }
-
-    /// The values, where those that are missing are the parent's.
-    pub fn inherited(
-        &self,
+    /// Takes the values that are missing from the parent. The first becomes the parent's key; what stood there keeps its room.
+    pub fn inherit(
+        &mut self,
         alloc: Global,
         key: &Spelling<'a>,
         parent: &Values<'a>,
-    ) -> Result<Values<'a>, AllocError>
+    ) -> Result<(), AllocError>
         requires { length key.now ≤ greatest_string }
-        ensures { IfOk result (λ values. values ≡ inherited_values key.now self.now parent.now) }
+        ensures { OnOk result (self.new ≡ inherited_values key.now self.old parent.now) }
     {
-        let mut values = Values {
-            places: Places::with_room(alloc, self.places.len())?,
-            texts: Texts {
-                lent: Vec::with_capacity(alloc, self.places.len())?,
-                made: Vec::new(alloc),
-            },
-        };
-        for field in 0..self.places.len() {
-            values.push(alloc, self.inherited_at(alloc, field, key, parent)?)?;
+        self.put(alloc, 0, key.to_text(alloc)?)?;
+        for field in 1..self.places.len() {
+            self.fill(alloc, field, parent)?;
         }
-        Ok(values)
+        self.texts.lent.shrink_to_fit();
+        self.texts.made.shrink_to_fit();
+        Ok(())
     }
 
     /// Drops the key of the parent.
@@ -222,20 +183,5 @@ impl<'a> Values<'a> {
         if self.places.len() > 0 {
             self.places.clear(0);
         }
-    }
-
-    /// Has these values from now on, the lent ones in the room that it has if that suffices.
-    pub fn replace(&mut self, values: Values<'a>) -> Result<(), AllocError>
-        ensures { OnOk result (self.new ≡ values.entry) }
-    {
-        let Values { places, mut texts } = values;
-        self.places.clear_all();
-        self.texts.lent.clear();
-        self.texts.lent.append(&mut texts.lent)?;
-        self.texts.lent.shrink_to_fit();
-        texts.made.shrink_to_fit();
-        self.texts.made = texts.made;
-        self.places = places;
-        Ok(())
     }
 }

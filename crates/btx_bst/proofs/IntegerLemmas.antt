@@ -4,7 +4,8 @@ use Rattle.std.specs.Prelude.{nat_lt, Some, None, pos, negsuc, min}
 use Rattle.std.specs.List.{fold}
 use Rattle.std.proofs.lemmas.List.{drop_more, drop_all}
 use borrow.Author.Tests.{ltb-true, ltb-false}
-use Rattle.btx_bst.specs.language.Words.{with_digit, digits_value, signed}
+use Rattle.btx_bst.specs.language.Words.{digits_value, signed}
+use Rattle.btx_bst.specs.refinement.Words.{with_digit}
 
 -- the greatest value that is kept
 abbrev pub cap : ℕ

@@ -16,10 +16,13 @@ use Rattle.btx_bst.specs.language.Style.{Style}
 use Rattle.btx_bst.specs.language.BodyText.{body_end}
 use Rattle.btx_bst.specs.language.Lists.{opening, closing, next_name, quoted_at, letters_at, list_at}
 use Rattle.btx_bst.specs.language.Outcomes.{CommandOutcome, outcome, after_read, with_item}
-use Rattle.btx_bst.specs.language.Commands.{after_list, after_listed, entry_command, entry_lists, function_command, function_of, function_ended, inside_at, has_read, read_command, run_command, run_of, run_name, sort_command, declare, macro_command, macro_of, macro_name, function_in, command_at, command_named}
-use Rattle.btx_bst.specs.language.StyleText.{StyleState, style_state, unread_style, resumed, word_outcome, command_outcome, item_in, item_turn, style_so_far, style_from, style_of}
+use Rattle.btx_bst.specs.language.Commands.{after_list, after_listed, entry_command, function_command, function_of, function_ended, inside_at, has_read, read_command, run_command, run_of, sort_command, declare, macro_command, macro_of, function_in, command_at, command_named}
+use Rattle.btx_bst.specs.language.StyleText.{StyleState, style_state, resumed, word_outcome, command_outcome, item_in, item_turn, style_from, style_of}
 use Rattle.btx_bst.specs.language.Predefined.{predefined}
 use Rattle.btx_bst.proofs.TurnLemmas.{OnTurn, turns-keep}
+use Rattle.btx_bst.specs.refinement.Commands.{entry_lists, run_name, macro_name}
+use Rattle.btx_bst.specs.refinement.StyleText.{style_so_far}
+use Rattle.btx_bst.specs.laws.StyleText.{unread_style}
 
 -- kept by a further item
 abbrev pub OnItem : (Style → Type 0) → Item → Type 0

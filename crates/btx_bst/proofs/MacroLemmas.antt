@@ -15,12 +15,13 @@ use Rattle.btx_bst.specs.language.BodyText.{BodyEnd, Whole, Broken, body_end}
 use Rattle.btx_bst.specs.language.Outcomes.{with_item}
 use Rattle.btx_bst.specs.language.Commands.{function_ended, inside_at, has_read}
 use Rattle.btx_bst.specs.language.Predefined.{predefined}
-use Rattle.btx_bst.specs.language.StyleText.{style_of, unread_style}
+use Rattle.btx_bst.specs.language.StyleText.{style_of}
 use Rattle.btx_bst.specs.laws.Order.{MacroLaw}
 use Rattle.btx_bst.specs.laws.Macros.{MacroTextsLaw, OneMacroLaw}
 use Rattle.btx_bst.proofs.ItemLemmas.{push_cases}
 use Rattle.btx_bst.proofs.BodyItemLemmas.{OnEnd, body_items}
 use Rattle.btx_bst.proofs.KeepLemmas.{Keeps, kept-style}
+use Rattle.btx_bst.specs.laws.StyleText.{unread_style}
 
 -- ---- before READ
 

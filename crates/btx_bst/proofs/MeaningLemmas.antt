@@ -17,7 +17,7 @@ use Rattle.btx_bst.specs.declared.callee.Kind.TheVariants as kind
 use Rattle.btx_bst.specs.language.Places.{Place, size}
 use Rattle.btx_bst.specs.language.Reads.{Read, Took, Slip}
 use Rattle.btx_bst.specs.language.BuiltIns.{built_ins, built_in_of, built_in_name}
-use Rattle.btx_bst.specs.language.Names.{Names, named, named_lower, name_of, with_name, with_function, padded}
+use Rattle.btx_bst.specs.language.Names.{Names, named, named_lower, name_of, with_name, with_function}
 use Rattle.btx_bst.specs.language.Style.{Style}
 use Rattle.btx_bst.specs.language.Turns.{Turn}
 use Rattle.btx_bst.specs.language.Lists.{opening, closing, next_name, Listing, listing, Listed, with_new, name_turn, list_turn_in, list_turn, list_end, list_read, unlisted}
@@ -32,6 +32,7 @@ use Rattle.btx_bst.proofs.FurtherLemmas.{further-function, further-field, furthe
 use Rattle.btx_bst.proofs.ItemLemmas.{push_cases}
 use Rattle.btx_bst.proofs.KeepLemmas.{Keeps, kept-style}
 use Rattle.btx_bst.proofs.ReferenceLemmas.{FineEnd, FineStyle, fine_keeps, fine_start, fine_function_body}
+use Rattle.btx_bst.specs.refinement.Names.{padded}
 
 -- ---- lists of names
 

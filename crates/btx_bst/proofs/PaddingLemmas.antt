@@ -2,8 +2,8 @@
 use Rattle.std.proofs.Common.{◌≡◌, ℕ, ◌+◌, ◌-◌, ◌<◌, ◌≤◌, List, [], ◌∷◌, ◌++◌, length, sym, ap, ◌∙◌, arith, append_assoc, Option, None, append-nil}
 use Rattle.std.specs.Prelude.{replicate}
 use Rattle.std.proofs.lemmas.List.{length-append, replicate_more}
-use Rattle.btx_bst.specs.language.Names.{padded}
 use Rattle.btx_bst.specs.refinement.NameTables.{IsPadded}
+use Rattle.btx_bst.specs.refinement.Names.{padded}
 
 abbrev pub Functions : Type 0
 Functions = List (Option (List ℕ))

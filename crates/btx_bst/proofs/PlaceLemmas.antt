@@ -1,11 +1,12 @@
 -- Lemmas on places.
 use Rattle.std.proofs.Common.{◌≡◌, ℕ, suc, ◌+◌, ◌<◌, ◌≤◌, Bool, true, false, cond, List, [], ◌∷◌, length, map, refl, ◌==◌, arith}
 use Rattle.std.proofs.lemmas.List.{length-map}
-use Rattle.btx_text.specs.language.Lines.{lines_of, line_pieces, in_front, trimmed, white_before}
+use Rattle.btx_text.specs.language.Lines.{lines_of, line_pieces, trimmed, white_before}
 use Rattle.btx_text.specs.language.Class.{is_white}
 use Rattle.btx_bst.specs.language.Places.{beginning, size, lines_size, place_at, behind_white, ink_from, skipped_from, line_or}
+use Rattle.std.specs.List.{onto_first}
 
-in_front-len : (b : ℕ) (pieces : List (List ℕ)) (n : ℕ) → length pieces ≤ n → length (in_front b pieces) ≤ suc n
+in_front-len : (b : ℕ) (pieces : List (List ℕ)) (n : ℕ) → length pieces ≤ n → length (onto_first b pieces) ≤ suc n
 in_front-len b [] n h = omega arith
 in_front-len b (p ∷ ps) n h = omega arith
 
@@ -13,7 +14,7 @@ pieces-len : (text : List ℕ) → length (line_pieces text) ≤ length text
 unfolding line_pieces
 pieces-len [] = omega arith
 pieces-len (b ∷ bs) = at (b == 10) (pieces-len bs) where
-  at : (t : Bool) → length (line_pieces bs) ≤ length bs → length (cond t ([] ∷ line_pieces bs) (in_front b (line_pieces bs))) ≤ suc (length bs)
+  at : (t : Bool) → length (line_pieces bs) ≤ length bs → length (cond t ([] ∷ line_pieces bs) (onto_first b (line_pieces bs))) ≤ suc (length bs)
   at true h = omega arith
   at false h = in_front-len b (line_pieces bs) (length bs) h
 
@@ -81,7 +82,7 @@ unfolding lines_size
 trimmed-size [] = omega arith
 trimmed-size (p ∷ ps) = omega (arith, trimmed-len p, trimmed-size ps)
 
-in_front-size : (b : ℕ) (pieces : List (List ℕ)) (n : ℕ) → lines_size pieces ≤ suc n → lines_size (in_front b pieces) ≤ suc (suc n)
+in_front-size : (b : ℕ) (pieces : List (List ℕ)) (n : ℕ) → lines_size pieces ≤ suc n → lines_size (onto_first b pieces) ≤ suc (suc n)
 unfolding lines_size
 in_front-size b [] n h = omega arith
 in_front-size b (p ∷ ps) n h = omega arith
@@ -90,7 +91,7 @@ pieces-size : (text : List ℕ) → lines_size (line_pieces text) ≤ suc (lengt
 unfolding line_pieces lines_size
 pieces-size [] = omega arith
 pieces-size (b ∷ bs) = at (b == 10) (pieces-size bs) where
-  at : (t : Bool) → lines_size (line_pieces bs) ≤ suc (length bs) → lines_size (cond t ([] ∷ line_pieces bs) (in_front b (line_pieces bs))) ≤ suc (suc (length bs))
+  at : (t : Bool) → lines_size (line_pieces bs) ≤ suc (length bs) → lines_size (cond t ([] ∷ line_pieces bs) (onto_first b (line_pieces bs))) ≤ suc (suc (length bs))
   at true h = omega arith
   at false h = in_front-size b (line_pieces bs) (length bs) h
 

@@ -21,7 +21,7 @@ use Rattle.btx_bst.specs.language.Items.{Item}
 use Rattle.btx_bst.specs.language.Items as item
 use Rattle.btx_bst.specs.language.Bodies.{FunctionBody}
 use Rattle.btx_bst.specs.language.BuiltIns.{built_in_of}
-use Rattle.btx_bst.specs.language.Names.{Names, named, named_lower, has_name, number_in, with_name, with_function, padded}
+use Rattle.btx_bst.specs.language.Names.{Names, named, named_lower, has_name, with_name, with_function}
 use Rattle.btx_bst.specs.language.Style.{Style, as_type}
 use Rattle.btx_bst.specs.language.Turns.{Turn}
 use Rattle.btx_bst.specs.language.Words.{BodyWord, Open, Close, String, Integer, Quoted, Name, Faulty, Unended, Ended, met_at}
@@ -30,10 +30,12 @@ use Rattle.btx_bst.specs.language.BodyText.{Inside, BodyEnd, Whole, Broken, with
 use Rattle.btx_bst.specs.language.Outcomes.{with_item}
 use Rattle.btx_bst.specs.language.Commands.{function_ended, function_in, inside_at}
 use Rattle.btx_bst.specs.language.Predefined.{predefined}
-use Rattle.btx_bst.specs.language.StyleText.{style_of, unread_style}
+use Rattle.btx_bst.specs.language.StyleText.{style_of}
 use Rattle.btx_bst.specs.laws.References.{IsKnown, IsFunction, Refers, IsKnownItem, RefersWithin, ReferencesLaw, ItemsLaw}
 use Rattle.btx_bst.proofs.TurnLemmas.{OnTurn, turns-keep}
 use Rattle.btx_bst.proofs.KeepLemmas.{Keeps, kept-style}
+use Rattle.btx_bst.specs.refinement.Names.{number_in, padded}
+use Rattle.btx_bst.specs.laws.StyleText.{unread_style}
 
 -- ---- more of each kind
 

@@ -8,7 +8,6 @@ use Rattle.btx_bst.specs.declared.complaint.Complaint.{Complaint}
 use Rattle.btx_text.specs.language.Limits.{greatest_file}
 use Rattle.btx_bst.specs.language.Places.{Place, size, beginning}
 use Rattle.btx_bst.specs.language.Style.{Style}
-use Rattle.btx_bst.specs.language.StyleText.{unread_style}
 use Rattle.btx_bst.specs.language.Predefined.{predefined}
 use Rattle.btx_bst.proofs.PlaceLemmas.{beginning-size}
 use Rattle.btx_bst.specs.language.Names.{Names}
@@ -21,6 +20,7 @@ use Rattle.btx_bst.specs.refinement.Views.{read_unit, read_text, listed_view, bo
 use Rattle.btx_bst.proofs.ListLemmas.{Sized, opening-size, closing-size, name_at-size, list_at-weight, Weighs}
 use Rattle.btx_bst.proofs.BodyTurnLemmas.{weight_of, inside_of, body_end-weight}
 use Rattle.btx_bst.proofs.StyleLemmas.{Adds, body_end-grows}
+use Rattle.btx_bst.specs.laws.StyleText.{unread_style}
 
 unit-size : (r : Result (Unit {0}) Complaint) (q : Place) (n : ℕ) → Sized n (read_unit r q) → size q ≤ n
 unit-size (Ok x) q n h = omega arith

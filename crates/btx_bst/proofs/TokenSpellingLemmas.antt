@@ -4,13 +4,15 @@ use Rattle.std.specs.Prelude.{not, ◌||◌, ◌&&◌}
 use Rattle.std.proofs.Math.Seq.{take-append_seam, drop-append_seam}
 use Rattle.std.proofs.lemmas.Bool.{eqb-true, eq-eqb}
 use Rattle.std.proofs.lemmas.List.{take-append-drop}
-use Rattle.btx_text.specs.language.Class.{is_white, is_digit, is_name_byte, begins_name}
+use Rattle.btx_text.specs.language.Class.{is_white, is_name_byte, begins_name}
 use Rattle.btx_bst.specs.language.Places.{Place, place_at, further, behind_white, line_or, ink_from, ink}
 use Rattle.btx_bst.specs.language.Complaints.{Complaint, NoCommand, NoName, NoQuote}
 use Rattle.btx_bst.specs.language.Reads.{Read, Took, Slip}
-use Rattle.btx_bst.specs.language.Fronts.{len_till, ends_name, is_no_letter, is_quote, quote_len, letters_len}
+use Rattle.btx_bst.specs.language.Fronts.{len_till, quote_len, letters_len}
 use Rattle.btx_bst.specs.language.Lists.{brace_in, front_of, name_in, quoted_text, quoted_in, letters_at}
 use Rattle.btx_bst.specs.laws.TokenSpelling.{NoneIn, Begins, EndsBefore, IsUpTo, IsBlank, ends_gap, AllWhite, InkIn, GapFrom, Gap, BehindGap, IsMissing, StyleSignHere, StyleNameHere, IsNoText, TextHere, LettersHere}
+use Rattle.std.specs.Char.{is_ascii_digit}
+use Rattle.btx_bst.specs.laws.Fronts.{is_no_letter, ends_name, is_quote}
 
 -- ---- runs of bytes
 
@@ -149,8 +151,8 @@ sign_agrees b c = record { met = λ p. sign_met b c p p.line refl; one = sign_on
 name_met : (p : Place) (line : List ℕ) → p.line ≡ line → StyleNameHere p (name_in p line)
 unfolding len_till
 name_met p [] e = (refl, rw e refl)
-name_met p (b ∷ bs) e = at (is_digit b) (is_name_byte b) refl refl where
-  at : (d n : Bool) → is_digit b ≡ d → is_name_byte b ≡ n → StyleNameHere p (front_of NoName p (b ∷ bs) (cond d 0 (cond (not n) 0 (suc (len_till ends_name bs)))))
+name_met p (b ∷ bs) e = at (is_ascii_digit b) (is_name_byte b) refl refl where
+  at : (d n : Bool) → is_ascii_digit b ≡ d → is_name_byte b ≡ n → StyleNameHere p (front_of NoName p (b ∷ bs) (cond d 0 (cond (not n) 0 (suc (len_till ends_name bs)))))
   at true true f g = (refl, rw e (rw (f, g) refl, refl))
   at true false f g = (refl, rw e (rw (f, g) refl, refl))
   at false false f g = (refl, rw e (rw (f, g) refl, refl))
@@ -170,7 +172,7 @@ name_no_digit false n h = refl
 name_front : (p : Place) (b : ℕ) (w rest : List ℕ) → NoneIn ends_name (b ∷ w) → EndsBefore ends_name rest → begins_name b ≡ true → name_in p (b ∷ (w ++ rest)) ≡ Took (b ∷ w) (further p rest)
 name_front p b w rest none ends begins =
     let line = b ∷ (w ++ rest) in
-    ap (λ (t : Bool). front_of NoName p line (cond t 0 (len_till ends_name line))) (name_no_digit (is_digit b) (is_name_byte b) begins)
+    ap (λ (t : Bool). front_of NoName p line (cond t 0 (len_till ends_name line))) (name_no_digit (is_ascii_digit b) (is_name_byte b) begins)
     ∙ ap (front_of NoName p line) (len_text ends_name (b ∷ w) rest none ends)
     ∙ ap (λ (xs : List ℕ). Took (b ∷ xs) (further p (drop (length w) (w ++ rest)))) (take-append_seam w rest)
     ∙ ap (λ (xs : List ℕ). Took (b ∷ w) (further p xs)) (drop-append_seam w rest)
@@ -179,7 +181,7 @@ pub name_slip : (k : Complaint) (p q : Place) (line : List ℕ) → q ≡ p → 
 unfolding len_till
 name_slip k p q [] e m = ap (λ (x : Complaint). Slip x p) (sym m) ∙ ap (Slip k) (sym e)
 name_slip k p q (b ∷ bs) e m =
-    at (is_digit b) (is_name_byte b) m.0 ∙ ap (λ (x : Complaint). Slip x p) (sym m.1) ∙ ap (Slip k) (sym e) where
+    at (is_ascii_digit b) (is_name_byte b) m.0 ∙ ap (λ (x : Complaint). Slip x p) (sym m.1) ∙ ap (Slip k) (sym e) where
       at : (d n : Bool) → (n && not d) ≡ false → front_of NoName p (b ∷ bs) (cond d 0 (cond (not n) 0 (suc (len_till ends_name bs)))) ≡ Slip NoName p
       at true n h = refl
       at false false h = refl

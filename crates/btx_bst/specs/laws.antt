@@ -14,3 +14,5 @@ pub mod WorkedStyles
 pub mod TokenSpelling
 pub mod WordSpelling
 pub mod CommandSpelling
+pub mod Fronts
+pub mod StyleText

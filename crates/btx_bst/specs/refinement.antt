@@ -8,3 +8,7 @@ pub mod Views
 pub mod Pending
 pub mod DraftViews
 pub mod StyleReads
+pub mod Commands
+pub mod Direct
+pub mod StyleText
+pub mod Words

@@ -1,6 +1,7 @@
 //! Direct styles.
 ghost use Rattle.std.specs.Prelude.{◌≡◌, ◌↔◌, ◌<◌, IsTrue, length, slice_get};
 ghost use Rattle.btx_bst.specs.language.Direct as spec;
+ghost use Rattle.btx_bst.specs.refinement.Direct as kept_spec;
 
 use crate::built_in::BuiltIn;
 use crate::callee::Callee;
@@ -24,7 +25,7 @@ pub fn is_direct(style: &Style<'_>) -> bool
 // Whether a body is direct.
 #[tactic(auto, using(crate::proofs::DirectLemmas::direct_steps))]
 fn is_direct_body(body: &[Token]) -> bool
-    ensures { IsTrue result ↔ spec.IsDirectBody body.now }
+    ensures { IsTrue result ↔ kept_spec.IsDirectBody body.now }
 {
     for i in 0..body.len() {
         if !is_direct_at(body, i) {

@@ -6,10 +6,10 @@ ghost use Rattle.btx_bst.specs.declared.callee.Kind.TheVariants as kind;
 ghost use Rattle.btx_bst.specs.language.Items as item;
 ghost use Rattle.btx_bst.specs.refinement.Views.{item_view, run_item};
 ghost use Rattle.btx_bst.specs.language.Places.{Place};
-ghost use Rattle.btx_bst.specs.language.StyleText.{unread_style};
 ghost use Rattle.btx_bst.specs.language.Names.{named_lower};
 ghost use Rattle.btx_bst.specs.refinement.DraftViews.{draft_view, outcome_view};
 ghost use Rattle.btx_bst.specs.refinement.Weights.{HasRoom};
+ghost use Rattle.btx_bst.specs.laws.StyleText.{unread_style};
 
 use crate::bodies::Bodies;
 use crate::body_words::{body, find};

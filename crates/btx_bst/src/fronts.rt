@@ -2,6 +2,7 @@
 ghost use Rattle.std.specs.Prelude.{◌≡◌, ◌≤◌, ◌∷◌, length};
 ghost use Rattle.btx_bst.specs.language.Places as places;
 ghost use Rattle.btx_bst.specs.language.Fronts as spec;
+ghost use Rattle.btx_bst.specs.laws.Fronts as kept_spec;
 ghost use Rattle.btx_bst.specs.language.Words as words;
 ghost use Rattle.btx_bst.specs.refinement.Views.{word_view};
 
@@ -51,7 +52,7 @@ fn ends_word(byte: u8) -> bool
 // How many bytes stand before the end of a name.
 #[tactic(auto, using(crate::proofs::FrontLemmas::len_steps))]
 fn run_len(line: &[u8]) -> usize
-    ensures value { result ≡ spec.len_till spec.ends_name line.now }
+    ensures value { result ≡ spec.len_till kept_spec.ends_name line.now }
     ensures bound { result ≤ length line.now }
 {
     for (i, &byte) in line.iter().enumerate() {

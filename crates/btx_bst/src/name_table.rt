@@ -1,8 +1,8 @@
 //! The table of names.
 ghost use Rattle.std.specs.Prelude.{◌≡◌, ◌++◌, ◌∷◌, [], None, IfOk, OnOk, OnErr, fold};
-ghost use Rattle.btx_bst.specs.language.Names.{padded};
 ghost use Rattle.btx_bst.specs.language.BuiltIns.{built_ins};
 ghost use Rattle.btx_bst.specs.refinement.NameTables.{found_in, pairs_in, words_in, with_built_in, IsPadded};
+ghost use Rattle.btx_bst.specs.refinement.Names.{padded};
 
 use crate::built_in::{BUILT_INS, BuiltIn};
 use crate::callee::Callee;

@@ -17,8 +17,9 @@ use Rattle.btx_machine.specs.refinement.Written.{Start, StandsFor}
 use Rattle.btx_machine.specs.language.Saying.{ended_line}
 use Rattle.btx_machine.proofs.LawLemmas.{so_far_begins}
 use Rattle.btx_machine.proofs.OutLemmas.{at_least_less, beginning_more, whole_least, whole_most}
-use Rattle.btx_machine.specs.language.Product.{so_far, bbl_at}
+use Rattle.btx_machine.specs.language.Product.{bbl_at}
 use Rattle.btx_machine.specs.refinement.Closing.{FinishedAt, FinishedPart, Closing}
+use Rattle.btx_machine.specs.refinement.Product.{so_far}
 
 pub finished_at : (old new : Outputs) → Finishes old.breaker old.bbl.received new.bbl.received → FinishedAt old ends.Finished new
 finished_at old new finishes start out h = written_of-finish start.limit out.lines out.pending old.breaker start.bbl old.bbl.received new.bbl.received h.line h.bbl finishes

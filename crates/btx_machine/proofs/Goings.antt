@@ -6,7 +6,7 @@ use Rattle.btx_out.specs.laws.States.{wrap_after, sure_after}
 use Rattle.btx_out.proofs.WrittenLemmas.{written_of-longer, written_of-more}
 use Rattle.btx_machine.specs.language.States.{Out}
 use Rattle.btx_machine.specs.laws.Goings.{IsPrefix, Grown, Ended, Starts}
-use Rattle.btx_machine.specs.language.Product.{so_far}
+use Rattle.btx_machine.specs.refinement.Product.{so_far}
 
 pub begins_self : (xs : List ℕ) → IsPrefix xs xs
 begins_self xs = ([], sym (append-nil xs))

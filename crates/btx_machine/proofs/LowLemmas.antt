@@ -32,9 +32,9 @@ use Rattle.btx_step.specs.declared.stand_in.StandIn.{StandIn}
 use Rattle.btx_step.specs.declared.stand_in.StandIn.TheVariants as stand_in
 use Rattle.btx_step.specs.language.Jobs.{Job}
 use Rattle.btx_step.specs.language.Stores.{Store}
-use Rattle.btx_step.specs.language.Answers.{Answer, answer, quiet, says, with_literals, pushes, pushes_text, complained, complains, refuses, outside, truth}
+use Rattle.btx_step.specs.language.Answers.{Answer, answer, quiet, says, with_literals, pushes, pushes_text, complained, complains, truth}
 use Rattle.btx_step.specs.language.Operands.{Operand, Does, Push, Back, on_operands}
-use Rattle.btx_step.specs.language.Table.{row, misses_entry, runs_missing}
+use Rattle.btx_step.specs.language.Table.{row, runs_missing}
 use Rattle.btx_step.proofs.RuleLemmas.{Each, Taken, by_rule, pushed_by}
 use Rattle.btx_strings.specs.language.Positions.{add_period_of, substring_of}
 use Rattle.btx_strings.specs.language.Case.{change_case_of, case_complaints}
@@ -44,13 +44,19 @@ use Rattle.btx_strings.specs.language.Width.{width_of}
 use Rattle.btx_names.specs.language.NameLists.{names_of}
 use Rattle.std.specs.Fmt.{signed_decimal}
 use Rattle.btx_step.specs.language.Arithmetic as arithmetic
+use Rattle.btx_step.specs.refinement.Arithmetic as kept_arithmetic
 use Rattle.btx_step.specs.language.Control as control
+use Rattle.btx_step.specs.refinement.Control as kept_control
 use Rattle.btx_step.specs.language.Entries as entries
+use Rattle.btx_step.specs.refinement.Entries as kept_entries
 use Rattle.btx_step.specs.language.Names as names
-use Rattle.btx_step.specs.language.Stacks as stacks
+use Rattle.btx_step.specs.refinement.Stacks as stacks
 use Rattle.btx_step.specs.language.Strings as strings
 use Rattle.btx_step.specs.language.Variables as variables
+use Rattle.btx_step.specs.refinement.Variables as kept_variables
 use Rattle.btx_step.specs.language.Steps.{built_in_run, function_run, step_of}
+use Rattle.btx_step.specs.refinement.Answers.{outside, refuses}
+use Rattle.btx_step.specs.refinement.Table.{misses_entry}
 
 -- it is so
 abbrev pub So : Bool → Type 0
@@ -173,7 +179,7 @@ module _ (r : ℕ) where
   result_low true n s h = integer_low said.Nothing n s h
   result_low false n s h = complains_low note.Overflow stand_in.Zero s h
 
-  calculated_low : (c : Calculation) (b a : ℤ) (s : Store) → Free s.literals → Low r (arithmetic.calculated c b a s)
+  calculated_low : (c : Calculation) (b a : ℤ) (s : Store) → Free s.literals → Low r (kept_arithmetic.calculated c b a s)
   calculated_low calculation.Greater b a s h = truth_low (int_lt b a) s h
   calculated_low calculation.Less b a s h = truth_low (int_lt a b) s h
   calculated_low calculation.Plus b a s h = result_low (arithmetic.fits (a +ℤ b)) (a +ℤ b) s h
@@ -216,11 +222,11 @@ module _ (r : ℕ) where
       in_entry_low (λ entry. variables.stores_string job.entry_max (variables.with_entry_string entry i) v) s.current s h (λ entry. stored_string_low job.entry_max (variables.with_entry_string entry i) (λ text s. refl) v s h)
   assigned_low job f v s h = complains_low (note.NotAssignable f) stand_in.Nothing s h
 
-  entry_integer_low : (i : ℕ) (current : Option ℕ) (s : Store) → Free s.literals → Low r (variables.entry_integer i current s)
+  entry_integer_low : (i : ℕ) (current : Option ℕ) (s : Store) → Free s.literals → Low r (kept_variables.entry_integer i current s)
   entry_integer_low i None s h = outside_low s h
   entry_integer_low i (Some entry) s h = integer_low said.Nothing (variables.integer_of s.entries entry i) s h
 
-  entry_string_low : (i : ℕ) (current : Option ℕ) (s : Store) → Free s.literals → Low r (variables.entry_string i current s)
+  entry_string_low : (i : ℕ) (current : Option ℕ) (s : Store) → Free s.literals → Low r (kept_variables.entry_string i current s)
   entry_string_low i None s h = outside_low s h
   entry_string_low i (Some entry) s h = string_low said.Nothing (variables.string_of s.entries entry i) s h
 
@@ -228,15 +234,15 @@ module _ (r : ℕ) where
   value_low None s h = pushes_low said.Nothing literal.Missing s tt h
   value_low (Some text) s h = string_low said.Nothing text s h
 
-  field_low : (job : Job) (i : ℕ) (current : Option ℕ) (s : Store) → Free s.literals → Low r (entries.field_pushed job i current s)
+  field_low : (job : Job) (i : ℕ) (current : Option ℕ) (s : Store) → Free s.literals → Low r (kept_entries.field_pushed job i current s)
   field_low job i None s h = outside_low s h
   field_low job i (Some entry) s h = value_low (entry_value i (entries.entry_of job entry)) s h
 
-  cites_low : (job : Job) (current : Option ℕ) (s : Store) → Free s.literals → Low r (entries.cites job current s)
+  cites_low : (job : Job) (current : Option ℕ) (s : Store) → Free s.literals → Low r (kept_entries.cites job current s)
   cites_low job None s h = outside_low s h
   cites_low job (Some entry) s h = text_low said.Nothing (key_of (entries.entry_of job entry)) s h
 
-  type_low : (job : Job) (current : Option ℕ) (s : Store) → Free s.literals → Low r (entries.gives_type job current s)
+  type_low : (job : Job) (current : Option ℕ) (s : Store) → Free s.literals → Low r (kept_entries.gives_type job current s)
   type_low job None s h = outside_low s h
   type_low job (Some entry) s h = text_low said.Nothing (entries.type_name job (entry_type (entries.entry_of job entry))) s h
 
@@ -264,7 +270,7 @@ module _ (r : ℕ) where
   TwoUnder (x ∷ []) = Under r x
   TwoUnder (x ∷ y ∷ xs) = Under r x × Under r y × Free xs
 
-  chosen_below : (b : Bool) (f g : Callee) → Below r f → Below r g → Below r (control.chosen b f g)
+  chosen_below : (b : Bool) (f g : Callee) → Below r f → Below r g → Below r (kept_control.chosen b f g)
   chosen_below true f g h k = h
   chosen_below false f g h k = k
 
@@ -334,17 +340,17 @@ module _ (r : ℕ) where
   run_low job (callee.Field i) s b h = field_low job i s.current s h
   run_low job (callee.EntryInteger i) s b h = entry_integer_low i s.current s h
   run_low job (callee.EntryString i) s b h = entry_string_low i s.current s h
-  run_low job (callee.GlobalInteger i) s b h = integer_low said.Nothing (variables.integer_in (slice_get s.integers i)) s h
-  run_low job (callee.GlobalString i) s b h = string_low said.Nothing (variables.string_in (slice_get s.strings i)) s h
+  run_low job (callee.GlobalInteger i) s b h = integer_low said.Nothing (kept_variables.integer_in (slice_get s.integers i)) s h
+  run_low job (callee.GlobalString i) s b h = string_low said.Nothing (kept_variables.string_in (slice_get s.strings i)) s h
 
   -- an `if$` or a `while$`, over two of the first functions
   pub choice_low : (job : Job) (f : BuiltIn) (s : Store) → So (is_choice (Some (token.Run (callee.BuiltIn f)))) → TwoUnder s.literals → Low r (step_of job (token.Run (callee.BuiltIn f)) s)
   unfolding is_choice step_of function_run built_in_run
   choice_low job built_in.If s is u =
-      ruled_low (Under r) (row built_in.If).operands stand_in.Nothing control.chooses (λ f p g q n t s h. (chosen_below (control.is_positive n) g f q p, h)) s.literals s
+      ruled_low (Under r) (row built_in.If).operands stand_in.Nothing kept_control.chooses (λ f p g q n t s h. (chosen_below (control.is_positive n) g f q p, h)) s.literals s
       (choice_taken s.literals u)
   choice_low job built_in.While s is u =
-      ruled_low (Under r) (row built_in.While).operands stand_in.Nothing control.loops (λ body p test q s h. ((q, p), h)) s.literals s (loop_taken s.literals u)
+      ruled_low (Under r) (row built_in.While).operands stand_in.Nothing kept_control.loops (λ body p test q s h. ((q, p), h)) s.literals s (loop_taken s.literals u)
   choice_low job f s is u = absurd is
 
   -- a token that stands alone: what it executes is one of the first functions, and what it quotes executes none

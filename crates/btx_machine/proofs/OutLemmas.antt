@@ -10,11 +10,11 @@ use Rattle.btx_out.specs.language.Pieces.{AppendsAtLeast, AppendsBeginning}
 use Rattle.btx_out.proofs.WrittenLemmas.{written_of-put, begins-put, written_of-newline, begins-newline, left-nil}
 use Rattle.btx_machine.specs.refinement.Outputs.{Journal, Outputs, Receiver}
 use Rattle.btx_machine.specs.language.States.{Out}
-use Rattle.btx_machine.specs.language.Saying.{wrote, pending_ended}
 use Rattle.btx_machine.specs.laws.Goings.{IsPrefix, Starts}
-use Rattle.btx_machine.specs.language.Product.{so_far}
 use Rattle.btx_machine.specs.refinement.Written.{Start, StandsFor, Between}
 use Rattle.btx_machine.proofs.Goings.{starts_self, written_begins}
+use Rattle.btx_machine.specs.refinement.Saying.{wrote, pending_ended}
+use Rattle.btx_machine.specs.refinement.Product.{so_far}
 
 pub at_least_less : (a n : Option (List ℕ)) (xs ys : List ℕ) → IsPrefix xs ys → AppendsAtLeast a n ys → AppendsAtLeast a n xs
 at_least_less a n xs ys f h = record { more = f.0 ++ h.more; received = subst (Appends a n) (ap (λ l. l ++ h.more) f.1 ∙ append_assoc xs f.0 h.more) h.received }

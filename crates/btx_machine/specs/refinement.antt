@@ -9,3 +9,8 @@ pub mod Marks
 pub mod Positions
 pub mod Progress
 pub mod Closing
+pub mod Saying
+pub mod Steps
+pub mod Items
+pub mod KeepingStep
+pub mod Product

@@ -6,7 +6,8 @@ ghost use Rattle.btx_bib.specs.language.MessageTexts.{message_line};
 ghost use Rattle.btx_step.specs.refinement.Answers.{silence};
 ghost use Rattle.btx_machine.specs.declared.ending.Ending.TheVariants.{Finished};
 ghost use Rattle.btx_machine.specs.language.Reports.{last_line};
-ghost use Rattle.btx_machine.specs.language.Saying.{pending_ended, ended_line, line_logged, note_lines, lines_logged, said_on, wrote};
+ghost use Rattle.btx_machine.specs.language.Saying.{ended_line, line_logged, note_lines, lines_logged, said_on};
+ghost use Rattle.btx_machine.specs.refinement.Saying.{current_key, wrote, pending_ended};
 
 use crate::journal::Journal;
 use crate::report::{Report, Told};
@@ -44,7 +45,6 @@ impl<'s, W: Sink, L: Sink> Outputs<'s, W, L> {
     ghost use Rattle.btx_out.specs.laws.Lengths.{IsLineLength};
     ghost use Rattle.btx_machine.specs.refinement.Closing.{FinishedAt, FinishedPart};
     ghost use Rattle.btx_machine.specs.refinement.Faults.{CountsOfBoth, Writes};
-    ghost use Rattle.btx_machine.specs.language.Saying.{current_key};
     ghost use Rattle.btx_machine.specs.refinement.Written.{Becomes, Stops};
 
     /// Outputs with nothing pending, for lines of at most this number of bytes, which go on with this log.
@@ -200,7 +200,6 @@ impl<'s, W: Sink, L: Sink> Outputs<'s, W, L> {
 }
 
 ghost use Rattle.std.specs.Option.{option_copied};
-ghost use Rattle.btx_machine.specs.language.Saying.{current_key};
 
 // The key of the current entry, if there is one.
 fn key_at<'a>(job: &Job<'a>, current: Option<usize>) -> Option<&'a [u8]>

@@ -23,7 +23,7 @@ behind string before b bs is = rw (is ∙ sym (append_assoc before (b ∷ []) bs
 -- ---- counting from front to back
 
 -- how many commas count in a text whose brace depth is given
-commas_from : ℕ → List ℕ → ℕ
+unfoldable pub commas_from : ℕ → List ℕ → ℕ
 commas_from depth [] = 0
 commas_from depth (b ∷ bs) =
     cond ((eqb depth 0 && eqb b 44) && not (is_all_breaks bs)) (suc (commas_from (depth_after depth b) bs)) (commas_from (depth_after depth b) bs)
@@ -50,7 +50,7 @@ count_places string before (b ∷ bs) is =
 -- ---- the first comma
 
 -- without a token behind it no comma counts
-none_counts : (depth : ℕ) (s : List ℕ) → is_all_breaks s ≡ true → commas_from depth s ≡ 0
+pub none_counts : (depth : ℕ) (s : List ℕ) → is_all_breaks s ≡ true → commas_from depth s ≡ 0
 unfolding commas_from
 none_counts depth [] all = refl
 none_counts depth (b ∷ bs) all =
@@ -86,11 +86,11 @@ first_counts depth (b ∷ bs) = at (eqb depth 0 && eqb b 44) refl (first_counts 
 
 -- ---- the form
 
-abbrev CountsAs : List ℕ → Option (List ℕ × List ℕ) → Type 0
+abbrev pub CountsAs : List ℕ → Option (List ℕ × List ℕ) → Type 0
 CountsAs text None = commas_from 0 text ≡ 0
 CountsAs text (Some cut) = commas_from 0 text ≡ suc (commas_from 0 cut.1)
 
-counts_as : (text : List ℕ) → CountsAs text (split_at_comma text)
+pub counts_as : (text : List ℕ) → CountsAs text (split_at_comma text)
 unfolding split_at_comma
 counts_as text = at (is_all_breaks (drop (run_len Comma 0 text + 1) text)) (rw one_more (first_counts 0 text)) where
   one_more : run_len Comma 0 text + 1 ≡ suc (run_len Comma 0 text)
@@ -116,9 +116,9 @@ form_by_commas name = rw (in_all name) (at (split_at_comma name) (counts_as name
   at None is = omega arith
   at (Some cut) is = rw is (at_second cut.0 cut.1 (split_at_comma cut.1) (counts_as cut.1))
 
-pub third_by_commas : (name : List ℕ) → has_third_comma (sections_of name) ≡ nat_lt 2 (length (commas_of name))
+pub third_by_count : (name : List ℕ) → has_third_comma (sections_of name) ≡ nat_lt 2 (commas_from 0 name)
 unfolding sections_of
-third_by_commas name = rw (in_all name) (at (split_at_comma name) (counts_as name)) where
+third_by_count name = at (split_at_comma name) (counts_as name) where
   at_third : (rest : List ℕ) (cut : Option (List ℕ × List ℕ)) → CountsAs rest cut → is_some cut ≡ nat_lt 2 (suc (suc (commas_from 0 rest)))
   at_third rest None is = rw is refl
   at_third rest (Some cut) is = rw is (sym (lt-ltb 2 (suc (suc (suc (commas_from 0 cut.1)))) (omega arith)))
@@ -131,5 +131,8 @@ third_by_commas name = rw (in_all name) (at (split_at_comma name) (counts_as nam
   at : (cut : Option (List ℕ × List ℕ)) → CountsAs name cut → has_third_comma (cut_first name cut) ≡ nat_lt 2 (commas_from 0 name)
   at None is = rw is refl
   at (Some cut) is = rw is (at_second cut.0 cut.1 (split_at_comma cut.1) (counts_as cut.1))
+
+pub third_by_commas : (name : List ℕ) → has_third_comma (sections_of name) ≡ nat_lt 2 (length (commas_of name))
+third_by_commas name = rw (in_all name) (third_by_count name)
 
 pub ruleset comma_laws = (form_by_commas, third_by_commas)

@@ -9,11 +9,12 @@ use Rattle.std.specs.Option.{option_map_or, option_or}
 use Rattle.btx_text.specs.language.Class.{is_white, is_sep}
 use Rattle.btx_text.specs.language.Elements.{depth_after, depth_of}
 use Rattle.btx_names.specs.language.Runs.{is_break}
-use Rattle.btx_names.specs.language.NameParts.{is_all_breaks, is_ink, last_ink, ends_in_comma}
+use Rattle.btx_names.specs.language.NameParts.{is_all_breaks, ends_in_comma}
 use Rattle.btx_names.specs.laws.Commas.{ends_at, final_commas_of}
 use Rattle.btx_names.proofs.SplitLemmas.{never}
 use Rattle.btx_names.proofs.SeparatorLemmas.{depth_push}
 use Rattle.btx_names.proofs.CommaLemmas.{comma_here, behind}
+use Rattle.btx_names.specs.refinement.NameParts.{is_ink, last_ink}
 
 -- ---- the last byte that is ink
 
@@ -73,11 +74,11 @@ no_token (b ∷ bs) none = at (last_ink bs) (is_ink b) refl (no_token bs) (sym (
 -- ---- from front to back
 
 -- a text, whose brace depth is given, ends in a comma
-ends : ℕ → List ℕ → Bool
+unfoldable pub ends : ℕ → List ℕ → Bool
 ends depth s = option_map_or (λ b. eqb b 44) (last_ink s) false && eqb (fold depth_after depth s) 0
 
 -- a comma here that no token follows, or one later
-ends_push : (depth b : ℕ) (bs : List ℕ) → ends depth (b ∷ bs) ≡ (((eqb depth 0 && eqb b 44) && is_all_breaks bs) || ends (depth_after depth b) bs)
+pub ends_push : (depth b : ℕ) (bs : List ℕ) → ends depth (b ∷ bs) ≡ (((eqb depth 0 && eqb b 44) && is_all_breaks bs) || ends (depth_after depth b) bs)
 unfolding ends
 ends_push depth b bs = rw (last_push b bs) (at (last_ink bs) refl) where
   deep : ℕ

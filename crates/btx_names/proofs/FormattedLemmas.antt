@@ -13,7 +13,8 @@ use Rattle.btx_names.specs.language.Formats.{is_legal}
 use Rattle.btx_names.specs.language.FormattedNames.{formatted}
 use Rattle.btx_names.specs.refinement.Right.{IsWritten, IsText}
 use Rattle.btx_strings.specs.language.Answers.{no_complaints}
-use Rattle.btx_names.specs.language.Answered.{format_name_text, format_name_complaints, names_before, nth_name, one_name_text, one_name_complaints, complaints_with, text_of_answer, complaints_of_answer}
+use Rattle.btx_names.specs.language.Answered.{names_before, nth_name, one_name_text, one_name_complaints}
+use Rattle.btx_names.specs.refinement.Answered.{complaints_with, text_of_answer, complaints_of_answer}
 
 pub nth_name_none : (names : List ℕ) (number : ℤ) → names_before number ≡ None → nth_name names number ≡ None
 unfolding nth_name

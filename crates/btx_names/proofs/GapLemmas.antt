@@ -3,9 +3,8 @@ use Rattle.std.proofs.Common.{◌≡◌, ℕ, zero, suc, ◌+◌, ◌-◌, ◌<�
 use Rattle.std.proofs.lemmas.Bool.{eqb-true, and_parts, and_right, lt-ltb}
 use Rattle.std.proofs.lemmas.List.{take_at, drop_at, append-nil, get_or_at}
 use Rattle.std.specs.Prelude.{filter, slice_range}
-use Rattle.std.specs.List.{range_with_len}
+use Rattle.std.specs.List.{range_with_len, onto_first}
 use Rattle.btx_text.specs.language.Elements.{depth_after, depth_of}
-use Rattle.btx_text.specs.language.Lines.{in_front}
 use Rattle.btx_names.specs.declared.runs.Stop.TheVariants.{Break}
 use Rattle.btx_names.specs.language.Runs.{is_break, run_len}
 use Rattle.btx_names.specs.language.Tokens.{NameToken, tokens_from, tokens_of}
@@ -22,7 +21,7 @@ prepend : List ℕ → List (List ℕ) → List (List ℕ)
 prepend cur [] = cur ∷ []
 prepend cur (piece ∷ pieces) = (cur ++ piece) ∷ pieces
 
-prepend_front : (cur : List ℕ) (b : ℕ) (pieces : List (List ℕ)) → prepend (cur ++ b ∷ []) pieces ≡ prepend cur (in_front b pieces)
+prepend_front : (cur : List ℕ) (b : ℕ) (pieces : List (List ℕ)) → prepend (cur ++ b ∷ []) pieces ≡ prepend cur (onto_first b pieces)
 unfolding prepend
 prepend_front cur b [] = refl
 prepend_front cur b (piece ∷ pieces) = ap (λ xs. xs ∷ pieces) (append_assoc cur (b ∷ []) piece)
@@ -37,7 +36,7 @@ unfolding pieces_from
 pieces_some skip depth [] = omega arith
 pieces_some (suc skip) depth (b ∷ bs) = pieces_some skip depth bs
 pieces_some zero depth (b ∷ bs) = at (eqb depth 0 && is_separator (b ∷ bs)) (pieces_from 0 (depth_after depth b) bs) where
-  at : (t : Bool) (pieces : List (List ℕ)) → 0 < length (cond t ((b ∷ []) ∷ pieces_from 3 0 bs) (in_front b pieces))
+  at : (t : Bool) (pieces : List (List ℕ)) → 0 < length (cond t ((b ∷ []) ∷ pieces_from 3 0 bs) (onto_first b pieces))
   at true pieces = omega arith
   at false [] = omega arith
   at false (piece ∷ pieces) = omega arith

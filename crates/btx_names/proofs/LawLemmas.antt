@@ -16,7 +16,7 @@ use Rattle.btx_names.proofs.RangeLemmas.{up_to_last-lt, von_start-le}
 -- ---- commas
 
 -- a text that is cut at a comma has the tokens of both pieces
-tokens_of-cut : (text : List ℕ) (cut : List ℕ × List ℕ) → split_at_comma text ≡ Some cut → tokens_of text ≡ tokens_of cut.0 ++ tokens_of cut.1
+pub tokens_of-cut : (text : List ℕ) (cut : List ℕ × List ℕ) → split_at_comma text ≡ Some cut → tokens_of text ≡ tokens_of cut.0 ++ tokens_of cut.1
 unfolding split_at_comma
 tokens_of-cut text cut is = at (is_all_breaks (drop (run_len Comma 0 text + 1) text)) refl is where
   size : ℕ

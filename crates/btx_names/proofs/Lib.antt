@@ -3,7 +3,6 @@ pub mod RunLemmas
 pub mod TokenLemmas
 pub mod VonLemmas
 pub mod CountLemmas
-pub mod SectionLemmas
 pub mod RangeLemmas
 pub mod PlaceLemmas
 pub mod PartLemmas
@@ -12,6 +11,7 @@ pub mod InitialLemmas
 pub mod ShortLemmas
 pub mod TieLemmas
 pub mod TokenListLemmas
+pub mod ReadingLemmas
 pub mod PieceLemmas
 pub mod FormattedLemmas
 pub mod KeptLemmas

@@ -5,11 +5,12 @@ use Rattle.std.proofs.lemmas.Bool.{and_parts, leb-true, ne_eqb}
 use Rattle.std.proofs.lemmas.Bool.Decides.{nat_tests}
 use Rattle.std.proofs.Math.Bool.{and-false}
 use Rattle.std.specs.Prelude.{nat_le, slice_index}
-use Rattle.btx_text.specs.language.Class.{is_between, is_white}
+use Rattle.btx_text.specs.language.Class.{is_white}
 use Rattle.btx_text.specs.language.Elements.{depth_after}
-use Rattle.btx_text.specs.language.Lines.{in_front}
 use Rattle.btx_names.specs.language.NameLists.{is_letter, is_separator, pieces_from, names_of}
 use Rattle.btx_names.specs.refinement.Steps.{first_name_len}
+use Rattle.std.specs.List.{onto_first}
+use Rattle.std.specs.Int.{is_in_range}
 
 -- ---- the length of the first name
 
@@ -28,7 +29,7 @@ name_len_all depth s i h = rw (drop_all i s h) refl
 
 -- a byte from `!` to `z` is neither white nor a brace
 abbrev is_plain : ℕ → Bool
-is_plain = is_between 33 122
+is_plain = is_in_range 33 122
 
 depth_after-plain : (depth b : ℕ) → is_plain b ≡ true → depth_after depth b ≡ depth
 depth_after-plain depth b plain = grind (arith, nat_tests)
@@ -77,8 +78,8 @@ first_piece depth (b ∷ bs) = at (eqb depth 0 && is_separator (b ∷ bs)) refl 
   at : (t : Bool) → (eqb depth 0 && is_separator (b ∷ bs)) ≡ t → Splits (depth_after depth b) bs (first_name_len (depth_after depth b) bs) →
       Splits depth (b ∷ bs) (cond t 1 (suc (first_name_len (depth_after depth b) bs)))
   at true is h = let fits = separator_fits depth (b ∷ bs) is in inr (omega arith, rw is (ap (λ ps. (b ∷ []) ∷ ps) (pieces_from-skip 3 0 bs)))
-  at false is (inl h) = inl (omega arith, rw is (ap (in_front b) h.1))
-  at false is (inr h) = inr (omega arith, rw is (ap (in_front b) h.1))
+  at false is (inl h) = inl (omega arith, rw is (ap (onto_first b) h.1))
+  at false is (inr h) = inr (omega arith, rw is (ap (onto_first b) h.1))
 
 pub length-pieces_from : (skip depth : ℕ) (s : List ℕ) → length (pieces_from skip depth s) ≤ length s + 1
 unfolding pieces_from
@@ -87,7 +88,7 @@ length-pieces_from (suc skip) depth (b ∷ bs) = let h = length-pieces_from skip
 length-pieces_from zero depth (b ∷ bs) =
     at (eqb depth 0 && is_separator (b ∷ bs)) (length-pieces_from 3 0 bs) (pieces_from 0 (depth_after depth b) bs) (length-pieces_from 0 (depth_after depth b) bs) where
       at : (t : Bool) → length (pieces_from 3 0 bs) ≤ length bs + 1 → (pieces : List (List ℕ)) → length pieces ≤ length bs + 1 →
-          length (cond t ((b ∷ []) ∷ pieces_from 3 0 bs) (in_front b pieces)) ≤ length (b ∷ bs) + 1
+          length (cond t ((b ∷ []) ∷ pieces_from 3 0 bs) (onto_first b pieces)) ≤ length (b ∷ bs) + 1
       at true h pieces g = omega arith
       at false h [] g = omega arith
       at false h (piece ∷ pieces) g = omega arith

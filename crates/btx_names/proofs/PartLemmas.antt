@@ -1,5 +1,5 @@
 -- Lemmas on the parts of a name and the list of its tokens.
-use Rattle.std.proofs.Common.{◌≡◌, ℕ, zero, suc, ◌+◌, ◌-◌, ◌<◌, ◌≤◌, List, [], ◌∷◌, ◌++◌, length, take, drop, refl, sym, ◌∙◌, ap, arith, get_or, set, add-one, min, Bool, true, false, leb, eqb}
+use Rattle.std.proofs.Common.{◌≡◌, ℕ, zero, suc, ◌+◌, ◌-◌, ◌<◌, ◌≤◌, List, [], ◌∷◌, ◌++◌, length, take, drop, refl, sym, ◌∙◌, ap, arith, get_or, set, add-one, min, Bool, true, false, cond, leb, eqb, length-append}
 use Rattle.std.proofs.lemmas.Bool.{leb-true, leb-false, eqb-true, true≢false}
 use Rattle.std.proofs.lemmas.List.{take-map, drop-map, length-map, drop_all, take_at, drop_at, length-drop, drop-drop, drop_more, drop-set, get_or-set_same}
 use Rattle.std.proofs.lemmas.List.Elements.{All-take, All-drop, All-get_or, All-head, All-tail}
@@ -7,12 +7,13 @@ use Rattle.std.specs.List.{All, flat_map}
 use Rattle.btx_text.specs.declared.element_kind.TextMode.{TextMode}
 use Rattle.btx_names.specs.language.FormattedNames.{initial_of}
 use Rattle.btx_names.specs.language.Tokens.{NameToken as Token, tokens_of}
-use Rattle.btx_names.specs.language.NameParts.{NameParts, Sections, One, Two, Three, parts_by, unsplit, von_end}
+use Rattle.btx_names.specs.language.NameParts.{NameParts, Sections, One, Two, Three, parts_by, von_end, von_start, last_start}
 use Rattle.btx_names.specs.laws.NameParts.{surname_of}
 use Rattle.btx_names.specs.refinement.NameTokens.{Hold, token_of, tokens_in, lettered_in, lettered_of_bare}
 use Rattle.btx_names.specs.refinement.Places.{bytes_at}
 use Rattle.btx_names.specs.refinement.SectionViews.{has_commas, jr_of, first_section}
-use Rattle.btx_names.specs.refinement.TokenLists.{IsListOf}
+use Rattle.btx_names.specs.refinement.TokenLists.{AreRangesOf, IsListOf, surname_in}
+use Rattle.btx_names.specs.declared.name_ranges.Ranges.{Ranges}
 use Rattle.btx_names.specs.declared.name_token.NameToken.{NameToken}
 use Rattle.btx_names.specs.declared.name_tokens.Joint.TheVariants.{Space}
 use Rattle.btx_names.specs.declared.token_list.TokenList.{TokenList}
@@ -189,10 +190,10 @@ one_turn_more mode bytes tokens place next default lt held none is =
 
 -- ---- the sections of a name in the list of its tokens
 
-pub sections_split : (list : TokenList) (sections : Sections) (all surname others jr first : List Token) → IsListOf list sections → all ≡ tokens_in list.bytes.items list.tokens.items →
+pub sections_split : (bytes : List ℕ) (list : TokenList) (sections : Sections) (all surname others jr first : List Token) → IsListOf bytes list sections → all ≡ tokens_in bytes list.tokens.items →
     surname ≡ take list.surname all → others ≡ drop list.surname all → jr ≡ take list.jr others → first ≡ drop list.jr others →
     (surname ≡ tokens_of (surname_of sections)) × (jr ≡ tokens_of (jr_of sections)) × (first ≡ tokens_of (first_section sections))
-sections_split list sections all surname others jr first is kept one two three four =
+sections_split bytes list sections all surname others jr first is kept one two three four =
     let a = tokens_of (surname_of sections) in
     let b = tokens_of (jr_of sections) in
     let d = tokens_of (first_section sections) in
@@ -203,46 +204,59 @@ sections_split list sections all surname others jr first is kept one two three f
       rw (four, rest) (drop_at b d list.jr (sym is.jr)),
     )
 
--- one section's parts
-pub parts_when_one : (sections : Sections) → has_commas sections ≡ false →
-    ((parts_by sections).first ≡ (unsplit (tokens_of (surname_of sections))).first)
-    × ((parts_by sections).von ≡ (unsplit (tokens_of (surname_of sections))).von)
-    × ((parts_by sections).last ≡ (unsplit (tokens_of (surname_of sections))).last)
-parts_when_one (One name) none = (refl, refl, refl)
-parts_when_one (Two surname first) none = absurd (true≢false none)
-parts_when_one (Three surname jr first) none = absurd (true≢false none)
+-- the first section in a list
+pub surname_of_list : (bytes : List ℕ) (list : TokenList) (sections : Sections) → IsListOf bytes list sections →
+    surname_in bytes list ≡ tokens_of (surname_of sections)
+surname_of_list bytes list sections is =
+    let all = tokens_in bytes list.tokens.items in
+    let rest = drop list.surname all in
+    (sections_split bytes list sections all (take list.surname all) rest (take list.jr rest) (drop list.jr rest) is refl refl refl refl refl).0
 
--- commas part a name
-abbrev pub AreSplit : Sections → Type 0
-AreSplit (One name) = ⊥
-AreSplit _ = Unit {0}
+pub surname_inside : (bytes : List ℕ) (list : TokenList) (sections : Sections) → IsListOf bytes list sections → list.surname ≤ length list.tokens.items
+surname_inside bytes list sections is =
+    let one = tokens_of (surname_of sections) in
+    let others = tokens_of (jr_of sections) ++ tokens_of (first_section sections) in
+    omega (arith, ap length is.tokens, length-append one others, length-map list.tokens.items (token_of bytes), is.surname)
 
-pub first_when_split : (sections : Sections) → AreSplit sections → (parts_by sections).first ≡ tokens_of (first_section sections)
-first_when_split (One name) none = absurd none
-first_when_split (Two surname first) split = refl
-first_when_split (Three surname jr first) split = refl
+-- ---- its parts
 
-pub von_when_split : (sections : Sections) → AreSplit sections →
-    (parts_by sections).von ≡ take (von_end (tokens_of (surname_of sections))) (tokens_of (surname_of sections))
-von_when_split (One name) none = absurd none
-von_when_split (Two surname first) split = refl
-von_when_split (Three surname jr first) split = refl
+-- where von and Last begin, in the first section
+abbrev pub von_from : Sections → ℕ
+von_from sections = cond (has_commas sections) 0 (von_start (tokens_of (surname_of sections)))
 
-pub last_when_split : (sections : Sections) → AreSplit sections →
-    (parts_by sections).last ≡ drop (von_end (tokens_of (surname_of sections))) (tokens_of (surname_of sections))
-last_when_split (One name) none = absurd none
-last_when_split (Two surname first) split = refl
-last_when_split (Three surname jr first) split = refl
+abbrev pub last_from : Sections → ℕ
+last_from sections = cond (has_commas sections) (von_end (tokens_of (surname_of sections))) (last_start (tokens_of (surname_of sections)))
+
+pub ranges_of_sections : (bytes : List ℕ) (list : TokenList) (ranges : Ranges) (sections : Sections) → IsListOf bytes list sections → AreRangesOf bytes list ranges →
+    (ranges.von_start ≡ von_from sections) × (ranges.last_start ≡ last_from sections)
+ranges_of_sections bytes list ranges sections is at =
+    let surname = surname_of_list bytes list sections is in
+    (rw (surname, is.commas) at at.von_start, rw (surname, is.commas) at at.last_start)
+
+pub first_by_ranges : (sections : Sections) →
+    (parts_by sections).first ≡ cond (has_commas sections) (tokens_of (first_section sections)) (take (von_from sections) (tokens_of (surname_of sections)))
+first_by_ranges (One name) = refl
+first_by_ranges (Two surname first) = refl
+first_by_ranges (Three surname jr first) = refl
+
+from_the_first : (n : ℕ) (tokens : List Token) → take n tokens ≡ take (n - 0) tokens
+from_the_first n tokens = let e : n - 0 ≡ n = omega arith in rw e refl
+
+pub von_by_ranges : (sections : Sections) →
+    (parts_by sections).von ≡ take (last_from sections - von_from sections) (drop (von_from sections) (tokens_of (surname_of sections)))
+von_by_ranges (One name) = refl
+von_by_ranges (Two surname first) = from_the_first (von_end (tokens_of surname)) (tokens_of surname)
+von_by_ranges (Three surname jr first) = from_the_first (von_end (tokens_of surname)) (tokens_of surname)
+
+pub last_by_ranges : (sections : Sections) → (parts_by sections).last ≡ drop (last_from sections) (tokens_of (surname_of sections))
+last_by_ranges (One name) = refl
+last_by_ranges (Two surname first) = refl
+last_by_ranges (Three surname jr first) = refl
 
 pub jr_of_sections : (sections : Sections) → (parts_by sections).jr ≡ tokens_of (jr_of sections)
 jr_of_sections (One name) = sym tokens_of_nothing
 jr_of_sections (Two surname first) = sym tokens_of_nothing
 jr_of_sections (Three surname jr first) = refl
-
-pub split_by_commas : (sections : Sections) → has_commas sections ≡ true → AreSplit sections
-split_by_commas (One name) some = absurd (true≢false (sym some))
-split_by_commas (Two surname first) some = tt
-split_by_commas (Three surname jr first) some = tt
 
 -- ---- parts with the same tokens
 

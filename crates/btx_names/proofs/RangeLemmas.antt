@@ -5,6 +5,9 @@ use Rattle.btx_names.specs.language.Tokens.{NameToken, tokens_of, tokens_from}
 use Rattle.btx_names.specs.refinement.Steps.{passes}
 use Rattle.btx_names.specs.declared.token_counts.TokenTest.{TokenTest}
 use Rattle.btx_names.specs.declared.token_counts.TokenTest.TheVariants.{Von, Apart}
+use Rattle.btx_names.specs.refinement.TokenLists.{AreRangesOf, surname_in}
+use Rattle.btx_names.specs.declared.name_ranges.Ranges.{Ranges}
+use Rattle.btx_names.specs.declared.token_list.TokenList.{TokenList}
 use Rattle.btx_names.specs.language.NameParts.{before_final, up_to_last, before_first, von_end, last_start, von_start}
 
 -- up to the last before the final token: fewer than all
@@ -59,7 +62,15 @@ von_start-le tokens = at (ltb 0 (von_end tokens)) refl where
   at true is = before_first-le Von tokens (ltb-true 0 (von_end tokens) is)
   at false is = omega arith
 
-pub ruleset ranges = (up_to_last-le, last_start-le, von_start-le)
+-- the ranges of any name lie in its first section, in order
+pub ranges_within : (bytes : List ℕ) (list : TokenList) (ranges : Ranges) → AreRangesOf bytes list ranges →
+    (ranges.von_start ≤ ranges.last_start) × (ranges.last_start ≤ length (surname_in bytes list))
+ranges_within bytes list ranges is = rw (is.von_start, is.last_start) (at list.has_commas (surname_in bytes list)) where
+  at : (commas : Bool) (surname : List NameToken) →
+      (cond commas 0 (von_start surname) ≤ cond commas (von_end surname) (last_start surname))
+      × (cond commas (von_end surname) (last_start surname) ≤ length surname)
+  at true surname = (omega arith, up_to_last-le Von surname)
+  at false surname = (von_start-le surname, last_start-le surname)
 
 pub tokens_of_nothing : tokens_of [] ≡ []
 unfolding tokens_of tokens_from

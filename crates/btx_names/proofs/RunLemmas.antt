@@ -4,12 +4,12 @@ use Rattle.std.proofs.lemmas.List.{drop_all, drop_more}
 use Rattle.std.proofs.lemmas.Bool.{false≢true}
 use Rattle.std.proofs.lemmas.Bool.Decides.{nat_tests}
 use Rattle.std.proofs.Math.Bool.{and-false}
-use Rattle.btx_text.specs.language.Class.{is_between}
 use Rattle.btx_text.specs.language.Elements.{depth_after}
 use Rattle.btx_names.specs.declared.runs.Stop.{Stop}
 use Rattle.btx_names.specs.declared.runs.Stop.TheVariants.{Break, Comma, Letter, Closing, Brace}
 use Rattle.btx_names.specs.language.Runs.{stops, run_len}
 use Rattle.btx_names.specs.refinement.Steps.{is_passed}
+use Rattle.std.specs.Int.{is_in_range}
 
 pub run_len_here : (stop : Stop) (depth : ℕ) (s : List ℕ) (i : ℕ) → i < length s → (eqb depth 0 && stops stop (get_or s i 0)) ≡ true → run_len stop depth (drop i s) ≡ 0
 unfolding run_len
@@ -26,7 +26,7 @@ run_len_all stop depth s i h = rw (drop_all i s h) refl
 
 -- a byte from `.` to `z`
 abbrev is_plain : ℕ → Bool
-is_plain = is_between 46 122
+is_plain = is_in_range 46 122
 
 depth_after-plain : (depth b : ℕ) → is_plain b ≡ true → depth_after depth b ≡ depth
 depth_after-plain depth b plain = grind (arith, nat_tests)

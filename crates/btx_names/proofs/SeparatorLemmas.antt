@@ -4,10 +4,9 @@ use Rattle.std.proofs.lemmas.Bool.{eqb-true, and_parts, false_from_ne_true, true
 use Rattle.std.proofs.lemmas.List.{take_at, drop_at}
 use Rattle.std.proofs.lemmas.List.Sums.{fold-append}
 use Rattle.std.specs.Prelude.{filter}
-use Rattle.std.specs.List.{range_with_len}
+use Rattle.std.specs.List.{range_with_len, onto_first}
 use Rattle.btx_text.specs.language.Class.{is_white}
 use Rattle.btx_text.specs.language.Elements.{depth_after, depth_of}
-use Rattle.btx_text.specs.language.Lines.{in_front}
 use Rattle.btx_names.specs.language.NameLists.{is_letter, is_separator, pieces_from, names_of}
 use Rattle.btx_names.specs.laws.NameLists.{separates_at, separators_of}
 use Rattle.btx_names.proofs.SplitLemmas.{never}
@@ -75,7 +74,7 @@ filter_places string before (b ∷ bs) is =
 
 -- ---- counting
 
-in_front_keeps : (b : ℕ) (pieces : List (List ℕ)) (n : ℕ) → length pieces ≡ suc n → length (in_front b pieces) ≡ suc n
+in_front_keeps : (b : ℕ) (pieces : List (List ℕ)) (n : ℕ) → length pieces ≡ suc n → length (onto_first b pieces) ≡ suc n
 in_front_keeps b [] n is = absurd (omega arith)
 in_front_keeps b (piece ∷ pieces) n is = is
 
@@ -99,7 +98,7 @@ count_from zero before (b ∷ bs) ink low =
       at : (t : Bool) → (eqb (depth_of before) 0 && is_separator (b ∷ bs)) ≡ t →
           (InkFirst 3 bs → (0 < 3 → depth_of (before ++ b ∷ []) ≡ 0) → length (pieces_from 3 (depth_of (before ++ b ∷ [])) bs) ≡ suc Places) →
           length (pieces_from 0 (depth_of (before ++ b ∷ [])) bs) ≡ suc Places →
-          length (cond t ((b ∷ []) ∷ pieces_from 3 0 bs) (in_front b (pieces_from 0 (depth_after (depth_of before) b) bs)))
+          length (cond t ((b ∷ []) ∷ pieces_from 3 0 bs) (onto_first b (pieces_from 0 (depth_after (depth_of before) b) bs)))
           ≡ suc (length (cond t (length before ∷ places_from (before ++ b ∷ []) bs) (places_from (before ++ b ∷ []) bs)))
       at true is three one =
           let parts = and_parts (eqb (depth_of before) 0) (is_separator (b ∷ bs)) is in

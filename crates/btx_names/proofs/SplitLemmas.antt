@@ -18,7 +18,7 @@ pub break_keeps : (b : ℕ) → is_break b ≡ true → depth_after 0 b ≡ 0
 break_keeps b is = rw (never is_break b 123 is refl, never is_break b 125 is refl) refl
 
 -- a comma stands between tokens
-comma_breaks : (low : Bool) (b : ℕ) → (low && is_break b) ≡ false → (low && eqb b 44) ≡ false
+pub comma_breaks : (low : Bool) (b : ℕ) → (low && is_break b) ≡ false → (low && eqb b 44) ≡ false
 comma_breaks low b none = false_from_ne_true (low && eqb b 44) (λ is. true≢false (sym (breaks is) ∙ none)) where
   breaks : (low && eqb b 44) ≡ true → (low && is_break b) ≡ true
   breaks is = let parts = and_parts low (eqb b 44) is in rw (eqb-true b 44 parts.1) (and_from low true parts.0 refl)

@@ -1,15 +1,12 @@
--- Lemmas on the list of a name's tokens, and on the bytes that it keeps of them.
-use Rattle.std.proofs.Common.{◌≡◌, ℕ, suc, ◌+◌, ◌-◌, ◌≤◌, Bool, true, false, cond, List, [], ◌∷◌, ◌++◌, length, drop, refl, sym, ◌∙◌, ap, arith, length-append}
-use Rattle.std.proofs.lemmas.List.{take-append-le, drop-append-le, length-drop, drop-drop, drop_at, take_all}
-use Rattle.std.proofs.lemmas.List.Elements.{All-append, All-head, All-tail, All-cons, All-nil}
+-- Lemmas on the tokens of a name by their places in the list of names.
+use Rattle.std.proofs.Common.{◌≡◌, ℕ, suc, ◌+◌, ◌-◌, ◌≤◌, Bool, true, false, cond, List, [], ◌∷◌, ◌++◌, length, take, drop, refl, sym, ◌∙◌, ap, arith}
+use Rattle.std.proofs.lemmas.List.{drop-drop, drop-take}
+use Rattle.std.proofs.lemmas.List.Elements.{All-append, All-cons, All-nil}
 use Rattle.std.specs.List.{All}
 use Rattle.btx_names.specs.language.FormattedNames.{begins_initial}
 use Rattle.btx_names.specs.refinement.Lettered.{lettered_of}
-use Rattle.btx_names.specs.refinement.NameTokens.{Hold, token_of, tokens_in}
-use Rattle.btx_names.specs.refinement.Places.{bytes_at}
-use Rattle.btx_names.specs.language.Tokens.{NameToken as Token}
+use Rattle.btx_names.specs.refinement.NameTokens.{Hold}
 use Rattle.btx_names.specs.declared.name_token.NameToken.{NameToken}
-use Rattle.btx_names.specs.declared.place.Place.{Place}
 
 -- ---- where the abbreviation begins
 
@@ -31,60 +28,37 @@ lettered_behind (b ∷ bs) = at (begins_initial (b ∷ bs)) (lettered_behind bs)
       let e : suc (length bs) - length (lettered_of bs) ≡ suc (length bs - length (lettered_of bs)) = omega (arith, lettered_le bs) in
       rw e h
 
--- ---- more bytes
+-- ---- a token
 
--- bytes that are there stay where they are
-bytes_stay : (bytes more : List ℕ) (place : Place) → place.from + place.len ≤ length bytes → bytes_at (bytes ++ more) place ≡ bytes_at bytes place
-bytes_stay bytes more place inside =
-    let le : place.from ≤ length bytes = omega (arith, inside) in
-    let len : place.len ≤ length (drop place.from bytes) = omega (arith, inside, length-drop place.from bytes) in
-    rw (drop-append-le place.from bytes more le) (take-append-le place.len (drop place.from bytes) more len)
+-- a token of a list of names, by where it begins there
+pub token_held : (names text lettered : List ℕ) (from : ℕ) (token : NameToken) → text ≡ take (length text) (drop from names) → lettered ≡ lettered_of text →
+    from + length text ≤ length names → token.text.from ≡ from → token.text.len ≡ length text →
+    token.lettered.from ≡ from + length text - length lettered → token.lettered.len ≡ length lettered → Hold names token
+token_held names text lettered from token is begins inside text_from text_len lettered_from lettered_len = (
+  omega (arith, inside, text_from, text_len),
+  omega (arith, inside, le, lettered_from, lettered_len),
+  rw (lettered_from, lettered_len, start) behind ∙ begins ∙ ap lettered_of (is ∙ sym (rw (text_from, text_len) refl)),
+) where
+  le : length lettered ≤ length text
+  le = rw begins (lettered_le text)
 
-hold_still : (bytes more : List ℕ) (token : NameToken) → Hold bytes token → Hold (bytes ++ more) token
-hold_still bytes more token held = (
-  omega (arith, held.0, length-append bytes more),
-  omega (arith, held.1, length-append bytes more),
-  bytes_stay bytes more token.lettered held.1 ∙ held.2 ∙ ap lettered_of (sym (bytes_stay bytes more token.text held.0)),
-)
+  start : from + length text - length lettered ≡ from + (length text - length lettered)
+  start = omega (arith, le)
 
-all_hold_still : (bytes more : List ℕ) (tokens : List NameToken) → All (Hold bytes) tokens → All (Hold (bytes ++ more)) tokens
-all_hold_still bytes more [] held = All-nil (Hold (bytes ++ more))
-all_hold_still bytes more (token ∷ tokens) held =
-    All-cons (Hold (bytes ++ more)) token tokens (hold_still bytes more token (All-head (Hold bytes) token tokens held)) (all_hold_still bytes more tokens (All-tail (Hold bytes) token tokens held))
+  whole : length text - length lettered + length lettered ≡ length text
+  whole = omega (arith, le)
 
-tokens_stay : (bytes more : List ℕ) (tokens : List NameToken) → All (Hold bytes) tokens → tokens_in (bytes ++ more) tokens ≡ tokens_in bytes tokens
-tokens_stay bytes more [] held = refl
-tokens_stay bytes more (token ∷ tokens) held =
-    let first = All-head (Hold bytes) token tokens held in
-    rw (bytes_stay bytes more token.text first.0, tokens_stay bytes more tokens (All-tail (Hold bytes) token tokens held)) refl
+  ends : drop (length text - length lettered) text ≡ lettered
+  ends = rw begins (lettered_behind text)
 
--- ---- one token more
+  behind : take (length lettered) (drop (from + (length text - length lettered)) names) ≡ lettered
+  behind =
+      ap (take (length lettered)) (sym (drop-drop (length text - length lettered) from names))
+      ∙ sym (drop-take (length text - length lettered) (length lettered) (drop from names))
+      ∙ ap (λ n. drop (length text - length lettered) (take n (drop from names))) whole
+      ∙ ap (drop (length text - length lettered)) (sym is)
+      ∙ ends
 
-tokens_pushed : (bytes : List ℕ) (tokens : List NameToken) (token : NameToken) → tokens_in bytes (tokens ++ token ∷ []) ≡ tokens_in bytes tokens ++ token_of bytes token ∷ []
-tokens_pushed bytes [] token = refl
-tokens_pushed bytes (first ∷ tokens) token = ap (λ (others : List Token). token_of bytes first ∷ others) (tokens_pushed bytes tokens token)
-
--- the last bytes of a text that is put behind others
-last_bytes : (bytes text last : List ℕ) (place : Place) → length last ≤ length text → drop (length text - length last) text ≡ last →
-    place.from + length last ≡ length (bytes ++ text) → place.len ≡ length last → bytes_at (bytes ++ text) place ≡ last
-last_bytes bytes text last place le ends from len =
-    let start : place.from ≡ length bytes + (length text - length last) = omega (arith, le, from, length-append bytes text) in
-    rw (len, start, sym (drop-drop (length text - length last) (length bytes) (bytes ++ text)), drop_at bytes text (length bytes) refl, ends) (take_all (length last) last (omega arith))
-
-pub token_added : (bytes text lettered : List ℕ) (tokens : List NameToken) (token : NameToken) → All (Hold bytes) tokens → lettered ≡ lettered_of text →
-    token.text.from + length text ≡ length (bytes ++ text) → token.text.len ≡ length text →
-    token.lettered.from + length lettered ≡ length (bytes ++ text) → token.lettered.len ≡ length lettered →
-    (tokens_in (bytes ++ text) (tokens ++ token ∷ []) ≡ tokens_in bytes tokens ++ record { text = text; joint = token.joint } ∷ [])
-    × All (Hold (bytes ++ text)) (tokens ++ token ∷ [])
-token_added bytes text lettered tokens token held is from len begins count =
-    let none : length text - length text ≡ 0 = omega arith in
-    let whole : bytes_at (bytes ++ text) token.text ≡ text = last_bytes bytes text text token.text (omega arith) (rw none refl) from len in
-    let le : length lettered ≤ length text = rw is (lettered_le text) in
-    let ends : drop (length text - length lettered) text ≡ lettered = rw is (lettered_behind text) in
-    let part : bytes_at (bytes ++ text) token.lettered ≡ lettered = last_bytes bytes text lettered token.lettered le ends begins count in
-    let one : Hold (bytes ++ text) token = (omega (arith, from, len), omega (arith, begins, count), part ∙ is ∙ ap lettered_of (sym whole)) in (
-      tokens_pushed (bytes ++ text) tokens token ∙ rw (tokens_stay bytes text tokens held, whole) refl,
-      All-append (Hold (bytes ++ text)) tokens (token ∷ []) (all_hold_still bytes text tokens held) (All-cons (Hold (bytes ++ text)) token [] one (All-nil (Hold (bytes ++ text)))),
-    )
-
-pub ruleset list_steps = (lettered_le)
+-- one token more
+pub held_pushed : (names : List ℕ) (tokens : List NameToken) (token : NameToken) → All (Hold names) tokens → Hold names token → All (Hold names) (tokens ++ token ∷ [])
+held_pushed names tokens token held one = All-append (Hold names) tokens (token ∷ []) held (All-cons (Hold names) token [] one (All-nil (Hold names)))

@@ -4,7 +4,7 @@ use Rattle.std.proofs.lemmas.Bool.{true≢false, eqb-true, and_parts, or_parts, 
 use Rattle.std.proofs.lemmas.List.{nil_from_length}
 use Rattle.std.proofs.lemmas.List.Sums.{take_while-cons}
 use Rattle.std.specs.Prelude.{take_while, slice_index}
-use Rattle.btx_text.specs.language.Class.{is_alpha, is_lower}
+use Rattle.btx_text.specs.language.Class.{is_alpha}
 use Rattle.btx_text.specs.declared.element_kind.Kind.TheVariants.{Byte, Open, Close, Special, Wide}
 use Rattle.btx_text.specs.declared.element_kind.TextMode.{TextMode}
 use Rattle.btx_text.specs.declared.element_kind.TextMode.TheVariants.{Bytes}
@@ -14,9 +14,11 @@ use Rattle.btx_strings.specs.language.Controls.{control_name, lone, is_brace, gl
 use Rattle.btx_strings.specs.laws.Controls.{glyphs_text}
 use Rattle.btx_strings.proofs.ControlLemmas.{glyphs_from-skip}
 use Rattle.btx_strings.proofs.ReadingLemmas.{glyphs_of-reads}
-use Rattle.btx_names.specs.language.VonTokens.{is_foreign, is_cased, begins_lower, is_lower_special, casing_of, casing}
+use Rattle.btx_names.specs.language.VonTokens.{is_foreign, begins_lower, is_lower_special, casing_of}
 use Rattle.btx_names.specs.laws.VonGlyphs.{are_lower}
 use Rattle.btx_names.proofs.SplitLemmas.{never}
+use Rattle.btx_names.specs.laws.VonTokens.{casing}
+use Rattle.std.specs.Char.{is_ascii_alphabetic, is_ascii_lowercase}
 
 -- ---- the text of a special character
 
@@ -26,7 +28,7 @@ behind_glyphs skip s = ap glyphs_text (glyphs_from-skip skip s) ∙ (glyphs_of-r
 
 -- what a control sequence of a name says
 abbrev says : List ℕ → List ℕ → Bool
-says name bs = cond (is_foreign name) (is_lower (slice_index name 0)) (begins_lower (drop (length name) bs))
+says name bs = cond (is_foreign name) (is_ascii_lowercase (slice_index name 0)) (begins_lower (drop (length name) bs))
 
 no_letter : (b : ℕ) (bs : List ℕ) → length (take_while is_alpha (b ∷ bs)) ≡ 0 → is_alpha b ≡ false
 no_letter b bs none = at (is_alpha b) refl where
@@ -39,7 +41,7 @@ one_byte : (b : ℕ) (bs : List ℕ) → is_alpha b ≡ false → says (b ∷ []
 unfolding letters_of
 one_byte b bs other =
     let no : (v : ℕ) → not (is_alpha v) ≡ false → eqb b v ≡ false = λ v letter. never (λ x. not (is_alpha x)) b v (not_from_false (is_alpha b) other) letter in
-    let cased : is_cased b ≡ false = (or_parts (is_cased b) (leb 128 b) other).0 in
+    let cased : is_ascii_alphabetic b ≡ false = (or_parts (is_ascii_alphabetic b) (leb 128 b) other).0 in
     rw (no 111 refl, no 79 refl, no 97 refl, no 65 refl, no 115 refl, no 105 refl, no 106 refl, no 108 refl, no 76 refl, cased) refl
 
 lone_says : (bs : List ℕ) → length (take_while is_alpha bs) ≡ 0 → says (lone bs) bs ≡ says [] bs
@@ -62,7 +64,7 @@ name_says bs = at (eqb (length (take_while is_alpha bs)) 0) refl where
 pub lower_by_glyphs : (bs : List ℕ) → is_lower_special (123 ∷ 92 ∷ bs) ≡ are_lower (glyphs_of (123 ∷ 92 ∷ bs))
 unfolding is_lower_special are_lower glyphs_of glyphs_from
 lower_by_glyphs bs =
-    sym (ap (λ after. cond (is_foreign (control_name bs)) (is_lower (slice_index (control_name bs) 0)) (begins_lower after)) (behind_glyphs (length (control_name bs)) bs)
+    sym (ap (λ after. cond (is_foreign (control_name bs)) (is_ascii_lowercase (slice_index (control_name bs) 0)) (begins_lower after)) (behind_glyphs (length (control_name bs)) bs)
     ∙ name_says bs)
 
 -- ---- the special characters of a token

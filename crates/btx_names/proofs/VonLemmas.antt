@@ -1,7 +1,8 @@
 -- Lemmas on von tokens.
 use Rattle.std.proofs.Common.{◌≡◌, false, Bool, Some, None, List, [], ◌∷◌, refl}
 use Rattle.btx_text.specs.language.Elements.{Element}
-use Rattle.btx_names.specs.language.VonTokens.{casing, first_is_lower}
+use Rattle.btx_names.specs.language.VonTokens.{first_is_lower}
+use Rattle.btx_names.specs.laws.VonTokens.{casing}
 
 pub first_is_lower_here : (part : Element) (parts : List Element) (answer : Bool) → casing part ≡ Some answer → first_is_lower (part ∷ parts) ≡ answer
 unfolding first_is_lower

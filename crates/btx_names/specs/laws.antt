@@ -6,3 +6,4 @@ pub mod Commas
 pub mod FormatTexts
 pub mod WrittenFormats
 pub mod Gaps
+pub mod VonTokens

@@ -1,8 +1,8 @@
-pub mod TokenViews
 pub mod Lettered
 pub mod Places
 pub mod NameTokens
 pub mod TokenLists
+pub mod ReadNames
 pub mod Steps
 pub mod SectionViews
 pub mod PartViews
@@ -12,3 +12,7 @@ pub mod Right
 pub mod NamesFrom
 pub mod KeptNames
 pub mod KeptItems
+pub mod Answered
+pub mod Formats
+pub mod Tokens
+pub mod NameParts

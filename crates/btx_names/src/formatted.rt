@@ -34,7 +34,7 @@ pub fn format_one(
     ensures { Answers result (spec.one_name_text mode (kept_bytes name.now) format.now) (spec.one_name_complaints (kept_bytes name.now) format.now) }
 {
     writer.begin(mode);
-    if write_format(writer, name.parts(), formats, format)? {
+    if write_format(writer, &name.parts(), formats, format)? {
         Answer::copy_of(alloc, writer.text(), name.complaints(true))
     } else {
         Answer::new(Vec::new(alloc), name.complaints(false))
@@ -55,18 +55,18 @@ pub fn write_one(
         return Ok(false);
     }
     writer.begin(mode);
-    write_format(writer, name.parts(), formats, format)
+    write_format(writer, &name.parts(), formats, format)
 }
 
 // Writes the parts of a name in a format, whether that is kept or not; false where the format is illegal.
 fn write_format(
     writer: &mut Writer,
-    parts: NameParts<'_>,
+    parts: &NameParts<'_>,
     formats: &mut KeptFormats,
     format: &[u8],
 ) -> Result<bool, Fault>
     requires { writer.old.text.items ≡ [] }
-    ensures { WritesLegal greatest_string (is_legal format.now) result writer.new.text.items (formatted writer.old.mode (parts_view parts.entry) format.now) }
+    ensures { WritesLegal greatest_string (is_legal format.now) result writer.new.text.items (formatted writer.old.mode (parts_view parts.now) format.now) }
 {
     if let Some(kept) = formats.find(format) {
         return write_items(writer, parts, kept);
@@ -79,11 +79,11 @@ fn write_format(
 #[tactic(auto, using(crate::proofs::KeptItemLemmas::kept_items))]
 fn write_items(
     writer: &mut Writer,
-    parts: NameParts<'_>,
+    parts: &NameParts<'_>,
     format: &KeptFormat,
 ) -> Result<bool, Fault>
     requires { writer.old.text.items ≡ [] }
-    ensures { WritesLegal greatest_string (is_legal format.now.text.items) result writer.new.text.items (formatted writer.old.mode (parts_view parts.entry) format.now.text.items) }
+    ensures { WritesLegal greatest_string (is_legal format.now.text.items) result writer.new.text.items (formatted writer.old.mode (parts_view parts.now) format.now.text.items) }
 {
     for item in format.items() {
         push_item(writer, item.as_item(), parts)?;
@@ -92,9 +92,9 @@ fn write_items(
 }
 
 // Writes the parts of a name in a format; false where the format is illegal.
-fn write_legal(writer: &mut Writer, parts: NameParts<'_>, format: &[u8]) -> Result<bool, Fault>
+fn write_legal(writer: &mut Writer, parts: &NameParts<'_>, format: &[u8]) -> Result<bool, Fault>
     requires { writer.old.text.items ≡ [] }
-    ensures { WritesLegal greatest_string (is_legal format.now) result writer.new.text.items (formatted writer.old.mode (parts_view parts.entry) format.now) }
+    ensures { WritesLegal greatest_string (is_legal format.now) result writer.new.text.items (formatted writer.old.mode (parts_view parts.now) format.now) }
 {
     match write_until_illegal(writer, parts, format) {
         Err(Fault::StringLimit) if !is_legal(format) => Ok(false),
@@ -105,11 +105,11 @@ fn write_legal(writer: &mut Writer, parts: NameParts<'_>, format: &[u8]) -> Resu
 // Writes the parts of a name in a format, which is read once; false where an illegal item is met, which may stand behind too long a text.
 fn write_until_illegal(
     writer: &mut Writer,
-    parts: NameParts<'_>,
+    parts: &NameParts<'_>,
     format: &[u8],
 ) -> Result<bool, Fault>
     requires { writer.old.text.items ≡ [] }
-    ensures { WritesUntilIllegal greatest_string (is_legal format.now) result writer.new.text.items (formatted writer.old.mode (parts_view parts.entry) format.now) }
+    ensures { WritesUntilIllegal greatest_string (is_legal format.now) result writer.new.text.items (formatted writer.old.mode (parts_view parts.now) format.now) }
 {
     for item in Items::of(format) {
         if matches!(item, Item::Illegal) {
@@ -121,8 +121,8 @@ fn write_until_illegal(
 }
 
 // Adds what an item of a format gives.
-fn push_item(writer: &mut Writer, item: Item<'_>, parts: NameParts<'_>) -> Result<(), Fault>
-    ensures text { Becomes greatest_string result writer.new.text.items (writer.old.text.items ++ item_text writer.old.mode (parts_view parts.entry) (item_view item.entry)) }
+fn push_item(writer: &mut Writer, item: Item<'_>, parts: &NameParts<'_>) -> Result<(), Fault>
+    ensures text { Becomes greatest_string result writer.new.text.items (writer.old.text.items ++ item_text writer.old.mode (parts_view parts.now) (item_view item.entry)) }
     ensures mode { writer.new.mode ≡ writer.old.mode }
 {
     match item {
@@ -134,8 +134,8 @@ fn push_item(writer: &mut Writer, item: Item<'_>, parts: NameParts<'_>) -> Resul
 }
 
 // The part of a name that a piece of a format asks for.
-fn part_of<'t>(parts: NameParts<'t>, part: PartName) -> Part<'t>
-    ensures { part_tokens result ≡ tokens_of_part part (parts_view parts.entry) }
+fn part_of<'t>(parts: &NameParts<'t>, part: PartName) -> Part<'t>
+    ensures { part_tokens result ≡ tokens_of_part part (parts_view parts.now) }
 {
     match part {
         PartName::First => parts.first,

@@ -9,8 +9,8 @@ use crate::name_token::NameToken;
 use btx_text::classify::is_alpha;
 use btx_text::{Elements, TextMode};
 
-/// What stands for a token that is abbreviated: its first letter or special character, at any depth. It may be nothing. The bytes of all
-/// tokens are given.
+/// What stands for a token that is abbreviated: its first letter or special character, at any depth. It may be nothing. The bytes in
+/// which the token has its place are given.
 #[tactic(auto, using(crate::proofs::InitialLemmas::initial_steps))]
 pub fn initial_of<'a>(bytes: &'a [u8], token: &NameToken, mode: TextMode) -> &'a [u8]
     requires { Hold bytes.now token.now }

@@ -1,13 +1,17 @@
 //! A name with the list that it stands in.
 ghost use Rattle.std.specs.Prelude.{◌≡◌, ◌≤◌, ◌||◌, drop, length, slice_get, IfOk, MatchOption, None, Some, [], IsTrue};
+ghost use Rattle.std.specs.List.{All};
 ghost use Rattle.btx_names.specs.refinement.NamesFrom.{names_from};
 ghost use Rattle.btx_names.specs.language.NameLists.{names_of};
 ghost use Rattle.btx_names.specs.language.NameParts as spec;
+ghost use Rattle.btx_names.specs.refinement.NameTokens.{Hold};
 ghost use Rattle.btx_names.specs.refinement.Places.{bytes_at};
-ghost use Rattle.btx_names.specs.refinement.TokenLists.{IsListOf};
+ghost use Rattle.btx_names.specs.refinement.Steps.{first_name_len};
+ghost use Rattle.btx_names.specs.refinement.TokenLists.{AreRangesOf, IsListOf};
 
 use crate::name_parts::NameParts;
-use crate::name_sections::{Sections, ends_in_comma};
+use crate::name_ranges::Ranges;
+use crate::name_reading::ReadName;
 use crate::place::Place;
 use crate::separators::name_len;
 use crate::token_list::TokenList;
@@ -23,20 +27,25 @@ pub struct KeptName {
     // Its place in the list.
     place: Place,
     list: TokenList,
+    // Where its parts begin.
+    ranges: Ranges,
     // Whether it ends in a comma.
     ends_in_comma: bool,
     // Whether it has a third comma.
     has_third_comma: bool,
     ghost inside: { place.from ≤ length names.items },
     ghost onwards: { drop before (names_of names.items) ≡ names_from names.items place.from },
+    ghost measured: { place.len ≡ first_name_len 0 (drop place.from names.items) },
     ghost named: { slice_get (names_of names.items) before ≡ Some (bytes_at names.items place) },
-    ghost divided: { IsListOf list (spec.sections_of (bytes_at names.items place)) },
+    ghost held: { All (Hold names.items) list.tokens.items },
+    ghost divided: { IsListOf names.items list (spec.sections_of (bytes_at names.items place)) },
+    ghost ranged: { AreRangesOf names.items list ranges },
     ghost ending: { ends_in_comma ≡ spec.ends_in_comma (bytes_at names.items place) },
     ghost third: { has_third_comma ≡ spec.has_third_comma (spec.sections_of (bytes_at names.items place)) },
 }
 
 impl KeptName {
-    ghost use Rattle.btx_names.specs.language.Answered.{complaints_with};
+    ghost use Rattle.btx_names.specs.refinement.Answered.{complaints_with};
     ghost use Rattle.btx_names.specs.refinement.KeptNames.{IsFound, kept_bytes};
     ghost use Rattle.btx_names.specs.refinement.PartViews.{parts_view};
 
@@ -59,10 +68,18 @@ impl KeptName {
     pub fn go_to(self, names: &[u8], before: usize) -> Result<Option<KeptName>, AllocError>
         ensures { IfOk result (IsFound names.now before) }
     {
-        if self.before <= before && self.names.as_slice() == names {
-            return KeptName::find_from(self.names, self.list, self.before, self.place.from, before);
+        if self.names.as_slice() != names {
+            return KeptName::find_in(self.names, self.list, names, before);
         }
-        KeptName::find_in(self.names, self.list, names, before)
+        if before <= self.before {
+            return KeptName::find_in_kept(self.names, self.list, before);
+        }
+        match start_behind(&self.names, self.place) {
+            Some(next) => {
+                KeptName::find_from(self.names, self.list, self.before + 1, next, before)
+            }
+            None => Ok(None),
+        }
     }
 
     // The name of a list that `before` others precede, if there is one. What the two buffers hold is of no account.
@@ -75,13 +92,25 @@ impl KeptName {
     ) -> Result<Option<KeptName>, AllocError>
         ensures { IfOk result (IsFound names.now before) }
     {
-        if names.is_empty() {
-            return Ok(None);
-        }
         let mut kept = buffer;
         kept.clear();
         kept.extend_from_slice(names)?;
-        KeptName::find_from(kept, list, 0, 0, before)
+        KeptName::find_in_kept(kept, list, before)
+    }
+
+    // The name of a list that `before` others precede, if there is one. What the second buffer holds is of no account.
+    #[tactic(auto, using(crate::proofs::KeptLemmas::find_steps))]
+    fn find_in_kept(
+        names: Vec<u8>,
+        list: TokenList,
+        before: usize,
+    ) -> Result<Option<KeptName>, AllocError>
+        ensures { IfOk result (IsFound names.items before) }
+    {
+        if names.is_empty() {
+            return Ok(None);
+        }
+        KeptName::find_from(names, list, 0, 0, before)
     }
 
     // The name of a list that `before` others precede, if there is one. The name that `known` others precede is known to begin at `from`.
@@ -101,20 +130,16 @@ impl KeptName {
         let Some(from) = name_start(&names, from, before - known) else {
             return Ok(None);
         };
-        let rest = &names[from..];
-        let len = name_len(rest);
-        let name = &rest[..len];
-        let sections = Sections::of(name);
-        let ends_in_comma = ends_in_comma(name);
-        let has_third_comma = sections.has_third_comma();
-        let list = list.refilled(sections)?;
+        let read = ReadName::at(&names, from, list)?;
+        let ranges = Ranges::of(&names, &read.list);
         Ok(Some(KeptName {
             names,
             before,
-            place: Place { from, len },
-            list,
-            ends_in_comma,
-            has_third_comma,
+            place: read.place,
+            list: read.list,
+            ranges,
+            ends_in_comma: read.ends_in_comma,
+            has_third_comma: read.has_third_comma,
         }))
     }
 
@@ -122,7 +147,7 @@ impl KeptName {
     pub fn parts(&self) -> NameParts<'_>
         ensures { parts_view result ≡ spec.parts_of (kept_bytes self.now) }
     {
-        NameParts::of(&self.list)
+        NameParts::of(&self.names, &self.list, self.ranges)
     }
 
     /// Whether something is wrong with it.
@@ -166,10 +191,19 @@ fn next_start(names: &[u8], start: usize) -> Option<usize>
     ensures { MatchOption result (drop 1 (names_from names.now start) ≡ [])
         (λ next. (next ≤ length names.now) × (drop 1 (names_from names.now start) ≡ names_from names.now next)) }
 {
-    let rest = &names[start..];
-    let len = name_len(rest);
-    if rest.len() - len < 3 {
+    let len = name_len(&names[start..]);
+    start_behind(names, Place { from: start, len })
+}
+
+// Where the name behind the one of a place begins, if there is one.
+fn start_behind(names: &[u8], place: Place) -> Option<usize>
+    requires inside { place.from ≤ length names.now }
+    requires measured { place.len ≡ first_name_len 0 (drop place.from names.now) }
+    ensures { MatchOption result (drop 1 (names_from names.now place.from) ≡ [])
+        (λ next. (next ≤ length names.now) × (drop 1 (names_from names.now place.from) ≡ names_from names.now next)) }
+{
+    if names.len() - place.from - place.len < 3 {
         return None;
     }
-    Some(start + len + 3)
+    Some(place.from + place.len + 3)
 }

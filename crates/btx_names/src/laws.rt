@@ -1,7 +1,7 @@
 //! Laws over the definitions. Each function has an empty body, and its contract is the law.
 ghost use Rattle.std.specs.Prelude.{◌≡◌, ℕ, List, [], ◌∷◌, ◌++◌, ◌+◌, ◌==◌, None, Some, length, map, filter, min, nat_lt, false, not, true};
 ghost use Rattle.std.specs.List.{join_by, list_all};
-ghost use Rattle.btx_names.specs.language.VonTokens.{casing, is_von};
+ghost use Rattle.btx_names.specs.language.VonTokens.{is_von};
 ghost use Rattle.btx_names.specs.laws.VonGlyphs.{are_lower};
 ghost use Rattle.btx_strings.specs.language.Controls.{glyphs_of};
 ghost use Rattle.btx_text.specs.language.Elements.{Element, elements_of};
@@ -20,6 +20,7 @@ ghost use Rattle.btx_names.specs.laws.WrittenFormats.{IsFormatOf, are_items};
 ghost use Rattle.btx_names.specs.laws.FormatTexts.{copied_of, in_lower_case, literals_bytes, text_of_items};
 ghost use Rattle.btx_names.specs.language.Tokens.{NameToken, tokens_of};
 ghost use Rattle.btx_names.specs.laws.Tokens.{breaks_of, is_some_text};
+ghost use Rattle.btx_names.specs.laws.VonTokens.{casing};
 
 /// A string that isn't empty has one more name than separators.
 #[tactic(auto, using(crate::proofs::SeparatorLemmas::counted))]

@@ -13,7 +13,7 @@ mod name_formatter;
 mod name_list;
 mod name_parts;
 mod name_ranges;
-mod name_sections;
+mod name_reading;
 mod name_token;
 mod name_tokens;
 mod part;

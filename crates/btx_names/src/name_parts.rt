@@ -1,7 +1,7 @@
 //! The four parts of a name: First, von, Last and Jr.
-ghost use Rattle.std.specs.Prelude.{◌≡◌, ◌≤◌, length};
+ghost use Rattle.std.specs.Prelude.{◌≡◌};
 
-use crate::name_ranges::{Ranges, von_end};
+use crate::name_ranges::Ranges;
 use crate::part::Part;
 use crate::token_list::TokenList;
 
@@ -19,55 +19,29 @@ pub struct NameParts<'t> {
 }
 
 impl<'t> NameParts<'t> {
+    ghost use Rattle.std.specs.List.{All};
     ghost use Rattle.btx_names.specs.language.NameParts as spec;
+    ghost use Rattle.btx_names.specs.refinement.NameTokens.{Hold};
     ghost use Rattle.btx_names.specs.refinement.PartViews.{part_tokens, parts_view};
-    ghost use Rattle.btx_names.specs.refinement.TokenLists.{IsListOf};
+    ghost use Rattle.btx_names.specs.refinement.TokenLists.{AreRangesOf, IsListOf};
 
-    /// The parts of a name, of the list of its tokens.
-    pub fn of(list: &'t TokenList) -> NameParts<'t>
-        requires { (sections : spec.Sections) × IsListOf list.now sections }
-        ensures { (sections : spec.Sections) → IsListOf list.now sections → parts_view result ≡ spec.parts_by sections }
+    /// The parts of a name, of the list of its tokens, the list of names that has their bytes, and where its parts begin.
+    pub fn of(names: &'t [u8], list: &'t TokenList, ranges: Ranges) -> NameParts<'t>
+        requires sections { (sections : spec.Sections) × IsListOf names.now list.now sections }
+        requires held { All (Hold names.now) list.now.tokens.items }
+        requires ranges { AreRangesOf names.now list.now ranges }
+        ensures { (sections : spec.Sections) → IsListOf names.now list.now sections → parts_view result ≡ spec.parts_by sections }
     {
         let all = Part {
-            bytes: &list.bytes,
+            bytes: names,
             tokens: &list.tokens,
         };
         let (surname, others) = all.split_at(list.surname);
-        let (jr, first) = others.split_at(list.jr);
-        if list.has_commas {
-            return NameParts::with_commas(surname, jr, first);
-        }
-        NameParts::without_commas(surname, jr)
-    }
-
-    // The parts of a name without commas: First von Last.
-    fn without_commas(name: Part<'t>, jr: Part<'t>) -> NameParts<'t>
-        ensures first { part_tokens result.first ≡ (spec.unsplit (part_tokens name.entry)).first }
-        ensures von { part_tokens result.von ≡ (spec.unsplit (part_tokens name.entry)).von }
-        ensures last { part_tokens result.last ≡ (spec.unsplit (part_tokens name.entry)).last }
-        ensures jr { part_tokens result.jr ≡ part_tokens jr.entry }
-    {
-        let ranges = Ranges::of(name);
-        let (first, others) = name.split_at(ranges.von_start);
+        let (jr, behind) = others.split_at(list.jr);
+        let (before, others) = surname.split_at(ranges.von_start);
         let (von, last) = others.split_at(ranges.last_start - ranges.von_start);
         NameParts {
-            first,
-            von,
-            last,
-            jr,
-        }
-    }
-
-    // The parts of a name with commas, by its sections.
-    fn with_commas(surname: Part<'t>, jr: Part<'t>, first: Part<'t>) -> NameParts<'t>
-        ensures first { part_tokens result.first ≡ part_tokens first.entry }
-        ensures von { part_tokens result.von ≡ (spec.parted (part_tokens surname.entry) (part_tokens jr.entry) (part_tokens first.entry)).von }
-        ensures last { part_tokens result.last ≡ (spec.parted (part_tokens surname.entry) (part_tokens jr.entry) (part_tokens first.entry)).last }
-        ensures jr { part_tokens result.jr ≡ part_tokens jr.entry }
-    {
-        let (von, last) = surname.split_at(von_end(surname));
-        NameParts {
-            first,
+            first: if list.has_commas { behind } else { before },
             von,
             last,
             jr,

@@ -3,7 +3,7 @@
 use crate::name_tokens::Joint;
 use crate::place::Place;
 
-/// A token of a name, with what each piece of a format may ask of it. Its bytes are kept beside it.
+/// A token of a name, with what each piece of a format may ask of it. Its bytes stand in the list of names.
 #[derive(Clone, Copy, Debug)]
 pub struct NameToken {
     /// Its bytes.

@@ -8,7 +8,7 @@ use crate::name_token::NameToken;
 /// A range of the tokens of a name.
 #[derive(Clone, Copy, Debug)]
 pub struct Part<'t> {
-    /// The bytes of all tokens of the name.
+    /// The list of names, in which its tokens have their places.
     pub bytes: &'t [u8],
     /// Its tokens, first to last.
     pub tokens: &'t [NameToken],

@@ -1,5 +1,5 @@
 //! Places in bytes that are kept.
-ghost use Rattle.std.specs.Prelude.{◌≡◌, ◌≤◌, ◌+◌, length};
+ghost use Rattle.std.specs.Prelude.{◌≡◌};
 ghost use Rattle.btx_names.specs.refinement.Places.{bytes_at};
 
 /// Some bytes among others: where they begin, and how many they are.
@@ -12,18 +12,6 @@ pub struct Place {
 }
 
 impl Place {
-    /// The place of the last `len` bytes.
-    pub fn last_of(bytes: &[u8], len: usize) -> Place
-        requires { len ≤ length bytes.now }
-        ensures from { result.from + len ≡ length bytes.now }
-        ensures len { result.len ≡ len }
-    {
-        Place {
-            from: bytes.len() - len,
-            len,
-        }
-    }
-
     /// The bytes at this place. What of it lies behind the end has none.
     #[tactic(auto, using(crate::proofs::PlaceLemmas::place_steps))]
     pub fn of(self, bytes: &[u8]) -> &[u8]

@@ -1,15 +1,15 @@
 //! What stands between two names.
 ghost use Rattle.std.specs.Prelude.{◌≡◌, ◌==◌, ◌&&◌};
-ghost use Rattle.btx_text.specs.language.Class.{is_between};
 ghost use Rattle.btx_names.specs.language.NameLists as spec;
 ghost use Rattle.btx_names.specs.refinement.Steps as steps;
+ghost use Rattle.std.specs.Int.{is_in_range};
 
 use btx_text::classify::is_white;
 use btx_text::depths::depth_after;
 
 // Whether a separator stands where the brace depth is given: a white byte, `and` in any case, and a white byte, at depth 0.
 #[tactic(auto, unfolding(crate::specs::language::NameLists::is_separator))]
-fn separates(depth: usize, text: &[u8]) -> bool
+pub(crate) fn separates(depth: usize, text: &[u8]) -> bool
     ensures { result ≡ (depth == 0 && spec.is_separator text.now) }
 {
     depth == 0
@@ -23,7 +23,7 @@ fn separates(depth: usize, text: &[u8]) -> bool
 
 // Whether a byte is from `!` to `z`. Such a byte is neither white nor a brace: it begins no separator, and it leaves the depth as it is.
 fn is_plain(byte: u8) -> bool
-    ensures { result ≡ is_between 33 122 byte }
+    ensures { result ≡ is_in_range 33 122 byte }
 {
     matches!(byte, b'!'..=b'z')
 }

@@ -1,8 +1,10 @@
 //! Which tokens of a name are von.
 ghost use Rattle.std.specs.Prelude.{◌≡◌, find, take_while, length, IfSome};
+ghost use Rattle.std.specs.Char.{is_ascii_alphabetic};
 ghost use Rattle.btx_text.specs.language.Class.{is_alpha};
 ghost use Rattle.btx_text.specs.refinement.Parts.{part_of};
 ghost use Rattle.btx_names.specs.language.VonTokens as spec;
+ghost use Rattle.btx_names.specs.laws.VonTokens as law;
 
 use btx_strings::controls::letters;
 use btx_text::classify::is_alpha;
@@ -23,7 +25,7 @@ pub fn is_von(token: &[u8]) -> bool
 
 // Whether an element is lower case, if it decides that: special characters and letters at depth 0 do.
 fn casing(element: Element<'_>) -> Option<bool>
-    ensures { result ≡ spec.casing (part_of element.entry) }
+    ensures { result ≡ law.casing (part_of element.entry) }
 {
     let first = element.text[0];
     match element.kind {
@@ -74,7 +76,7 @@ fn begins_lower(text: &[u8]) -> bool
 
 // The first letter `A-Z` or `a-z` of a text.
 fn first_letter(text: &[u8]) -> Option<u8>
-    ensures { result ≡ find spec.is_cased text.now }
+    ensures { result ≡ find is_ascii_alphabetic text.now }
 {
     text.iter().copied().find(|byte| byte.is_ascii_alphabetic())
 }

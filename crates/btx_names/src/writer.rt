@@ -68,12 +68,15 @@ impl Writer {
         self.start = self.text.len();
     }
 
-    /// Adds bytes, unless the text would grow too long.
+    /// Adds bytes, unless the text would grow too long. Most pieces have none before their tokens, and none behind them.
     pub fn push(&mut self, bytes: &[u8]) -> Result<(), Fault>
         ensures text { Becomes (greatest_string + 1) result self.new.text.items (self.old.text.items ++ bytes.now) }
         ensures start { self.new.start ≡ self.old.start }
         ensures mode { self.new.mode ≡ self.old.mode }
     {
+        if bytes.is_empty() {
+            return Ok(());
+        }
         if bytes.len() > GREATEST_STRING + 1 - self.text.len() {
             return Err(Fault::StringLimit);
         }

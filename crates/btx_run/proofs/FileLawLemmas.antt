@@ -2,30 +2,31 @@
 use Rattle.std.proofs.Common.{◌≡◌, ℕ, suc, ◌+◌, List, [], ◌∷◌, ◌++◌, Option, None, Some, cond, length, map, refl, ap, ◌∙◌, append-nil, length-append, arith}
 use Rattle.std.specs.List.{filter}
 use Rattle.std.specs.Option.{option_map}
-use Rattle.std.specs.Prelude.{is_none}
+use Rattle.std.specs.Prelude.{is_none, option_to_list}
 use Rattle.std.proofs.lemmas.Grind.{flat_map-append}
 use Rattle.btx_text.specs.language.LogLines.{Line, is_error}
 use Rattle.btx_aux.specs.language.Files.{Files}
 use Rattle.btx_run.specs.language.Files.Lines.{database_line, no_database_line}
-use Rattle.btx_run.specs.language.Files.Found.{NamedFile, file_at, named_file}
+use Rattle.btx_run.specs.language.Files.Found.{NamedFile, file_at}
 use Rattle.btx_run.specs.laws.Files.Laws.{FoundAreNumbered, MissingAreErrors, OneLineEach, is_plain_line, numbered}
-use Rattle.btx_run.specs.language.Files.Readings.{as_list, database_logged, databases_logged, files_found}
+use Rattle.btx_run.specs.language.Files.Readings.{database_logged, databases_logged, files_found}
+use Rattle.btx_run.specs.refinement.Files.Found.{named_file}
 
 -- ---- the databases that were found are numbered
 
 numbered_step : (n : ℕ) (name : List ℕ) (bytes : Option (List ℕ)) (lines : List Line) (later : List NamedFile)
-    → filter (λ line. is_plain_line line.kind) lines ≡ numbered (n + length (as_list (option_map (named_file name) bytes)) + 1) later
-    → filter (λ line. is_plain_line line.kind) (database_logged (n + 1) name (option_map (named_file name) bytes) ∷ lines) ≡ numbered (n + 1) (as_list (option_map (named_file name) bytes) ++ later)
+    → filter (λ line. is_plain_line line.kind) lines ≡ numbered (n + length (option_to_list (option_map (named_file name) bytes)) + 1) later
+    → filter (λ line. is_plain_line line.kind) (database_logged (n + 1) name (option_map (named_file name) bytes) ∷ lines) ≡ numbered (n + 1) (option_to_list (option_map (named_file name) bytes) ++ later)
 unfolding database_line no_database_line
 numbered_step n name None lines later is = is ∙ ap (λ k. numbered k later) (omega arith)
 numbered_step n name (Some bytes) lines later is = ap (λ l. database_line (n + 1) name ∷ l) (is ∙ ap (λ k. numbered (k + 1) later) (omega arith))
 
 -- how many are found with one more name
 found_with : (files : Files) (earlier : List (List ℕ)) (name : List ℕ)
-    → length (files_found files (earlier ++ name ∷ [])) ≡ length (files_found files earlier) + length (as_list (file_at files name))
+    → length (files_found files (earlier ++ name ∷ [])) ≡ length (files_found files earlier) + length (option_to_list (file_at files name))
 found_with files earlier name =
-    ap length (flat_map-append (λ name. as_list (file_at files name)) earlier (name ∷ []) ∙ ap (λ l. files_found files earlier ++ l) (append-nil (as_list (file_at files name))))
-    ∙ length-append (files_found files earlier) (as_list (file_at files name))
+    ap length (flat_map-append (λ name. option_to_list (file_at files name)) earlier (name ∷ []) ∙ ap (λ l. files_found files earlier ++ l) (append-nil (option_to_list (file_at files name))))
+    ∙ length-append (files_found files earlier) (option_to_list (file_at files name))
 
 numbered_from : (files : Files) (earlier names : List (List ℕ))
     → filter (λ line. is_plain_line line.kind) (databases_logged files earlier names) ≡ numbered (length (files_found files earlier) + 1) (files_found files names)

@@ -18,8 +18,8 @@ use Rattle.btx_bib.specs.language.Library.{Library}
 use Rattle.btx_bib.specs.language.Requests.{asked}
 use Rattle.btx_step.specs.language.Jobs.{Job}
 use Rattle.btx_machine.specs.refinement.Faults.{CountsOfLog, CountsOfOutputs}
-use Rattle.btx_machine.specs.language.KeepingStep.{AtFault, BothBegin, BothExtend, Completes, KeepsStep, LastLineBehindList}
-use Rattle.btx_machine.specs.language.Product.{Product, product_early, product_of, executed, style_product}
+use Rattle.btx_machine.specs.language.KeepingStep.{AtFault, BothBegin, BothExtend, Completes}
+use Rattle.btx_machine.specs.language.Product.{Product, product_of, executed, style_product}
 use Rattle.btx_machine.specs.language.Reports.{last_line, log_counts}
 use Rattle.btx_machine.specs.language.Saying.{ended_line}
 use Rattle.btx_machine.specs.language.States.{Outcome, Done, Stopped, Limit}
@@ -33,12 +33,15 @@ use Rattle.btx_run.specs.declared.files.found.FilesRead.{FilesRead}
 use Rattle.btx_run.specs.declared.files.found.JobFiles.{JobFiles}
 use Rattle.btx_run.specs.declared.options.Options.{Options}
 use Rattle.btx_run.specs.language.Files.Counts.{Counts, counts_of}
-use Rattle.btx_run.specs.language.Files.Readings.{Logged, files_read, job_named}
-use Rattle.btx_run.specs.refinement.Files.Readings.{IsRead}
+use Rattle.btx_run.specs.language.Files.Readings.{Logged, job_named}
+use Rattle.btx_run.specs.refinement.Files.Readings.{IsRead, files_read}
 use Rattle.btx_run.specs.language.Files.Telling.{bytes_of_lines}
 use Rattle.btx_run.specs.refinement.Files.Telling.{Tells}
 use Rattle.btx_run.specs.language.Contents.{database_of, style_in}
-use Rattle.btx_run.specs.language.Product.{product, product_of_files, product_of_reading, product_with, logged_before, counts_in, work_in, work_of}
+use Rattle.btx_run.specs.language.Product.{product, product_of_files, product_of_reading, product_with, logged_before, counts_in, work_in}
+use Rattle.btx_run.specs.refinement.Product.{work_of}
+use Rattle.btx_machine.specs.refinement.KeepingStep.{LastLineBehindList, KeepsStep}
+use Rattle.btx_machine.specs.refinement.Product.{product_early}
 
 -- ---- what the style works on
 

@@ -5,14 +5,14 @@ use Rattle.std.proofs.lemmas.Bool.Decides.{nat_tests}
 use Rattle.std.proofs.lemmas.Grind.{flat_map-append}
 use Rattle.std.proofs.lemmas.List.{map-append, take-append-drop, take_more}
 use Rattle.btx_text.specs.declared.fault.Fault.{Fault}
-use Rattle.btx_text.specs.language.Limits.{greatest_file}
+use Rattle.btx_text.specs.language.Limits.{greatest_file, is_too_long}
 use Rattle.btx_text.specs.language.LogLines.{Line}
 use Rattle.btx_aux.specs.refinement.Entries.{Bytes, texts_of}
 use Rattle.btx_aux.specs.language.Files.{Files, file_of}
 use Rattle.btx_out.specs.language.Pieces.{AppendsBeginning}
 use Rattle.btx_out.proofs.PieceLemmas.{beginning-none_same}
 use Rattle.btx_run.specs.language.Files.Counts.{Counts}
-use Rattle.btx_run.specs.language.Files.Found.{NamedFile, file_at, named_file}
+use Rattle.btx_run.specs.language.Files.Found.{NamedFile, file_at}
 use Rattle.btx_aux.specs.language.Job.{AuxJob}
 use Rattle.btx_aux.specs.declared.end.End.{End as AuxEnd}
 use Rattle.btx_aux.specs.declared.end.End.TheVariants as aux
@@ -23,10 +23,11 @@ use Rattle.btx_machine.specs.declared.report.End.TheVariants as ended
 use Rattle.btx_run.specs.language.Files.Telling.{bytes_of_lines}
 use Rattle.btx_run.specs.refinement.Files.Telling.{LogReceived, Counted, Tells}
 use Rattle.btx_run.specs.language.Files.Lines.{no_style_line, style_line}
-use Rattle.btx_run.specs.language.Files.Readings.{Logged, after_job, as_list, behind, database_logged, databases_read, databases_logged, files_found, logged, style_named, style_read}
+use Rattle.btx_run.specs.language.Files.Readings.{Logged, after_job, behind, database_logged, databases_read, databases_logged, files_found, logged, style_named, style_read}
 use Rattle.btx_run.specs.refinement.Files.Readings.{AddsAs, IsAdded, IsRead, ReadsAs, after_style, database_read}
-use Rattle.btx_run.specs.language.Files.Names.{is_file_too_long}
 use Rattle.btx_run.proofs.TellingLemmas.{part_begins, rest_begins, tells_both, tells_nothing}
+use Rattle.std.specs.Prelude.{option_to_list}
+use Rattle.btx_run.specs.refinement.Files.Found.{named_file}
 
 -- ---- contents
 
@@ -123,11 +124,11 @@ told_more : (files : Files) (names : List Bytes) (i : ℕ) (name : Bytes) → i 
 told_more files names i name lt is = ap (databases_logged files []) (names_more names i name lt is) ∙ databases_told-append files [] (texts_of (take i names)) (name.items ∷ [])
 
 found_more : (files : Files) (names : List Bytes) (i : ℕ) (name : Bytes) → i < length names → name ≡ get_or names i name
-    → files_found files (texts_of (take (i + 1) names)) ≡ files_found files (texts_of (take i names)) ++ as_list (file_at files name.items)
+    → files_found files (texts_of (take (i + 1) names)) ≡ files_found files (texts_of (take i names)) ++ option_to_list (file_at files name.items)
 found_more files names i name lt is =
     ap (files_found files) (names_more names i name lt is)
-    ∙ flat_map-append (λ name. as_list (file_at files name)) (texts_of (take i names)) (name.items ∷ [])
-    ∙ ap (λ l. files_found files (texts_of (take i names)) ++ l) (append-nil (as_list (file_at files name.items)))
+    ∙ flat_map-append (λ name. option_to_list (file_at files name)) (texts_of (take i names)) (name.items ∷ [])
+    ∙ ap (λ l. files_found files (texts_of (take i names)) ++ l) (append-nil (option_to_list (file_at files name.items)))
 
 -- a database's line was logged
 pub database_is_read : (files : Files) (number : ℕ) (name : List ℕ) (found : Option NamedFile) (line : Line) (a b : Counts) (x y : Option (List ℕ)) → found ≡ file_at files name
@@ -145,10 +146,10 @@ database_is_begun files number name found line r a b x y err is is_line part =
 
 -- a database that was read as the next one is kept
 pub adds_found : (files : Files) (before after : List NamedFile) (number : ℕ) (name : List ℕ) (found : Option NamedFile) (a b : Counts) (x y : Option (List ℕ))
-    → number ≡ length before + 1 → after ≡ before ++ as_list found → IsRead found (a, b) (x, y) (database_read files number name)
+    → number ≡ length before + 1 → after ≡ before ++ option_to_list found → IsRead found (a, b) (x, y) (database_read files number name)
     → IsAdded before after (a, b) (x, y) (database_read files (length before + 1) name)
 adds_found files before after number name found a b x y next kept read = record {
-  kept = kept ∙ ap (λ found. before ++ as_list found) read.gives;
+  kept = kept ∙ ap (λ found. before ++ option_to_list found) read.gives;
   tells = subst (λ number. Tells (a, b) (x, y) (database_read files number name).told) next read.tells;
 }
 
@@ -165,7 +166,7 @@ pub databases_more : (files : Files) (names : List Bytes) (i : ℕ) (name : Byte
     → IsAdded found later (b, c) (y, z) (database_read files (length found + 1) text)
     → IsRead later (a, c) (x, z) (databases_read files (texts_of (take (i + 1) names)))
 databases_more files names i name text found later a b c x y z lt is same read added = record {
-  gives = added.kept ∙ ap (λ l. found ++ as_list (file_at files l)) same ∙ ap (λ l. l ++ as_list (file_at files name.items)) read.gives ∙ sym (found_more files names i name lt is);
+  gives = added.kept ∙ ap (λ l. found ++ option_to_list (file_at files l)) same ∙ ap (λ l. l ++ option_to_list (file_at files name.items)) read.gives ∙ sym (found_more files names i name lt is);
   tells =
       let here = subst (λ text. Tells (b, c) (y, z) (database_logged (length found + 1) text (file_at files text) ∷ [])) same added.tells in
       let next = subst (λ l. Tells (b, c) (y, z) (database_logged (length l + 1) name.items (file_at files name.items) ∷ [])) read.gives here in
@@ -191,17 +192,17 @@ databases_begin files names i name text found a b x y z lt is same read part =
 
 -- ---- the style
 
-pub style_too_long : (files : Files) (job : AuxJob) (style : NamedFile) (a : Counts) (x : Option (List ℕ)) → is_file_too_long style.bytes ≡ true
+pub style_too_long : (files : Files) (job : AuxJob) (style : NamedFile) (a : Counts) (x : Option (List ℕ)) → is_too_long style.bytes ≡ true
     → IsRead (Ends (ended.Limit kind.File)) (a, a) (x, x) (after_style files job style)
 unfolding after_style
 style_too_long files job style a x long = rw long (reads_at_once (Ends (ended.Limit kind.File)) a x)
 
 -- a style that isn't too long
-pub style_fits : (bytes : List ℕ) → is_file_too_long bytes ≡ false → length bytes ≤ greatest_file
+pub style_fits : (bytes : List ℕ) → is_too_long bytes ≡ false → length bytes ≤ greatest_file
 style_fits bytes short = grind (arith, nat_tests)
 
 pub databases_found : (files : Files) (job : AuxJob) (style : NamedFile) (names : List (List ℕ)) (found : List NamedFile) (a b : Counts) (x y : Option (List ℕ))
-    → is_file_too_long style.bytes ≡ false → names ≡ job.databases → IsRead found (a, b) (x, y) (databases_read files names)
+    → is_too_long style.bytes ≡ false → names ≡ job.databases → IsRead found (a, b) (x, y) (databases_read files names)
     → IsRead (Found (record { style = style; databases = found })) (a, b) (x, y) (after_style files job style)
 unfolding after_style
 databases_found files job style names found a b x y short is read =
@@ -209,7 +210,7 @@ databases_found files job style names found a b x y short is read =
     rw short (record { gives = ap (λ l. Found (record { style = style; databases = l })) here.gives; tells = here.tells })
 
 pub databases_fail : (r : Result FilesRead Fault) (files : Files) (job : AuxJob) (style : NamedFile) (names : List (List ℕ)) (a b : Counts) (x y : Option (List ℕ))
-    → IsErr r → is_file_too_long style.bytes ≡ false → names ≡ job.databases → AppendsBeginning x y (bytes_of_lines (databases_logged files [] names))
+    → IsErr r → is_too_long style.bytes ≡ false → names ≡ job.databases → AppendsBeginning x y (bytes_of_lines (databases_logged files [] names))
     → ReadsAs r (a, b) (x, y) (after_style files job style)
 unfolding after_style
 databases_fail (Ok value) files job style names a b x y err short is part = absurd (untrue err)

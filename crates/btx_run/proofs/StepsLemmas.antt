@@ -17,11 +17,11 @@ use Rattle.btx_run.specs.declared.files.found.FilesRead.{FilesRead}
 use Rattle.btx_run.specs.declared.files.found.FilesRead.TheVariants.{Ends, Found}
 use Rattle.btx_run.specs.declared.options.Options.{Options}
 use Rattle.btx_run.specs.language.Files.Found.{NamedFile, file_at}
-use Rattle.btx_run.specs.language.Files.Names.{is_file_too_long}
-use Rattle.btx_run.specs.language.Files.Readings.{Logged, logged, with_style, databases_read, style_read, style_named, after_job, job_named, reading_of}
-use Rattle.btx_run.specs.refinement.Files.Readings.{after_style}
+use Rattle.btx_run.specs.language.Files.Readings.{Logged, logged, databases_read, style_read, style_named, after_job, job_named, reading_of}
+use Rattle.btx_run.specs.refinement.Files.Readings.{after_style, with_style}
 use Rattle.btx_run.specs.laws.Laws.{NeedsLaw, StoppedLaw}
 use Rattle.btx_run.specs.language.Product.{product_of_files, logged_before, counts_in, work_in}
+use Rattle.btx_text.specs.language.Limits.{is_too_long}
 
 -- ---- what a run needs that isn't stopped
 
@@ -63,7 +63,7 @@ one_of false x y f g = g
 found_goes_on : (files : Files) (job : AuxJob) (style : NamedFile) → GoesOn (after_style files job style).gives
 unfolding after_style
 found_goes_on files job style =
-    one_of (is_file_too_long style.bytes) (logged [] (Ends (ended.Limit kind.File))) (with_style style (databases_read files job.databases)) (other_end (ended.Limit kind.File) refl) tt
+    one_of (is_too_long style.bytes) (logged [] (Ends (ended.Limit kind.File))) (with_style style (databases_read files job.databases)) (other_end (ended.Limit kind.File) refl) tt
 
 read_goes_on : (files : Files) (job : AuxJob) (name : List ℕ) (style : Option NamedFile) → GoesOn (style_read files job name style).gives
 unfolding style_read after_style

@@ -12,10 +12,11 @@ ghost use Rattle.btx_run.specs.language.Answered.{CompletesAsAnswered, FailsAsAn
 ghost use Rattle.btx_run.specs.language.DirectStyles.{WhereDirect};
 ghost use Rattle.btx_run.specs.refinement.Files.Asked.{AreAmong, names_in};
 ghost use Rattle.btx_run.specs.refinement.Files.Faults.{CountsOfThree};
-ghost use Rattle.btx_run.specs.language.Files.Readings.{files_read, reading_of};
-ghost use Rattle.btx_run.specs.refinement.Files.Readings.{StyleFits};
-ghost use Rattle.btx_run.specs.language.Product.{product, product_of_files, product_of_reading, product_with, work_in, work_of};
+ghost use Rattle.btx_run.specs.language.Files.Readings.{reading_of};
+ghost use Rattle.btx_run.specs.refinement.Files.Readings.{StyleFits, files_read};
+ghost use Rattle.btx_run.specs.language.Product.{product, product_of_files, product_of_reading, product_with, work_in};
 ghost use Rattle.btx_run.specs.language.RunFaults.{CountsOfRun};
+ghost use Rattle.btx_run.specs.refinement.Product.{work_of};
 
 use crate::contents::read_library;
 use crate::files::{FilesRead, JobFiles, Journal, read_files, read_job};

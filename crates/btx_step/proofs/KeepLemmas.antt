@@ -20,13 +20,16 @@ use Rattle.btx_step.specs.language.Stores.{Store}
 use Rattle.btx_step.specs.language.Answers.{Answer, answer, with_literals, pushes, pushes_text, complained}
 use Rattle.btx_step.specs.laws.Leaves.{StandUnder}
 use Rattle.btx_step.specs.language.Operands.{Operand, Does, Push, Back, on_operands}
-use Rattle.btx_step.specs.language.Table.{row, misses_entry}
+use Rattle.btx_step.specs.language.Table.{row}
 use Rattle.btx_step.specs.language.Arithmetic as arithmetic
+use Rattle.btx_step.specs.refinement.Arithmetic as kept_arithmetic
 use Rattle.btx_step.specs.language.Entries as entries
-use Rattle.btx_step.specs.language.Stacks as stacks
+use Rattle.btx_step.specs.refinement.Entries as kept_entries
+use Rattle.btx_step.specs.refinement.Stacks as stacks
 use Rattle.btx_step.specs.language.Strings as strings
-use Rattle.btx_step.specs.language.Variables as variables
+use Rattle.btx_step.specs.refinement.Variables as variables
 use Rattle.btx_step.proofs.RuleLemmas.{Each, Taken, by_rule}
+use Rattle.btx_step.specs.refinement.Table.{misses_entry}
 
 -- a step left all but the literals of a store, and these literals below its results
 pub record Keeps (all : Store) (below : List Literal) (a : Answer) : Type 0 where
@@ -95,7 +98,7 @@ result : (b : Bool) (n : ℤ) (s : Store) → Kept s (arithmetic.result_if b n s
 result true n s = pushing said.Nothing _ s
 result false n s = complaining _ stand_in.Zero s
 
-calculated : (calculation : Calculation) (b a : ℤ) (s : Store) → Kept s (arithmetic.calculated calculation b a s)
+calculated : (calculation : Calculation) (b a : ℤ) (s : Store) → Kept s (kept_arithmetic.calculated calculation b a s)
 calculated Greater b a s = pushing said.Nothing _ s
 calculated Less b a s = pushing said.Nothing _ s
 calculated Plus b a s = result _ _ s
@@ -131,15 +134,15 @@ swaps (x ∷ y ∷ xs) s = record { rest = refl; stand = record { results = y �
 
 -- ---- entries and variables
 
-pub field : (job : Job) (i : ℕ) (current : Option ℕ) (s : Store) → Keeps (with_literals [] s) s.literals (entries.field_pushed job i current s)
+pub field : (job : Job) (i : ℕ) (current : Option ℕ) (s : Store) → Keeps (with_literals [] s) s.literals (kept_entries.field_pushed job i current s)
 field job i None s = complaining _ stand_in.Nothing s
 field job i (Some entry) s = pushing said.Nothing _ s
 
-pub cites : (job : Job) (current : Option ℕ) (s : Store) → Keeps (with_literals [] s) s.literals (entries.cites job current s)
+pub cites : (job : Job) (current : Option ℕ) (s : Store) → Keeps (with_literals [] s) s.literals (kept_entries.cites job current s)
 cites job None s = complaining _ stand_in.Nothing s
 cites job (Some entry) s = pushing_text said.Nothing _ s
 
-pub gives_type : (job : Job) (current : Option ℕ) (s : Store) → Keeps (with_literals [] s) s.literals (entries.gives_type job current s)
+pub gives_type : (job : Job) (current : Option ℕ) (s : Store) → Keeps (with_literals [] s) s.literals (kept_entries.gives_type job current s)
 gives_type job None s = complaining _ stand_in.Nothing s
 gives_type job (Some entry) s = pushing_text said.Nothing _ s
 
@@ -147,7 +150,7 @@ type_run : (f : Option ℕ) (s : Store) → Keeps (with_literals [] s) s.literal
 type_run None s = answered next.Nothing said.Nothing s
 type_run (Some f) s = answered _ said.Nothing s
 
-pub calls_type : (job : Job) (current : Option ℕ) (s : Store) → Keeps (with_literals [] s) s.literals (entries.calls_type job current s)
+pub calls_type : (job : Job) (current : Option ℕ) (s : Store) → Keeps (with_literals [] s) s.literals (kept_entries.calls_type job current s)
 calls_type job None s = complaining _ stand_in.Nothing s
 calls_type job (Some entry) s = type_run _ s
 

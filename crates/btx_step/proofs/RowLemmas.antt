@@ -14,12 +14,13 @@ use Rattle.btx_step.specs.language.Stores.{Store, EntryVariables}
 use Rattle.btx_step.specs.language.Answers.{Answer, answer, done, quiet, says, pushed, pushed_text, with_literals}
 use Rattle.btx_step.specs.language.Operands.{on_operands}
 use Rattle.btx_step.specs.language.Table.{row, runs}
-use Rattle.btx_step.specs.language.Stacks.{swaps, duplicates}
-use Rattle.btx_step.specs.language.Strings.{joins}
 use Rattle.btx_step.specs.language.Variables as variables
+use Rattle.btx_step.specs.refinement.Variables as kept_variables
 use Rattle.btx_step.specs.language.Steps.{built_in_run, function_run}
 use Rattle.btx_step.specs.laws.Laws.{SwapTwice, DuplicatePop, StringsEndAtLimit, InEntry, ReadsBack}
 use Rattle.btx_step.proofs.ValueLemmas.{read_at}
+use Rattle.btx_step.specs.refinement.Strings.{joins}
+use Rattle.btx_step.specs.refinement.Stacks.{duplicates, swaps}
 
 pub swap_twice : SwapTwice
 unfolding built_in_run
@@ -73,23 +74,23 @@ all_kept most text short = take_all most text short
 
 -- the values of an entry that was written
 written_values : (entries : List EntryVariables) (entry : ℕ) (values : EntryVariables) → entry < length entries → variables.values_of (slice_set entries entry values) entry ≡ values
-written_values entries entry values within = ap variables.values_in (read_at entries entry values within)
+written_values entries entry values within = ap kept_variables.values_in (read_at entries entry values within)
 
 entry_integer_back : (job : Job) (i : ℕ) (n : ℤ) (xs : List Literal) (s : Store) (entry : ℕ) → length xs < 1000
     → entry < length s.entries → i < length (variables.values_of s.entries entry).integers
-    → (variables.entry_integer i (Some entry) (variables.with_entry_integer entry i n (with_literals xs s))).store.literals ≡ Integer n ∷ xs
+    → (kept_variables.entry_integer i (Some entry) (variables.with_entry_integer entry i n (with_literals xs s))).store.literals ≡ Integer n ∷ xs
 entry_integer_back job i n xs s entry room within inside =
     on_top _ (variables.with_entry_integer entry i n (with_literals xs s)) room
-    ∙ ap (λ m. Integer m ∷ xs) (ap (λ (values : EntryVariables). variables.integer_in (slice_get values.integers i)) (written_values s.entries entry _ within)
-    ∙ ap variables.integer_in (read_at (variables.values_of s.entries entry).integers i n inside))
+    ∙ ap (λ m. Integer m ∷ xs) (ap (λ (values : EntryVariables). kept_variables.integer_in (slice_get values.integers i)) (written_values s.entries entry _ within)
+    ∙ ap kept_variables.integer_in (read_at (variables.values_of s.entries entry).integers i n inside))
 
 entry_string_back : (job : Job) (i : ℕ) (text : List ℕ) (xs : List Literal) (s : Store) (entry : ℕ) → length xs < 1000
     → entry < length s.entries → i < length (variables.values_of s.entries entry).strings
-    → (variables.entry_string i (Some entry) (variables.with_entry_string entry i text (with_literals xs s))).store.literals ≡ Text text ∷ xs
+    → (kept_variables.entry_string i (Some entry) (variables.with_entry_string entry i text (with_literals xs s))).store.literals ≡ Text text ∷ xs
 entry_string_back job i text xs s entry room within inside =
     on_top _ (variables.with_entry_string entry i text (with_literals xs s)) room
-    ∙ ap (λ t. Text t ∷ xs) (ap (λ (values : EntryVariables). variables.string_in (slice_get values.strings i)) (written_values s.entries entry _ within)
-    ∙ ap variables.string_in (read_at (variables.values_of s.entries entry).strings i text inside))
+    ∙ ap (λ t. Text t ∷ xs) (ap (λ (values : EntryVariables). kept_variables.string_in (slice_get values.strings i)) (written_values s.entries entry _ within)
+    ∙ ap kept_variables.string_in (read_at (variables.values_of s.entries entry).strings i text inside))
 
 -- what is stored in a variable of an entry, by the current entry
 integer_stored : ℕ → ℤ → List Literal → Store → Option ℕ → Store
@@ -100,23 +101,23 @@ string_stored most i text xs s current = (variables.in_entry (λ entry. variable
 
 integer_back : (job : Job) (i : ℕ) (n : ℤ) (xs : List Literal) (s : Store) (entry : Option ℕ) → s.current ≡ entry → length xs < 1000
     → InEntry entry (λ entry. (entry < length s.entries) × (i < length (variables.values_of s.entries entry).integers))
-    → (variables.entry_integer i (integer_stored i n xs s s.current).current (integer_stored i n xs s s.current)).store.literals ≡ Integer n ∷ xs
+    → (kept_variables.entry_integer i (integer_stored i n xs s s.current).current (integer_stored i n xs s s.current)).store.literals ≡ Integer n ∷ xs
 unfolding integer_stored
 integer_back job i n xs s None e room takes = absurd takes
 integer_back job i n xs s (Some entry) e room takes =
-    ap (λ c. (variables.entry_integer i (integer_stored i n xs s c).current (integer_stored i n xs s c)).store.literals) e
-    ∙ ap (λ c. (variables.entry_integer i c (variables.with_entry_integer entry i n (with_literals xs s))).store.literals) e
+    ap (λ c. (kept_variables.entry_integer i (integer_stored i n xs s c).current (integer_stored i n xs s c)).store.literals) e
+    ∙ ap (λ c. (kept_variables.entry_integer i c (variables.with_entry_integer entry i n (with_literals xs s))).store.literals) e
     ∙ entry_integer_back job i n xs s entry room takes.0 takes.1
 
 string_back : (job : Job) (i : ℕ) (text : List ℕ) (xs : List Literal) (s : Store) (entry : Option ℕ) → s.current ≡ entry → length xs < 1000
     → InEntry entry (λ entry. (entry < length s.entries) × (i < length (variables.values_of s.entries entry).strings) × (length text ≤ job.entry_max))
-    → (variables.entry_string i (string_stored job.entry_max i text xs s s.current).current (string_stored job.entry_max i text xs s s.current)).store.literals ≡ Text text ∷ xs
+    → (kept_variables.entry_string i (string_stored job.entry_max i text xs s s.current).current (string_stored job.entry_max i text xs s s.current)).store.literals ≡ Text text ∷ xs
 unfolding string_stored
 string_back job i text xs s None e room takes = absurd takes
 string_back job i text xs s (Some entry) e room takes =
-    ap (λ c. (variables.entry_string i (string_stored job.entry_max i text xs s c).current (string_stored job.entry_max i text xs s c)).store.literals) e
-    ∙ ap (λ c. (variables.entry_string i c (variables.with_entry_string entry i (take job.entry_max text) (with_literals xs s))).store.literals) e
-    ∙ ap (λ t. (variables.entry_string i (Some entry) (variables.with_entry_string entry i t (with_literals xs s))).store.literals) (all_kept job.entry_max text takes.2)
+    ap (λ c. (kept_variables.entry_string i (string_stored job.entry_max i text xs s c).current (string_stored job.entry_max i text xs s c)).store.literals) e
+    ∙ ap (λ c. (kept_variables.entry_string i c (variables.with_entry_string entry i (take job.entry_max text) (with_literals xs s))).store.literals) e
+    ∙ ap (λ t. (kept_variables.entry_string i (Some entry) (variables.with_entry_string entry i t (with_literals xs s))).store.literals) (all_kept job.entry_max text takes.2)
     ∙ entry_string_back job i text xs s entry room takes.0 takes.1
 
 -- `:=` on these literals
@@ -126,17 +127,17 @@ assigning job xs s = on_operands (row built_in.Assign).operands (row built_in.As
 pub reads_back : ReadsBack
 unfolding built_in_run function_run integer_stored string_stored
 reads_back job (callee.GlobalInteger i) (Integer n) xs s e room takes =
-    ap (λ l. (variables.global_integer i (assigning job l s).store).store.literals) e
+    ap (λ l. (kept_variables.global_integer i (assigning job l s).store).store.literals) e
     ∙ on_top _ (variables.with_integer i n (with_literals xs s)) room
-    ∙ ap (λ m. Integer m ∷ xs) (ap variables.integer_in (read_at s.integers i n takes))
+    ∙ ap (λ m. Integer m ∷ xs) (ap kept_variables.integer_in (read_at s.integers i n takes))
 reads_back job (callee.GlobalString i) (Text text) xs s e room takes =
-    ap (λ l. (variables.global_string i (assigning job l s).store).store.literals) e
+    ap (λ l. (kept_variables.global_string i (assigning job l s).store).store.literals) e
     ∙ on_top _ (variables.with_string i (take job.global_max text) (with_literals xs s)) room
-    ∙ ap (λ t. Text t ∷ xs) (ap variables.string_in (read_at s.strings i (take job.global_max text) takes.0) ∙ all_kept job.global_max text takes.1)
+    ∙ ap (λ t. Text t ∷ xs) (ap kept_variables.string_in (read_at s.strings i (take job.global_max text) takes.0) ∙ all_kept job.global_max text takes.1)
 reads_back job (callee.EntryInteger i) (Integer n) xs s e room takes =
-    ap (λ l. (variables.entry_integer i (assigning job l s).store.current (assigning job l s).store).store.literals) e
+    ap (λ l. (kept_variables.entry_integer i (assigning job l s).store.current (assigning job l s).store).store.literals) e
     ∙ integer_back job i n xs s s.current refl room takes
 reads_back job (callee.EntryString i) (Text text) xs s e room takes =
-    ap (λ l. (variables.entry_string i (assigning job l s).store.current (assigning job l s).store).store.literals) e
+    ap (λ l. (kept_variables.entry_string i (assigning job l s).store.current (assigning job l s).store).store.literals) e
     ∙ string_back job i text xs s s.current refl room takes
 reads_back job f v xs s e room takes = absurd takes

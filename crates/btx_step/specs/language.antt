@@ -6,7 +6,6 @@ pub mod Arithmetic
 pub mod Strings
 pub mod Names
 pub mod Control
-pub mod Stacks
 pub mod Variables
 pub mod Entries
 pub mod Table

@@ -4,3 +4,13 @@ pub mod Answers
 pub mod Table
 pub mod Quick
 pub mod Pairs
+pub mod Variables
+pub mod Strings
+pub mod Arithmetic
+pub mod Entries
+pub mod Names
+pub mod Stacks
+pub mod Control
+pub mod Steps
+pub mod Sorting
+pub mod Starts

@@ -1,6 +1,7 @@
 //! The order of a list of entries.
 ghost use Rattle.std.specs.Prelude.{◌≡◌, OnOk, OnErr};
-ghost use Rattle.btx_step.specs.language.Sorting.{sorted, sort_key};
+ghost use Rattle.btx_step.specs.language.Sorting.{sorted};
+ghost use Rattle.btx_step.specs.refinement.Sorting.{sort_key};
 
 use crate::store::Store;
 use std::alloc::AllocError;

@@ -1,11 +1,12 @@
 //! The literals, the variables and the current entry, and what functions do to them.
 ghost use Rattle.std.specs.Prelude.{◌≡◌, ◌≤◌, ◌==◌, [], ◌∷◌, IfOk, IfSome, IfNone, length};
-ghost use Rattle.btx_step.specs.language.Answers.{answer, quiet, pushes, pushed, pushed_text, complained, complains, refuses, outside, truth, with_literals};
-ghost use Rattle.btx_step.specs.refinement.Answers.{silence, lacks};
+ghost use Rattle.btx_step.specs.language.Answers.{answer, quiet, pushes, pushed, pushed_text, complained, complains, truth, with_literals};
+ghost use Rattle.btx_step.specs.refinement.Answers.{silence, lacks, outside, refuses};
 ghost use Rattle.btx_text.specs.language.Limits.{greatest_string};
 ghost use Rattle.btx_step.specs.language.Control.{tested, tested_as};
 ghost use Rattle.btx_step.specs.refinement.Quick.{next_of_push};
-ghost use Rattle.btx_step.specs.language.Steps.{built_in_run, function_run, step_of, with_current, with_depth};
+ghost use Rattle.btx_step.specs.language.Steps.{built_in_run, function_run, step_of};
+ghost use Rattle.btx_step.specs.refinement.Steps.{with_current, with_depth};
 ghost use Rattle.btx_stack.specs.declared.literal.Literal.TheVariants as literal;
 ghost use Rattle.btx_step.specs.declared.said.Said.{Said as Words};
 ghost use Rattle.btx_step.specs.declared.said.Said.TheVariants as words;

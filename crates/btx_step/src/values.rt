@@ -1,7 +1,7 @@
 //! The values of variables, by number.
 ghost use Rattle.std.specs.Prelude.{◌≡◌, ◌≤◌, length, slice_get};
 ghost use Rattle.std.specs.Prelude.{IfOk};
-ghost use Rattle.btx_step.specs.language.Variables.{integer_in, string_in, integer_set, string_set};
+ghost use Rattle.btx_step.specs.refinement.Variables.{integer_in, string_in, integer_set, string_set};
 
 use crate::list::item;
 use btx_text::Text;

@@ -3,7 +3,8 @@ ghost use Rattle.std.specs.Prelude.{◌≡◌};
 ghost use Rattle.btx_text.specs.language.Elements.{elements_of, text_of};
 ghost use Rattle.btx_strings.specs.language.Answers.{no_complaints};
 ghost use Rattle.btx_strings.specs.refinement.Answers.{Answers};
-ghost use Rattle.btx_strings.specs.language.Lengths.{with_braces_closed, take_characters, text_prefix_of, wanted_length};
+ghost use Rattle.btx_strings.specs.language.Lengths.{take_characters, text_prefix_of, wanted_length};
+ghost use Rattle.btx_strings.specs.refinement.Lengths.{with_braces_closed};
 
 use crate::answers::Answer;
 use btx_text::{Elements, Fault, TextMode, depth_at};

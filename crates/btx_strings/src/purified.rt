@@ -1,16 +1,17 @@
 //! The purified form of a string.
-ghost use Rattle.std.specs.Prelude.{◌≡◌, ◌++◌, OnOk};
-ghost use Rattle.std.specs.List.{flat_map};
+ghost use Rattle.std.specs.Prelude.{◌≡◌, ◌++◌, take, IfOk, OnOk};
+ghost use Rattle.std.specs.List.{flat_map, prefix_len};
 ghost use Rattle.btx_strings.specs.language.Answers.{no_complaints};
 ghost use Rattle.btx_strings.specs.refinement.Answers.{Answers};
 ghost use Rattle.btx_strings.specs.language.Controls.{glyphs_of};
 ghost use Rattle.btx_strings.specs.refinement.Glyphs.{glyph_of};
-ghost use Rattle.btx_strings.specs.language.Purify.{purified_byte, purified_glyph, purified_part, purify_of};
-ghost use Rattle.btx_text.specs.refinement.Parts.{part_of};
+ghost use Rattle.btx_strings.specs.language.Purify.{purified_byte, purified_glyph, purify_of};
+ghost use Rattle.btx_strings.specs.refinement.Purify.{begins_no_group, purified_group};
 
 use crate::answers::{Answer, Complaints};
 use crate::controls::{Glyph, Glyphs, letters};
-use btx_text::{Class, Element, Elements, Fault, Kind, class};
+use btx_text::string_elements::group_len;
+use btx_text::{Class, Fault, class};
 use std::alloc::{AllocError, Global};
 
 /// A string without what isn't text: white and separators become spaces, letters and digits stay, all else goes. Of a special
@@ -25,38 +26,59 @@ pub fn purify(alloc: Global, string: &[u8]) -> Result<Answer, Fault>
     Answer::new(text, Complaints::NONE)
 }
 
-/// Makes a text what [`purify`] leaves of a string, of any length, in the memory of what stood there.
+/// Makes a text what [`purify`] leaves of a string, of any length, in the memory of what stood there. It goes group by group.
+#[tactic(auto, using(crate::proofs::PurifyLemmas::groups))]
 pub fn purify_into(text: &mut Vec<u8>, string: &[u8]) -> Result<(), AllocError>
     ensures { OnOk result (text.new.items ≡ purify_of string.now) }
 {
     text.clear();
-    for element in Elements::of(string) {
-        push_element(text, element)?;
+    let mut rest = string;
+    while !rest.is_empty() {
+        let len = push_before_group(text, rest)?;
+        let (_, from_group) = rest.split_at(len);
+        let (group, others) = from_group.split_at(group_len(from_group));
+        push_group(text, group)?;
+        rest = others;
     }
     Ok(())
 }
 
-// Adds an element's purified form.
-fn push_element(text: &mut Vec<u8>, element: Element<'_>) -> Result<(), AllocError>
-    ensures { OnOk result (text.new.items ≡ text.old.items ++ purified_part (part_of element.entry)) }
+// Adds the purified form of what stands before the first group, and answers how many bytes that are.
+fn push_before_group(text: &mut Vec<u8>, rest: &[u8]) -> Result<usize, AllocError>
+    ensures len { IfOk result (λ len. len ≡ prefix_len begins_no_group rest.now) }
+    ensures text { OnOk result (text.new.items ≡ text.old.items ++ flat_map purified_byte (take (prefix_len begins_no_group rest.now) rest.now)) }
 {
-    match element.kind {
-        Kind::Byte => push_bytes(text, element.text),
-        Kind::Special => push_special(text, element.text),
-        Kind::Open | Kind::Close | Kind::Wide => Ok(()),
+    for (len, &byte) in rest.iter().enumerate() {
+        if byte == b'{' {
+            return Ok(len);
+        }
+        push_byte(text, byte)?;
     }
+    Ok(rest.len())
 }
 
-// Adds the purified form of bytes outside special characters.
-fn push_bytes(text: &mut Vec<u8>, bytes: &[u8]) -> Result<(), AllocError>
-    ensures { OnOk result (text.new.items ≡ text.old.items ++ flat_map purified_byte bytes.now) }
+// Adds the purified form of a group in braces. One that is no special character leaves what its bytes do, since braces leave
+// nothing.
+fn push_group(text: &mut Vec<u8>, group: &[u8]) -> Result<(), AllocError>
+    ensures { OnOk result (text.new.items ≡ text.old.items ++ purified_group group.now) }
 {
-    for byte in bytes {
-        match class(*byte) {
-            Class::White | Class::Sep => text.push(b' ')?,
-            Class::Alpha | Class::Digit => text.push(*byte)?,
-            Class::Other => {}
-        }
+    if group.starts_with(b"{\\") {
+        return push_special(text, group);
+    }
+    for byte in group {
+        push_byte(text, *byte)?;
+    }
+    Ok(())
+}
+
+// Adds the purified form of a byte outside special characters.
+fn push_byte(text: &mut Vec<u8>, byte: u8) -> Result<(), AllocError>
+    ensures { OnOk result (text.new.items ≡ text.old.items ++ purified_byte byte) }
+{
+    match class(byte) {
+        Class::White | Class::Sep => text.push(b' ')?,
+        Class::Alpha | Class::Digit => text.push(byte)?,
+        Class::Other => {}
     }
     Ok(())
 }

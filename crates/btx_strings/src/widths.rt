@@ -2,6 +2,7 @@
 ghost use Rattle.std.specs.Prelude.{◌≡◌, ◌≤◌, ◌<◌, ◌+◌, ◌^◌, length, pos, sum_by, true};
 ghost use Rattle.btx_strings.specs.refinement.Glyphs.{glyph_of};
 ghost use Rattle.btx_strings.specs.language.Width as spec;
+ghost use Rattle.btx_strings.specs.refinement.Width as refined;
 ghost use Rattle.btx_text.specs.language.Limits.{greatest_string};
 ghost use Rattle.btx_text.specs.refinement.Parts.{part_of};
 
@@ -37,8 +38,8 @@ pub fn width(string: &[u8]) -> i32
 
 // A total and the width of an element.
 fn with_element(total: u32, element: Element<'_>) -> u32
-    requires { total + spec.part_width (part_of element) < 2 ^ 32 }
-    ensures { result ≡ total + spec.part_width (part_of element.entry) }
+    requires { total + refined.part_width (part_of element) < 2 ^ 32 }
+    ensures { result ≡ total + refined.part_width (part_of element.entry) }
 {
     match element.kind {
         Kind::Special => with_special(total, element.text),
@@ -71,8 +72,8 @@ fn byte_width(byte: u8) -> u32
 // A total and the width of a special character.
 #[tactic(auto, using(crate::proofs::ControlLemmas::kept_steps))]
 fn with_special(mut total: u32, special: &[u8]) -> u32
-    requires { total + spec.special_width special.now < 2 ^ 32 }
-    ensures { result ≡ total + spec.special_width special.now }
+    requires { total + refined.special_width special.now < 2 ^ 32 }
+    ensures { result ≡ total + refined.special_width special.now }
 {
     let mut gone = false;
     for glyph in Glyphs::of(special) {

@@ -4,8 +4,9 @@ use Rattle.std.proofs.lemmas.Bool.{false≢true}
 use Rattle.std.proofs.lemmas.Bool.Decides.{nat_tests}
 use Rattle.btx_text.specs.declared.byte_class.Class.{Class}
 use Rattle.btx_text.specs.declared.byte_class.Class.TheVariants.{White, Alpha, Digit, Sep, Other}
-use Rattle.btx_text.specs.language.Class.{is_white, is_alpha, is_digit, is_sep, class_of}
+use Rattle.btx_text.specs.language.Class.{is_white, is_alpha, is_sep, class_of}
 use Rattle.btx_text.specs.laws.Class.{is_of_class}
+use Rattle.std.specs.Char.{is_ascii_digit}
 
 -- the class by four tests
 abbrev class_by : Bool → Bool → Bool → Bool → Class
@@ -18,19 +19,19 @@ Disjoint p q = p ≡ true → q ≡ false
 white_alpha : (b : ℕ) → Disjoint (is_white b) (is_alpha b)
 white_alpha b h = grind (arith, nat_tests)
 
-white_digit : (b : ℕ) → Disjoint (is_white b) (is_digit b)
+white_digit : (b : ℕ) → Disjoint (is_white b) (is_ascii_digit b)
 white_digit b h = grind (arith, nat_tests)
 
 white_sep : (b : ℕ) → Disjoint (is_white b) (is_sep b)
 white_sep b h = grind (arith, nat_tests)
 
-alpha_digit : (b : ℕ) → Disjoint (is_alpha b) (is_digit b)
+alpha_digit : (b : ℕ) → Disjoint (is_alpha b) (is_ascii_digit b)
 alpha_digit b h = grind (arith, nat_tests)
 
 alpha_sep : (b : ℕ) → Disjoint (is_alpha b) (is_sep b)
 alpha_sep b h = grind (arith, nat_tests)
 
-digit_sep : (b : ℕ) → Disjoint (is_digit b) (is_sep b)
+digit_sep : (b : ℕ) → Disjoint (is_ascii_digit b) (is_sep b)
 digit_sep b h = grind (arith, nat_tests)
 
 -- the test of a class, by the four
@@ -89,7 +90,7 @@ one_by false false false false wa wd ws ad as' ds = only_one Other (passes false
   at Sep h = absurd (false≢true h)
   at Other h = refl
 
-passes-of_class : (b : ℕ) (class : Class) → passes (is_white b) (is_alpha b) (is_digit b) (is_sep b) class ≡ is_of_class class b
+passes-of_class : (b : ℕ) (class : Class) → passes (is_white b) (is_alpha b) (is_ascii_digit b) (is_sep b) class ≡ is_of_class class b
 passes-of_class b White = refl
 passes-of_class b Alpha = refl
 passes-of_class b Digit = refl
@@ -98,4 +99,4 @@ passes-of_class b Other = refl
 
 pub one_class : (b : ℕ) (class : Class) → IsTrue (is_of_class class b) ↔ (class ≡ class_of b)
 unfolding class_of
-one_class b class = rw (← passes-of_class b class) (one_by (is_white b) (is_alpha b) (is_digit b) (is_sep b) (white_alpha b) (white_digit b) (white_sep b) (alpha_digit b) (alpha_sep b) (digit_sep b) class)
+one_class b class = rw (← passes-of_class b class) (one_by (is_white b) (is_alpha b) (is_ascii_digit b) (is_sep b) (white_alpha b) (white_digit b) (white_sep b) (alpha_digit b) (alpha_sep b) (digit_sep b) class)

@@ -4,11 +4,12 @@ use Rattle.std.proofs.lemmas.List.{take_more, take_rest}
 use Rattle.std.proofs.lemmas.Bool.{false_from_ne_true}
 use Rattle.memchr.specs.Find.{IsFirstByte, is_byte}
 use Rattle.btx_text.specs.language.Class.{is_white}
-use Rattle.btx_text.specs.language.Lines.{in_front, line_pieces, white_before, trimmed, lines_of}
+use Rattle.btx_text.specs.language.Lines.{line_pieces, white_before, trimmed, lines_of}
+use Rattle.std.specs.List.{onto_first}
 
 -- ---- the first piece
 
-first_step : (b : ℕ) (bs : List ℕ) (k : ℕ) (t : Bool) → t ≡ false → line_pieces bs ≡ take k bs ∷ line_pieces (drop (suc k) bs) → cond t ([] ∷ line_pieces bs) (in_front b (line_pieces bs)) ≡ (b ∷ take k bs) ∷ line_pieces (drop (suc k) bs)
+first_step : (b : ℕ) (bs : List ℕ) (k : ℕ) (t : Bool) → t ≡ false → line_pieces bs ≡ take k bs ∷ line_pieces (drop (suc k) bs) → cond t ([] ∷ line_pieces bs) (onto_first b (line_pieces bs)) ≡ (b ∷ take k bs) ∷ line_pieces (drop (suc k) bs)
 first_step b bs k t is h = rw (is, h) refl
 
 pieces_of-first : (s : List ℕ) (k : ℕ) → k < length s → ((j : ℕ) → j < k → eqb (get_or s j 0) 10 ≡ true → ⊥) → eqb (get_or s k 0) 10 ≡ true → line_pieces s ≡ take k s ∷ line_pieces (drop (suc k) s)
@@ -25,7 +26,7 @@ pieces_of-last [] some none = absurd (omega arith)
 pieces_of-last (b ∷ []) some none = let no : eqb b 10 ≡ false = false_from_ne_true _ (none 0 (omega arith)) in rw no refl
 pieces_of-last (b ∷ c ∷ bs) some none =
     let no : eqb b 10 ≡ false = false_from_ne_true _ (none 0 (omega arith)) in
-    rw no (ap (in_front b) (pieces_of-last (c ∷ bs) (omega arith) (λ j less. none (suc j) (omega arith))))
+    rw no (ap (onto_first b) (pieces_of-last (c ∷ bs) (omega arith) (λ j less. none (suc j) (omega arith))))
 
 -- ---- as memchr finds it
 

@@ -7,3 +7,4 @@ pub mod Sequences
 pub mod Elements
 pub mod Limits
 pub mod LogLines
+pub mod Lists

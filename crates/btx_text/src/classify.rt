@@ -9,9 +9,11 @@ use crate::byte_class::Class;
 pub fn class(byte: u8) -> Class
     ensures { result ≡ class_of byte }
 {
+    if is_alpha(byte) {
+        return Class::Alpha;
+    }
     match byte {
         b' ' | b'\t' | b'\r' => Class::White,
-        b'A'..=b'Z' | b'a'..=b'z' | 128..=255 => Class::Alpha,
         b'0'..=b'9' => Class::Digit,
         b'~' | b'-' => Class::Sep,
         _ => Class::Other,

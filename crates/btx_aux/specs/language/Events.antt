@@ -1,13 +1,14 @@
 -- The events of a job: all that its `.aux` files say and all that becomes of them, in reading order. An `\@input` line is followed
 -- at once by what becomes of its file: the file is opened exactly if its name ends in `.aux`, nothing earlier names that file,
 -- the finder's content has it and fewer than 20 files are open; the events of an opened file follow at once.
-use Rattle.std.specs.Prelude.{ℕ, zero, suc, ◌+◌, ◌-◌, nat_lt, not, ◌&&◌, Bool, true, false, List, [], ◌∷◌, ◌++◌, map, length, Option, None, Some, if◌then◌else◌, codes}
+use Rattle.std.specs.Prelude.{ℕ, zero, suc, ◌+◌, ◌-◌, not, ◌&&◌, Bool, true, false, List, [], ◌∷◌, ◌++◌, map, Option, None, Some, if◌then◌else◌, codes}
 use Rattle.std.specs.List.{flat_map}
-use Rattle.btx_text.specs.language.Limits.{greatest_file}
+use Rattle.btx_text.specs.language.Limits.{is_too_long}
 use Rattle.btx_text.specs.language.Lines.{lines_of}
 use Rattle.btx_aux.specs.language.Files.{Files}
-use Rattle.btx_aux.specs.language.Names.{has_ending, is_among, distinct}
-use Rattle.btx_aux.specs.language.Grammar.{Taken, Cut, EventKind, Cites, Databases, Styles, Includes, Opens, Absent, Full, TooLong, NoTop, words_of, end_by, is_whole}
+use Rattle.btx_aux.specs.language.Names.{has_ending, distinct}
+use Rattle.btx_aux.specs.language.Grammar.{Taken, EventKind, Includes, Opens, Absent, Full, TooLong, NoTop, words_of, end_by, is_whole}
+use Rattle.btx_text.specs.language.Lists.{is_among}
 
 -- an event, with its place: a file and a line of it, from 1 up, or 0 for the file as a whole
 pub record AuxEvent : Type 0 where
@@ -31,16 +32,8 @@ said file text = said_from file 1 (lines_of text)
 -- the file name that an event mentions: the top file's when it is opened, or that of an include, if it ends in `.aux`
 abbrev pub named_by : List ℕ → EventKind → List (List ℕ)
 named_by file (Opens zero) = file ∷ []
-named_by file (Opens (suc level)) = []
 named_by file (Includes (Taken name)) = if has_ending (codes ".aux") name then name ∷ [] else []
-named_by file (Includes (Cut slip)) = []
-named_by file (Cites piece) = []
-named_by file (Databases pieces) = []
-named_by file (Styles piece) = []
-named_by file (Absent name) = []
-named_by file Full = []
-named_by file TooLong = []
-named_by file NoTop = []
+named_by file _ = []
 
 -- the name of the file that an event mentions, as a list of one, or of none
 abbrev pub file_named : AuxEvent → List (List ℕ)
@@ -53,15 +46,7 @@ files_named events = distinct (flat_map file_named events)
 -- the file that an event opens: that of an `\@input` line, if its name ends in `.aux` and isn't among `files`, the names met before
 abbrev pub asked_of : List (List ℕ) → EventKind → Option (List ℕ)
 asked_of files (Includes (Taken name)) = if has_ending (codes ".aux") name && not (is_among files name) then Some name else None
-asked_of files (Includes (Cut slip)) = None
-asked_of files (Cites piece) = None
-asked_of files (Databases pieces) = None
-asked_of files (Styles piece) = None
-asked_of files (Opens level) = None
-asked_of files (Absent name) = None
-asked_of files Full = None
-asked_of files TooLong = None
-asked_of files NoTop = None
+asked_of files _ = None
 
 -- how a file is read: its events, given the events before it, its name and its bytes
 abbrev pub FileEvents : Type 0
@@ -86,10 +71,6 @@ expanded files reading earlier (event ∷ events) =
     let with_event = earlier ++ event ∷ [] in
     let more = followed files reading with_event event (asked_of (files_named earlier) event.word) in
     (event ∷ more) ++ expanded files reading (with_event ++ more) events
-
--- the text has more bytes than a file may have
-abbrev pub is_too_long : List ℕ → Bool
-is_too_long text = nat_lt greatest_file (length text)
 
 -- the events of an opened file after its opening, given whether it is too long: then just that, and else those of its lines
 abbrev pub inside : Bool → Files → FileEvents → List AuxEvent → List ℕ → List ℕ → List AuxEvent

@@ -93,16 +93,9 @@ abbrev pub end_by : EventKind → End
 end_by Full = end.TooManyOpen
 end_by TooLong = end.FileLimit
 end_by NoTop = end.TopMissing
-end_by (Cites piece) = end.Whole
-end_by (Databases pieces) = end.Whole
-end_by (Styles piece) = end.Whole
-end_by (Includes piece) = end.Whole
-end_by (Opens level) = end.Whole
-end_by (Absent name) = end.Whole
+end_by _ = end.Whole
 
 -- the `.aux` files were read to their ends
 abbrev pub is_whole : End → Bool
 is_whole end.Whole = true
-is_whole end.TooManyOpen = false
-is_whole end.TopMissing = false
-is_whole end.FileLimit = false
+is_whole _ = false

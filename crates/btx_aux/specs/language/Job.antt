@@ -3,14 +3,16 @@
 use Rattle.std.specs.Prelude.{ℕ, zero, suc, not, ◌&&◌, Bool, true, false, List, [], ◌∷◌, ◌++◌, map, fold, length, Option, None, Some, is_some, is_none, if◌then◌else◌, codes}
 use Rattle.std.specs.List.{flat_map}
 use Rattle.std.specs.Str.{bytes_eq}
+use Rattle.std.specs.Option.{option_map_or}
 use Rattle.btx_aux.specs.declared.end.End.{End}
 use Rattle.btx_aux.specs.declared.end.End.TheVariants as end
 use Rattle.btx_aux.specs.language.Files.{Files}
-use Rattle.btx_aux.specs.language.Names.{has_ending, with_ending, is_among, with_name_once, distinct, listed_as, with_key}
-use Rattle.btx_aux.specs.language.Grammar.{Piece, Taken, Cut, EventKind, Cites, Databases, Styles, Includes, Opens, Absent, Full, TooLong, NoTop, end_by, is_whole}
+use Rattle.btx_aux.specs.language.Names.{has_ending, with_ending, with_name_once, distinct, listed_as, with_key}
+use Rattle.btx_aux.specs.language.Grammar.{Piece, Taken, Cut, EventKind, Cites, Databases, Styles, Includes, Opens, Absent, end_by, is_whole}
 use Rattle.btx_aux.specs.language.Events.{AuxEvent, files_named, job_events}
 use Rattle.btx_text.specs.language.LogLines.{Line}
 use Rattle.btx_aux.specs.language.Notes.{AuxComplaint, Slipped, AnotherBibdata, AnotherBibstyle, CaseMismatch, SecondStar, WrongExtension, AlreadyMet, NotOpened, RepeatedDatabase, AuxNote, TopFile, LevelFile, Wrong, NoCitations, NoBibdata, NoBibstyle, aux_note_line}
+use Rattle.btx_text.specs.language.Lists.{only_if, is_among}
 
 -- ---- reading along the events
 
@@ -30,22 +32,10 @@ first_of (x ∷ xs) = Some x
 abbrev pub is_star : List ℕ → Bool
 is_star key = bytes_eq key (codes "*")
 
--- the key in a piece of a `\citation`: none if the piece is `*` or faulty
-abbrev pub key_in : Piece → List (List ℕ)
-key_in (Taken key) = if is_star key then [] else key ∷ []
-key_in (Cut slip) = []
-
--- the key of a piece of a `\citation`; nothing else has one
+-- the key of a piece of a `\citation`, unless the piece is `*` or faulty; nothing else has one
 abbrev pub cited_by : EventKind → List (List ℕ)
-cited_by (Cites piece) = key_in piece
-cited_by (Databases pieces) = []
-cited_by (Styles piece) = []
-cited_by (Includes piece) = []
-cited_by (Opens level) = []
-cited_by (Absent name) = []
-cited_by Full = []
-cited_by TooLong = []
-cited_by NoTop = []
+cited_by (Cites (Taken key)) = if is_star key then [] else key ∷ []
+cited_by _ = []
 
 -- the key that an event cites, if it cites one
 abbrev pub cited : AuxEvent → List (List ℕ)
@@ -55,22 +45,10 @@ cited event = cited_by event.word
 abbrev pub cited_keys : List AuxEvent → List (List ℕ)
 cited_keys events = fold with_key [] (flat_map cited events)
 
--- if a piece of a `\citation` is `*`: the number `count` of keys listed before it, as a list of one; else none
-abbrev pub star_in : Piece → ℕ → List ℕ
-star_in (Taken key) count = if is_star key then count ∷ [] else []
-star_in (Cut slip) count = []
-
 -- if an event is a citation of `*`: the number `count` of keys listed before it, as a list of one; else none
 abbrev pub star_by : EventKind → ℕ → List ℕ
-star_by (Cites piece) count = star_in piece count
-star_by (Databases pieces) count = []
-star_by (Styles piece) count = []
-star_by (Includes piece) count = []
-star_by (Opens level) count = []
-star_by (Absent name) count = []
-star_by Full count = []
-star_by TooLong count = []
-star_by NoTop count = []
+star_by (Cites (Taken key)) count = if is_star key then count ∷ [] else []
+star_by _ count = []
 
 -- if an event is a citation of `*`: how many keys the events before it list; else none
 abbrev pub star_at : List AuxEvent → AuxEvent → List ℕ
@@ -85,14 +63,7 @@ all_of events = first_of (gathered star_at [] events)
 -- the pieces of a `\bibdata` line; nothing else has them
 abbrev pub bibdata_by : EventKind → List (List Piece)
 bibdata_by (Databases pieces) = pieces ∷ []
-bibdata_by (Cites piece) = []
-bibdata_by (Styles piece) = []
-bibdata_by (Includes piece) = []
-bibdata_by (Opens level) = []
-bibdata_by (Absent name) = []
-bibdata_by Full = []
-bibdata_by TooLong = []
-bibdata_by NoTop = []
+bibdata_by _ = []
 
 -- the pieces of the first `\bibdata` line, faulty or not
 abbrev pub bibdata_of : List AuxEvent → Option (List Piece)
@@ -115,14 +86,7 @@ databases_of events = databases_in (bibdata_of events)
 -- the piece of a `\bibstyle` line; nothing else has one
 abbrev pub bibstyle_by : EventKind → List Piece
 bibstyle_by (Styles piece) = piece ∷ []
-bibstyle_by (Cites piece) = []
-bibstyle_by (Databases pieces) = []
-bibstyle_by (Includes piece) = []
-bibstyle_by (Opens level) = []
-bibstyle_by (Absent name) = []
-bibstyle_by Full = []
-bibstyle_by TooLong = []
-bibstyle_by NoTop = []
+bibstyle_by _ = []
 
 -- the piece of the first `\bibstyle` line, faulty or not
 abbrev pub bibstyle_of : List AuxEvent → Option Piece
@@ -139,71 +103,42 @@ style_name_of events = style_name_in (bibstyle_of events)
 
 -- ---- the log
 
--- the complaint, if the test is true
-abbrev pub complain_if : Bool → AuxComplaint → List AuxComplaint
-complain_if true complaint = complaint ∷ []
-complain_if false complaint = []
-
--- what is wrong with a key that is listed already: nothing if it is spelled as the listed one, `earlier`, and else that it has another spelling
-abbrev pub spelling_complaints : Option (List ℕ) → List ℕ → List AuxComplaint
-spelling_complaints None key = []
-spelling_complaints (Some earlier) key = complain_if (not (bytes_eq earlier key)) (CaseMismatch earlier key)
-
--- what is wrong with a piece of a `\citation`, given the keys listed so far and the place of an earlier `*`
-abbrev pub citation_complaints : List (List ℕ) → Option ℕ → Piece → List AuxComplaint
-citation_complaints keys all (Taken key) = if is_star key then complain_if (is_some all) SecondStar else spelling_complaints (listed_as keys key) key
-citation_complaints keys all (Cut slip) = Slipped slip ∷ []
-
 -- what is wrong with the pieces of the first `\bibdata` line: a faulty piece, or a database that is named again. `databases` are those that its
 -- earlier pieces name
 abbrev pub database_complaints : List (List ℕ) → List Piece → List AuxComplaint
 database_complaints databases [] = []
 database_complaints databases (Taken name ∷ pieces) =
     let database = with_ending (codes ".bib") name in
-    complain_if (is_among databases database) (RepeatedDatabase database) ++ database_complaints (with_name_once databases database) pieces
+    only_if (is_among databases database) (RepeatedDatabase database) ++ database_complaints (with_name_once databases database) pieces
 database_complaints databases (Cut slip ∷ pieces) = Slipped slip ∷ database_complaints databases pieces
-
--- what is wrong with a `\bibdata` line, given whether there was one before
-abbrev pub bibdata_complaints : Bool → List Piece → List AuxComplaint
-bibdata_complaints true pieces = AnotherBibdata ∷ []
-bibdata_complaints false pieces = database_complaints [] pieces
 
 -- the error in a piece, if the piece is faulty
 abbrev pub slip_complaints : Piece → List AuxComplaint
 slip_complaints (Taken name) = []
 slip_complaints (Cut slip) = Slipped slip ∷ []
 
--- what is wrong with a `\bibstyle` line, where there was one before or not
-abbrev pub bibstyle_complaints : Bool → Piece → List AuxComplaint
-bibstyle_complaints true piece = AnotherBibstyle ∷ []
-bibstyle_complaints false piece = slip_complaints piece
+-- what is wrong with an event, given the keys, the place of `*`, whether there were a `\bibdata` and a `\bibstyle` line, and the file names, all as
+-- they stand before it: an error in a piece, a second `*`, a key that is listed in another spelling (`earlier`), a second line of its kind, an `\@input`
+-- of another ending than `.aux` or of a file that is named already, and a file that isn't there
+abbrev pub complaints_by : List (List ℕ) → Option ℕ → Bool → Bool → List (List ℕ) → EventKind → List AuxComplaint
+complaints_by keys all bibdata bibstyle files (Cites (Taken key)) =
+    if is_star key then only_if (is_some all) SecondStar
+    else option_map_or (λ (earlier : List ℕ). only_if (not (bytes_eq earlier key)) (CaseMismatch earlier key)) (listed_as keys key) []
+complaints_by keys all bibdata bibstyle files (Cites (Cut slip)) = Slipped slip ∷ []
+complaints_by keys all bibdata bibstyle files (Databases pieces) = if bibdata then AnotherBibdata ∷ [] else database_complaints [] pieces
+complaints_by keys all bibdata bibstyle files (Styles piece) = if bibstyle then AnotherBibstyle ∷ [] else slip_complaints piece
+complaints_by keys all bibdata bibstyle files (Includes (Taken name)) =
+    if has_ending (codes ".aux") name then only_if (is_among files name) (AlreadyMet name) else WrongExtension name ∷ []
+complaints_by keys all bibdata bibstyle files (Includes (Cut slip)) = Slipped slip ∷ []
+complaints_by keys all bibdata bibstyle files (Absent name) = NotOpened name ∷ []
+complaints_by keys all bibdata bibstyle files _ = []
 
--- what is wrong with an `\@input` line: a faulty argument, another ending than `.aux`, or a file that is named already, as `files` are
-abbrev pub include_complaints : List (List ℕ) → Piece → List AuxComplaint
-include_complaints files (Taken name) = if has_ending (codes ".aux") name then complain_if (is_among files name) (AlreadyMet name) else WrongExtension name ∷ []
-include_complaints files (Cut slip) = Slipped slip ∷ []
-
--- the note of a file that was opened
-abbrev pub file_note : ℕ → List ℕ → AuxNote
-file_note zero name = TopFile name
-file_note (suc level) name = LevelFile (suc level) name
-
--- complaints with the file and line of their event
-abbrev pub placed_complaints : AuxEvent → List AuxComplaint → List AuxNote
-placed_complaints event complaints = map (λ (complaint : AuxComplaint). Wrong complaint event.line event.file) complaints
-
--- the notes of an event, given the keys, the place of `*`, whether there were a `\bibdata` and a `\bibstyle` line, and the file names, all as
--- they stand before it
+-- the notes of an event: that a file is opened, or what is wrong, each with the event's file and line
 abbrev pub notes_by : List (List ℕ) → Option ℕ → Bool → Bool → List (List ℕ) → AuxEvent → EventKind → List AuxNote
-notes_by keys all bibdata bibstyle files event (Cites piece) = placed_complaints event (citation_complaints keys all piece)
-notes_by keys all bibdata bibstyle files event (Databases pieces) = placed_complaints event (bibdata_complaints bibdata pieces)
-notes_by keys all bibdata bibstyle files event (Styles piece) = placed_complaints event (bibstyle_complaints bibstyle piece)
-notes_by keys all bibdata bibstyle files event (Includes piece) = placed_complaints event (include_complaints files piece)
-notes_by keys all bibdata bibstyle files event (Opens level) = file_note level event.file ∷ []
-notes_by keys all bibdata bibstyle files event (Absent name) = placed_complaints event (NotOpened name ∷ [])
-notes_by keys all bibdata bibstyle files event Full = []
-notes_by keys all bibdata bibstyle files event TooLong = []
-notes_by keys all bibdata bibstyle files event NoTop = []
+notes_by keys all bibdata bibstyle files event (Opens zero) = TopFile event.file ∷ []
+notes_by keys all bibdata bibstyle files event (Opens (suc level)) = LevelFile (suc level) event.file ∷ []
+notes_by keys all bibdata bibstyle files event word =
+    map (λ (complaint : AuxComplaint). Wrong complaint event.line event.file) (complaints_by keys all bibdata bibstyle files word)
 
 -- the notes of an event, given the events before it
 abbrev pub notes_at : List AuxEvent → AuxEvent → List AuxNote
@@ -216,11 +151,6 @@ abbrev pub end_of : List AuxEvent → End
 end_of [] = end.Whole
 end_of (event ∷ events) = if is_whole (end_by event.word) then end_of events else end_by event.word
 
--- the note, if the test is true
-abbrev pub aux_note_if : Bool → AuxNote → List AuxNote
-aux_note_if true note = note ∷ []
-aux_note_if false note = []
-
 -- the list of keys is empty
 abbrev pub is_empty : List (List ℕ) → Bool
 is_empty [] = true
@@ -229,7 +159,7 @@ is_empty (key ∷ keys) = false
 -- what is missing in a whole reading: any key and `*`; a `\bibdata` line, unless `bibdata` is true; a `\bibstyle` line, unless `bibstyle` is true
 abbrev pub missing_notes : List (List ℕ) → Option ℕ → Bool → Bool → List AuxNote
 missing_notes keys all bibdata bibstyle =
-    aux_note_if (is_empty keys && is_none all) NoCitations ++ aux_note_if (not bibdata) NoBibdata ++ aux_note_if (not bibstyle) NoBibstyle
+    only_if (is_empty keys && is_none all) NoCitations ++ only_if (not bibdata) NoBibdata ++ only_if (not bibstyle) NoBibstyle
 
 -- the notes at the end: after a whole reading, what is missing; else none
 abbrev pub closing_notes : End → List (List ℕ) → Option ℕ → Bool → Bool → List AuxNote

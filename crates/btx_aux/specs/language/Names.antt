@@ -3,6 +3,7 @@ use Rattle.std.specs.Prelude.{ℕ, nat_eq, Bool, List, [], ◌∷◌, ◌++◌, 
 use Rattle.std.specs.Str.{bytes_eq}
 use Rattle.std.specs.List.{ends_with, list_any, find}
 use Rattle.btx_text.specs.language.Keys.{folded}
+use Rattle.btx_text.specs.language.Lists.{is_among}
 
 -- the name ends in `ending`
 abbrev pub has_ending : List ℕ → List ℕ → Bool
@@ -11,10 +12,6 @@ has_ending ending name = ends_with nat_eq name ending
 -- `name` with `ending` appended, unless it ends in that already (this project's own rule for `.bib` and `.bst`)
 abbrev pub with_ending : List ℕ → List ℕ → List ℕ
 with_ending ending name = if has_ending ending name then name else name ++ ending
-
--- one of the names is `name`, byte by byte
-abbrev pub is_among : List (List ℕ) → List ℕ → Bool
-is_among names name = list_any (bytes_eq name) names
 
 -- a list of names with `name` appended, unless it is there already
 abbrev pub with_name_once : List (List ℕ) → List ℕ → List (List ℕ)

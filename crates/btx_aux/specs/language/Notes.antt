@@ -2,7 +2,7 @@
 -- those of the original. All that is wrong is an error, none a warning.
 use Rattle.std.specs.Prelude.{ℕ, List, ◌++◌, codes, decimal}
 use Rattle.btx_text.specs.declared.log_line.LineKind.{LineKind}
-use Rattle.btx_text.specs.declared.log_line.LineKind.TheVariants.{Plain, Warning, Error}
+use Rattle.btx_text.specs.declared.log_line.LineKind.TheVariants.{Plain, Error}
 use Rattle.btx_text.specs.language.LogLines.{Line, message, place_text}
 use Rattle.btx_aux.specs.declared.command.Slip.{Slip}
 use Rattle.btx_aux.specs.declared.command.Slip.TheVariants.{WhiteSpace, Unclosed, StuffAfter}
@@ -59,10 +59,7 @@ aux_note_text NoBibstyle = codes "I found no \\bibstyle command"
 unfoldable pub aux_note_kind : AuxNote → LineKind
 aux_note_kind (TopFile name) = Plain
 aux_note_kind (LevelFile level name) = Plain
-aux_note_kind (Wrong complaint line file) = Error
-aux_note_kind NoCitations = Error
-aux_note_kind NoBibdata = Error
-aux_note_kind NoBibstyle = Error
+aux_note_kind _ = Error
 
 -- the line of a note
 abbrev pub aux_note_line : AuxNote → Line

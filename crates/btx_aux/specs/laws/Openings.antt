@@ -6,10 +6,11 @@ use Rattle.std.specs.Map.{lookup}
 use Rattle.std.specs.Option.{option_map_or}
 use Rattle.std.specs.Str.{bytes_eq}
 use Rattle.btx_aux.specs.language.Files.{Files}
-use Rattle.btx_aux.specs.language.Names.{has_ending, is_among, is_same_key}
+use Rattle.btx_aux.specs.language.Names.{has_ending, is_same_key}
 use Rattle.btx_aux.specs.language.Grammar.{Taken, Cut, EventKind, Cites, Databases, Styles, Includes, Opens, Absent, Full, TooLong, NoTop}
 use Rattle.btx_aux.specs.language.Events.{AuxEvent, files_named, job_events}
 use Rattle.btx_aux.specs.language.Job.{job_of_files}
+use Rattle.btx_text.specs.language.Lists.{is_among}
 
 -- the level at which a file is opened, where something opens one
 abbrev pub levels_by : EventKind → List ℕ

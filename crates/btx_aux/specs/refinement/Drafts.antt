@@ -4,12 +4,13 @@ use Rattle.std.specs.Option.{option_or}
 use Rattle.btx_aux.specs.declared.draft.Draft.{Draft}
 use Rattle.btx_aux.specs.declared.end.End.{End}
 use Rattle.btx_aux.specs.declared.end.End.TheVariants as end
-use Rattle.btx_aux.specs.language.Names.{with_name_once, with_key, with_ending, is_among}
+use Rattle.btx_aux.specs.language.Names.{with_name_once, with_key, with_ending}
 use Rattle.btx_aux.specs.language.Grammar.{Piece, Taken, Cut, EventKind, end_by}
 use Rattle.btx_aux.specs.language.Events.{AuxEvent, event_at, file_named, asked_of}
 use Rattle.btx_text.specs.language.LogLines.{Line}
 use Rattle.btx_aux.specs.language.Notes.{AuxComplaint, Slipped, RepeatedDatabase, Wrong, AuxNote, aux_note_line}
-use Rattle.btx_aux.specs.language.Job.{cited, first_of, star_by, bibdata_by, bibstyle_by, databases_in, style_name_in, complain_if, notes_by}
+use Rattle.btx_aux.specs.language.Job.{cited, first_of, star_by, bibdata_by, bibstyle_by, databases_in, style_name_in, notes_by}
+use Rattle.btx_text.specs.language.Lists.{only_if, is_among}
 
 -- nothing is known
 abbrev pub blank : Draft
@@ -84,7 +85,7 @@ complaining file line draft complaints = record draft { log = with_notes draft.l
 abbrev pub with_database : List ℕ → ℕ → Draft → List ℕ → Draft
 with_database file line draft name =
     let database = with_ending (codes ".bib") name in
-    complaining file line (record draft { databases = with_name_once draft.databases database }) (complain_if (is_among draft.databases database) (RepeatedDatabase database))
+    complaining file line (record draft { databases = with_name_once draft.databases database }) (only_if (is_among draft.databases database) (RepeatedDatabase database))
 
 -- a draft with the databases of some pieces, and what is wrong with them
 abbrev pub with_databases : List ℕ → ℕ → Draft → List Piece → Draft

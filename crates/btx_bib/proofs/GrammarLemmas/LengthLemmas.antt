@@ -1,7 +1,7 @@
 -- What is read leaves a text that isn't longer.
 use Rattle.std.proofs.Common.{◌≡◌, ℕ, zero, suc, ◌+◌, ◌*◌, ◌<◌, ◌≤◌, Bool, true, false, cond, eqb, List, [], ◌∷◌, length, drop, refl, ◌∙◌, ap, arith, length-drop, Ok, Err, Some, None, Option}
 use Rattle.std.specs.Option.{option_map}
-use Rattle.btx_text.specs.language.Class.{is_digit, begins_name}
+use Rattle.btx_text.specs.language.Class.{begins_name}
 use Rattle.btx_bib.specs.declared.grammar.byte_sets.Delimiter.{Delimiter}
 use Rattle.btx_bib.specs.declared.grammar.byte_sets.ByteSet.TheVariants.{Gap, NameByte, Digit, KeyByte}
 use Rattle.btx_bib.specs.declared.grammar.byte_sets.Enclosure.{Enclosure}
@@ -15,9 +15,12 @@ use Rattle.btx_bib.specs.declared.grammar.slip.Slip.TheVariants.{NoEquals, NoClo
 use Rattle.btx_bib.specs.language.Grammar.ByteSets.{begins, past, enclosed_len}
 use Rattle.btx_bib.specs.language.Grammar.Tokens.{Parsed, followed_by, name_here, name_at, open_in, open_at, sign_in, sign_at, key_here, key_at, closing_delimiter}
 use Rattle.btx_bib.specs.language.Grammar.Values.{Part, closed_part, enclosed_in, part_in, part_at, next_part, joined, value_within, value_at}
-use Rattle.btx_bib.specs.language.Grammar.Fields.{Field, field_at, one_more, after_comma, more_in, more_at}
-use Rattle.btx_bib.specs.language.Grammar.Items.{Event, Wrong, Keeping, is_repeated, as_known, known_step, next_step, command_of, head_of, head_at, item_end, field_event, Step, step_by, behind_at, expected_step, Placed, events_by, events_within, events_from}
+use Rattle.btx_bib.specs.language.Grammar.Fields.{Field, field_at, after_comma, more_in, more_at}
+use Rattle.btx_bib.specs.language.Grammar.Items.{Event, Wrong, Keeping, is_repeated, as_known, known_step, next_step, command_of, head_of, head_at, field_event, Step, step_by, behind_at, expected_step, Placed, events_by, events_within, events_from}
 use Rattle.btx_bib.proofs.GrammarLemmas.ValueLemmas.{Within, behind_hash-within, past-le}
+use Rattle.btx_bib.specs.refinement.Grammar.Items.{item_end}
+use Rattle.btx_bib.specs.refinement.Grammar.Fields.{one_more}
+use Rattle.std.specs.Char.{is_ascii_digit}
 
 -- the text that follows isn't longer than so many bytes
 abbrev pub Stays : {A : Type 0} → ℕ → Parsed A → Type 0
@@ -89,7 +92,7 @@ part_in-stays (b ∷ bs) =
     let n = length (b ∷ bs) in
     stays-if (eqb b 123) _ _ n (enclosed-stays Group b bs)
     (stays-if (eqb b 34) _ _ n (enclosed-stays Quotes b bs)
-    (stays-if (is_digit b) _ _ n (past-le Digit (b ∷ bs))
+    (stays-if (is_ascii_digit b) _ _ n (past-le Digit (b ∷ bs))
     (stays-if (begins_name b) _ _ n (past-le NameByte (b ∷ bs)) (omega arith))))
 
 part-stays : (s : List ℕ) (n : ℕ) → length s ≤ n → Stays n (part_at s)

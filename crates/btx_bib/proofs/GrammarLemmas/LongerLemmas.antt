@@ -1,7 +1,7 @@
 -- What is spelled at the front of a text stays so where more stands behind the text.
 use Rattle.std.proofs.Common.{◌≡◌, ◌<◌, ℕ, zero, suc, Bool, true, false, if◌then◌else◌, eqb, List, [], ◌∷◌, ◌++◌, map, fold, length, ◌⊎◌, inl, inr, refl, sym, ◌∙◌, ap, subst, arith, append_assoc, Result, Ok, Err, Some, None, Option}
 use Rattle.std.proofs.lemmas.Bool.{true≢false}
-use Rattle.btx_text.specs.language.Class.{is_digit, begins_name}
+use Rattle.btx_text.specs.language.Class.{begins_name}
 use Rattle.btx_bib.specs.declared.grammar.byte_sets.ByteSet.{ByteSet}
 use Rattle.btx_bib.specs.declared.grammar.byte_sets.ByteSet.TheVariants.{Gap, NameByte, Digit, KeyByte}
 use Rattle.btx_bib.specs.declared.grammar.byte_sets.Delimiter.{Delimiter}
@@ -20,6 +20,7 @@ use Rattle.btx_bib.specs.language.Grammar.Items.{Event, Comment, Preamble, Defin
 use Rattle.btx_bib.specs.laws.Grammar.Spelling.{Grammar, Gives, Both, Then, AllIn, IsWord, IsWrongHere, White, Spaced, NameHere, SignHere, IsWrongPart, PartHere, EndsThere, OthersFollow, ValueOf, ValueSpelling, FieldSpelling}
 use Rattle.btx_bib.specs.laws.Grammar.Reading.{OnSign, WrongHere, OpenHere, KeyHere, AfterComma, MoreHere, HeadOf, Head, more_event, HasNoAt, Stands, IsOutcome, IsReading}
 use Rattle.btx_bib.specs.laws.Cuts.{EndsOutside}
+use Rattle.std.specs.Char.{is_ascii_digit}
 
 -- ---- what is left of a text
 
@@ -218,7 +219,7 @@ module _ (more : List ℕ) where
   part-goes : Goes Any part_on PartHere PartHere
   part-goes (Ok (Braced text)) front rest h r = r
   part-goes (Ok (Quoted text)) front rest h r = r
-  part-goes (Ok (Digits text)) front rest h r = word-goes Digit is_digit text front rest h.0 r
+  part-goes (Ok (Digits text)) front rest h r = word-goes Digit is_ascii_digit text front rest h.0 r
   part-goes (Ok (Named string)) front rest h r = (word-goes NameByte begins_name string.name front rest h.0 r.0, ap (λ t. t ++ more) r.1)
   part-goes (Err slip) front rest h r = wrong_part-goes slip front rest h r
 

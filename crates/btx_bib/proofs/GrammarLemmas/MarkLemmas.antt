@@ -111,23 +111,17 @@ no-word b k other h = at (eqb b k) refl where
 pub word-gap : (b : ℕ) → is_word_byte b ≡ true → is_gap b ≡ false
 word-gap b h = rw (no-word b 32 refl h, no-word b 9 refl h, no-word b 13 refl h, no-word b 10 refl h) refl
 
-word-ends : (e : Enclosure) (b : ℕ) → is_word_byte b ≡ true → ends_enclosed e b ≡ false
+pub word-ends : (e : Enclosure) (b : ℕ) → is_word_byte b ≡ true → ends_enclosed e b ≡ false
 word-ends Group b h = no-word b 125 refl h
 word-ends Quotes b h = rw (no-word b 34 refl h, no-word b 125 refl h) refl
 
-word-depth : (d b : ℕ) → is_word_byte b ≡ true → depth_after d b ≡ d
+pub word-depth : (d b : ℕ) → is_word_byte b ≡ true → depth_after d b ≡ d
 word-depth d b h = rw (no-word b 123 refl h, no-word b 125 refl h) refl
 
 -- a byte that doesn't end what is enclosed is passed over
 pub enclosed-on : (e : Enclosure) (d after : ℕ) (s : List ℕ) (i n : ℕ) → i < length s → (eqb d 0 && ends_enclosed e (get_or s i 0)) ≡ false → after ≡ depth_after d (get_or s i 0) →
     i + enclosed_len e d (drop i s) ≡ n → i + 1 + enclosed_len e after (drop (i + 1) s) ≡ n
 enclosed-on e d after s i n lt goes is h = rw is (omega (arith, enclosed_next e d s i lt goes, h))
-
-pub enclosed-word : (e : Enclosure) (d : ℕ) (s : List ℕ) (i n : ℕ) → i < length s → is_word_byte (get_or s i 0) ≡ true →
-    i + enclosed_len e d (drop i s) ≡ n → i + 1 + enclosed_len e d (drop (i + 1) s) ≡ n
-enclosed-word e d s i n lt word h =
-    let goes : (eqb d 0 && ends_enclosed e (get_or s i 0)) ≡ false = rw (word-ends e (get_or s i 0) word) (and-false (eqb d 0)) in
-    enclosed-on e d d s i n lt goes (sym (word-depth d (get_or s i 0) word)) h
 
 pub enclosed-ends : (e : Enclosure) (d : ℕ) (s : List ℕ) (i n : ℕ) → i < length s → (eqb d 0 && ends_enclosed e (get_or s i 0)) ≡ true → i + enclosed_len e d (drop i s) ≡ n → i ≡ n
 enclosed-ends e d s i n lt ends h = omega (arith, enclosed_here e d s i lt ends, h)

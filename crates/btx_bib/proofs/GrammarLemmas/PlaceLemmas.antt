@@ -3,9 +3,9 @@ use Rattle.std.proofs.Common.{◌≡◌, ℕ, zero, suc, ◌+◌, ◌-◌, ◌<�
 use Rattle.std.proofs.lemmas.List.{take_more, take_all, length-take}
 use Rattle.std.proofs.lemmas.Bool.{cases_lt}
 use Rattle.std.proofs.lemmas.List.Sums.{count_by-le-length}
-use Rattle.std.specs.List.{count_by}
+use Rattle.std.specs.List.{count_by, onto_first}
 use Rattle.std.proofs.lemmas.List.Recursion.{is_count_by}
-use Rattle.btx_text.specs.language.Lines.{in_front, line_pieces}
+use Rattle.btx_text.specs.language.Lines.{line_pieces}
 use Rattle.btx_bib.specs.language.Grammar.PlaceLines.{lines_begun}
 use Rattle.btx_bib.specs.refinement.Grammar.PlaceLines.{feeds_in}
 
@@ -51,7 +51,7 @@ feeds-fit s n = omega (arith, feeds-le (take n s), length-take n s)
 
 pub ruleset feed_sums = (feeds-on, feeds-fit)
 
-in_front-length : (b : ℕ) (pieces : List (List ℕ)) (n : ℕ) → length pieces ≡ suc n → length (in_front b pieces) ≡ suc n
+in_front-length : (b : ℕ) (pieces : List (List ℕ)) (n : ℕ) → length pieces ≡ suc n → length (onto_first b pieces) ≡ suc n
 in_front-length b [] n e = absurd (omega (arith, e))
 in_front-length b (p ∷ ps) n e = e
 
@@ -63,7 +63,7 @@ pieces-snoc [] b = at (eqb b 10) where
   at true = refl
   at false = refl
 pieces-snoc (c ∷ cs) b = at (eqb c 10) (pieces-snoc cs b) where
-  at : (t : Bool) → length (line_pieces (cs ++ b ∷ [])) ≡ suc (feeds_in cs) → length (cond t ([] ∷ line_pieces (cs ++ b ∷ [])) (in_front c (line_pieces (cs ++ b ∷ [])))) ≡ suc (cond t (suc (feeds_in cs)) (feeds_in cs))
+  at : (t : Bool) → length (line_pieces (cs ++ b ∷ [])) ≡ suc (feeds_in cs) → length (cond t ([] ∷ line_pieces (cs ++ b ∷ [])) (onto_first c (line_pieces (cs ++ b ∷ [])))) ≡ suc (cond t (suc (feeds_in cs)) (feeds_in cs))
   at true h = ap suc h
   at false h = in_front-length c (line_pieces (cs ++ b ∷ [])) (feeds_in cs) h
 

@@ -15,12 +15,14 @@ use Rattle.btx_bib.specs.declared.grammar.slip.Slip.TheVariants.{NoDelimiter, No
 use Rattle.btx_bib.specs.language.Grammar.ByteSets.{begins, longest_run_len, longest_run, past}
 use Rattle.btx_bib.specs.language.Grammar.Tokens.{Parsed, followed_by, wrong_at, name_at, open_in, open_at, sign_at, key_here, key_at, closing_delimiter}
 use Rattle.btx_bib.specs.language.Grammar.Values.{value_at}
-use Rattle.btx_bib.specs.language.Grammar.Fields.{Field, field_at, one_more, after_comma, more_in, more_at}
-use Rattle.btx_bib.specs.language.Grammar.Items.{Event, Comment, Preamble, Definition, Entry, End, Wrong, command_of, head_of, head_at, item_end, field_event, Step, step_by, behind_at, expected_step, Placed, Keeping, as_known, known_step, events_by, events_from}
+use Rattle.btx_bib.specs.language.Grammar.Fields.{Field, field_at, after_comma, more_in, more_at}
+use Rattle.btx_bib.specs.language.Grammar.Items.{Event, Comment, Preamble, Definition, Entry, End, Wrong, command_of, head_of, head_at, field_event, Step, step_by, behind_at, expected_step, Placed, Keeping, as_known, known_step, events_by, events_from}
 use Rattle.btx_bib.specs.laws.Grammar.Spelling.{Grammar, Gives, Then, Spaced, NameHere, SignHere, ValueSpelling, FieldSpelling, Splits, read_as}
 use Rattle.btx_bib.specs.laws.Grammar.Reading.{OnSign, WrongHere, OpenHere, KeyHere, AfterComma, MoreHere, HeadOf, Head, more_event, HasNoAt, Stands, IsOutcome, IsReading}
 use Rattle.btx_bib.proofs.GrammarLemmas.LengthLemmas.{left, StepsTo, next-leaves, events_from-step, events-none}
 use Rattle.btx_bib.proofs.GrammarLemmas.SpellingLemmas.{Decides, Only, then-decides, gives-decides, spaced-decides, name-decides, sign-decides, value-decides, field-decides, run-of, past-of, is_run}
+use Rattle.btx_bib.specs.refinement.Grammar.Items.{item_end}
+use Rattle.btx_bib.specs.refinement.Grammar.Fields.{one_more}
 
 -- ---- signs
 
@@ -95,14 +97,8 @@ same-decides R read other e D = record {
   only = λ o front rest h. sym (e (front ++ rest)) ∙ D.only o front rest h;
 }
 
-one-field : (r : Parsed Field) → ◌≡◌ {A = Parsed (Option Field)} (followed_by r (λ field rest. Ok (Some field, rest))) (one_more r)
-one-field (Ok got) = refl
-one-field (Err wrong) = refl
-
 some-field-decides : Decides (λ s. one_more (field_at s)) (Then FieldSpelling (λ field. Gives (Some field)))
-some-field-decides =
-    same-decides (Then FieldSpelling (λ field. Gives (Some field))) (λ s. followed_by (field_at s) (λ field rest. Ok (Some field, rest))) (λ s. one_more (field_at s)) (λ s. one-field (field_at s))
-    (then-decides FieldSpelling (λ field. Gives (Some field)) field_at (λ field rest. Ok (Some field, rest)) field-decides (λ field. gives-decides (Some field)))
+some-field-decides = then-decides FieldSpelling (λ field. Gives (Some field)) field_at (λ field rest. Ok (Some field, rest)) field-decides (λ field. gives-decides (Some field))
 
 ended-decides : Decides (λ s. Ok (None, s)) (Gives {A = Option Field} None)
 ended-decides = gives-decides None
@@ -140,14 +136,9 @@ head-decides : Decides head_at Head
 unfolding head_at
 head-decides = then-decides (Spaced NameHere) _ name_at _ name-decides (λ name. head_of-decides (command_of name) name)
 
-ended-same : (r : Parsed (Unit {0})) → followed_by r (λ sign rest. Ok ((End, Item), rest)) ≡ item_end r
-ended-same (Ok got) = refl
-ended-same (Err wrong) = refl
-
 end-decides : (d : Delimiter) → Decides (λ s. item_end (sign_at (closing_delimiter d) (NoClosing d) s)) (Stands (Closing d))
 end-decides d =
-    same-decides (Stands (Closing d)) (λ s. followed_by (sign_at (closing_delimiter d) (NoClosing d) s) (λ sign rest. Ok ((End, Item), rest))) _ (λ s. ended-same (sign_at (closing_delimiter d) (NoClosing d) s))
-    (then-decides (Spaced (SignHere (closing_delimiter d) (NoClosing d))) (λ sign. Gives (End, Item)) (sign_at (closing_delimiter d) (NoClosing d)) (λ sign rest. Ok ((End, Item), rest)) (sign-decides (closing_delimiter d) (NoClosing d)) (λ sign. gives-decides (End, Item)))
+    then-decides (Spaced (SignHere (closing_delimiter d) (NoClosing d))) (λ sign. Gives (End, Item)) (sign_at (closing_delimiter d) (NoClosing d)) (λ sign rest. Ok ((End, Item), rest)) (sign-decides (closing_delimiter d) (NoClosing d)) (λ sign. gives-decides (End, Item))
 
 more-same : (d : Delimiter) (r : Parsed (Option Field)) → followed_by r (λ more rest. Ok (more_event d more, rest)) ≡ field_event d r
 more-same d (Ok (None, rest)) = refl

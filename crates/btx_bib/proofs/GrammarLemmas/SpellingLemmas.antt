@@ -2,7 +2,7 @@
 use Rattle.std.proofs.Common.{not, ◌≡◌, ℕ, zero, suc, ◌<◌, ◌≤◌, Bool, true, false, cond, eqb, ◌||◌, ◌&&◌, List, [], ◌∷◌, ◌++◌, length, take, drop, fold, ◌⊎◌, inl, inr, refl, sym, ◌∙◌, ap, subst, arith, append_assoc, Result, Ok, Err, Some, None, Option}
 use Rattle.std.proofs.lemmas.Bool.{and_parts, eqb-true, eq-eqb, true≢false}
 use Rattle.std.proofs.lemmas.List.{take-append-drop, take_at, drop_at}
-use Rattle.btx_text.specs.language.Class.{is_digit, is_name_byte, begins_name}
+use Rattle.btx_text.specs.language.Class.{is_name_byte, begins_name}
 use Rattle.btx_text.specs.language.Elements.{depth_after}
 use Rattle.btx_bib.specs.declared.grammar.byte_sets.ByteSet.{ByteSet}
 use Rattle.btx_bib.specs.declared.grammar.byte_sets.ByteSet.TheVariants.{Gap, NameByte, Digit}
@@ -16,6 +16,7 @@ use Rattle.btx_bib.specs.language.Grammar.Values.{Part, Braced, Quoted, Digits, 
 use Rattle.btx_bib.specs.language.Grammar.Fields.{Field, field_at}
 use Rattle.btx_bib.specs.laws.Grammar.Spelling.{Grammar, Gives, Both, Then, AllIn, IsRun, White, Spaced, NameHere, SignHere, IsInside, IsWrongPart, PartHere, EndsThere, OthersFollow, ValueOf, ValueSpelling, FieldSpelling, Splits, read_as}
 use Rattle.btx_bib.proofs.GrammarLemmas.ValueLemmas.{value_at-step, Within, behind_hash-within, past-le, Leaves, part_at-leaves}
+use Rattle.std.specs.Char.{is_ascii_digit}
 
 -- a function reads as a grammar says: what it reads is spelled, and what is spelled it reads
 pub record Decides {A : Type 0} (read : List ℕ → Parsed A) (R : Grammar A) : Type 0 where
@@ -219,15 +220,15 @@ enclosed-splits bs = (
   quotes-splits _ _ bs (take-append-drop (enclosed_len Quotes 0 bs) bs) (enclosed-inside Quotes 0 bs) (enclosed-ends Quotes 0 bs),
 )
 
-starts_digit : (b : ℕ) (bs : List ℕ) → is_digit b ≡ true → begins is_digit (longest_run Digit (b ∷ bs)) ≡ true
+starts_digit : (b : ℕ) (bs : List ℕ) → is_ascii_digit b ≡ true → begins is_ascii_digit (longest_run Digit (b ∷ bs)) ≡ true
 unfolding longest_run_len
 starts_digit b bs e = rw e e
 
 part_here-total : (s : List ℕ) → Splits PartHere s (part_in s)
 unfolding part_in
 part_here-total [] = ([], refl, (refl, inl refl))
-part_here-total (b ∷ bs) = at (eqb b 123) (eqb b 34) (is_digit b) (begins_name b) refl refl refl refl where
-  at : (t u v w : Bool) → eqb b 123 ≡ t → eqb b 34 ≡ u → is_digit b ≡ v → begins_name b ≡ w →
+part_here-total (b ∷ bs) = at (eqb b 123) (eqb b 34) (is_ascii_digit b) (begins_name b) refl refl refl refl where
+  at : (t u v w : Bool) → eqb b 123 ≡ t → eqb b 34 ≡ u → is_ascii_digit b ≡ v → begins_name b ≡ w →
       Splits PartHere (b ∷ bs) (cond t (enclosed_in Group bs) (cond u (enclosed_in Quotes bs) (cond v (Ok (Digits (longest_run Digit (b ∷ bs)), past Digit (b ∷ bs)))
       (cond w (Ok (Named (record { name = longest_run NameByte (b ∷ bs); rest = past NameByte (b ∷ bs) }), past NameByte (b ∷ bs))) (Err (NoValue, b ∷ bs))))))
   at true u v w g q d n = subst (λ c. Splits PartHere (c ∷ bs) (enclosed_in Group bs)) (sym (eqb-true b 123 g)) (enclosed-splits bs).0
@@ -244,15 +245,15 @@ not_at test b sign h fails = at (eqb b sign) refl where
   at true is = absurd (true≢false (sym h ∙ ap test (eqb-true b sign is) ∙ fails))
   at false is = refl
 
-part_in-digits : (t rest : List ℕ) → begins is_digit t ≡ true → IsRun Digit t rest → part_in (t ++ rest) ≡ Ok (Digits t, rest)
+part_in-digits : (t rest : List ℕ) → begins is_ascii_digit t ≡ true → IsRun Digit t rest → part_in (t ++ rest) ≡ Ok (Digits t, rest)
 unfolding part_in
 part_in-digits [] rest h r = cc
 part_in-digits (b ∷ bs) rest h r =
-    rw (not_at is_digit b 123 h refl, not_at is_digit b 34 h refl, h, run-of Digit (b ∷ bs) rest r, past-of Digit (b ∷ bs) rest r) refl
+    rw (not_at is_ascii_digit b 123 h refl, not_at is_ascii_digit b 34 h refl, h, run-of Digit (b ∷ bs) rest r, past-of Digit (b ∷ bs) rest r) refl
 
-not_digit : (b : ℕ) → begins_name b ≡ true → is_digit b ≡ false
-not_digit b h = at (is_digit b) refl where
-  at : (t : Bool) → is_digit b ≡ t → t ≡ false
+not_digit : (b : ℕ) → begins_name b ≡ true → is_ascii_digit b ≡ false
+not_digit b h = at (is_ascii_digit b) refl where
+  at : (t : Bool) → is_ascii_digit b ≡ t → t ≡ false
   at true is = absurd (true≢false (sym (and_parts (is_name_byte b) _ h).1 ∙ ap not is))
   at false is = refl
 
@@ -269,8 +270,8 @@ or_parts false y h = (refl, h)
 part_in-wrong : (slip : Slip) (front rest : List ℕ) → IsWrongPart slip front rest → part_in (front ++ rest) ≡ Err (slip, rest)
 unfolding part_in
 part_in-wrong NoValue front rest (nothing, b, bs, is, none) =
-    let name = or_parts (eqb b 123 || eqb b 34 || is_digit b) (begins_name b) none in
-    let digit = or_parts (eqb b 123 || eqb b 34) (is_digit b) name.0 in
+    let name = or_parts (eqb b 123 || eqb b 34 || is_ascii_digit b) (begins_name b) none in
+    let digit = or_parts (eqb b 123 || eqb b 34) (is_ascii_digit b) name.0 in
     let signs = or_parts (eqb b 123) (eqb b 34) digit.0 in
     rw (nothing, is, name.1, signs.0, signs.1, digit.1) refl
 part_in-wrong Unbalanced front rest (text, bs, f, r, i) = rw (f, r, enclosed_in-of Quotes text (125 ∷ bs) i.0 (i.1, refl)) refl

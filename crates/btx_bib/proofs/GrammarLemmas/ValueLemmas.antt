@@ -5,7 +5,7 @@ use Rattle.btx_bib.specs.declared.grammar.parts.Part.{Part as CodePart}
 use Rattle.btx_bib.specs.refinement.Grammar.PartViews.{part_view}
 use Rattle.std.specs.Borrow.{Bor}
 use Rattle.std.proofs.lemmas.Bool.{and_parts}
-use Rattle.btx_text.specs.language.Class.{is_digit, is_name_byte, begins_name}
+use Rattle.btx_text.specs.language.Class.{is_name_byte, begins_name}
 use Rattle.btx_bib.specs.declared.grammar.byte_sets.ByteSet.{ByteSet}
 use Rattle.btx_bib.specs.declared.grammar.byte_sets.ByteSet.TheVariants.{Gap, NameByte, Digit}
 use Rattle.btx_bib.specs.declared.grammar.byte_sets.Enclosure.{Enclosure}
@@ -17,6 +17,7 @@ use Rattle.btx_bib.specs.language.Grammar.Tokens.{Parsed, followed_by}
 use Rattle.btx_bib.specs.refinement.Grammar.Tokens.{seen}
 use Rattle.btx_bib.specs.language.Grammar.Values.{Part, Quoted, Digits, Named, closed_part, enclosed_in, part_in, part_at, behind_hash, next_part, joined, value_within, value_at}
 use Rattle.btx_bib.specs.refinement.Grammar.Values.{parts_read, value_end}
+use Rattle.std.specs.Char.{is_ascii_digit}
 
 -- what was read leaves less
 abbrev pub Leaves : {A : Type 0} → ℕ → Parsed A → Type 0
@@ -51,8 +52,8 @@ begins_name-byte b h = (and_parts _ _ h).0
 part_in-leaves : (rest : List ℕ) → Leaves (length rest) (part_in rest)
 unfolding part_in
 part_in-leaves [] = tt
-part_in-leaves (b ∷ bs) = at (eqb b 123) (eqb b 34) (is_digit b) (begins_name b) refl refl where
-  at : (t u v w : Bool) → is_digit b ≡ v → begins_name b ≡ w → Leaves (suc (length bs))
+part_in-leaves (b ∷ bs) = at (eqb b 123) (eqb b 34) (is_ascii_digit b) (begins_name b) refl refl where
+  at : (t u v w : Bool) → is_ascii_digit b ≡ v → begins_name b ≡ w → Leaves (suc (length bs))
       (cond t (enclosed_in Group bs) (cond u (enclosed_in Quotes bs) (cond v (Ok (Digits (longest_run Digit (b ∷ bs)), past Digit (b ∷ bs)))
       (cond w (Ok (Named (record { name = longest_run NameByte (b ∷ bs); rest = past NameByte (b ∷ bs) }), past NameByte (b ∷ bs))) (Err (NoValue, b ∷ bs))))))
   at true u v w d n = more (enclosed_in Group bs) (length bs) (enclosed-leaves Group bs)

@@ -1,11 +1,11 @@
 -- What some databases give to a job, read one after the other.
-use Rattle.std.specs.Prelude.{ℕ, nat_lt, Bool, List, [], ◌++◌, fold, length, None, if◌then◌else◌}
-use Rattle.btx_text.specs.language.Limits.{greatest_file}
+use Rattle.std.specs.Prelude.{ℕ, List, [], ◌++◌, fold, None, if◌then◌else◌}
+use Rattle.btx_text.specs.language.Limits.{is_too_long}
 use Rattle.btx_bib.specs.declared.end.End.{End}
 use Rattle.btx_bib.specs.declared.end.End.TheVariants as end
 use Rattle.btx_bib.specs.declared.grammar.commands.Wanted.TheVariants.{Item}
 use Rattle.btx_bib.specs.declared.message.Message.{Message}
-use Rattle.btx_bib.specs.language.Grammar.Items.{Placed, events_from}
+use Rattle.btx_bib.specs.language.Grammar.Items.{events_from}
 use Rattle.btx_bib.specs.language.Grammar.ValueTexts.{squeezed}
 use Rattle.btx_bib.specs.language.Library.{Library}
 use Rattle.btx_bib.specs.language.Wanted.{Request}
@@ -32,24 +32,17 @@ with_macros macros = fold with_macro nothing macros
 
 -- ---- one database
 
--- a file is longer than a file may be
-abbrev pub is_database_too_long : Database → Bool
-is_database_too_long database = nat_lt greatest_file (length database.text)
-
--- what stands in a database and what is wrong in it, item by item; which entries are repeated depends on what is known before it
-abbrev pub database_events : Request → Known → Database → List Placed
-database_events wanted known database = events_from (keeping wanted) known Item database.text
-
 -- a database is read event by event; at its end the entry that is being read is at its end too
 abbrev pub read_whole : Request → Reading → Database → Reading
 read_whole wanted reading database =
-    let last = fold (read_next wanted database) reading (database_events wanted reading.known database) in record last { known = with_current_stored last.known }
+    let last = fold (read_next wanted database) reading (events_from (keeping wanted) reading.known Item database.text) in
+    record last { known = with_current_stored last.known }
 
 -- reads a database, unless the reading has ended already; a file that is too long ends it
 abbrev pub read_one : Request → Reading → Database → Reading
 read_one wanted reading database =
     if goes_on reading.known.ending then
-    (if is_database_too_long database then record reading { known = record reading.known { ending = end.FileLimit } } else read_whole wanted reading database)
+    (if is_too_long database.text then record reading { known = record reading.known { ending = end.FileLimit } } else read_whole wanted reading database)
     else reading
 
 -- ---- all databases

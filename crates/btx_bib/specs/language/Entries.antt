@@ -11,7 +11,7 @@ pub record KeptField : Type 0 where
   pub name : List ℕ
   pub value : List ℕ
 
--- an entry as a database gives it: its type, its key, and those of its fields that are kept
+-- an entry as a database gives it: the word of its type (`kind`, such as `book`), its key, and those of its fields that are kept
 pub record Given : Type 0 where
   pub kind : List ℕ
   pub key : List ℕ
@@ -48,11 +48,7 @@ parent_in (value ∷ values) = value
 abbrev pub parent_of : Request → Given → Option (List ℕ)
 parent_of wanted given = parent_in (field_values wanted given.fields)
 
--- what the list has of an entry: the number of the style's function for its type, and its values
+-- an entry of a database as the list has it: the word of its type becomes the number of the style's function, and its fields become values, by the
+-- fields' numbers
 unfoldable pub body_of : Request → Given → Body
 body_of wanted given = record { kind = wanted.kind (folded given.kind); values = field_values wanted given.fields }
-
--- an optional value as a list of one or of none
-abbrev pub list_of_option : {T : Type 0} → Option T → List T
-list_of_option None = []
-list_of_option (Some x) = x ∷ []

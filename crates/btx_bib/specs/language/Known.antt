@@ -1,6 +1,6 @@
 -- What is known of the databases while they are read, item by item: the strings, the entries that are stored, the preamble, and whether
 -- the reading has ended at a limit, after which nothing more is known. What an item is, is the grammar's.
-use Rattle.std.specs.Prelude.{ℕ, nat_lt, not, ◌&&◌, Bool, true, false, List, [], ◌∷◌, ◌++◌, length, Option, None, Some, is_some, if◌then◌else◌}
+use Rattle.std.specs.Prelude.{ℕ, nat_lt, not, ◌&&◌, Bool, true, false, List, [], ◌∷◌, ◌++◌, length, Option, None, Some, is_some, if◌then◌else◌, option_to_list}
 use Rattle.btx_text.specs.language.Keys.{folded}
 use Rattle.btx_text.specs.language.Limits.{greatest_string}
 use Rattle.btx_bib.specs.declared.end.End.{End}
@@ -12,7 +12,7 @@ use Rattle.btx_bib.specs.language.Grammar.ValueTexts.{value_text}
 use Rattle.btx_bib.specs.language.Wanted.{Request}
 use Rattle.btx_bib.specs.language.Strings.{Strings, string_value, other_value, defined}
 use Rattle.btx_bib.specs.language.Filling.{value_by}
-use Rattle.btx_bib.specs.language.Entries.{Given, list_of_option, field_values}
+use Rattle.btx_bib.specs.language.Entries.{Given, field_values}
 use Rattle.btx_bib.specs.language.Stored.{entry_with_key, is_wanted}
 
 -- the strings, the entries that are stored, the one of these that is being read, the values of all `@preamble`s joined, and how the
@@ -32,7 +32,7 @@ goes_on end.StringLimit = false
 
 -- the stored entries, with the one that is being read
 abbrev pub stored_in : Known → List Given
-stored_in known = known.stored ++ list_of_option known.current
+stored_in known = known.stored ++ option_to_list known.current
 
 -- what is known once the entry that is being read has ended: it is stored
 abbrev pub with_current_stored : Known → Known
@@ -46,37 +46,30 @@ if_fits text known next = if nat_lt greatest_string (length text) then record kn
 abbrev pub has_value : Request → Given → List ℕ → Bool
 has_value wanted given name = is_some (value_by (wanted.field (folded name)) (field_values wanted given.fields))
 
--- an entry keeps a further field `name`: the style declares the field, and the entry has no value for it yet
-abbrev pub keeps_field : Request → Given → List ℕ → Bool
-keeps_field wanted given name = is_some (wanted.field (folded name)) && not (has_value wanted given name)
-
 -- an entry with one more field, its name and its text, behind the others
 abbrev pub with_field : Given → List ℕ → List ℕ → Given
 with_field given name text = record given { fields = given.fields ++ record { name = name; value = text } ∷ [] }
 
--- what is known after a field, of the stored entry that is being read, or of an entry that isn't stored
+-- what is known after a field: it is kept if its entry is stored, the style declares the field, and the entry has no value for it yet. Any other
+-- field changes nothing
 abbrev pub after_field : Request → Known → Option Given → Field → Known
 after_field wanted known None field = known
 after_field wanted known (Some given) field =
-    if keeps_field wanted given field.name then
+    if is_some (wanted.field (folded field.name)) && not (has_value wanted given field.name) then
     (let text = value_text Trimmed (string_value known.strings) field.value in if_fits text known (record known { current = Some (with_field given field.name text) }))
     else known
 
--- what is known after the type and the key of an entry: if the entry is wanted, it is the one that is being read, without a field yet; else nothing
--- changes
-abbrev pub after_key : Request → Known → List ℕ → List ℕ → Known
-after_key wanted known kind key =
-    if is_wanted wanted known.stored key then record known { current = Some (record { kind = kind; key = key; fields = [] }) } else known
-
--- what is known after an event: a `@preamble` is appended, a `@string` defined, a wanted entry becomes the one that is being read, and a field goes
--- to that entry
+-- what is known after an event: a `@preamble` is appended, and a `@string` defined. An entry's key first stores the entry that was being read, and a
+-- wanted entry becomes the one that is being read, without a field yet; a field goes to that entry. `Close` is the end of an item
 abbrev pub after_event : Request → Known → Event → Known
 after_event wanted known Comment = known
 after_event wanted known (Preamble value) =
     let whole = known.preamble ++ value_text Kept (string_value known.strings) value in if_fits whole known (record known { preamble = whole })
 after_event wanted known (Definition name value) =
     let text = value_text Kept (other_value known.strings name) value in if_fits text known (record known { strings = defined known.strings name text })
-after_event wanted known (Entry kind key) = after_key wanted (with_current_stored known) kind key
+after_event wanted known (Entry kind key) =
+    let before = with_current_stored known in
+    if is_wanted wanted before.stored key then record before { current = Some (record { kind = kind; key = key; fields = [] }) } else before
 after_event wanted known (FieldOf field) = after_field wanted known known.current field
 after_event wanted known Close = known
 after_event wanted known (Wrong slip) = known

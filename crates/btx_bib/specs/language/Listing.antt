@@ -13,7 +13,7 @@ abbrev pub first_cited : Option ℕ → List (List ℕ) → List (List ℕ)
 first_cited None cited = cited
 first_cited (Some place) cited = take place cited
 
--- the cited keys with which the list ends: with `*` those that were cited after it, else none
+-- the keys that are added last, if the list doesn't have them yet: with `*` those that were cited after it, else none
 abbrev pub last_cited : Option ℕ → List (List ℕ) → List (List ℕ)
 last_cited None cited = []
 last_cited (Some place) cited = drop place cited
@@ -37,7 +37,8 @@ list_keys wanted stored = fold with_key (first_keys wanted stored) (last_cited w
 abbrev pub spelled : Request → List Given → List ℕ → List ℕ
 spelled wanted stored key = unwrap_or (option_or (listed_as wanted.cited key) (option_map (λ (given : Given). given.key) (entry_with_key stored key))) key
 
--- a key stays in the list: it was cited, or at least `wanted.fewest` stored entries refer to it (0 with `*`)
+-- a key stays in the list: it was cited, or at least `wanted.fewest` stored entries name it as their `crossref`. With `*` that number is 0, so every
+-- key stays
 abbrev pub stays : Request → List Given → List ℕ → Bool
 stays wanted stored key = is_some (listed_as wanted.cited key) || nat_le wanted.fewest (count_by (is_same_key key) (references wanted stored))
 

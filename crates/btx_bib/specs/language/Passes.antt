@@ -2,7 +2,7 @@
 -- each place is judged by the list as it is then.
 use Rattle.std.specs.Prelude.{ℕ, ◌&&◌, Bool, false, List, [], ◌∷◌, ◌++◌, Option, None, Some, is_some, if◌then◌else◌}
 use Rattle.std.specs.List.{find, flat_map}
-use Rattle.std.specs.Option.{option_or}
+use Rattle.std.specs.Option.{option_or, option_map_or}
 use Rattle.btx_aux.specs.language.Names.{is_same_key}
 use Rattle.btx_bib.specs.declared.entry.Entry.{Entry}
 use Rattle.btx_bib.specs.declared.message.Message.{Message}
@@ -41,10 +41,6 @@ abbrev pub parent_slot : List Slot → Option (List ℕ) → Option Slot
 parent_slot slots None = None
 parent_slot slots (Some key) = slot_at slots key
 
--- a place of the list with another entry
-abbrev pub with_body : Slot → Option Body → Slot
-with_body slot body = record slot { body = body }
-
 -- an entry with other values for its fields, if there is an entry
 abbrev pub with_field_values : Option Body → List (Option (List ℕ)) → Option Body
 with_field_values None values = None
@@ -66,7 +62,8 @@ inherited_values key (value ∷ values) (parent ∷ parents) = Some key ∷ or_v
 -- that the entry lacks takes the parent's value
 abbrev pub inherited_from : Option Slot → Slot → Slot
 inherited_from None slot = slot
-inherited_from (Some parent) slot = with_body slot (with_field_values slot.body (inherited_values parent.key (body_values slot.body) (body_values parent.body)))
+inherited_from (Some parent) slot =
+    record slot { body = with_field_values slot.body (inherited_values parent.key (body_values slot.body) (body_values parent.body)) }
 
 -- the first pass, at a place of the list: what the entry there lacks it takes from its parent, by what that has at that moment
 unfoldable pub inherited : List Slot → Slot → Slot
@@ -79,7 +76,7 @@ without_parent (value ∷ values) = None ∷ values
 
 -- a place of the list whose entry has lost its `crossref`
 abbrev pub without_crossref : Slot → Slot
-without_crossref slot = with_body slot (with_field_values slot.body (without_parent (body_values slot.body)))
+without_crossref slot = record slot { body = with_field_values slot.body (without_parent (body_values slot.body)) }
 
 -- the parent has an entry that stays
 abbrev pub is_parent : Option Slot → Bool
@@ -96,14 +93,11 @@ checked_by (Some key) slots slot = if is_parent (slot_at slots key) then slot el
 unfoldable pub checked : List Slot → Slot → Slot
 checked slots slot = checked_by (parent_at slot) slots slot
 
--- the message, if `b` is true
-abbrev pub message_if : Bool → Message → List Message
-message_if b message = if b then message ∷ [] else []
-
 -- the message of a parent: that it has no entry, or that it has a parent
 abbrev pub parent_messages : List ℕ → List ℕ → Option Slot → List Message
 parent_messages child key None = BadReference child key ∷ []
-parent_messages child key (Some parent) = if is_some parent.body then message_if (is_some (parent_at parent)) (NestedReference child key) else BadReference child key ∷ []
+parent_messages child key (Some parent) =
+    if is_some parent.body then (if is_some (parent_at parent) then NestedReference child key ∷ [] else []) else BadReference child key ∷ []
 
 -- the messages about the parent that the entry at a place of the list names, if it names one
 abbrev pub check_messages_by : Option (List ℕ) → List Slot → Slot → List Message
@@ -123,14 +117,9 @@ entry_by key stays (Some body) = if stays then record { key = key; kind = body.k
 abbrev pub entry_at : Slot → List Entry
 entry_at slot = entry_by slot.key slot.stays slot.body
 
--- the message that a key has no entry, if it has none
-abbrev pub absence_by : List ℕ → Option Body → List Message
-absence_by key None = NoEntry key ∷ []
-absence_by key (Some body) = []
-
 -- the message of a place of the list, where its key has no entry
 abbrev pub absence_messages : Slot → List Message
-absence_messages slot = absence_by slot.key slot.body
+absence_messages slot = option_map_or (λ (body : Body). []) slot.body (NoEntry slot.key ∷ [])
 
 -- the list after the first pass: children have what they inherit
 abbrev pub after_first : List Slot → List Slot

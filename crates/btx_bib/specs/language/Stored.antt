@@ -1,10 +1,10 @@
 -- Which entries of the databases are stored. An entry is stored if `*` or its key is cited, or if it is the parent of an entry stored
 -- before it, and no entry stored before it has its key. Keys are compared without case (btxdoc, section 3).
-use Rattle.std.specs.Prelude.{ℕ, ◌||◌, Bool, List, [], ◌++◌, map, Option, None, Some, is_some}
+use Rattle.std.specs.Prelude.{ℕ, ◌||◌, Bool, List, [], ◌++◌, map, Option, None, Some, is_some, option_to_list}
 use Rattle.std.specs.List.{find, list_any, flat_map}
 use Rattle.btx_aux.specs.language.Names.{is_same_key}
 use Rattle.btx_bib.specs.language.Wanted.{Request}
-use Rattle.btx_bib.specs.language.Entries.{Given, parent_of, list_of_option}
+use Rattle.btx_bib.specs.language.Entries.{Given, parent_of}
 
 -- a key is one of some keys, where case is ignored
 abbrev pub is_any_key : List (List ℕ) → List ℕ → Bool
@@ -20,7 +20,7 @@ entry_with_key entries key = find (λ (given : Given). is_same_key key given.key
 
 -- the keys that these entries have as their `crossref`, one for each entry that has a parent
 abbrev pub parents_in : Request → List Given → List (List ℕ)
-parents_in wanted entries = flat_map (λ (given : Given). list_of_option (parent_of wanted given)) entries
+parents_in wanted entries = flat_map (λ (given : Given). option_to_list (parent_of wanted given)) entries
 
 -- the references that count for the list: the parents of stored entries; none with `*`
 abbrev pub references_by : Option ℕ → Request → List Given → List (List ℕ)

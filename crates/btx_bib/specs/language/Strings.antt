@@ -15,7 +15,7 @@ Strings = List (List ℕ × List ℕ)
 abbrev pub string_value : Strings → List ℕ → Option (List ℕ)
 string_value strings name = lookup (bytes_eq (folded name)) strings
 
--- the value of a string's name in the definition of the string `own`, where `own` itself has none
+-- the value of a name inside the `@string` that defines `own`: for `own` itself none, even if it had one before
 abbrev pub other_value : Strings → List ℕ → List ℕ → Option (List ℕ)
 other_value strings own name = if is_same_key own name then None else string_value strings name
 

@@ -36,7 +36,8 @@ abbrev pub is_own : Option (List ℕ) → List ℕ → Bool
 is_own None name = false
 is_own (Some own) name = is_same_key own name
 
--- the message for a part of a value: a name without a string, or the own name in the definition of `own`
+-- the message for a part of a value: a warning if it is a name to which no `@string` and no macro gives a text, or the very name that is being
+-- defined (`own`)
 abbrev pub name_messages : Database → Strings → Option (List ℕ) → Part → List Message
 name_messages database strings own (Braced text) = []
 name_messages database strings own (Quoted text) = []
@@ -73,10 +74,6 @@ event_messages wanted database known (FieldOf field) rest = field_messages wante
 event_messages wanted database known End rest = []
 event_messages wanted database known (Wrong slip) rest = message.Wrong slip (spot_at database rest) ∷ []
 
--- the messages of an event that was read; once a limit was met there are none
-abbrev pub messages_at : Request → Database → Known → Placed → List Message
-messages_at wanted database known placed = if goes_on known.ending then event_messages wanted database known placed.event placed.rest else []
-
 -- ---- along a database
 
 -- how far the reading of databases has come: what is known, and the messages so far
@@ -84,9 +81,9 @@ pub record Reading : Type 0 where
   pub known : Known
   pub messages : List Message
 
--- what is known and the messages after a further event
+-- what is known and the messages after a further event; once a limit was met there are no more messages
 abbrev pub read_next : Request → Database → Reading → Placed → Reading
 read_next wanted database reading placed = record {
   known = known_after wanted reading.known placed.event;
-  messages = reading.messages ++ messages_at wanted database reading.known placed;
+  messages = reading.messages ++ (if goes_on reading.known.ending then event_messages wanted database reading.known placed.event placed.rest else []);
 }

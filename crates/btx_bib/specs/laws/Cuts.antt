@@ -7,7 +7,9 @@ use Rattle.btx_bib.specs.language.Wanted.{Request}
 use Rattle.btx_bib.specs.language.Library.{Library}
 use Rattle.btx_bib.specs.language.Known.{Known}
 use Rattle.btx_bib.specs.language.Told.{Database}
-use Rattle.btx_bib.specs.language.Databases.{library_of, is_database_too_long, database_events, read_all}
+use Rattle.btx_bib.specs.language.Databases.{library_of, read_all}
+use Rattle.btx_text.specs.language.Limits.{is_too_long}
+use Rattle.btx_bib.specs.laws.Databases.{database_events}
 
 -- the text doesn't begin with a byte that would make a name in front of it longer
 abbrev pub EndsName : List ℕ → Type 0
@@ -31,5 +33,5 @@ GivesTheSame one other = (one.entries ≡ other.entries) × (one.preamble ≡ ot
 -- a database that is no longer than a file may be gives the same entries, preamble and end if it is cut in two where no item is open
 abbrev pub CutGivesTheSame : Type 0
 CutGivesTheSame = (wanted : Request) (macros : List (List ℕ × List ℕ)) (before after : List Database) (whole first second : Database)
-    → IsCutBetweenItems wanted (read_all wanted macros before).known whole first second → is_database_too_long whole ≡ false
+    → IsCutBetweenItems wanted (read_all wanted macros before).known whole first second → is_too_long whole.text ≡ false
     → GivesTheSame (library_of wanted macros (before ++ first ∷ second ∷ after)) (library_of wanted macros (before ++ whole ∷ after))

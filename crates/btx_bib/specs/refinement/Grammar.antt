@@ -9,3 +9,5 @@ pub mod Squeezing
 pub mod PlainFields
 pub mod Reads
 pub mod PlaceLines
+pub mod Items
+pub mod Fields

@@ -1,6 +1,6 @@
 -- What the code keeps along whole databases, and the messages.
 use Rattle.std.specs.Prelude.{◌≡◌, ℕ, nat_lt, List, [], ◌∷◌, ◌++◌, length, None, if◌then◌else◌}
-use Rattle.btx_text.specs.language.Limits.{greatest_string}
+use Rattle.btx_text.specs.language.Limits.{greatest_string, is_too_long}
 use Rattle.btx_bib.specs.declared.draft.Draft.{Draft}
 use Rattle.btx_bib.specs.declared.end.End.{End}
 use Rattle.btx_bib.specs.declared.end.End.TheVariants as end
@@ -8,7 +8,6 @@ use Rattle.btx_bib.specs.declared.end.End.TheVariants.{FileLimit}
 use Rattle.btx_bib.specs.declared.gathering.Gathering.{Gathering}
 use Rattle.btx_bib.specs.declared.grammar.commands.Wanted.TheVariants.{Item}
 use Rattle.btx_bib.specs.declared.message.Message.{Message}
-use Rattle.btx_bib.specs.language.Databases.{is_database_too_long}
 use Rattle.btx_bib.specs.refinement.Drafts.{cited_all, empty, settled_all}
 use Rattle.btx_bib.specs.language.Grammar.ValueTexts.{squeezed}
 use Rattle.btx_bib.specs.refinement.Gatherings.{closed, events_with, kept_along, kept_told}
@@ -25,13 +24,13 @@ use Rattle.btx_bib.specs.language.Wanted.{Request}
 abbrev pub kept_one : Request → Gathering → Database → Gathering
 kept_one wanted kept database =
     if goes_on kept.ending then
-    (if is_database_too_long database then record kept { ending = FileLimit } else closed wanted (kept_along wanted kept (events_with wanted kept Item database.text)))
+    (if is_too_long database.text then record kept { ending = FileLimit } else closed wanted (kept_along wanted kept (events_with wanted kept Item database.text)))
     else kept
 
 -- the messages of it
 abbrev pub told_by_one : Request → Gathering → Database → List Message
 told_by_one wanted kept database =
-    if goes_on kept.ending then (if is_database_too_long database then [] else kept_told wanted database kept (events_with wanted kept Item database.text)) else []
+    if goes_on kept.ending then (if is_too_long database.text then [] else kept_told wanted database kept (events_with wanted kept Item database.text)) else []
 
 -- the same of all databases
 abbrev pub kept_by_all : Request → Gathering → List Database → Gathering

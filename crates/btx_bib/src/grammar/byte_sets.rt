@@ -58,20 +58,12 @@ pub fn ends_in_gap(text: &[u8]) -> bool
     }
 }
 
-/// Whether a byte is one of those that neither are white nor enclose: most are, not all.
-#[inline(always)]
-pub fn is_word_byte(byte: u8) -> bool
-    ensures { result ≡ refined.is_word_byte byte }
-{
-    byte >= b'#' && byte <= b'z'
-}
-
-/// Whether a name can begin with a byte.
+/// Whether a name can begin with a byte. Lower-case letters are asked for first, as most are such.
 #[inline(always)]
 pub fn begins_name(byte: u8) -> bool
     ensures { result ≡ begins_name byte }
 {
-    is_name_byte(byte) && !byte.is_ascii_digit()
+    byte.is_ascii_lowercase() || (is_name_byte(byte) && !byte.is_ascii_digit())
 }
 
 // Whether a byte is in a set.

@@ -5,6 +5,7 @@ ghost use Rattle.std.specs.Option.{option_map};
 ghost use Rattle.btx_text.specs.language.Keys.{folded};
 ghost use Rattle.btx_bib.specs.refinement.Grammar.EventViews.{event_view, head_view};
 ghost use Rattle.btx_bib.specs.language.Grammar.Items as spec;
+ghost use Rattle.btx_bib.specs.refinement.Grammar.Items as refined;
 ghost use Rattle.btx_bib.specs.language.Grammar.Tokens.{closing_delimiter, sign_at};
 ghost use Rattle.btx_bib.specs.refinement.Grammar.Tokens.{seen};
 ghost use Rattle.btx_bib.specs.language.Grammar.Fields.{more_at};
@@ -94,7 +95,7 @@ pub fn read_head(text: &[u8]) -> Read<'_, (Event<'_>, Wanted)>
 
 /// The end of an item.
 pub fn read_end(delimiter: Delimiter, text: &[u8]) -> Read<'_, (Event<'_>, Wanted)>
-    ensures { seen head_view result ≡ spec.item_end (sign_at (closing_delimiter delimiter) (Slip.NoClosing delimiter) text.now) }
+    ensures { seen head_view result ≡ refined.item_end (sign_at (closing_delimiter delimiter) (Slip.NoClosing delimiter) text.now) }
 {
     let (_, rest) = sign(closing(delimiter), Slip::NoClosing(delimiter), text)?;
     Ok(((Event::End, Wanted::Item), rest))

@@ -1,39 +1,97 @@
 //! What is enclosed in its plainest form, read in one pass.
-ghost use Rattle.std.specs.Prelude.{◌≡◌, ◌≤◌, true, length, Ok, IfSome};
+ghost use Rattle.std.specs.Prelude.{◌≡◌, ◌+◌, ◌<◌, ◌≤◌, true, length, Ok, IfSome};
 ghost use Rattle.btx_bib.specs.refinement.Grammar.PlainFields.{enclosed_part};
-ghost use Rattle.btx_bib.specs.refinement.Grammar.Squeezing.{IsSqueezedLen, stands};
+ghost use Rattle.btx_bib.specs.refinement.Grammar.Squeezing.{ArePlainBytes, IsSqueezedLen, is_behind_white, lanes_before, stands, stays_squeezed};
 ghost use Rattle.btx_bib.specs.language.Grammar.Values as spec;
 ghost use Rattle.btx_bib.specs.declared.grammar.value_ends.Ends.TheVariants as ends;
 
-use crate::grammar::byte_sets::{Enclosure, ends_enclosed, ends_in_gap, is_gap, is_word_byte};
+use crate::grammar::byte_sets::{Enclosure, ends_enclosed, ends_in_gap, is_gap};
 use btx_text::depths::depth_after;
+use std::simd::prelude::*;
 
-// How many bytes stand before the first that ends what is enclosed, if they are squeezed and don't begin with white.
+// Plain bytes are those from `#` to `z`, and a space where no white stands before it: they leave the depth alone, and what is read squeezed. They are
+// passed in blocks of this number of bytes.
+const BLOCK: usize = 16;
+
+// How many lanes of a block come before the first whose bit is set.
+#[inline(always)]
+fn lanes_before(bits: u64) -> usize
+    ensures { result ≡ lanes_before bits }
+{
+    if bits == 0 {
+        BLOCK
+    } else {
+        bits.trailing_zeros() as usize
+    }
+}
+
+// With how many plain bytes the block at a place begins. A byte below `#` wraps round to one above `z`, and white is taken to be all up to the space, so
+// that each takes one comparison.
+#[inline(always)]
+fn plain_in_block(text: &[u8], place: usize) -> usize
+    requires behind { 0 < place }
+    requires within { place + 16 ≤ length text.now }
+    ensures plain { ArePlainBytes text.now place (place + result) }
+    ensures bound { result ≤ 16 }
+{
+    let block = u8x16::from_slice(&text[place..]);
+    let before = u8x16::from_slice(&text[place - 1..]);
+    let no_word_byte = (block - u8x16::splat(b'#')).simd_gt(u8x16::splat(b'z' - b'#'));
+    let no_single_space = block.simd_ne(u8x16::splat(b' ')) | before.simd_le(u8x16::splat(b' '));
+    lanes_before((no_word_byte & no_single_space).to_bitmask())
+}
+
+// How many plain bytes stand at a place, as far as one block shows: where less than a block is left, none.
+#[inline(always)]
+fn plain_len(text: &[u8], place: usize) -> usize
+    requires behind { 0 < place }
+    requires within { place ≤ length text.now }
+    ensures plain { ArePlainBytes text.now place (place + result) }
+    ensures bound { place + result ≤ length text.now }
+{
+    if text.len() - place < BLOCK {
+        return 0;
+    }
+    plain_in_block(text, place)
+}
+
+// Whether white stands before a place, or nothing.
+#[inline(always)]
+fn is_behind_white(text: &[u8], place: usize) -> bool
+    requires { place ≤ length text.now }
+    ensures { result ≡ is_behind_white text.now place }
+{
+    place == 0 || is_gap(text[place - 1])
+}
+
+// Whether the byte at a place leaves what stands before it squeezed.
+#[inline(always)]
+fn stays_squeezed(text: &[u8], place: usize, byte: u8) -> bool
+    requires { place ≤ length text.now }
+    ensures { result ≡ stays_squeezed (is_behind_white text.now place) byte }
+{
+    !is_gap(byte) || (byte == b' ' && !is_behind_white(text, place))
+}
+
+// How many bytes stand before the first that ends what is enclosed, if they are squeezed and don't begin with white. Behind each byte that is looked at
+// by itself, plain ones are passed at once.
 #[inline(never)]
 fn squeezed_len(enclosure: Enclosure, text: &[u8]) -> Option<usize>
     ensures value { IfSome result (λ len. IsSqueezedLen enclosure text.now len) }
     ensures bound { IfSome result (λ len. len ≤ length text.now) }
 {
     let mut depth = 0;
-    let mut behind_white = 0;
-    for (place, &byte) in text.iter().enumerate() {
-        if is_word_byte(byte) {
-            continue;
-        }
-        if byte == b' ' {
-            if place == behind_white {
-                return None;
-            }
-            behind_white = place + 1;
-            continue;
-        }
+    let mut place = 0;
+    while let Some(&byte) = text.get(place) {
         if ends_enclosed(enclosure, depth, byte) {
             return Some(place);
         }
-        if is_gap(byte) {
+        if !stays_squeezed(text, place, byte) {
             return None;
         }
         depth = depth_after(depth, byte);
+        place += 1;
+        place += plain_len(text, place);
     }
     None
 }

@@ -1,5 +1,5 @@
 //! The text that a value stands for.
-ghost use Rattle.std.specs.Prelude.{◌≡◌, ◌<◌, ◌≤◌, ◌∷◌, ◌++◌, [], true, false, length, is_some, IfOk, IfSome, OnOk};
+ghost use Rattle.std.specs.Prelude.{◌≡◌, ◌<◌, ◌≤◌, ◌∷◌, ◌++◌, [], true, false, length, is_some, IfOk, IfSome, OnOk, unwrap_or};
 ghost use Rattle.std.specs.Option.{option_map};
 ghost use Rattle.btx_text.specs.language.Limits.{greatest_string};
 ghost use Rattle.btx_bib.specs.language.Grammar.ByteSets.{begins, is_gap};
@@ -142,7 +142,7 @@ fn lone_string<'a, S: Strings<'a>>(
     strings: &S,
     ends: Ends,
 ) -> Result<Option<Text<'a>>, AllocError>
-    ensures { IfOk result (λ found. IfSome found (λ text. text ≡ spec.shaped ends (spec.or_nothing (S.values strings.now name.now)))) }
+    ensures { IfOk result (λ found. IfSome found (λ text. text ≡ spec.shaped ends (unwrap_or (S.values strings.now name.now) []))) }
 {
     match strings.value_of(alloc, name)? {
         None => Ok(Some(Text::empty())),
@@ -181,7 +181,7 @@ fn known_string<'a, S: Strings<'a>>(
     strings: &S,
     ends: Ends,
 ) -> Result<Option<Text<'a>>, AllocError>
-    ensures value { IfOk result (λ found. IfSome found (λ text. text ≡ spec.shaped ends (spec.or_nothing (S.values strings.now name.now)))) }
+    ensures value { IfOk result (λ found. IfSome found (λ text. text ≡ spec.shaped ends (unwrap_or (S.values strings.now name.now) []))) }
     ensures known { IfOk result (λ found. IfSome found (λ text. is_some (S.values strings.now name.now) ≡ true)) }
 {
     match strings.value_of(alloc, name)? {
@@ -277,7 +277,7 @@ fn gathered<'a, S: Strings<'a>>(
     was_white: bool,
     most: usize,
 ) -> Result<Vec<u8>, Fault>
-    ensures { refined.GathersWithin most result (squeezing.squeezed_after was_white (spec.joined_text (S.values strings.now) value.now)) }
+    ensures { refined.GathersWithin most result (squeezing.squeezed_after was_white (refined.joined_text (S.values strings.now) value.now)) }
 {
     let mut text = Vec::new(alloc);
     let mut white = was_white;

@@ -33,17 +33,9 @@ pub data BodyEnd : Type 0 where
 abbrev pub with_token : Token → Inside → Inside
 with_token token inside = record inside { tokens = inside.tokens ++ token ∷ [] }
 
--- one more string, as a token with its number
-abbrev pub with_text : List ℕ → Inside → Inside
-with_text text inside = record inside { tokens = inside.tokens ++ Text (length inside.texts) ∷ []; texts = inside.texts ++ text ∷ [] }
-
 -- one more message, at the line of the place
 abbrev pub with_message : Complaint → Inside → Inside
 with_message complaint inside = record inside { items = inside.items ++ Message complaint inside.place.number ∷ [] }
-
--- a `{` begins a nameless function, which has no token yet, inside the innermost one
-abbrev pub opened_inside : Inside → Inside
-opened_inside inside = record inside { tokens = []; around = inside.tokens ∷ inside.around }
 
 -- a `}` ends the innermost function: a nameless one is defined, and stands as a literal in the one round it; the outermost one ends the body
 abbrev pub closed_inside : Inside → List FunctionBody → Turn Inside BodyEnd
@@ -56,11 +48,12 @@ abbrev pub with_named : (Callee → Token) → List ℕ → Inside → Option Ca
 with_named token name inside None = with_message (Unknown name) inside
 with_named token name inside (Some callee) = with_token (token callee) inside
 
--- how a word of a body changes what is known inside it, or ends the body
+-- how a word of a body changes what is known inside it, or ends the body. A `{` begins a nameless function, which has no token yet, inside the innermost
+-- one; a string gets a number, and the token has that
 abbrev pub word_turn : Names → Inside → BodyWord → Turn Inside BodyEnd
-word_turn names inside Open = Again (opened_inside inside)
+word_turn names inside Open = Again (record inside { tokens = []; around = inside.tokens ∷ inside.around })
 word_turn names inside Close = closed_inside inside inside.around
-word_turn names inside (String text) = Again (with_text text inside)
+word_turn names inside (String text) = Again (record inside { tokens = inside.tokens ++ Text (length inside.texts) ∷ []; texts = inside.texts ++ text ∷ [] })
 word_turn names inside (Integer value) = Again (with_token (token.Integer value) inside)
 word_turn names inside (Quoted name) = Again (with_named Quote name inside (named names name))
 word_turn names inside (Name name) = Again (with_named Run name inside (named names name))

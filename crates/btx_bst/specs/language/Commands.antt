@@ -43,17 +43,14 @@ after_listed (Some complaint) style place go = outcome (Some complaint) style pl
 abbrev pub after_list : Style → Listed → (Style → Place → CommandOutcome) → CommandOutcome
 after_list style list go = after_listed list.complaint (record style { names = list.listing.names }) list.listing.place go
 
--- the three lists of an ENTRY
-abbrev pub entry_lists : Style → Place → CommandOutcome
-entry_lists style place =
+-- ENTRY declares the fields and the variables of entries, in three lists; it takes effect once (btxhak, section 5.2)
+unfoldable pub entry_command : Style → Place → CommandOutcome
+entry_command style place =
+    if style.has_entry then outcome (Some (Another command.Entry)) style place else
     after_list style (list_at kind.Field style.names place) (λ style place.
     after_list style (list_at kind.EntryInteger style.names place) (λ style place.
     after_list style (list_at kind.EntryString style.names place) (λ style place.
     outcome None (with_item Entry (record style { has_entry = true })) place)))
-
--- ENTRY declares the fields and the variables of entries, in three lists; it takes effect once (btxhak, section 5.2)
-unfoldable pub entry_command : Style → Place → CommandOutcome
-entry_command style place = if style.has_entry then outcome (Some (Another command.Entry)) style place else entry_lists style place
 
 -- ---- FUNCTION
 
@@ -72,17 +69,13 @@ function_ended style lowered (Whole inside) =
 abbrev pub inside_at : Style → Place → Inside
 inside_at style place = record { place = place; tokens = []; around = []; bodies = style.bodies; texts = style.texts; items = style.items }
 
--- the rest of a FUNCTION behind its new name: the `}` of the name, and the body in braces
-abbrev pub function_body : Style → List ℕ → Place → CommandOutcome
-function_body style name place =
+-- FUNCTION with the name `name`, given what has that already: an error if something does; else the `}` of the name and the body in braces follow
+abbrev pub function_of : Style → List ℕ → Place → Option Callee → CommandOutcome
+function_of style name place (Some other) = outcome (Some (Defined name)) style place
+function_of style name place None =
     after_read style (closing place) (λ _ place.
     after_read style (opening place) (λ _ place.
     function_ended style (folded name) (body_end style.names (inside_at style place))))
-
--- FUNCTION with the name `name`, given what has that already: an error if something does
-abbrev pub function_of : Style → List ℕ → Place → Option Callee → CommandOutcome
-function_of style name place (Some other) = outcome (Some (Defined name)) style place
-function_of style name place None = function_body style name place
 
 -- FUNCTION gives a new name to a function: the name in braces, and its body in braces (btxhak, section 5.2)
 unfoldable pub function_command : Style → Place → CommandOutcome
@@ -117,18 +110,17 @@ abbrev pub run_of : (Callee → Item) → Style → List ℕ → Place → Optio
 run_of item style name place None = outcome (Some (Unknown name)) style place
 run_of item style name place (Some callee) = after_read style (closing place) (λ _ place. outcome None (with_item (item callee) style) place)
 
--- the argument of EXECUTE, ITERATE and REVERSE: in braces the name of a function, built-in or the style's own
-abbrev pub run_name : (Callee → Item) → Style → Place → CommandOutcome
-run_name item style place =
+-- EXECUTE, ITERATE and REVERSE: an error before READ
+unfoldable pub run_command : Command → (Callee → Item) → Style → Place → CommandOutcome
+run_command command item style place =
+    if has_read style then
     after_read style (opening place) (λ _ place.
     after_read style (next_name place) (λ name place.
     run_of item style name place (function_in (named style.names name))))
+    else outcome (Some (BeforeRead command)) style place
 
--- EXECUTE, ITERATE and REVERSE: an error before READ
-unfoldable pub run_command : Command → (Callee → Item) → Style → Place → CommandOutcome
-run_command command item style place = if has_read style then run_name item style place else outcome (Some (BeforeRead command)) style place
-
--- SORT orders the list by the sort keys of its entries; it stands behind READ (btxhak, section 5.2)
+-- SORT orders the list by the sort keys of its entries, the strings that the style assigned to the entry variable `sort.key$`; it stands behind READ
+-- (btxhak, section 5.2)
 unfoldable pub sort_command : Style → Place → CommandOutcome
 sort_command style place = if has_read style then outcome None (with_item Sort style) place else outcome (Some (BeforeRead command.Sort)) style place
 
@@ -138,30 +130,24 @@ sort_command style place = if has_read style then outcome None (with_item Sort s
 unfoldable pub declare : Kind → Item → Style → Place → CommandOutcome
 declare kind item style place = after_list style (list_at kind style.names place) (λ style place. outcome None (with_item item style) place)
 
--- the rest of a MACRO behind its new name: the `}` of the name, and the text in quotes, in braces
-abbrev pub macro_text : Style → List ℕ → Place → CommandOutcome
-macro_text style name place =
+-- MACRO with the name `name`, given the text of the macro that has it already: an error if one does; else the `}` of the name follows, and the text in
+-- quotes, in braces
+abbrev pub macro_of : Style → List ℕ → Place → Option (List ℕ) → CommandOutcome
+macro_of style name place (Some other) = outcome (Some (Defined name)) style place
+macro_of style name place None =
     after_read style (closing place) (λ _ place.
     after_read style (opening place) (λ _ place.
     after_read style (quoted_at place) (λ text place.
     after_read style (closing place) (λ _ place.
     outcome None (with_item Macro (record style { macros = style.macros ++ (folded name, text) ∷ [] })) place))))
 
--- MACRO with the name `name`, given the text of the macro that has it already: an error if one does
-abbrev pub macro_of : Style → List ℕ → Place → Option (List ℕ) → CommandOutcome
-macro_of style name place (Some other) = outcome (Some (Defined name)) style place
-macro_of style name place None = macro_text style name place
-
--- the arguments of a MACRO: in braces a name that no other macro has, and in braces its text
-abbrev pub macro_name : Style → Place → CommandOutcome
-macro_name style place =
+-- MACRO gives a string a name that databases may use, such as `jan`; it stands before READ (btxhak, section 5.2)
+unfoldable pub macro_command : Style → Place → CommandOutcome
+macro_command style place =
+    if has_read style then outcome (Some AfterRead) style place else
     after_read style (opening place) (λ _ place.
     after_read style (next_name place) (λ name place.
     macro_of style name place (macro_lower style.macros (folded name))))
-
--- MACRO gives a string a name that databases may use, such as `jan`; it stands before READ (btxhak, section 5.2)
-unfoldable pub macro_command : Style → Place → CommandOutcome
-macro_command style place = if has_read style then outcome (Some AfterRead) style place else macro_name style place
 
 -- what a command makes of a style, read from the place behind the command's word on
 abbrev pub command_at : Command → Style → Place → CommandOutcome

@@ -10,7 +10,8 @@ use Rattle.btx_bst.specs.declared.token.Token.TheVariants.{Quote, Run}
 use Rattle.btx_bst.specs.language.Bodies.{FunctionBody}
 use Rattle.btx_bst.specs.language.Style.{Style}
 
--- `call.type$`, executed or as a literal
+-- `call.type$`, executed or as a literal. This test and the next three take the token at a place of a body; `None`, past the body's end, passes none
+-- of them
 unfoldable pub is_call_type : Option Token → Bool
 is_call_type (Some (Quote (callee.BuiltIn CallType))) = true
 is_call_type (Some (Run (callee.BuiltIn CallType))) = true
@@ -43,10 +44,6 @@ is_direct_at body i =
     not (is_call_type (slice_get body i))
     && (not (is_user_literal (slice_get body i)) || begins_pair body i || (nat_lt 0 i && begins_pair body (i - 1)))
 
--- a body is direct: each of its tokens may stand where it stands
-abbrev pub IsDirectBody : FunctionBody → Type 0
-IsDirectBody body = (i : ℕ) → is_direct_at body i ≡ true
-
--- a style is direct: the bodies of all its functions are, those of nameless ones too
+-- a style is direct: each token of its functions' bodies may stand where it stands, those of nameless functions too
 abbrev pub IsDirect : Style → Type 0
-IsDirect style = (number : ℕ) → IsDirectBody (slice_index_or style.bodies number [])
+IsDirect style = (number i : ℕ) → is_direct_at (slice_index_or style.bodies number []) i ≡ true

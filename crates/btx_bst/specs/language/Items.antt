@@ -3,7 +3,8 @@ use Rattle.std.specs.Prelude.{ℕ}
 use Rattle.btx_bst.specs.declared.callee.Callee.{Callee}
 use Rattle.btx_bst.specs.language.Complaints.{Complaint}
 
--- an item of a style: the message of a fault, or a command that takes effect, with the function that it defines or executes
+-- an item of a style: the message of a fault, or a command that takes effect, with the function that it defines or executes. What ENTRY, INTEGERS,
+-- STRINGS and MACRO declare is kept in the style's names and macros, not in the item
 pub data Item : Type 0 where
   -- what is wrong, and the number of the line where it is met
   Message : (complaint : Complaint) (line : ℕ) → Item

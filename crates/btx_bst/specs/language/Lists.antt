@@ -84,7 +84,7 @@ abbrev pub name_turn : Kind → Names → Read (List ℕ) → Turn Listing Liste
 name_turn kind names (Slip complaint place) = Ends (listed (Some complaint) names place)
 name_turn kind names (Took name place) = with_new kind names name place (named names name)
 
--- ends the list at its `}`, or reads the next name of it
+-- given whether a `}` stands next, which ends the list; else the next name is read, and if there is none its own complaint is logged
 abbrev pub list_turn_in : Kind → Names → Read (Unit {0}) → Turn Listing Listed
 list_turn_in kind names (Took _ behind) = Ends (listed None names behind)
 list_turn_in kind names (Slip complaint before) = name_turn kind names (next_name before)

@@ -1,7 +1,7 @@
 -- The texts of what is wrong in a style. Names stand as the style spells them, commands in capitals (the texts are this project's own).
 use Rattle.std.specs.Prelude.{ℕ, List, [], ◌++◌, codes}
 use Rattle.btx_text.specs.declared.log_line.LineKind.TheVariants.{Error}
-use Rattle.btx_text.specs.language.LogLines.{Line, message_at}
+use Rattle.btx_text.specs.language.LogLines.{Line, message, place_text}
 use Rattle.btx_bst.specs.language.Complaints.{Complaint, NoCommand, NotCommand, NoOpen, NoClose, NoName, Defined, Unknown, BadInteger, TextAfter, NoQuoteEnd, Another, BeforeRead, BeforeEntry, AfterRead, NoQuote, EndOfFile}
 use Rattle.btx_bst.specs.language.CommandWords.{command_word_of}
 
@@ -48,4 +48,4 @@ complaint_text complaint = before_shown complaint ++ (shown_of complaint ++ afte
 
 -- the line of the log for what is wrong in a style: an error, with the number of its line and the name of the style's file
 abbrev pub complaint_line : Complaint → ℕ → List ℕ → Line
-complaint_line complaint line file = message_at Error (complaint_text complaint) line file
+complaint_line complaint line file = message Error (complaint_text complaint ++ place_text line file)

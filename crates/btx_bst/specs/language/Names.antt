@@ -27,20 +27,16 @@ abbrev pub has_name : List ℕ → Option (List ℕ) → Bool
 has_name name None = false
 has_name name (Some other) = bytes_eq name other
 
--- the place of a name in a list of names, counted from 0, if it is there
-abbrev pub number_in : List (List ℕ) → List ℕ → Option ℕ
-number_in names name = position (bytes_eq name) names
-
 -- what a name in lower case names, if it names anything: a built-in function, a function of the style, a field, or a variable
 unfoldable pub named_lower : Names → List ℕ → Option Callee
 named_lower names name =
     option_or (option_map callee.BuiltIn (built_in_of name))
     (option_or (option_map User (position (has_name name) names.functions))
-    (option_or (option_map Field (number_in names.fields name))
-    (option_or (option_map EntryInteger (number_in names.entry_integers name))
-    (option_or (option_map EntryString (number_in names.entry_strings name))
-    (option_or (option_map GlobalInteger (number_in names.global_integers name))
-    (option_map GlobalString (number_in names.global_strings name)))))))
+    (option_or (option_map Field (position (bytes_eq name) names.fields))
+    (option_or (option_map EntryInteger (position (bytes_eq name) names.entry_integers))
+    (option_or (option_map EntryString (position (bytes_eq name) names.entry_strings))
+    (option_or (option_map GlobalInteger (position (bytes_eq name) names.global_integers))
+    (option_map GlobalString (position (bytes_eq name) names.global_strings)))))))
 
 -- what a name names, in any case of letters, if it names anything
 abbrev pub named : Names → List ℕ → Option Callee
@@ -69,14 +65,11 @@ with_name kind.EntryString name names = record names { entry_strings = names.ent
 with_name kind.GlobalInteger name names = record names { global_integers = names.global_integers ++ name ∷ [] }
 with_name kind.GlobalString name names = record names { global_strings = names.global_strings ++ name ∷ [] }
 
--- the list of functions, filled up with nameless ones to `count` functions
-abbrev pub padded : ℕ → List (Option (List ℕ)) → List (Option (List ℕ))
-padded count functions = functions ++ replicate (count - length functions) None
-
 -- the names with a function called `name`, in lower case, which has this number; the numbers just below it belong to the nameless functions of its
 -- body
 abbrev pub with_function : ℕ → List ℕ → Names → Names
-with_function number name names = record names { functions = padded number names.functions ++ Some name ∷ [] }
+with_function number name names =
+    record names { functions = (names.functions ++ replicate (number - length names.functions) None) ++ Some name ∷ [] }
 
 -- the macros: names in lower case, each with its text
 abbrev pub Macros : Type 0

@@ -6,7 +6,8 @@ use Rattle.btx_bst.specs.language.Reads.{Read, Took, Slip}
 use Rattle.btx_bst.specs.language.Items.{Item}
 use Rattle.btx_bst.specs.language.Style.{Style}
 
--- a complaint, if something is wrong, the style after the command, and the place where it ends or the fault is met
+-- a complaint, if something is wrong; the style as read so far, with this command (its items, names, macros, bodies and strings); and the place where
+-- the command ends or the fault is met
 pub record CommandOutcome : Type 0 where
   pub complaint : Option Complaint
   pub style : Style

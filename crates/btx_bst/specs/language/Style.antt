@@ -35,7 +35,8 @@ as_field (Some _) = None
 abbrev pub field_of : Style → List ℕ → Option ℕ
 field_of style name = as_field (named_lower style.names name)
 
--- the number of a function of the style, if what a name names is one and it stands before READ, which is `count` functions; else none
+-- the number of a function that may be an entry's type: a function of the style that stands before READ. Before READ stand the first `count`
+-- functions, so its number is below `count`. For anything else, none
 abbrev pub as_type : Option ℕ → Option Callee → Option ℕ
 as_type None callee = None
 as_type (Some count) None = None

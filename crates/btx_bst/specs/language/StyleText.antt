@@ -7,7 +7,6 @@ use Rattle.btx_bst.specs.language.Complaints.{Complaint, NotCommand}
 use Rattle.btx_bst.specs.language.Lists.{letters_at}
 use Rattle.btx_bst.specs.language.Items.{Message}
 use Rattle.btx_bst.specs.language.Style.{Style}
-use Rattle.btx_bst.specs.language.Names.{Names}
 use Rattle.btx_bst.specs.language.Predefined.{predefined}
 use Rattle.btx_bst.specs.language.Outcomes.{CommandOutcome, outcome, after_read, with_item}
 use Rattle.btx_bst.specs.language.Commands.{command_at, command_named}
@@ -50,18 +49,14 @@ item_in style place (b ∷ bs) = Again (resumed_after (command_outcome style pla
 unfoldable pub item_turn : StyleState → Turn StyleState Style
 item_turn state = item_in state.style (ink state.place) (ink state.place).line
 
--- the style as it has been read so far
-abbrev pub style_so_far : StyleState → Style
-style_so_far state = state.style
-
 -- the style after all commands that are left. The bound on turns is never reached: each turn but the last one reads or skips a byte at least
 unfoldable pub style_from : StyleState → Style
-style_from state = turns_within item_turn style_so_far (suc (size state.place)) state
+style_from state = turns_within item_turn (λ (state : StyleState). state.style) (suc (size state.place)) state
 
--- a style of which nothing has been read: it has the name of its file, and the names that are known before it
-abbrev pub unread_style : List ℕ → Names → Style
-unread_style file names = record { file = file; items = []; names = names; macros = []; bodies = []; texts = []; has_entry = false; before_read = None }
-
--- the style whose file has the name `file` and the bytes `text`
+-- the style whose file has the name `file` and the bytes `text`; before anything of it is read it has the names that are known before each style
 unfoldable pub style_of : List ℕ → List ℕ → Style
-style_of file text = style_from (style_state (unread_style file predefined) (beginning text))
+style_of file text =
+    style_from (
+    style_state
+    (record { file = file; items = []; names = predefined; macros = []; bodies = []; texts = []; has_entry = false; before_read = None })
+    (beginning text))

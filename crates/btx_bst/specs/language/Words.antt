@@ -42,13 +42,9 @@ string_ended line text (quote ∷ rest) = string_before text rest
 abbrev pub string_at : List ℕ → Front
 string_at line = string_ended line (take (quote_len line) line) (drop (quote_len line) line)
 
--- a number with one more decimal digit behind it
-abbrev pub with_digit : ℕ → ℕ → ℕ
-with_digit n d = n * 10 + (d - 48)
-
 -- the number that the decimal digits stand for; 0 without digits
 unfoldable pub digits_value : List ℕ → ℕ
-digits_value digits = fold with_digit 0 digits
+digits_value digits = fold (λ (n d : ℕ). n * 10 + (d - 48)) 0 digits
 
 -- a number with its sign, if it fits into 32 bits
 unfoldable pub signed : Bool → ℕ → Option ℤ
@@ -65,8 +61,8 @@ abbrev pub integer_before : List ℕ → List ℕ → Option ℤ → Front
 integer_before line rest None = front (Faulty BadInteger) (drop (word_len line) line)
 integer_before line rest (Some value) = if is_word_end rest then front (Integer value) rest else front (Faulty TextAfter) (drop (word_len rest) rest)
 
--- the integer behind a `#`, by its number of digits: `line` is the text behind the `#`, `rest` the same without the minus, if there is one; without
--- a digit it is an error
+-- the integer behind a `#`, given the text behind that (`line`), whether a minus stands there, the text behind the minus (`rest`), and with how many
+-- digits this begins. Without a digit it is an error
 abbrev pub integer_front : List ℕ → Bool → List ℕ → ℕ → Front
 integer_front line minus rest zero = front (Faulty BadInteger) (drop (word_len line) line)
 integer_front line minus rest (suc n) = integer_before line (drop (suc n) rest) (signed minus (digits_value (take (suc n) rest)))
@@ -76,7 +72,8 @@ unfoldable pub integer_at : List ℕ → Front
 integer_at [] = front (Faulty BadInteger) []
 integer_at (b ∷ bs) = if b == minus_sign then integer_front (b ∷ bs) true bs (digits_len bs) else integer_front (b ∷ bs) false (b ∷ bs) (digits_len (b ∷ bs))
 
--- the word at the front of a line whose first byte `b` is no whitespace and no `%`
+-- the word at the front of a line whose first byte `b` is no whitespace and no `%`. A name or a quoted name goes up to white, a `}`, a `%` or the
+-- line's end, whatever its bytes: `a{b` is one name
 unfoldable pub word_front : ℕ → List ℕ → Front
 word_front b bs =
     if b == open_brace then front Open bs

@@ -21,12 +21,13 @@ use Rattle.btx_bst.specs.language.Lists.{Listed, listed}
 use Rattle.btx_bst.specs.language.Outcomes.{CommandOutcome, outcome, with_item}
 use Rattle.btx_bst.specs.language.Commands.{has_read, function_in}
 use Rattle.btx_bst.specs.language.Predefined.{predefined}
-use Rattle.btx_bst.specs.language.StyleText.{StyleState, style_state, unread_style, style_of}
+use Rattle.btx_bst.specs.language.StyleText.{StyleState, style_state, style_of}
 use Rattle.btx_bst.specs.laws.Spelling.{Parts, Fragment, complaint_in, made_by, made_till}
 use Rattle.btx_bst.specs.laws.ItemSpelling.{AreFull}
 use Rattle.btx_bst.specs.laws.Written.{AreNew, declared, made_in, with_made_function}
 use Rattle.btx_bst.specs.laws.TokenSpelling.{StyleGrammar, Gap, BehindGap, IsMissing, StyleSignHere, StyleNameHere, TextHere, LettersHere}
 use Rattle.btx_bst.specs.laws.WordSpelling.{AreParts, BreakOff}
+use Rattle.btx_bst.specs.laws.StyleText.{unread_style}
 
 -- how a command goes on: a relation between the style so far, the place, and the outcome of the command
 abbrev pub Rule : Type 1

@@ -6,7 +6,7 @@ use Rattle.btx_text.specs.language.Class.{is_white, begins_name}
 use Rattle.btx_bst.specs.language.Places.{Place, place_at, further}
 use Rattle.btx_bst.specs.language.Complaints.{Complaint, NoCommand, NoName, NoQuote, EndOfFile}
 use Rattle.btx_bst.specs.language.Reads.{Read, Took, Slip}
-use Rattle.btx_bst.specs.language.Fronts.{ends_name, is_no_letter, is_quote}
+use Rattle.btx_bst.specs.laws.Fronts.{is_no_letter, ends_name, is_quote}
 
 -- how something is spelled: a relation between the place where it begins and what is read from there on, which is a value and the place behind it,
 -- or a complaint and its place

@@ -1,10 +1,11 @@
 -- The tables of names, a kind each.
-use Rattle.std.specs.Prelude.{ℕ, List}
+use Rattle.std.specs.Prelude.{ℕ, List, Option, position, ◌-◌, ◌++◌, length, None, replicate}
 use Rattle.btx_bst.specs.declared.callee.Callee.{Callee}
 use Rattle.btx_bst.specs.declared.callee.Callee.TheVariants.{Field, EntryInteger, EntryString, GlobalInteger, GlobalString}
 use Rattle.btx_bst.specs.declared.callee.Kind.{Kind}
 use Rattle.btx_bst.specs.declared.callee.Kind.TheVariants as kind
 use Rattle.btx_bst.specs.language.Names.{Names}
+use Rattle.std.specs.Str.{bytes_eq}
 
 -- the names of a kind
 abbrev pub names_of_kind : Kind → Names → List (List ℕ)
@@ -21,3 +22,11 @@ callee_of kind.EntryInteger number = EntryInteger number
 callee_of kind.EntryString number = EntryString number
 callee_of kind.GlobalInteger number = GlobalInteger number
 callee_of kind.GlobalString number = GlobalString number
+
+-- the place of a name in a list of names, counted from 0, if it is there
+abbrev pub number_in : List (List ℕ) → List ℕ → Option ℕ
+number_in names name = position (bytes_eq name) names
+
+-- the list of functions, filled up with nameless ones to `count` functions
+abbrev pub padded : ℕ → List (Option (List ℕ)) → List (Option (List ℕ))
+padded count functions = functions ++ replicate (count - length functions) None

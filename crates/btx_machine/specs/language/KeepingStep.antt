@@ -30,16 +30,10 @@ pub record WithinOneStep (before after : Received) (make : ℕ → Product) (bud
   pub extends : BothExtend before after (make steps)
   pub begins : BothBegin before after (make (steps + 1))
 
--- the two outputs keep step: both are prefixes of what a run without a step writes, or both broke off within the same step
-abbrev pub KeepsStep : Received → Received → (ℕ → Product) → ℕ → Type 0
-KeepsStep before after make budget = BothBegin before after (make 0) ⊎ WithinOneStep before after make budget
-
--- the log's last line comes only behind the whole list: the list was written to its end, or nothing of that line was written
-abbrev pub LastLineBehindList : Received → Received → Product → Type 0
-LastLineBehindList before after product = Appends before.0 after.0 product.bbl ⊎ AppendsBeginning before.1 after.1 product.told
-
 -- after a fault both outputs are prefixes of the product's and keep step, and nothing of the log's last line is written before the whole list
 pub record AtFault (before after : Received) (make : ℕ → Product) (budget : ℕ) : Type 0 where
   pub beginnings : BothBegin before after (make budget)
-  pub last_line : LastLineBehindList before after (make budget)
-  pub step : KeepsStep before after make budget
+  -- nothing of the log's last line was written, or the list was written to its end
+  pub last_line : Appends before.0 after.0 (make budget).bbl ⊎ AppendsBeginning before.1 after.1 (make budget).told
+  -- both are prefixes of what a run without a step writes, or both broke off within the same step
+  pub step : BothBegin before after (make 0) ⊎ WithinOneStep before after make budget

@@ -14,7 +14,8 @@ use Rattle.btx_machine.specs.language.Saying.{ended_line}
 use Rattle.btx_machine.specs.language.Reports.{end_as, log_counts, report_of, last_line}
 use Rattle.btx_machine.specs.language.Items.{do_items}
 
--- the list of references, the log before its last line (`told`), and the report, which that line gives
+-- the list of references, the log before its last line (here `told`; elsewhere in this chapter that is also two counts), and the report, which that
+-- line gives
 pub record Product : Type 0 where
   pub bbl : List ℕ
   pub told : List ℕ
@@ -24,17 +25,11 @@ pub record Product : Type 0 where
 abbrev pub log_of : Product → List ℕ
 log_of product = product.told ++ ended_line (last_line product.report)
 
--- what has been written of the list so far, which is broken into lines for a length of `line_length` bytes: the lines that have ended, and the part of
--- the pending one that can't change
-abbrev pub so_far : ℕ → Out → List ℕ
-so_far line_length out = written_of line_length out.lines out.pending
-
 -- the list of references at an end, in lines of at most `line_length` bytes: where the run finished, a pending line that isn't empty is ended; else
--- what is sure of it stands
+-- the lines that have ended stand, and the part of the pending one that can't change
 abbrev pub bbl_at : ℕ → Ending → Out → List ℕ
 bbl_at line_length ending.Finished out = flat_map (wrap line_length) out.lines ++ written_at_end line_length out.pending
-bbl_at line_length ending.Stopped out = so_far line_length out
-bbl_at line_length (ending.Limit kind) out = so_far line_length out
+bbl_at line_length _ out = written_of line_length out.lines out.pending
 
 -- the report of a run that ended so in a state
 abbrev pub report_at : Ending → ℕ → State → Report
@@ -65,7 +60,3 @@ executed job told budget = do_items job job.style.items [] budget (first job tol
 -- the product of a style, in lines of at most `line_length` bytes, with a budget; `told` counts what was logged before
 abbrev pub style_product : Job → Told → ℕ → ℕ → Product
 style_product job told line_length budget = product_of line_length budget (executed job told budget)
-
--- the product of a run that ends before its style is executed
-abbrev pub product_early : Report → Product
-product_early report = record { bbl = []; told = []; report = report }

@@ -15,8 +15,8 @@ use Rattle.btx_machine.specs.language.States.{Out, State, state, effect, Outcome
 use Rattle.btx_machine.specs.laws.States.{final_state}
 use Rattle.btx_machine.specs.refinement.States.{outcome_of}
 use Rattle.btx_machine.specs.language.Steps.{token_effect}
-use Rattle.btx_machine.specs.language.Product.{so_far}
 use Rattle.btx_machine.specs.language.Written.{Received}
+use Rattle.btx_machine.specs.refinement.Product.{so_far}
 
 -- what the sinks of both outputs have received
 abbrev pub received : Outputs → Received

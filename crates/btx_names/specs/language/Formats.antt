@@ -38,10 +38,6 @@ abbrev pub is_doubled : ℕ → List ℕ → Bool
 is_doubled letter [] = false
 is_doubled letter (second ∷ rest) = to_ascii_lowercase second == to_ascii_lowercase letter
 
--- the text after the letter or the two letters of a piece; `rest` follows the first letter
-abbrev pub behind_letters : ℕ → List ℕ → List ℕ
-behind_letters letter rest = if is_doubled letter rest then drop 1 rest else rest
-
 -- the braced string directly behind the letters, without its braces
 abbrev pub between_of : List ℕ → Option (List ℕ)
 between_of rest =
@@ -56,15 +52,15 @@ behind_between rest =
 abbrev pub has_no_letter : List ℕ → Bool
 has_no_letter text = run_len Letter 0 text == length text
 
--- a piece as an item: it is illegal if a further letter stands in it outside inner braces
-abbrev pub legal_piece : FormatPiece → FormatItem
-legal_piece piece = if has_no_letter piece.after then Name piece else Illegal
-
--- the item of a group with a part's letter, given the text before that, the letter, what follows it, and the part
+-- the item of a group whose first letter names a part (`part`), given the text before that letter, the letter, and what follows it. It is illegal if
+-- a further letter stands in it outside inner braces
 unfoldable pub piece_item : List ℕ → ℕ → List ℕ → PartName → FormatItem
 piece_item before letter rest part =
-    let behind = behind_letters letter rest in
-    legal_piece (record { before = before; part = part; is_full = is_doubled letter rest; between = between_of behind; after = behind_between behind })
+    let behind = if is_doubled letter rest then drop 1 rest else rest in
+    let after = behind_between behind in
+    if has_no_letter after then
+    Name (record { before = before; part = part; is_full = is_doubled letter rest; between = between_of behind; after = after })
+    else Illegal
 
 -- the item of a group with a letter at its own level, `letter`, given the part that it names: a piece, or illegal if it names none
 abbrev pub lettered_item : List ℕ → ℕ → List ℕ → Option PartName → FormatItem

@@ -24,8 +24,8 @@ abbrev pub first_text : List Element → List ℕ
 first_text [] = []
 first_text (element ∷ elements) = element.text
 
--- the abbreviation of a token: the first element of it from the place on where an abbreviation can begin. `Jean` gives `J`, `{\'E}mile` gives
--- `{\'E}`, and `123` nothing. A `{` before a backslash gives its whole group also inside braces.
+-- the abbreviation of a token: its first letter, or its first group that begins with a backslash if that comes before. `Jean` gives `J`, `{\'E}mile`
+-- gives `{\'E}`, and `123` nothing. Such a group counts as a whole also inside braces. A byte from 128 up counts as a letter.
 unfoldable pub initial_of : TextMode → List ℕ → List ℕ
 initial_of mode [] = []
 initial_of mode (b ∷ bs) = if begins_initial (b ∷ bs) then first_text (elements_of mode (b ∷ bs)) else initial_of mode bs

@@ -4,7 +4,7 @@ use Rattle.std.specs.Prelude.{ℕ, zero, suc, ◌==◌, ◌&&◌, Bool, List, []
 use Rattle.std.specs.Char.{to_ascii_lowercase}
 use Rattle.btx_text.specs.language.Class.{is_white}
 use Rattle.btx_text.specs.language.Elements.{depth_after}
-use Rattle.btx_text.specs.language.Lines.{in_front}
+use Rattle.std.specs.List.{onto_first}
 
 -- ---- separators
 
@@ -28,7 +28,7 @@ pieces_from skip depth [] = [] ∷ []
 pieces_from (suc skip) depth (b ∷ bs) = pieces_from skip depth bs
 pieces_from zero depth (b ∷ bs) =
     if depth == 0 && is_separator (b ∷ bs) then (b ∷ []) ∷ pieces_from 3 0 bs
-    else in_front b (pieces_from 0 (depth_after depth b) bs)
+    else onto_first b (pieces_from 0 (depth_after depth b) bs)
 
 -- the names of a string: the empty string has none
 unfoldable pub names_of : List ℕ → List (List ℕ)

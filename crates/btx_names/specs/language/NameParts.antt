@@ -44,17 +44,9 @@ cut_first name (Some cut) = cut_again cut.0 cut.1 (split_at_comma cut.1)
 unfoldable pub sections_of : List ℕ → Sections
 sections_of name = cut_first name (split_at_comma name)
 
--- a byte that is neither white nor `~` nor `-`
-abbrev pub is_ink : ℕ → Bool
-is_ink b = not (is_white b || is_sep b)
-
--- the last byte of a text that is neither white nor `~` nor `-`
-abbrev pub last_ink : List ℕ → Option ℕ
-last_ink text = find is_ink (reverse text)
-
 -- the name's last byte that is neither whitespace nor `~` nor `-` is a comma, at depth 0
 unfoldable pub ends_in_comma : List ℕ → Bool
-ends_in_comma name = option_map_or (λ b. b == comma) (last_ink name) false && depth_of name == 0
+ends_in_comma name = option_map_or (λ b. b == comma) (find (λ b. not (is_white b || is_sep b)) (reverse name)) false && depth_of name == 0
 
 -- a name has a third comma that a token follows
 abbrev pub has_third_comma : Sections → Bool

@@ -22,17 +22,15 @@ pub record NameToken : Type 0 where
 abbrev pub joint_of : List ℕ → Joint
 joint_of after = if slice_index after 0 == tilde then Tie else if slice_index after 0 == hyphen then Hyphen else Space
 
--- the token that a text begins with
-abbrev pub token_at : List ℕ → NameToken
-token_at text = let size = run_len Break 0 text in record { text = take size text; joint = joint_of (drop size text) }
-
 -- the tokens that begin in a text, whose first `skip` bytes belong to one before
 unfoldable pub tokens_from : ℕ → List ℕ → List NameToken
 tokens_from skip [] = []
 tokens_from (suc skip) (b ∷ bs) = tokens_from skip bs
 tokens_from zero (b ∷ bs) =
     if is_break b then tokens_from zero bs
-    else token_at (b ∷ bs) ∷ tokens_from (run_len Break 0 (b ∷ bs) - 1) bs
+    else
+    (let size = run_len Break 0 (b ∷ bs) in
+    record { text = take size (b ∷ bs); joint = joint_of (drop size (b ∷ bs)) } ∷ tokens_from (size - 1) bs)
 
 -- the tokens of a text, in order: its longest runs without whitespace, `~`, `-` and commas at depth 0
 unfoldable pub tokens_of : List ℕ → List NameToken

@@ -1,48 +1,41 @@
 -- Which tokens of a name are von (btxhak, section 5.4): those of which the first letter that decides is lower case. A letter in braces is passed
 -- over, one in a special character isn't.
-use Rattle.std.specs.Prelude.{ℕ, ◌==◌, ◌||◌, ◌&&◌, Bool, false, List, [], ◌∷◌, Option, Some, None, unwrap_or, length, drop, find, take_while, slice_index, nat_lt, if◌then◌else◌}
+use Rattle.std.specs.Prelude.{ℕ, ◌==◌, ◌&&◌, Bool, false, List, [], ◌∷◌, Option, Some, None, unwrap_or, length, drop, find, take_while, slice_index, nat_lt, if◌then◌else◌}
 use Rattle.std.specs.Option.{option_map_or}
-use Rattle.btx_text.specs.language.Class.{is_alpha, is_lower, is_upper}
+use Rattle.btx_text.specs.language.Class.{is_alpha}
 use Rattle.btx_text.specs.declared.element_kind.Kind.{Kind}
 use Rattle.btx_text.specs.declared.element_kind.Kind.TheVariants.{Byte, Special}
 use Rattle.btx_text.specs.declared.element_kind.TextMode.TheVariants.{Bytes}
 use Rattle.btx_text.specs.language.Elements.{Element, elements_of}
 use Rattle.btx_strings.specs.language.Controls.{letters_of}
+use Rattle.std.specs.Char.{is_ascii_alphabetic, is_ascii_lowercase}
 
 -- a control sequence is a foreign letter, as `\oe` and `\L`: it stands for one or two letters when a string is purified
 abbrev pub is_foreign : List ℕ → Bool
 is_foreign name = nat_lt 0 (length (letters_of name))
 
--- a letter that has a case
-abbrev pub is_cased : ℕ → Bool
-is_cased b = is_upper b || is_lower b
-
 -- a text's first letter is there and in lower case
 abbrev pub begins_lower : List ℕ → Bool
-begins_lower text = option_map_or is_lower (find is_cased text) false
+begins_lower text = option_map_or is_ascii_lowercase (find is_ascii_alphabetic text) false
 
 -- a special character counts as lower case: its first control sequence is a foreign letter in lower case, as in `{\oe}`; or that is no foreign
 -- letter, and the first letter after it is lower case, as in `{\'e}`. Letters of later control sequences count too.
 unfoldable pub is_lower_special : List ℕ → Bool
 is_lower_special text =
     let name = take_while is_alpha (drop 2 text) in
-    if is_foreign name then is_lower (slice_index name 0) else begins_lower (drop (length name) (drop 2 text))
+    if is_foreign name then is_ascii_lowercase (slice_index name 0) else begins_lower (drop (length name) (drop 2 text))
 
 -- what an element says of its token: `Some true` for lower case, `Some false` for upper case, and nothing where it doesn't decide. Special
 -- characters and the letters at depth 0 decide.
 abbrev pub casing_of : Kind → ℕ → List ℕ → Option Bool
 casing_of Special depth text = Some (is_lower_special text)
-casing_of Byte depth text = if depth == 0 && is_cased (slice_index text 0) then Some (is_lower (slice_index text 0)) else None
+casing_of Byte depth text = if depth == 0 && is_ascii_alphabetic (slice_index text 0) then Some (is_ascii_lowercase (slice_index text 0)) else None
 casing_of _ depth text = None
-
--- what an element says of its token: lower case, upper case, or nothing
-abbrev pub casing : Element → Option Bool
-casing element = casing_of element.kind element.depth element.text
 
 -- the first of the elements that decides says lower case; if none decides, it is false
 unfoldable pub first_is_lower : List Element → Bool
 first_is_lower [] = false
-first_is_lower (element ∷ elements) = unwrap_or (casing element) (first_is_lower elements)
+first_is_lower (element ∷ elements) = unwrap_or (casing_of element.kind element.depth element.text) (first_is_lower elements)
 
 -- a token is von, as `de` and `{\'e}tat` are: its first special character, or letter A-Z or a-z at depth 0, is in lower case. Without one it isn't.
 unfoldable pub is_von : List ℕ → Bool

@@ -4,7 +4,7 @@ use Rattle.std.specs.List.{range_with_len}
 use Rattle.btx_text.specs.language.Elements.{depth_of}
 use Rattle.btx_names.specs.language.NameLists.{is_separator}
 
--- behind the white byte at `place` of a string, at depth 0, stands a separator of names
+-- at `place` of a string, at depth 0, a separator of names begins: a whitespace byte, `and`, and a whitespace byte
 abbrev pub separates_at : List ℕ → ℕ → Bool
 separates_at string place = depth_of (take place string) == 0 && is_separator (drop place string)
 

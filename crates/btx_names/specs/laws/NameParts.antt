@@ -1,5 +1,5 @@
 -- The parts of a name as a whole: in order, they are the tokens of the name.
-use Rattle.std.specs.Prelude.{◌≡◌, ◌++◌, slice_get, ℕ, ◌+◌, ◌-◌, List, [], Option, length}
+use Rattle.std.specs.Prelude.{◌≡◌, ◌++◌, slice_get, ℕ, ◌-◌, List, [], Option, length}
 use Rattle.btx_names.specs.language.Tokens.{NameToken}
 use Rattle.btx_names.specs.language.NameParts.{Sections, One, Two, Three, NameParts}
 

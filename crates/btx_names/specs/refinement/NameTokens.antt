@@ -5,7 +5,7 @@ use Rattle.btx_names.specs.refinement.Places.{bytes_at}
 use Rattle.btx_names.specs.language.Tokens.{NameToken as Token}
 use Rattle.btx_names.specs.declared.name_token.NameToken.{NameToken}
 
--- a token of a name, by the bytes that are kept of all of them
+-- a token of a name, by the bytes of the list of names
 abbrev pub token_of : List ℕ → NameToken → Token
 token_of bytes token = record { text = bytes_at bytes token.text; joint = token.joint }
 

@@ -1,14 +1,6 @@
--- What clauses see of the sections of a name in the code.
+-- The sections of a name, as clauses speak of them.
 use Rattle.std.specs.Prelude.{ℕ, Bool, true, false, List, []}
 use Rattle.btx_names.specs.language.NameParts as spec
-use Rattle.btx_names.specs.declared.name_sections.Sections.{Sections}
-use Rattle.btx_names.specs.declared.name_sections.Sections.TheVariants.{One, Two, Three}
-
--- sections, without where their texts lie in memory
-abbrev pub sections_view : Sections → spec.Sections
-sections_view (One one) = spec.One one.now
-sections_view (Two one two) = spec.Two one.now two.now
-sections_view (Three one two three) = spec.Three one.now two.now three.now
 
 -- commas part a name
 abbrev pub has_commas : spec.Sections → Bool

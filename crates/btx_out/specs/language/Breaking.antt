@@ -35,7 +35,7 @@ unfoldable pub from_white : List ℕ → List ℕ
 from_white [] = []
 from_white (b ∷ bs) = if is_white b then b ∷ bs else from_white bs
 
--- the greatest index from 3 on and below `end`, the number given first, at which the text has whitespace; none if there is none
+-- given a number and a text: the greatest index below the number, and from 3 on, at which the text has whitespace; none if there is none
 unfoldable pub last_white : ℕ → List ℕ → Option ℕ
 last_white zero text = None
 last_white (suc i) text = if nat_le 3 i && is_white (slice_index text i) then Some i else last_white i text

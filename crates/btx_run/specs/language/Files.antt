@@ -1,4 +1,3 @@
-pub mod Names
 pub mod Counts
 pub mod Telling
 pub mod Found

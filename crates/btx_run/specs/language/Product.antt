@@ -1,13 +1,11 @@
 -- The product of a job: what a whole run writes and answers. It composes what the reading of the files gives, what the style's text and the
 -- databases hold, and what executing the style then does; each stands in definitions of its own.
-use Rattle.std.specs.Prelude.{ℕ, List, ◌++◌}
+use Rattle.std.specs.Prelude.{ℕ, List, ◌++◌, []}
 use Rattle.btx_text.specs.language.LogLines.{Line}
 use Rattle.btx_aux.specs.language.Files.{Files}
 use Rattle.btx_aux.specs.language.Job.{AuxJob}
-use Rattle.btx_bst.specs.language.Style.{Style}
-use Rattle.btx_bib.specs.language.Library.{Library}
 use Rattle.btx_step.specs.language.Jobs.{Job}
-use Rattle.btx_machine.specs.language.Product.{Product, product_early, style_product}
+use Rattle.btx_machine.specs.language.Product.{Product, style_product}
 use Rattle.btx_machine.specs.language.Reports.{report_of, log_counts}
 use Rattle.btx_machine.specs.declared.report.Told.{Told}
 use Rattle.btx_run.specs.declared.files.found.FilesRead.{FilesRead}
@@ -19,13 +17,15 @@ use Rattle.btx_run.specs.language.Files.Readings.{Logged, job_named, reading_of}
 use Rattle.btx_run.specs.language.Contents.{library_in, style_in}
 use Rattle.btx_run.specs.language.Files.Telling.{bytes_of_lines}
 
--- what a style works on: the style itself, the library, and what was asked
-abbrev pub work_of : Style → Library → Options → Job
-work_of style library options = record { style = style; library = library; mode = options.text; entry_max = options.entry_max; global_max = options.global_max }
-
--- what the machine works on, made of the files that were found
+-- what the machine works on: the style and the library of the files that were found, and what was asked
 abbrev pub work_in : AuxJob → JobFiles → Options → Job
-work_in job found options = work_of (style_in found) (library_in job found options.min_crossrefs) options
+work_in job found options = record {
+  style = style_in found;
+  library = library_in job found options.min_crossrefs;
+  mode = options.text;
+  entry_max = options.entry_max;
+  global_max = options.global_max;
+}
 
 -- the number of warnings and of errors among the lines, each at most the greatest number of 64 bits
 abbrev pub counts_in : List Line → Told
@@ -37,7 +37,7 @@ logged_before lines product = record product { told = bytes_of_lines lines ++ pr
 
 -- what follows the reading of the files, after these lines of the log, with a budget: the run ends at once, or the style is executed
 abbrev pub product_of_files : AuxJob → FilesRead → Options → Told → ℕ → Product
-product_of_files job (Ends ending) options told budget = product_early (report_of ending 0 0 told)
+product_of_files job (Ends ending) options told budget = record { bbl = []; told = []; report = report_of ending 0 0 told }
 product_of_files job (Found found) options told budget = style_product (work_in job found options) told options.line budget
 
 -- the product of a job whose files were read so, with a budget: what was logged, and what follows

@@ -60,7 +60,7 @@ options budget references line = record {
   global_max = 20000;
 }
 
--- a budget of 1,000 steps, two references and lines of 79 bytes
+-- a budget of 1,000 steps, two entries that have to name an uncited parent for it to stay, and lines of 79 bytes
 abbrev pub usual : Options
 usual = options 1000 2 79
 

@@ -3,3 +3,5 @@ pub mod Telling
 pub mod Readings
 pub mod Asked
 pub mod Faults
+pub mod Names
+pub mod Found

@@ -2,7 +2,8 @@
 ghost use Rattle.std.specs.Prelude.{◌≡◌, ◌+◌, ◌++◌, ◌∷◌, [], length, IfOk, IfSome, OnOk};
 ghost use Rattle.btx_aux.specs.refinement.Answers.{ByAnswers};
 ghost use Rattle.btx_aux.specs.refinement.Faults.{CountsOfOne};
-ghost use Rattle.btx_run.specs.language.Files.Found.{file_at, named_file};
+ghost use Rattle.btx_run.specs.language.Files.Found.{file_at};
+ghost use Rattle.btx_run.specs.refinement.Files.Found.{named_file};
 
 use btx_aux::Finder;
 use btx_machine::End;

@@ -1,6 +1,7 @@
 //! The names of a job's files.
 ghost use Rattle.std.specs.Prelude.{◌≡◌, IfOk};
-ghost use Rattle.btx_run.specs.language.Files.Names.{is_file_too_long, top_name};
+ghost use Rattle.btx_text.specs.language.Limits.{is_too_long};
+ghost use Rattle.btx_run.specs.refinement.Files.Names.{top_name};
 
 use btx_text::GREATEST_FILE;
 use std::alloc::{AllocError, Global};
@@ -18,7 +19,7 @@ pub fn top_name(alloc: Global, job: &[u8]) -> Result<Vec<u8>, AllocError>
 
 /// Whether a file is too long to be read.
 pub fn is_too_long(text: &[u8]) -> bool
-    ensures { result ≡ is_file_too_long text.now }
+    ensures { result ≡ is_too_long text.now }
 {
     text.len() > GREATEST_FILE
 }

@@ -7,9 +7,9 @@ ghost use Rattle.btx_aux.specs.language.Job.{AuxJob};
 ghost use Rattle.btx_run.specs.refinement.Files.Asked.{AreAmong, names_in};
 ghost use Rattle.btx_run.specs.refinement.Files.Faults.{CountsOfTwo};
 ghost use Rattle.btx_run.specs.language.Files.Found.{file_at};
-ghost use Rattle.btx_run.specs.language.Files.Names.{top_name};
-ghost use Rattle.btx_run.specs.language.Files.Readings.{after_job, files_read, job_named, style_named, style_read};
-ghost use Rattle.btx_run.specs.refinement.Files.Readings.{ReadsAs, StyleFits, after_style};
+ghost use Rattle.btx_run.specs.language.Files.Readings.{after_job, job_named, style_named, style_read};
+ghost use Rattle.btx_run.specs.refinement.Files.Readings.{ReadsAs, StyleFits, after_style, files_read};
+ghost use Rattle.btx_run.specs.refinement.Files.Names.{top_name};
 
 use crate::files::databases::find_databases;
 use crate::files::found::{FilesRead, FoundFile, JobFiles, fetch_file};

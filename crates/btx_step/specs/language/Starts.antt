@@ -1,25 +1,20 @@
 -- The store before the first command.
-use Rattle.std.specs.Prelude.{ℤ, pos, List, [], length, replicate, slice_set, None}
-use Rattle.btx_bst.specs.language.Style.{Style}
+use Rattle.std.specs.Prelude.{pos, [], length, replicate, slice_set, None}
 use Rattle.btx_step.specs.language.Jobs.{Job}
-use Rattle.btx_step.specs.language.Stores.{Store, EntryVariables}
+use Rattle.btx_step.specs.language.Stores.{Store}
 
--- the global integers: the first two are `entry.max$` and `global.max$`, which begin with the number of bytes that a string variable of an entry and a
--- global one keep; all others begin with 0
-abbrev pub first_integers : Job → List ℤ
-first_integers job = slice_set (slice_set (replicate (length job.style.names.global_integers) (pos 0)) 0 (pos job.entry_max)) 1 (pos job.global_max)
-
--- the variables of an entry begin with 0 and the empty string
-abbrev pub first_values : Style → EntryVariables
-first_values style = record { integers = replicate (length style.names.entry_integers) (pos 0); strings = replicate (length style.names.entry_strings) [] }
-
--- the store before the first command: no literal on the stack, no current entry, each variable with its first value, and no body open yet
+-- the store before the first command: no literal on the stack, no current entry, and no body open yet. Variables begin with 0 and the empty string,
+-- but for the first two global integers, `entry.max$` and `global.max$`, which begin with the number of bytes that a string variable of an entry and a
+-- global one keep
 abbrev pub first_store : Job → Store
 first_store job = record {
   literals = [];
-  integers = first_integers job;
+  integers = slice_set (slice_set (replicate (length job.style.names.global_integers) (pos 0)) 0 (pos job.entry_max)) 1 (pos job.global_max);
   strings = replicate (length job.style.names.global_strings) [];
-  entries = replicate (length job.library.entries) (first_values job.style);
+  entries = replicate (length job.library.entries) (record {
+    integers = replicate (length job.style.names.entry_integers) (pos 0);
+    strings = replicate (length job.style.names.entry_strings) [];
+  });
   current = None;
   deepest = 0;
 }

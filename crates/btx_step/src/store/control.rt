@@ -4,6 +4,7 @@ ghost use Rattle.btx_bst.specs.declared.built_in.BuiltIn.TheVariants as built_in
 ghost use Rattle.btx_step.specs.language.Answers.{answer};
 ghost use Rattle.btx_step.specs.refinement.Answers.{silence};
 ghost use Rattle.btx_step.specs.language.Control as spec;
+ghost use Rattle.btx_step.specs.refinement.Control as kept_spec;
 ghost use Rattle.btx_step.specs.language.Table.{runs};
 
 use super::Store;
@@ -18,7 +19,7 @@ impl<'a> Store<'a> {
     #[tactic(auto, using(crate::proofs::QuickLemmas::choice_lacks))]
     pub(super) fn choose(&mut self, said: &mut Said<'a>) -> Result<Next, AllocError>
         requires { said.old ≡ silence }
-        ensures { IfOk result (λ next. answer next said.new self.new ≡ runs built_in.If spec.chooses self.old) }
+        ensures { IfOk result (λ next. answer next said.new self.new ≡ runs built_in.If kept_spec.chooses self.old) }
     {
         let otherwise = self.literals.pop(self.alloc)?;
         let then = self.literals.pop(self.alloc)?;
@@ -48,7 +49,7 @@ impl<'a> Store<'a> {
     // `while$`
     pub(super) fn start_loop(&mut self, said: &mut Said<'a>) -> Result<Next, AllocError>
         requires { said.old ≡ silence }
-        ensures { IfOk result (λ next. answer next said.new self.new ≡ runs built_in.While spec.loops self.old) }
+        ensures { IfOk result (λ next. answer next said.new self.new ≡ runs built_in.While kept_spec.loops self.old) }
     {
         match (
             self.literals.pop(self.alloc)?,

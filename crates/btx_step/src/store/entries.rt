@@ -4,7 +4,9 @@ ghost use Rattle.btx_bst.specs.declared.built_in.BuiltIn.TheVariants as built_in
 ghost use Rattle.btx_step.specs.language.Answers.{answer, quiet};
 ghost use Rattle.btx_step.specs.refinement.Answers.{silence};
 ghost use Rattle.btx_step.specs.language.Entries as spec;
-ghost use Rattle.btx_step.specs.language.Table.{runs, runs_missing, misses_entry};
+ghost use Rattle.btx_step.specs.refinement.Entries as kept_spec;
+ghost use Rattle.btx_step.specs.language.Table.{runs, runs_missing};
+ghost use Rattle.btx_step.specs.refinement.Table.{misses_entry};
 
 use super::Store;
 use crate::job::Job;
@@ -24,7 +26,7 @@ impl<'a> Store<'a> {
         said: &mut Said<'a>,
     ) -> Result<Next, AllocError>
         requires { said.old ≡ silence }
-        ensures { IfOk result (λ next. answer next said.new self.new ≡ spec.field_pushed job.now field self.old.current self.old) }
+        ensures { IfOk result (λ next. answer next said.new self.new ≡ kept_spec.field_pushed job.now field self.old.current self.old) }
     {
         match self.current {
             Some(entry) => Ok(match job.library().value(entry, field) {
@@ -38,7 +40,7 @@ impl<'a> Store<'a> {
     // `cite$`
     pub(super) fn cite(&mut self, job: &Job<'a>, said: &mut Said<'a>) -> Result<Next, AllocError>
         requires { said.old ≡ silence }
-        ensures { IfOk result (λ next. answer next said.new self.new ≡ spec.cites job.now self.old.current self.old) }
+        ensures { IfOk result (λ next. answer next said.new self.new ≡ kept_spec.cites job.now self.old.current self.old) }
     {
         match self.current {
             Some(entry) => Ok(self.push_text(job.key(entry))),
@@ -53,7 +55,7 @@ impl<'a> Store<'a> {
         said: &mut Said<'a>,
     ) -> Result<Next, AllocError>
         requires { said.old ≡ silence }
-        ensures { IfOk result (λ next. answer next said.new self.new ≡ spec.gives_type job.now self.old.current self.old) }
+        ensures { IfOk result (λ next. answer next said.new self.new ≡ kept_spec.gives_type job.now self.old.current self.old) }
     {
         match self.current {
             Some(entry) => Ok(self.push_text(job.type_name(entry))),
@@ -68,7 +70,7 @@ impl<'a> Store<'a> {
         said: &mut Said<'a>,
     ) -> Result<Next, AllocError>
         requires { said.old ≡ silence }
-        ensures { IfOk result (λ next. answer next said.new self.new ≡ spec.calls_type job.now self.old.current self.old) }
+        ensures { IfOk result (λ next. answer next said.new self.new ≡ kept_spec.calls_type job.now self.old.current self.old) }
     {
         match self.current {
             Some(entry) => Ok(match job.runner(entry) {
@@ -118,7 +120,7 @@ impl<'a> Store<'a> {
 
     // `preamble$`
     pub(super) fn push_preamble(&mut self, job: &Job<'a>) -> Next
-        ensures { quiet result self.new ≡ spec.gives_preamble job.now self.old }
+        ensures { quiet result self.new ≡ kept_spec.gives_preamble job.now self.old }
     {
         self.push_lent(job.library().preamble().as_bytes())
     }

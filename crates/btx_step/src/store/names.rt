@@ -4,7 +4,9 @@ ghost use Rattle.btx_bst.specs.declared.built_in.BuiltIn.TheVariants as built_in
 ghost use Rattle.btx_step.specs.language.Answers.{answer};
 ghost use Rattle.btx_step.specs.refinement.Answers.{silence};
 ghost use Rattle.btx_step.specs.language.Names as spec;
+ghost use Rattle.btx_step.specs.refinement.Names as kept_spec;
 ghost use Rattle.btx_step.specs.language.Table.{runs};
+ghost use Rattle.btx_text.specs.language.Lists.{only_if};
 
 use super::Store;
 use crate::job::Job;
@@ -20,7 +22,7 @@ impl<'a> Store<'a> {
     // `num.names$`
     pub(super) fn count_names(&mut self, said: &mut Said<'a>) -> Result<Next, AllocError>
         requires { said.old ≡ silence }
-        ensures { IfOk result (λ next. answer next said.new self.new ≡ runs built_in.NumNames spec.counts_names self.old) }
+        ensures { IfOk result (λ next. answer next said.new self.new ≡ runs built_in.NumNames kept_spec.counts_names self.old) }
     {
         match self.literals.pop(self.alloc)? {
             Some(Literal::Text(names)) => {
@@ -132,7 +134,7 @@ fn name_said<'a>(
 
 // A line where something was wrong.
 fn push_if<'a>(notes: &mut Notes<'a>, is_wrong: bool, note: Note<'a>) -> Result<(), AllocError>
-    ensures { OnOk result (notes.new ≡ notes.old ++ spec.note_if is_wrong note.entry) }
+    ensures { OnOk result (notes.new ≡ notes.old ++ only_if is_wrong note.entry) }
 {
     if is_wrong {
         notes.push(note)?;

@@ -4,7 +4,7 @@ ghost use Rattle.btx_bst.specs.declared.built_in.BuiltIn.TheVariants as built_in
 ghost use Rattle.btx_step.specs.declared.said.Note.TheVariants as note;
 ghost use Rattle.btx_step.specs.language.Answers.{answer, done};
 ghost use Rattle.btx_step.specs.refinement.Answers.{silence};
-ghost use Rattle.btx_step.specs.language.Stacks as spec;
+ghost use Rattle.btx_step.specs.refinement.Stacks as spec;
 ghost use Rattle.btx_step.specs.language.Table.{runs};
 
 use super::Store;

@@ -1,6 +1,7 @@
 //! The store before the first command.
 ghost use Rattle.std.specs.Prelude.{◌≡◌, [], IfOk, pos, replicate, slice_set};
-ghost use Rattle.btx_step.specs.language.Starts.{first_integers, first_store, first_values};
+ghost use Rattle.btx_step.specs.language.Starts.{first_store};
+ghost use Rattle.btx_step.specs.refinement.Starts.{first_integers, first_values};
 
 use super::Store;
 use crate::job::Job;

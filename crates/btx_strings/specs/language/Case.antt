@@ -9,21 +9,20 @@ use Rattle.btx_text.specs.declared.element_kind.Kind.TheVariants.{Byte, Special}
 use Rattle.btx_text.specs.declared.element_kind.TextMode.TheVariants.{Bytes}
 use Rattle.btx_text.specs.language.Elements.{Element, elements_of, backslash}
 use Rattle.btx_strings.specs.language.Answers.{no_complaints, wrong_conversion}
-use Rattle.btx_strings.specs.language.Controls.{Glyph, Control, Plain, glyphs_of, is_among, without_white}
+use Rattle.btx_strings.specs.language.Controls.{Glyph, Control, Plain, glyphs_of, without_white}
 use Rattle.btx_strings.specs.declared.answers.Complaints.{Complaints}
 use Rattle.btx_strings.specs.declared.conversions.Conversion.{Conversion}
 use Rattle.btx_strings.specs.declared.conversions.Conversion.TheVariants.{Title, Lower, Upper}
+use Rattle.btx_text.specs.language.Lists.{is_among}
 
 -- ---- the conversion
-
--- the conversion that a letter in lower case names: `t`, `l` or `u`
-abbrev pub conversion_by : ℕ → Option Conversion
-conversion_by letter = if letter == 116 then Some Title else if letter == 108 then Some Lower else if letter == 117 then Some Upper else None
 
 -- the conversion that a string names: it is one letter `t`, `l` or `u`, in either case; else none
 abbrev pub conversion_of : List ℕ → Option Conversion
 conversion_of [] = None
-conversion_of (letter ∷ []) = conversion_by (to_ascii_lowercase letter)
+conversion_of (letter ∷ []) =
+    let lower = to_ascii_lowercase letter in
+    if lower == 116 then Some Title else if lower == 108 then Some Lower else if lower == 117 then Some Upper else None
 conversion_of (letter ∷ more ∷ letters) = None
 
 -- ---- a special character
@@ -33,24 +32,20 @@ abbrev pub case_of : Conversion → ℕ → ℕ
 case_of Upper b = to_ascii_uppercase b
 case_of _ b = to_ascii_lowercase b
 
--- the foreign control sequences that are lowered
-abbrev pub lowered : List (List ℕ)
-lowered = codes "O" ∷ codes "OE" ∷ codes "AE" ∷ codes "AA" ∷ codes "L" ∷ []
-
--- the foreign control sequences that are raised
-abbrev pub raised : List (List ℕ)
-raised = codes "o" ∷ codes "oe" ∷ codes "ae" ∷ codes "aa" ∷ codes "l" ∷ []
-
 -- the control sequences `\i`, `\j` and `\ss`: in upper case they become letters without a backslash, `I`, `J` and `SS`
 abbrev pub bare : List (List ℕ)
 bare = codes "i" ∷ codes "j" ∷ codes "ss" ∷ []
 
--- a control sequence in another case; one that isn't among the lists above stays
+-- a control sequence in another case. In upper case `\i`, `\j` and `\ss` become `I`, `J` and `SS`, and `\o \oe \ae \aa \l` are raised; in lower case
+-- and in a title `\O \OE \AE \AA \L` are lowered; all others stay
 unfoldable pub cased_control : Conversion → List ℕ → List ℕ
 cased_control Upper name =
     if is_among bare name then map to_ascii_uppercase name
-    else if is_among raised name then backslash ∷ map to_ascii_uppercase name else backslash ∷ name
-cased_control _ name = if is_among lowered name then backslash ∷ map to_ascii_lowercase name else backslash ∷ name
+    else if is_among (codes "o" ∷ codes "oe" ∷ codes "ae" ∷ codes "aa" ∷ codes "l" ∷ []) name then backslash ∷ map to_ascii_uppercase name
+    else backslash ∷ name
+cased_control _ name =
+    if is_among (codes "O" ∷ codes "OE" ∷ codes "AE" ∷ codes "AA" ∷ codes "L" ∷ []) name then backslash ∷ map to_ascii_lowercase name
+    else backslash ∷ name
 
 -- a glyph of a special character in the case of a conversion
 abbrev pub cased_glyph : Conversion → Glyph → List ℕ

@@ -1,10 +1,9 @@
 -- The control sequences of special characters (btxhak, section 5.3, at `purify$`, and btxdoc, section 4, at accented and foreign
 -- characters). A glyph of a special character is a control sequence, or any other byte.
 use Rattle.std.specs.Prelude.{ℕ, zero, suc, ◌==◌, ◌||◌, ◌&&◌, Bool, false, List, [], ◌∷◌, length, take, codes, take_while, if◌then◌else◌}
-use Rattle.std.specs.List.{list_any}
-use Rattle.std.specs.Str.{bytes_eq}
 use Rattle.btx_text.specs.language.Class.{is_alpha, is_white}
 use Rattle.btx_text.specs.language.Elements.{open_brace, close_brace, backslash}
+use Rattle.btx_text.specs.language.Lists.{is_among}
 
 -- a control sequence, by what stands after its backslash, or a byte by itself
 pub data Glyph : Type 0 where
@@ -38,23 +37,13 @@ glyphs_of text = glyphs_from 0 text
 
 -- ---- foreign ones
 
--- one of the names is `name`
-abbrev pub is_among : List (List ℕ) → List ℕ → Bool
-is_among names name = list_any (bytes_eq name) names
-
--- the foreign control sequences that stand for two letters
-abbrev pub two_letters : List (List ℕ)
-two_letters = codes "oe" ∷ codes "OE" ∷ codes "ae" ∷ codes "AE" ∷ codes "ss" ∷ []
-
--- the foreign control sequences that stand for one letter
-abbrev pub one_letter : List (List ℕ)
-one_letter = codes "i" ∷ codes "j" ∷ codes "o" ∷ codes "aa" ∷ codes "l" ∷ codes "O" ∷ codes "AA" ∷ codes "L" ∷ []
-
--- the letters that a control sequence stands for: both of five foreign ones, the first of eight others, none of any other
+-- the letters that a control sequence stands for: of `\oe \OE \ae \AE \ss` both letters of its name, of `\i \j \o \O \l \L \aa \AA` the first one, of
+-- any other none
 unfoldable pub letters_of : List ℕ → List ℕ
 letters_of name =
-    if is_among two_letters name then name
-    else if is_among one_letter name then take 1 name else []
+    if is_among (codes "oe" ∷ codes "OE" ∷ codes "ae" ∷ codes "AE" ∷ codes "ss" ∷ []) name then name
+    else if is_among (codes "i" ∷ codes "j" ∷ codes "o" ∷ codes "aa" ∷ codes "l" ∷ codes "O" ∷ codes "AA" ∷ codes "L" ∷ []) name then take 1 name
+    else []
 
 -- ---- white after a control sequence
 

@@ -13,10 +13,6 @@ take_characters n [] = []
 take_characters zero (part ∷ parts) = []
 take_characters (suc n) (part ∷ parts) = part ∷ take_characters (if is_character part.kind then n else suc n) parts
 
--- a text followed by a `}` for each brace that it leaves open
-abbrev pub with_braces_closed : List ℕ → List ℕ
-with_braces_closed text = text ++ replicate (depth_of text) close_brace
-
 -- the number of characters that `text.prefix$` is asked for; 0 if it is negative
 abbrev pub wanted_length : ℤ → ℕ
 wanted_length (pos n) = n
@@ -24,4 +20,6 @@ wanted_length (negsuc n) = 0
 
 -- `text.prefix$`: the shortest prefix of whole elements that has `count` characters of text, with a `}` for each brace that it leaves open
 abbrev pub text_prefix_of : TextMode → List ℕ → ℤ → List ℕ
-text_prefix_of mode string count = with_braces_closed (text_of (take_characters (wanted_length count) (elements_of mode string)))
+text_prefix_of mode string count =
+    let front = text_of (take_characters (wanted_length count) (elements_of mode string)) in
+    front ++ replicate (depth_of front) close_brace

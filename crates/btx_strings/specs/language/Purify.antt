@@ -40,10 +40,6 @@ purified_as Byte text = flat_map purified_byte text
 purified_as Special text = flat_map purified_glyph (glyphs_of text)
 purified_as _ text = []
 
--- what `purify$` leaves of an element
-abbrev pub purified_part : Element → List ℕ
-purified_part part = purified_as part.kind part.text
-
 -- `purify$`: what it leaves of each element, joined. The string is read as bytes in either mode: bytes from 128 up are letters and stay
 abbrev pub purify_of : List ℕ → List ℕ
-purify_of string = flat_map purified_part (elements_of Bytes string)
+purify_of string = flat_map (λ (part : Element). purified_as part.kind part.text) (elements_of Bytes string)

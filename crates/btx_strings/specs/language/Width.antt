@@ -7,7 +7,7 @@ use Rattle.btx_text.specs.declared.element_kind.TextMode.TheVariants.{Bytes}
 use Rattle.btx_text.specs.language.Elements.{Element, elements_of}
 use Rattle.btx_strings.specs.language.Controls.{Glyph, Control, Plain, glyphs_of, is_brace, letters_of, without_white}
 
--- the widths of the bytes from 0 on; the bytes past the table have none
+-- the widths of the bytes from 0 to 126, in hundredths of a point; bytes past the table have the width 0
 abbrev pub widths : List ℕ
 widths =
     replicate 32 0
@@ -52,19 +52,12 @@ abbrev pub glyph_width : Glyph → ℕ
 glyph_width (Control name) = control_width name
 glyph_width (Plain b) = if is_brace b then 0 else byte_width b
 
--- the width of a special character: that of its glyphs, without the whitespace directly after a control sequence
-abbrev pub special_width : List ℕ → ℕ
-special_width text = sum_by glyph_width (without_white (λ _. true) [] (glyphs_of text))
-
--- the width of an element, by its kind and its text: outside special characters every byte counts, braces too
+-- the width of an element, by its kind and its text: of a special character that of its glyphs, without the whitespace directly after a control
+-- sequence; outside special characters every byte counts, braces too
 abbrev pub width_as : Kind → List ℕ → ℕ
-width_as Special text = special_width text
+width_as Special text = sum_by glyph_width (without_white (λ _. true) [] (glyphs_of text))
 width_as _ text = sum_by byte_width text
-
--- the width of an element of a string
-abbrev pub part_width : Element → ℕ
-part_width part = width_as part.kind part.text
 
 -- `width$`: the sum of the widths of a string's elements. It is read as bytes in either mode: bytes from 128 up have no width
 abbrev pub width_of : List ℕ → ℕ
-width_of string = sum_by part_width (elements_of Bytes string)
+width_of string = sum_by (λ (part : Element). width_as part.kind part.text) (elements_of Bytes string)

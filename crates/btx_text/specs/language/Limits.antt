@@ -1,5 +1,5 @@
 -- The greatest lengths of strings and files, in bytes (this project's own rule; the original has sizes that are set when it is built).
-use Rattle.std.specs.Prelude.{ℕ}
+use Rattle.std.specs.Prelude.{ℕ, nat_lt, length, Bool, List}
 
 -- the greatest number of bytes of a string: of a literal, a variable's value, a field, a `@string`, the preamble, or the result of a built-in
 -- function
@@ -9,3 +9,7 @@ greatest_string = 1000000
 -- the greatest number of bytes of a file that is read
 abbrev pub greatest_file : ℕ
 greatest_file = 2147483647
+
+-- the text has more bytes than a file may have
+abbrev pub is_too_long : List ℕ → Bool
+is_too_long text = nat_lt greatest_file (length text)

@@ -11,15 +11,13 @@ pub record Line : Type 0 where
 
 -- the line is a warning
 abbrev pub is_warning : LineKind → Bool
-is_warning Plain = false
 is_warning Warning = true
-is_warning Error = false
+is_warning _ = false
 
 -- the line is an error
 abbrev pub is_error : LineKind → Bool
-is_error Plain = false
-is_error Warning = false
 is_error Error = true
+is_error _ = false
 
 -- the word with which a line of the log begins, by what it is: nothing where it is neither a warning nor an error
 unfoldable pub mark_of : LineKind → List ℕ
@@ -34,7 +32,3 @@ place_text line file = codes "--line " ++ decimal line ++ codes " of file " ++ f
 -- a log line of this kind that has no place: the prefix of its kind, and its text
 abbrev pub message : LineKind → List ℕ → Line
 message kind text = record { text = mark_of kind ++ text; kind = kind }
-
--- a log line with the line number and the file that its message is about
-abbrev pub message_at : LineKind → List ℕ → ℕ → List ℕ → Line
-message_at kind text line file = record { text = mark_of kind ++ text ++ place_text line file; kind = kind }

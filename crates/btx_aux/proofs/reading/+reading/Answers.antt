@@ -3,11 +3,12 @@ use borrow.Author.Tests.{tests}
 use Rattle.std.proofs.lemmas.Result.{on_ok_weaker}
 use Rattle.btx_text.specs.language.Lines.{lines_of}
 use Rattle.btx_aux.specs.language.Grammar.{is_whole}
-use Rattle.btx_aux.specs.language.Events.{is_too_long, AuxEvent, said}
+use Rattle.btx_aux.specs.language.Events.{AuxEvent, said}
 use Rattle.btx_aux.specs.refinement.Reads.{opened_by, run}
 use Rattle.btx_aux.proofs.ReadLemmas.{run-quiet, run-asking, run-more, run-none, run-ended, said_whole, included-missing, included-found, opened_by-full, opened_by-long, opened_by-read, lines_few, file_missing, file_found, untrue, unfalse}
 use Rattle.btx_aux.proofs.AnswerLemmas.{by_both, by_fetch, by_map, by_none}
 use Rattle.btx_aux.proofs.AskedLemmas.{adds_both, adds_none, asking_adds, found_asks, full_adds, long_adds, missing_asks, quiet_adds, read_adds}
+use Rattle.btx_text.specs.language.Limits.{is_too_long}
 use Rattle.btx_aux.proofs.reading.+reading.Goals as goal
 
 pub include-returns-then-not-branch-clause-draft : goal.include-returns-then-not-branch-clause-draft

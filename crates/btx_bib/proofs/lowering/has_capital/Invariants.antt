@@ -1,6 +1,9 @@
-use Rattle.std.proofs.Common.{◌≡◌, drop}
-use Rattle.btx_text.specs.language.Keys.{folded}
+use Rattle.std.proofs.Common.{◌-◌, ◌≤◌, length}
+use Rattle.btx_bib.specs.refinement.Spellings.{AreLower}
 use Rattle.btx_bib.proofs.lowering.has_capital.Given as goal
 
-abbrev pub invariant-loop-byte : goal.invariant-loop-byte
-invariant-loop-byte l = folded (drop l.byte-index l.text) ≡ drop l.byte-index l.text → folded l.text ≡ l.text
+abbrev pub invariant-loop-place : goal.invariant-loop-place
+invariant-loop-place l = AreLower l.text 0 l.place × (l.place ≤ length l.text)
+
+abbrev pub decreases-loop-place : goal.decreases-loop-place
+decreases-loop-place l = l.last - l.place

@@ -1,5 +1,5 @@
 -- The fields of an entry.
-use Rattle.std.specs.Prelude.{ℕ, ◌==◌, List, drop, Option, None, Some, Ok, Err, if◌then◌else◌}
+use Rattle.std.specs.Prelude.{ℕ, ◌==◌, List, drop, Option, None, Some, Ok, if◌then◌else◌}
 use Rattle.btx_bib.specs.declared.grammar.byte_sets.Delimiter.{Delimiter}
 use Rattle.btx_bib.specs.declared.grammar.byte_sets.ByteSet.TheVariants.{Gap}
 use Rattle.btx_bib.specs.declared.grammar.slip.Slip.TheVariants.{NoComma, NoEquals}
@@ -20,15 +20,10 @@ field_at text =
     followed_by (sign_at equals_sign NoEquals behind_name) (λ sign behind_sign.
     followed_by (value_at behind_sign) (λ value rest. Ok (record { name = name; value = value }, rest))))
 
--- a field that was read, as one further field of its entry
-abbrev pub one_more : Parsed Field → Parsed (Option Field)
-one_more (Ok got) = Ok (Some got.0, got.1)
-one_more (Err wrong) = Err wrong
-
 -- after a comma: the closing delimiter ends the entry, else a field follows
 unfoldable pub after_comma : Delimiter → List ℕ → Parsed (Option Field)
 after_comma delimiter rest =
-    if begins (λ b. b == closing_delimiter delimiter) rest then Ok (None, drop 1 rest) else one_more (field_at rest)
+    if begins (λ b. b == closing_delimiter delimiter) rest then Ok (None, drop 1 rest) else followed_by (field_at rest) (λ field behind. Ok (Some field, behind))
 
 -- after a key or a field: the closing delimiter, which ends the entry, or a comma and then a field or the closing delimiter; else an error
 unfoldable pub more_in : Delimiter → List ℕ → Parsed (Option Field)

@@ -52,11 +52,6 @@ head_of command.Entry name text =
 unfoldable pub head_at : List ℕ → Parsed (Event × Wanted)
 head_at text = followed_by (name_at text) (λ name rest. head_of (command_of name) name rest)
 
--- the end of an item as an event; an item is expected next
-abbrev pub item_end : Parsed (Unit {0}) → Parsed (Event × Wanted)
-item_end (Ok got) = Ok ((End, Item), got.1)
-item_end (Err wrong) = Err wrong
-
 -- a field as an event, after which the entry goes on; or the end of the entry, after which an item is expected
 abbrev pub field_event : Delimiter → Parsed (Option Field) → Parsed (Event × Wanted)
 field_event delimiter (Ok (None, rest)) = Ok ((End, Item), rest)
@@ -82,7 +77,8 @@ behind_at (b ∷ bs) = if b == at_sign then Some bs else behind_at bs
 -- the next event of a text, given what is expected there; none if an item is expected and no `@` is left
 unfoldable pub expected_step : Wanted → List ℕ → Option Step
 expected_step Item text = option_map (λ rest. step_by (head_at rest)) (behind_at text)
-expected_step (Closing delimiter) text = Some (step_by (item_end (sign_at (closing_delimiter delimiter) (NoClosing delimiter) text)))
+expected_step (Closing delimiter) text =
+    Some (step_by (followed_by (sign_at (closing_delimiter delimiter) (NoClosing delimiter) text) (λ _ rest. Ok ((End, Item), rest))))
 expected_step (Fields delimiter) text = Some (step_by (field_event delimiter (more_at delimiter text)))
 
 -- an event, with its place: `rest` is the text from its end on

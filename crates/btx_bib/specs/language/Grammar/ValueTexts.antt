@@ -1,5 +1,5 @@
 -- The text that a value stands for: the texts of its parts joined, and then every run of white made one space.
-use Rattle.std.specs.Prelude.{◌==◌, ◌-◌, ℕ, slice_index, take, List, [], ◌∷◌, length, Option, None, Some, if◌then◌else◌}
+use Rattle.std.specs.Prelude.{◌==◌, ◌-◌, ℕ, slice_index, take, List, [], ◌∷◌, length, Option, if◌then◌else◌, unwrap_or}
 use Rattle.std.specs.List.{flat_map}
 use Rattle.btx_bib.specs.declared.grammar.value_ends.Ends.{Ends}
 use Rattle.btx_bib.specs.declared.grammar.value_ends.Ends.TheVariants.{Kept, Trimmed}
@@ -11,21 +11,12 @@ use Rattle.btx_bib.specs.language.Grammar.Values.{Part, Braced, Quoted, Digits, 
 abbrev pub StringValues : Type 0
 StringValues = List ℕ → Option (List ℕ)
 
--- the text, or the empty one if there is none
-abbrev pub or_nothing : Option (List ℕ) → List ℕ
-or_nothing None = []
-or_nothing (Some text) = text
-
 -- the text of a part: a name stands for its value, and for nothing where it has none
 abbrev pub text_of_part : StringValues → Part → List ℕ
 text_of_part strings (Braced text) = text
 text_of_part strings (Quoted text) = text
 text_of_part strings (Digits text) = text
-text_of_part strings (Named string) = or_nothing (strings string.name)
-
--- the texts of a value's parts, joined, before whitespace is squeezed
-abbrev pub joined_text : StringValues → List Part → List ℕ
-joined_text strings parts = flat_map (text_of_part strings) parts
+text_of_part strings (Named string) = unwrap_or (strings string.name) []
 
 -- every run of white becomes one space: of each run the last byte stays, as a space
 unfoldable pub squeezed : List ℕ → List ℕ
@@ -48,4 +39,4 @@ shaped Trimmed text = without_last_space (without_first_space (squeezed text))
 
 -- the text that a value stands for: its parts joined, its whitespace squeezed, and the space at each end trimmed or kept
 abbrev pub value_text : Ends → StringValues → List Part → List ℕ
-value_text ends strings parts = shaped ends (joined_text strings parts)
+value_text ends strings parts = shaped ends (flat_map (text_of_part strings) parts)

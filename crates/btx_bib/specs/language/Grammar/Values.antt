@@ -1,6 +1,6 @@
 -- Values: parts joined by `#`.
 use Rattle.std.specs.Prelude.{ℕ, zero, suc, ◌==◌, List, [], ◌∷◌, length, take, drop, Option, None, Some, Ok, Err, if◌then◌else◌}
-use Rattle.btx_text.specs.language.Class.{is_digit, begins_name}
+use Rattle.btx_text.specs.language.Class.{begins_name}
 use Rattle.btx_text.specs.language.Elements.{open_brace}
 use Rattle.btx_bib.specs.declared.grammar.byte_sets.ByteSet.TheVariants.{Gap, NameByte, Digit}
 use Rattle.btx_bib.specs.declared.grammar.byte_sets.Enclosure.{Enclosure}
@@ -9,6 +9,7 @@ use Rattle.btx_bib.specs.declared.grammar.slip.Slip.TheVariants.{NoValue, Unbala
 use Rattle.btx_bib.specs.language.Grammar.Bytes.{hash, quote}
 use Rattle.btx_bib.specs.language.Grammar.ByteSets.{longest_run, past, enclosed_len}
 use Rattle.btx_bib.specs.language.Grammar.Tokens.{Parsed, followed_by}
+use Rattle.std.specs.Char.{is_ascii_digit}
 
 -- the name of a string where it stands in a value. `rest` is the text behind it, which tells its place: how much of the file is left.
 pub record StringName : Type 0 where
@@ -39,7 +40,7 @@ part_in [] = Err (EndOfFile, [])
 part_in (b ∷ bs) =
     if b == open_brace then enclosed_in Group bs
     else if b == quote then enclosed_in Quotes bs
-    else if is_digit b then Ok (Digits (longest_run Digit (b ∷ bs)), past Digit (b ∷ bs))
+    else if is_ascii_digit b then Ok (Digits (longest_run Digit (b ∷ bs)), past Digit (b ∷ bs))
     else if begins_name b then Ok (Named (record { name = longest_run NameByte (b ∷ bs); rest = past NameByte (b ∷ bs) }), past NameByte (b ∷ bs))
     else Err (NoValue, b ∷ bs)
 

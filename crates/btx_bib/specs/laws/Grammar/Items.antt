@@ -1,5 +1,5 @@
 -- Reading that remembers all events before: what is known of them is the list of them.
-use Rattle.std.specs.Prelude.{ℕ, Bool, ◌+◌, List, [], ◌∷◌, ◌++◌}
+use Rattle.std.specs.Prelude.{ℕ, Bool, List, [], ◌∷◌, ◌++◌}
 use Rattle.btx_bib.specs.language.Grammar.Items.{Event, Keeping}
 
 -- the events so far are known, and they say which keys are stored

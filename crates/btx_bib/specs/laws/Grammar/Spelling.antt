@@ -1,7 +1,7 @@
 -- The grammar of a database, as relations between a front of a text and the rest behind it: the front spells a thing, or something is wrong at its
 -- end. `P (Ok a) front rest` says that `front` spells an a as `P` has it, and `P (Err slip) front rest` that `slip` is wrong where `rest` begins.
 use Rattle.std.specs.Prelude.{◌≡◌, ℕ, zero, suc, ◌==◌, ◌||◌, Bool, true, false, List, [], ◌∷◌, ◌++◌, ◌⊎◌, Result, Ok, Err}
-use Rattle.btx_text.specs.language.Class.{is_digit, begins_name}
+use Rattle.btx_text.specs.language.Class.{begins_name}
 use Rattle.btx_text.specs.language.Elements.{depth_after, depth_of, open_brace, close_brace}
 use Rattle.btx_bib.specs.declared.grammar.byte_sets.ByteSet.{ByteSet}
 use Rattle.btx_bib.specs.declared.grammar.byte_sets.ByteSet.TheVariants.{Gap, NameByte, Digit}
@@ -14,6 +14,7 @@ use Rattle.btx_bib.specs.language.Grammar.ByteSets.{is_in, begins, ends_enclosed
 use Rattle.btx_bib.specs.language.Grammar.Tokens.{Parsed, slip_at}
 use Rattle.btx_bib.specs.language.Grammar.Values.{Part, Braced, Quoted, Digits, Named}
 use Rattle.btx_bib.specs.language.Grammar.Fields.{Field}
+use Rattle.std.specs.Char.{is_ascii_digit}
 
 -- how something is spelled: a relation between what was read or is wrong, a front of a text, and the rest. The front spells the first, or it is
 -- wrong where the rest begins
@@ -95,7 +96,7 @@ IsEnclosed enclosure text = IsInside enclosure 0 text × (depth_of text ≡ 0)
 
 -- a byte with which a part of a value begins: `{`, `"`, a digit, or a byte with which a name begins
 abbrev pub begins_part : ℕ → Bool
-begins_part b = b == open_brace || b == quote || is_digit b || begins_name b
+begins_part b = b == open_brace || b == quote || is_ascii_digit b || begins_name b
 
 -- what is wrong where a part of a value is wanted: no part begins with the next byte, a `}` in quotes closes nothing, or the file ends
 abbrev pub IsWrongPart : Slip → List ℕ → List ℕ → Type 0
@@ -109,7 +110,7 @@ IsWrongPart _ front rest = ⊥
 abbrev pub PartHere : Grammar Part
 PartHere (Ok (Braced text)) front rest = (front ≡ open_brace ∷ (text ++ close_brace ∷ [])) × IsEnclosed Group text
 PartHere (Ok (Quoted text)) front rest = (front ≡ quote ∷ (text ++ quote ∷ [])) × IsEnclosed Quotes text
-PartHere (Ok (Digits text)) front rest = IsWord Digit is_digit text front rest
+PartHere (Ok (Digits text)) front rest = IsWord Digit is_ascii_digit text front rest
 PartHere (Ok (Named string)) front rest = IsWord NameByte begins_name string.name front rest × (string.rest ≡ rest)
 PartHere (Err slip) front rest = IsWrongPart slip front rest
 

@@ -1,10 +1,10 @@
 -- How the code finds the end of what is enclosed: it skips what can't end it.
 use Rattle.std.specs.Prelude.{ℕ, suc, ◌==◌, ◌||◌, Bool, List, [], ◌∷◌, if◌then◌else◌}
-use Rattle.btx_text.specs.language.Class.{is_between}
 use Rattle.btx_text.specs.language.Elements.{open_brace, close_brace}
 use Rattle.btx_bib.specs.declared.grammar.byte_sets.Enclosure.{Enclosure}
 use Rattle.btx_bib.specs.declared.grammar.byte_sets.Enclosure.TheVariants.{Group, Quotes}
 use Rattle.btx_bib.specs.language.Grammar.Bytes.{quote}
+use Rattle.std.specs.Int.{is_in_range}
 
 -- a byte that changes the depth or can end what is enclosed: a brace, and in quotes a `"`
 abbrev pub is_mark : Enclosure → ℕ → Bool
@@ -13,7 +13,7 @@ is_mark Quotes b = b == open_brace || b == close_brace || b == quote
 
 -- one of the bytes that neither are white nor enclose: from `#` to `z`
 abbrev pub is_word_byte : ℕ → Bool
-is_word_byte = is_between 35 122
+is_word_byte = is_in_range 35 122
 
 -- how many bytes stand before the first that passes a test; all, where there is none
 unfoldable pub unmarked_len : (ℕ → Bool) → List ℕ → ℕ

@@ -1,11 +1,13 @@
 -- White that is made one space while the bytes are read.
-use Rattle.std.specs.Prelude.{◌≡◌, ℕ, ◌==◌, ◌&&◌, ◌||◌, ◌-◌, not, Bool, true, false, cond, List, [], ◌∷◌, length, slice_index, take, if◌then◌else◌}
+use Rattle.std.specs.Prelude.{◌≡◌, ◌<◌, ◌≤◌, ℕ, ◌==◌, ◌&&◌, ◌||◌, ◌-◌, not, Bool, true, false, cond, List, [], ◌∷◌, length, slice_index, take, if◌then◌else◌}
+use Rattle.std.specs.Int.{w64, trailing_zeros}
 use Rattle.btx_bib.specs.declared.grammar.byte_sets.ByteSet.TheVariants.{Gap}
 use Rattle.btx_bib.specs.declared.grammar.value_ends.Ends.{Ends}
 use Rattle.btx_bib.specs.declared.grammar.value_ends.Ends.TheVariants.{Kept, Trimmed}
 use Rattle.btx_bib.specs.declared.grammar.byte_sets.Enclosure.{Enclosure}
 use Rattle.btx_bib.specs.language.Grammar.Bytes.{space}
 use Rattle.btx_bib.specs.language.Grammar.ByteSets.{enclosed_len, is_gap, past}
+use Rattle.btx_bib.specs.refinement.Grammar.ByteSets.{is_word_byte}
 
 -- bytes after a byte that was white or not: the first byte of a run becomes the space
 abbrev pub squeezed_after : Bool → List ℕ → List ℕ
@@ -27,6 +29,22 @@ is_squeezed white (b ∷ bs) = if is_gap b then (b == space && not white) && is_
 -- a byte leaves what is before it squeezed, whose last byte was white or not
 abbrev pub stays_squeezed : Bool → ℕ → Bool
 stays_squeezed white b = not (is_gap b) || (b == space && not white)
+
+-- white stands before a place, or nothing
+abbrev pub is_behind_white : List ℕ → ℕ → Bool
+is_behind_white text place = place == 0 || is_gap (slice_index text (place - 1))
+
+-- a byte that leaves depth and squeezing alone: a word byte, or a space behind a byte that isn't white
+abbrev pub is_plain_byte : ℕ → ℕ → Bool
+is_plain_byte before b = is_word_byte b || (b == space && not (is_gap before))
+
+-- the bytes from a place up to another one are such
+abbrev pub ArePlainBytes : List ℕ → ℕ → ℕ → Type 0
+ArePlainBytes text from to = (place : ℕ) → from ≤ place → place < to → is_plain_byte (slice_index text (place - 1)) (slice_index text place) ≡ true
+
+-- how many of the 16 lanes of a block come before the first whose bit is set
+abbrev pub lanes_before : ℕ → ℕ
+lanes_before bits = if bits == 0 then 16 else trailing_zeros w64 bits
 
 -- what is enclosed is of this length, and squeezed, and doesn't begin with white
 abbrev pub IsSqueezedLen : Enclosure → List ℕ → ℕ → Type 0

@@ -5,6 +5,9 @@ use Rattle.std.specs.declared.vec.Vec.{Vec}
 use Rattle.btx_text.specs.language.Limits.{greatest_string}
 use Rattle.btx_text.specs.declared.fault.Fault.{Fault}
 use Rattle.btx_text.specs.declared.fault.Fault.TheVariants.{Memory, StringLimit}
+use Rattle.std.specs.List.{flat_map}
+use Rattle.btx_bib.specs.language.Grammar.Values.{Part}
+use Rattle.btx_bib.specs.language.Grammar.ValueTexts.{StringValues, text_of_part}
 
 -- this text, where it is within the limit of strings; the fault of the limit exactly where it is longer; want of memory says nothing
 abbrev pub MakesText : Result (List ℕ) Fault → List ℕ → Type 0
@@ -19,3 +22,7 @@ GathersWithin most (Ok made) text = (made.items ≡ text) × (length text ≤ mo
 GathersWithin most (Err Memory) text = Unit {0}
 GathersWithin most (Err StringLimit) text = most < length text
 GathersWithin most (Err _) text = ⊥
+
+-- the texts of a value's parts, joined, before whitespace is squeezed
+abbrev pub joined_text : StringValues → List Part → List ℕ
+joined_text strings parts = flat_map (text_of_part strings) parts

@@ -12,7 +12,7 @@ use Rattle.btx_names.proofs.formatted.write_items.Goals as goal
 pub returns-in_err-push_item : goal.returns-in_err-push_item
 returns-in_err-push_item c =
     let format = c.args.format.now in
-    let text = item_text c.args.writer.now.mode (parts_view c.args.parts) in
+    let text = item_text c.args.writer.now.mode (parts_view c.args.parts.now) in
     let items = c.items-item-items.result.now in
     let i = c.loop-item.item-index in
     let item = item_view c.as_item.result in

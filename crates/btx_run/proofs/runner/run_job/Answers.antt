@@ -3,9 +3,9 @@ use Rattle.btx_aux.proofs.AnswerLemmas.{by_map}
 use Rattle.btx_machine.specs.language.Reports.{log_counts}
 use Rattle.btx_machine.proofs.ComesLemmas.{err_map, ok_map, on_err}
 use Rattle.btx_run.specs.language.Product.{product_of_files, counts_in}
-use Rattle.btx_run.specs.language.Files.Readings.{files_read}
 use Rattle.btx_run.proofs.ProductLemmas.{completes_reading, fails_in_lines, fails_reading}
 use Rattle.btx_run.proofs.runner.run_job.Goals as goal
+use Rattle.btx_run.specs.refinement.Files.Readings.{files_read}
 
 pub returns-in_err-read-clause-err : goal.returns-in_err-read-clause-err
 returns-in_err-read-clause-err g c =

@@ -8,10 +8,6 @@ pub record NamedFile : Type 0 where
   pub name : List ℕ
   pub bytes : List ℕ
 
--- a file, of its name and its bytes
-abbrev pub named_file : List ℕ → List ℕ → NamedFile
-named_file name bytes = record { name = name; bytes = bytes }
-
 -- the file of a name, if it is there
 abbrev pub file_at : Files → List ℕ → Option NamedFile
-file_at files name = option_map (named_file name) (files name)
+file_at files name = option_map (λ (bytes : List ℕ). record { name = name; bytes = bytes }) (files name)

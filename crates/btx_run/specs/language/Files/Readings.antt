@@ -1,6 +1,6 @@
 -- What the reading of a job's files gives, up to the execution of the style. The `.aux` files come first; then the style is looked for, and
 -- then the databases that they name (btxdoc, section 2), each in turn. A database is judged when the style reads it, not here.
-use Rattle.std.specs.Prelude.{ℕ, ◌+◌, List, [], ◌∷◌, ◌++◌, length, Option, None, Some, if◌then◌else◌}
+use Rattle.std.specs.Prelude.{ℕ, ◌+◌, List, [], ◌∷◌, ◌++◌, length, Option, None, Some, if◌then◌else◌, option_to_list, codes}
 use Rattle.std.specs.List.{flat_map}
 use Rattle.btx_aux.specs.language.Files.{Files}
 use Rattle.btx_aux.specs.language.Job.{AuxJob, job_of_files}
@@ -12,8 +12,9 @@ use Rattle.btx_run.specs.declared.files.found.FilesRead.TheVariants.{Ends, Found
 use Rattle.btx_machine.specs.declared.ending.Limit.TheVariants as kind
 use Rattle.btx_machine.specs.declared.report.End.TheVariants as ended
 use Rattle.btx_run.specs.language.Files.Lines.{database_line, no_style_line, style_line, no_database_line}
-use Rattle.btx_run.specs.language.Files.Names.{is_file_too_long, top_name}
 use Rattle.btx_run.specs.language.Files.Found.{NamedFile, file_at}
+use Rattle.btx_text.specs.language.Limits.{is_too_long}
+use Rattle.btx_aux.specs.language.Names.{with_ending}
 
 -- a part of the reading: its lines of the log, and what it gives
 pub record Logged (T : Type 0) : Type 0 where
@@ -30,14 +31,9 @@ behind lines part = logged (lines ++ part.told) part.gives
 
 -- ---- databases
 
--- an optional file as a list of one or of none
-abbrev pub as_list : Option NamedFile → List NamedFile
-as_list None = []
-as_list (Some file) = file ∷ []
-
 -- the files of these names that are there, in order
 abbrev pub files_found : Files → List (List ℕ) → List NamedFile
-files_found files names = flat_map (λ name. as_list (file_at files name)) names
+files_found files names = flat_map (λ name. option_to_list (file_at files name)) names
 
 -- the log line of a database, which has this number if it is found
 abbrev pub database_logged : ℕ → List ℕ → Option NamedFile → Line
@@ -56,49 +52,36 @@ databases_read files names = logged (databases_logged files [] names) (files_fou
 
 -- ---- the style
 
--- a style with the databases that were found
-abbrev pub with_style : NamedFile → Logged (List NamedFile) → Logged FilesRead
-with_style style part = logged part.told (Found (record { style = style; databases = part.gives }))
-
 -- the reading after the style was found: a style that is too long ends the run, and no database is looked for
 abbrev pub style_found : NamedFile → Logged (List NamedFile) → Logged FilesRead
-style_found style databases = if is_file_too_long style.bytes then logged [] (Ends (ended.Limit kind.File)) else with_style style databases
+style_found style databases = if is_too_long style.bytes then logged [] (Ends (ended.Limit kind.File)) else logged databases.told (Found (record { style = style; databases = databases.gives }))
 
--- the reading from the search for the style on; if the style is missing, the run ends
-abbrev pub style_sought : List ℕ → Option NamedFile → Logged (List NamedFile) → Logged FilesRead
-style_sought name None databases = logged (no_style_line name ∷ []) (Ends ended.Finished)
-style_sought name (Some style) databases = behind (style_line name ∷ []) (style_found style databases)
-
--- the style of this name, once it is looked for: without it the run ends
+-- the style of this name, once it is looked for, and then the databases. If there is no such file that is an error, and the run ends as `finished`,
+-- with the status 2
 unfoldable pub style_read : Files → AuxJob → List ℕ → Option NamedFile → Logged FilesRead
-style_read files job name style = style_sought name style (databases_read files job.databases)
+style_read files job name None = logged (no_style_line name ∷ []) (Ends ended.Finished)
+style_read files job name (Some style) = behind (style_line name ∷ []) (style_found style (databases_read files job.databases))
 
--- the style that the `.aux` files name, if they name one: without one the run ends
+-- the style that the `.aux` files name, and then the databases. If they name none, which is an error of the `.aux` files, the run ends as `finished`
 unfoldable pub style_named : Files → AuxJob → Option (List ℕ) → Logged FilesRead
 style_named files job None = logged [] (Ends ended.Finished)
 style_named files job (Some name) = style_read files job name (file_at files name)
 
 -- ---- the job
 
--- what follows the `.aux` files, by how their reading ended: only if all of them was read the style is looked for
-abbrev pub after_aux : AuxEnd → Logged FilesRead → Logged FilesRead
-after_aux aux.Whole style = style
-after_aux aux.TooManyOpen style = logged [] (Ends (ended.Limit kind.Files))
-after_aux aux.TopMissing style = logged [] (Ends ended.NoTopFile)
-after_aux aux.FileLimit style = logged [] (Ends (ended.Limit kind.File))
-
--- what follows the `.aux` files of a job: its style and its databases, unless their reading ended before
+-- what follows the `.aux` files of a job, by how their reading ended: its style and its databases, only if all of them was read
 unfoldable pub after_job : Files → AuxJob → AuxEnd → Logged FilesRead
-after_job files job end = after_aux end (style_named files job job.style)
+after_job files job aux.Whole = style_named files job job.style
+after_job files job aux.TooManyOpen = logged [] (Ends (ended.Limit kind.Files))
+after_job files job aux.TopMissing = logged [] (Ends ended.NoTopFile)
+after_job files job aux.FileLimit = logged [] (Ends (ended.Limit kind.File))
 
--- what was logged of the `.aux` files, and what follows them
-abbrev pub files_read : Files → AuxJob → Logged FilesRead
-files_read files job = behind job.log (after_job files job job.ending)
-
--- what the `.aux` files of the job of this name say
+-- what the `.aux` files of the job of this name say; the top-level file has the job's name with `.aux`, unless that ends so
 abbrev pub job_named : Files → List ℕ → AuxJob
-job_named files name = job_of_files files (top_name name)
+job_named files name = job_of_files files (with_ending (codes ".aux") name)
 
--- the whole reading of the files of the job of this name
+-- the whole reading of the files of the job of this name: what was logged of the `.aux` files, and what follows them
 abbrev pub reading_of : Files → List ℕ → Logged FilesRead
-reading_of files name = files_read files (job_named files name)
+reading_of files name =
+    let job = job_named files name in
+    behind job.log (after_job files job job.ending)

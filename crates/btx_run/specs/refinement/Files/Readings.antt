@@ -1,5 +1,5 @@
 -- What calls answer that read files, and what they log.
-use Rattle.std.specs.Prelude.{ℕ, ◌+◌, ◌≤◌, List, [], ◌∷◌, ◌++◌, length, Option, Result, Ok, Err, ◌≡◌}
+use Rattle.std.specs.Prelude.{ℕ, ◌+◌, ◌≤◌, List, [], ◌∷◌, ◌++◌, length, Option, Result, Ok, Err, ◌≡◌, option_to_list}
 use Rattle.btx_aux.specs.language.Files.{Files}
 use Rattle.btx_aux.specs.language.Job.{AuxJob}
 use Rattle.btx_text.specs.declared.fault.Fault.{Fault}
@@ -10,7 +10,7 @@ use Rattle.btx_run.specs.declared.files.found.FilesRead.TheVariants.{Ends, Found
 use Rattle.btx_run.specs.language.Files.Telling.{bytes_of_lines}
 use Rattle.btx_run.specs.refinement.Files.Telling.{LogReceived, Counted, Tells}
 use Rattle.btx_run.specs.language.Files.Found.{NamedFile, file_at}
-use Rattle.btx_run.specs.language.Files.Readings.{Logged, logged, as_list, database_logged, databases_read, style_found}
+use Rattle.btx_run.specs.language.Files.Readings.{Logged, logged, database_logged, databases_read, style_found, behind, after_job}
 
 -- ---- databases
 
@@ -43,10 +43,18 @@ ReadsAs (Err fault) counted log part = AppendsBeginning log.0 log.1 (bytes_of_li
 
 -- a database was logged, and is kept behind those before it if it was found
 pub record IsAdded (before after : List NamedFile) (counted : Counted) (log : LogReceived) (part : Logged (Option NamedFile)) : Type 0 where
-  pub kept : after ≡ before ++ as_list part.gives
+  pub kept : after ≡ before ++ option_to_list part.gives
   pub tells : Tells counted log part.told
 
 -- a database that was added so, or at a fault a prefix of what is logged of it
 abbrev pub AddsAs : {T : Type 0} → Result T Fault → List NamedFile → List NamedFile → Counted → LogReceived → Logged (Option NamedFile) → Type 0
 AddsAs (Ok value) before after counted log part = IsAdded before after counted log part
 AddsAs (Err fault) before after counted log part = AppendsBeginning log.0 log.1 (bytes_of_lines part.told)
+
+-- a style with the databases that were found
+abbrev pub with_style : NamedFile → Logged (List NamedFile) → Logged FilesRead
+with_style style part = logged part.told (Found (record { style = style; databases = part.gives }))
+
+-- what was logged of the `.aux` files, and what follows them
+abbrev pub files_read : Files → AuxJob → Logged FilesRead
+files_read files job = behind job.log (after_job files job job.ending)

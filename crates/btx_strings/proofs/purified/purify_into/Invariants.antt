@@ -1,7 +1,9 @@
-use Rattle.std.proofs.Common.{◌≡◌, ◌++◌}
-use Rattle.std.specs.List.{flat_map}
-use Rattle.btx_strings.specs.language.Purify.{purified_part, purify_of}
+use Rattle.std.proofs.Common.{◌≡◌, ◌++◌, length}
+use Rattle.btx_strings.specs.language.Purify.{purify_of}
 use Rattle.btx_strings.proofs.purified.purify_into.Given as goal
 
-abbrev pub invariant-loop-element : goal.invariant-loop-element
-invariant-loop-element l = l.text.items ++ flat_map purified_part l.element-iterator ≡ purify_of l.string
+abbrev pub invariant-loop-rest : goal.invariant-loop-rest
+invariant-loop-rest l = l.text.items ++ purify_of l.rest ≡ purify_of l.string
+
+abbrev pub decreases-loop-rest : goal.decreases-loop-rest
+decreases-loop-rest l = length l.rest

@@ -1,7 +1,7 @@
 use Rattle.std.proofs.Common.{◌∙◌, ap, List, ℕ}
-use Rattle.btx_aux.specs.language.Names.{is_among}
 use Rattle.btx_aux.proofs.NameLemmas.{is_among-texts_of}
 use Rattle.btx_aux.proofs.name_set.NameSet.contains.Goals as goal
+use Rattle.btx_text.specs.language.Lists.{is_among}
 
 pub returns : goal.returns
 returns c =

@@ -1,12 +1,9 @@
-use Rattle.std.proofs.Common.{◌≡◌, ◌+◌, ◌≤◌, drop, eqb}
-use Rattle.btx_bib.specs.language.Grammar.ByteSets.{enclosed_len}
-use Rattle.btx_bib.proofs.GrammarLemmas.SqueezeLemmas.{IsSqueezedTo}
+use Rattle.std.proofs.Common.{◌-◌, ◌≤◌, length}
+use Rattle.btx_bib.proofs.GrammarLemmas.PlainByteLemmas.{IsReadTo}
 use Rattle.btx_bib.proofs.grammar.plain.squeezed_len.Given as goal
 
-abbrev pub invariant-loop-place : goal.invariant-loop-place
-invariant-loop-place l = record {
-  ended : l.place + enclosed_len l.enclosure l.depth (drop l.place l.text) ≡ enclosed_len l.enclosure 0 l.text;
-  squeezed : IsSqueezedTo l.text l.place (eqb l.place l.behind_white);
-  behind : l.behind_white ≤ l.place;
-  deep : l.depth ≤ l.place;
-}
+abbrev pub invariant-loop-byte : goal.invariant-loop-byte
+invariant-loop-byte l = IsReadTo l.enclosure l.text l.place l.depth × (l.depth ≤ l.place) × (l.place ≤ length l.text)
+
+abbrev pub decreases-loop-byte : goal.decreases-loop-byte
+decreases-loop-byte l = length l.text - l.place

@@ -2,9 +2,10 @@ use Rattle.std.proofs.Common.{◌≡◌, ◌∙◌, ◌++◌, [], sym, ap, lengt
 use Rattle.std.proofs.lemmas.List.{append-nil}
 use Rattle.btx_bib.specs.refinement.Grammar.PartViews.{part_view}
 use Rattle.btx_bib.specs.refinement.Grammar.Squeezing.{squeezed_after}
-use Rattle.btx_bib.specs.language.Grammar.ValueTexts.{joined_text, text_of_part}
+use Rattle.btx_bib.specs.language.Grammar.ValueTexts.{text_of_part}
 use Rattle.btx_bib.proofs.GrammarLemmas.SqueezeLemmas.{part-goes, part-long}
 use Rattle.btx_bib.proofs.grammar.value_texts.gathered.Goals as goal
+use Rattle.btx_bib.specs.refinement.Grammar.ValueTexts.{joined_text}
 
 pub returns-then-len-most : goal.returns-then-len-most
 returns-then-len-most g c =

@@ -1,7 +1,7 @@
 use Rattle.std.proofs.Common.{◌≡◌, ◌++◌, ◌≤◌, length}
-use Rattle.btx_bib.specs.language.Grammar.ValueTexts.{joined_text}
 use Rattle.btx_bib.specs.refinement.Grammar.Squeezing.{squeezed_after}
 use Rattle.btx_bib.proofs.grammar.value_texts.gathered.Given as goal
+use Rattle.btx_bib.specs.refinement.Grammar.ValueTexts.{joined_text}
 
 abbrev pub invariant-loop-part : goal.invariant-loop-part
 invariant-loop-part g l =

@@ -1,9 +1,10 @@
 use Rattle.std.proofs.Common.{◌∙◌, sym, ap, length, arith, true}
 use Rattle.btx_bib.specs.declared.grammar.value_ends.Ends.TheVariants.{Trimmed}
 use Rattle.btx_bib.specs.refinement.Grammar.Squeezing.{squeezed_after}
-use Rattle.btx_bib.specs.language.Grammar.ValueTexts.{joined_text, without_last_space, value_text}
+use Rattle.btx_bib.specs.language.Grammar.ValueTexts.{without_last_space, value_text}
 use Rattle.btx_bib.proofs.GrammarLemmas.SqueezeLemmas.{shaped-trimmed, fault-fits}
 use Rattle.btx_bib.proofs.grammar.value_texts.made_trimmed.Goals as goal
+use Rattle.btx_bib.specs.refinement.Grammar.ValueTexts.{joined_text}
 
 pub returns-in-Err : goal.returns-in-Err
 returns-in-Err g c =

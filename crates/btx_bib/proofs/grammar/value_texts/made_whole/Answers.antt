@@ -1,9 +1,10 @@
 use Rattle.std.proofs.Common.{◌∙◌, sym, ap, length, arith, false}
 use Rattle.btx_bib.specs.declared.grammar.value_ends.Ends.TheVariants.{Kept}
 use Rattle.btx_bib.specs.refinement.Grammar.Squeezing.{squeezed_after}
-use Rattle.btx_bib.specs.language.Grammar.ValueTexts.{joined_text, value_text}
+use Rattle.btx_bib.specs.language.Grammar.ValueTexts.{value_text}
 use Rattle.btx_bib.proofs.GrammarLemmas.SqueezeLemmas.{squeezed-from, fault-same}
 use Rattle.btx_bib.proofs.grammar.value_texts.made_whole.Goals as goal
+use Rattle.btx_bib.specs.refinement.Grammar.ValueTexts.{joined_text}
 
 pub returns-in-Ok : goal.returns-in-Ok
 returns-in-Ok g c =

@@ -1,10 +1,5 @@
-use Rattle.std.proofs.Common.{length, ap, arith}
 use Rattle.btx_names.proofs.PartLemmas.{nothing_counted}
 use Rattle.btx_names.proofs.token_list.TokenList.new.Goals as goal
 
 pub invariant_of-result : goal.invariant_of-result
-invariant_of-result c =
-    record {
-      counted = rw c.new-2.ensures.items nothing_counted;
-      held = λ k default lt. absurd (omega (arith, ap length c.new-2.ensures.items, lt));
-    }
+invariant_of-result c = record { counted = rw c.new.ensures.items nothing_counted }

@@ -1,17 +1,17 @@
 use Rattle.std.proofs.Common.{rules, ◌≡◌, ◌∙◌, ◌++◌, ◌∷◌, [], List, None, Option, Some, ap, append-nil, sym}
 use Rattle.btx_aux.proofs.AnswerLemmas.{by_map}
 use Rattle.btx_run.specs.language.Files.Found.{NamedFile}
-use Rattle.btx_run.specs.language.Files.Readings.{as_list}
 use Rattle.btx_run.specs.refinement.Files.Readings.{database_read}
 use Rattle.btx_run.proofs.ReadingLemmas.{adds_begun, adds_found}
 use Rattle.btx_run.proofs.TellingLemmas.{told_begins}
 use Rattle.btx_run.proofs.files.databases.add_database.Goals as goal
+use Rattle.std.specs.Prelude.{option_to_list}
 
-kept_none : (before : List NamedFile) (found : Option NamedFile) → found ≡ None → before ≡ before ++ as_list found
-kept_none before found none = sym (ap (λ found. before ++ as_list found) none ∙ append-nil before)
+kept_none : (before : List NamedFile) (found : Option NamedFile) → found ≡ None → before ≡ before ++ option_to_list found
+kept_none before found none = sym (ap (λ found. before ++ option_to_list found) none ∙ append-nil before)
 
-kept_one : (before after : List NamedFile) (found : Option NamedFile) (file : NamedFile) → found ≡ Some file → after ≡ before ++ file ∷ [] → after ≡ before ++ as_list found
-kept_one before after found file one is = is ∙ sym (ap (λ found. before ++ as_list found) one)
+kept_one : (before after : List NamedFile) (found : Option NamedFile) (file : NamedFile) → found ≡ Some file → after ≡ before ++ file ∷ [] → after ≡ before ++ option_to_list found
+kept_one before after found file one is = is ∙ sym (ap (λ found. before ++ option_to_list found) one)
 
 pub returns-in_err-database-clause-adds : goal.returns-in_err-database-clause-adds
 returns-in_err-database-clause-adds g c =

@@ -1,0 +1,19 @@
+use Rattle.std.proofs.Common.{rules, ◌≡◌, ◌<◌, length}
+use Rattle.btx_strings.proofs.PurifyLemmas.{next_group, less_is_left, nothing_left}
+use Rattle.btx_strings.proofs.purified.purify_into.Goals as goal
+
+pub loop-rest-smaller : goal.loop-rest-smaller
+loop-rest-smaller c =
+    let some : 0 < length c.loop-rest.rest.now = search rules in
+    less_is_left c.loop-rest.rest.now some c.in_ok-len.ensures.len c.split_at.ensures.back c.group_len.ensures c.split_at-in-loop-rest.ensures.back
+
+pub loop-rest-preserved : goal.loop-rest-preserved
+loop-rest-preserved c =
+    next_group c.loop-rest.rest.now c.loop-rest.text.items
+    c.loop-rest.invariant c.in_ok-len.ensures.len c.in_ok-len.ensures.text c.split_at.ensures.back c.group_len.ensures
+    c.split_at-in-loop-rest.ensures.front c.split_at-in-loop-rest.ensures.back c.in_ok-push_group.ensures
+
+pub returns : goal.returns
+returns c =
+    let none : length c.loop-rest.rest.now ≡ 0 = search rules in
+    nothing_left c.loop-rest.rest.now c.loop-rest.text.items c.loop-rest.invariant none
