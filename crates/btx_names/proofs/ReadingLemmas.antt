@@ -65,29 +65,33 @@ name_jump depth (b ∷ bs) = at (eqb depth 0 && is_break b) refl (name_jump (dep
       ap (λ d. first_name_len d (b ∷ bs)) (low_of depth (is_break b) is) ∙ none (first_name_len 0 (b ∷ bs))
   at false is more = rw (separator_breaks (eqb depth 0) b bs is) (omega (arith, more))
 
-commas_jump : (depth : ℕ) (s : List ℕ) → commas_from depth s ≡ commas_from 0 (drop (run_len Break depth s) s)
-unfolding commas_from run_len
-commas_jump depth [] = refl
-commas_jump depth (b ∷ bs) = at (eqb depth 0 && is_break b) refl (commas_jump (depth_after depth b) bs) where
+-- what passes over each byte of a token passes over the token
+jump : {T : Type 0} (f : ℕ → List ℕ → T) → ((depth : ℕ) → f depth [] ≡ f 0 []) → ((depth b : ℕ) (bs : List ℕ) → (eqb depth 0 && is_break b) ≡ false → f depth (b ∷ bs) ≡ f (depth_after depth b) bs) →
+    (depth : ℕ) (s : List ℕ) → f depth s ≡ f 0 (drop (run_len Break depth s) s)
+unfolding run_len
+jump f none passes depth [] = none depth
+jump f none passes depth (b ∷ bs) = at (eqb depth 0 && is_break b) refl (jump f none passes (depth_after depth b) bs) where
   size : ℕ
   size = run_len Break (depth_after depth b) bs
 
-  at : (t : Bool) → (eqb depth 0 && is_break b) ≡ t → commas_from (depth_after depth b) bs ≡ commas_from 0 (drop size bs) →
-      commas_from depth (b ∷ bs) ≡ commas_from 0 (drop (cond t 0 (suc size)) (b ∷ bs))
-  at true is more = ap (λ d. commas_from d (b ∷ bs)) (low_of depth (is_break b) is)
-  at false is more = rw (comma_breaks (eqb depth 0) b is) more
+  at : (t : Bool) → (eqb depth 0 && is_break b) ≡ t → f (depth_after depth b) bs ≡ f 0 (drop size bs) → f depth (b ∷ bs) ≡ f 0 (drop (cond t 0 (suc size)) (b ∷ bs))
+  at true is more = ap (λ d. f d (b ∷ bs)) (low_of depth (is_break b) is)
+  at false is more = passes depth b bs is ∙ more
+
+commas_pass : (depth b : ℕ) (bs : List ℕ) → (eqb depth 0 && is_break b) ≡ false → commas_from depth (b ∷ bs) ≡ commas_from (depth_after depth b) bs
+unfolding commas_from
+commas_pass depth b bs is = rw (comma_breaks (eqb depth 0) b is) refl
+
+commas_jump : (depth : ℕ) (s : List ℕ) → commas_from depth s ≡ commas_from 0 (drop (run_len Break depth s) s)
+unfolding commas_from
+commas_jump = jump commas_from (λ _. refl) commas_pass
+
+ends_pass : (depth b : ℕ) (bs : List ℕ) → (eqb depth 0 && is_break b) ≡ false → ends depth (b ∷ bs) ≡ ends (depth_after depth b) bs
+ends_pass depth b bs is = ends_push depth b bs ∙ ap (λ t. (t && is_all_breaks bs) || ends (depth_after depth b) bs) (comma_breaks (eqb depth 0) b is)
 
 ends_jump : (depth : ℕ) (s : List ℕ) → ends depth s ≡ ends 0 (drop (run_len Break depth s) s)
-unfolding ends run_len
-ends_jump depth [] = refl
-ends_jump depth (b ∷ bs) = at (eqb depth 0 && is_break b) refl (ends_jump (depth_after depth b) bs) where
-  size : ℕ
-  size = run_len Break (depth_after depth b) bs
-
-  at : (t : Bool) → (eqb depth 0 && is_break b) ≡ t → ends (depth_after depth b) bs ≡ ends 0 (drop size bs) →
-      ends depth (b ∷ bs) ≡ ends 0 (drop (cond t 0 (suc size)) (b ∷ bs))
-  at true is more = ap (λ d. ends d (b ∷ bs)) (low_of depth (is_break b) is)
-  at false is more = ends_push depth b bs ∙ ap (λ t. (t && is_all_breaks bs) || ends (depth_after depth b) bs) (comma_breaks (eqb depth 0) b is) ∙ more
+unfolding ends
+ends_jump = jump ends (λ _. refl) ends_pass
 
 behind_jump : (depth : ℕ) (s : List ℕ) → drop (suc (run_len Comma depth s)) s ≡ behind_comma (drop (run_len Break depth s) s)
 unfolding run_len
@@ -189,7 +193,7 @@ Places name rest (suc (suc n)) first second =
     (first + length (tokens_of (behind_comma name)) ≡ length (tokens_of name))
     × (second + length (tokens_of (behind_comma (behind_comma name))) ≡ length (tokens_of name))
 
--- the tokens `read` and this number of commas stand in a name before its rest; a token follows `followed` of them; and so many tokens precede the
+-- the tokens `read` and this number of commas stand in a name before its rest; a token follows `followed` of them; and these numbers of tokens precede the
 -- first comma, and the second
 pub record IsRead (name rest : List ℕ) (read : List NameToken) (commas followed first second : ℕ) : Type 0 where
   pub within : followed ≤ commas

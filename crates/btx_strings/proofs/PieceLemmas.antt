@@ -45,21 +45,21 @@ kept_inside : (c : Conversion) → (is_title c && false) ≡ false
 kept_inside Title = refl
 kept_inside _ = refl
 
-above_zero : (n : ℕ) → eqb (suc n) 0 ≡ false
+pub above_zero : (n : ℕ) → eqb (suc n) 0 ≡ false
 above_zero n = grind (arith, nat_tests)
 
-one_more : (n : ℕ) → 1 + n ≡ suc n
+pub one_more : (n : ℕ) → 1 + n ≡ suc n
 one_more n = omega arith
 
-deeper : (n : ℕ) → suc n + 1 ≡ suc (n + 1)
+pub deeper : (n : ℕ) → suc n + 1 ≡ suc (n + 1)
 deeper n = omega arith
 
-less_deep : (n : ℕ) → suc n - 1 ≡ n
+pub less_deep : (n : ℕ) → suc n - 1 ≡ n
 less_deep n = omega arith
 
 -- ---- groups
 
-kind_inside : (depth b : ℕ) (bs : List ℕ) → kind_at Bytes (suc depth) (b ∷ bs) ≡ cond (eqb b 123) Open (cond (eqb b 125) Close Byte)
+pub kind_inside : (depth b : ℕ) (bs : List ℕ) → kind_at Bytes (suc depth) (b ∷ bs) ≡ cond (eqb b 123) Open (cond (eqb b 125) Close Byte)
 unfolding kind_at
 kind_inside depth b bs = rw (above_zero depth) refl
 

@@ -15,6 +15,7 @@ use Rattle.btx_text.proofs.ElementLemmas.{group_len-le, elements_from-step, elem
 use Rattle.btx_strings.specs.language.Controls.{glyphs_of}
 use Rattle.btx_strings.specs.language.Purify.{purified_as, purified_byte, purified_glyph, purify_of}
 use Rattle.btx_strings.specs.refinement.Purify.{begins_no_group, purified_group}
+use Rattle.btx_strings.proofs.PieceLemmas.{above_zero, deeper, kind_inside, less_deep, one_more}
 
 abbrev left_of : Element → List ℕ
 left_of part = purified_as part.kind part.text
@@ -32,18 +33,6 @@ starts_apart zero start start' depth (b ∷ bs) =
     let part = element_at Bytes start depth (b ∷ bs) in
     ap (λ xs. left_of part ++ xs) (starts_apart (length part.text - 1) (start + 1) (start' + 1) (depth_after depth b) bs)
 
-above_zero : (n : ℕ) → eqb (suc n) 0 ≡ false
-above_zero n = grind (arith, nat_tests)
-
-one_more : (n : ℕ) → 1 + n ≡ suc n
-one_more n = omega arith
-
-deeper : (n : ℕ) → suc n + 1 ≡ suc (n + 1)
-deeper n = omega arith
-
-less_deep : (n : ℕ) → suc n - 1 ≡ n
-less_deep n = omega arith
-
 -- a byte, and what is left of it as an element
 byte_left : (b : ℕ) → flat_map purified_byte (b ∷ []) ≡ purified_byte b
 byte_left b = append-nil (purified_byte b)
@@ -57,10 +46,6 @@ unfolding class_of
 close_left = refl
 
 -- ---- groups
-
-kind_inside : (depth b : ℕ) (bs : List ℕ) → kind_at Bytes (suc depth) (b ∷ bs) ≡ cond (eqb b 123) Open (cond (eqb b 125) Close Byte)
-unfolding kind_at
-kind_inside depth b bs = rw (above_zero depth) refl
 
 -- inside a group each byte leaves what it does outside, to the group's end
 in_group : (start depth : ℕ) (s : List ℕ) →

@@ -64,9 +64,9 @@ returns-then-separates c =
     let separator : is_separator (drop place names) ≡ true = sym (rw (take_rest names place) at c.separates.ensures) ∙ c.if-separates.true in
     let end = reads_separator names c.args.from place (tokens_in names draft.tokens.items) draft.commas draft.followed draft.before_first draft.before_second
     c.loop-place-test.true breaks separator c.loop-place.invariant.reads in
-    let told = c.ended.ensures in
+    let ended = c.ended.ensures in
     name_is_read names c.args.from (place + 1) draft.tokens.items draft.commas draft.followed draft.before_first draft.before_second c.ended.result
-    end.0 end.1 c.loop-place.invariant.held told.place told.tokens told.held told.commas told.surname told.jr told.ending told.third
+    end.0 end.1 c.loop-place.invariant.held ended.place ended.tokens ended.held ended.commas ended.surname ended.jr ended.ending ended.third
 
 pub loop-place-preserved : goal.loop-place-preserved
 loop-place-preserved c =
@@ -101,6 +101,6 @@ returns c =
     let draft = c.loop-place.draft in
     let end = reads_all names c.args.from place (tokens_in names draft.tokens.items) draft.commas draft.followed draft.before_first draft.before_second
     c.loop-place-test.false c.loop-place.invariant.reads in
-    let told = c.ended-2.ensures in
+    let ended = c.ended-2.ensures in
     name_is_read names c.args.from (length names) draft.tokens.items draft.commas draft.followed draft.before_first draft.before_second c.ended-2.result
-    end.0 end.1 c.loop-place.invariant.held told.place told.tokens told.held told.commas told.surname told.jr told.ending told.third
+    end.0 end.1 c.loop-place.invariant.held ended.place ended.tokens ended.held ended.commas ended.surname ended.jr ended.ending ended.third
