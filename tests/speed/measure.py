@@ -4,7 +4,7 @@
     python3 tests/speed/measure.py [--aims] [--sizes N,..] [--counted N] [--styles NAME,..] [--runs N] [--seed N] [PROGRAM]
 
 PROGRAM is crates/bibtex/out/bibtex if none is given. Instructions are counted by valgrind; without valgrind, or a compiler for
-`once.c`, nothing is measured. Prints a table of jobs, one of loops, and the bars; with --aims the aims are bars too. Its last line is
+`once.c`, nothing is measured. Prints a table of jobs, one of loops, and the bars; with --aims the aims that aren't met yet are bars too. Its last line is
 'N bars met, M not'; the exit status is 0 only where M is 0."""
 
 import argparse
@@ -28,17 +28,19 @@ STATUS_OF_TIMEOUT = 124
 # The original's tables are set up for fewer than 100,000 keys; a larger job gets larger ones, and its memory is then no measure.
 MOST_ENTRIES_OF_ORIGINAL = 20_000
 
-MOST_AT_START = 10_000_000
+MOST_AT_START = 2_000_000
 MOST_GROWTH = 1.05
 # The original on the jobs of seed 1: instructions and MB. The bars where it isn't installed.
 RECORDED = {("article", 10_000): (2_565_800_000, 13.2), ("plain", 10_000): (2_359_200_000, 18.2),
             ("alpha", 10_000): (2_642_000_000, 28.0), ("jurabib", 10_000): (6_698_600_000, 39.0)}
-# The aims: what the program is to take at 10,000 entries, as a share of what the original takes, and the instructions of the start.
+# What the program is to take at 10,000 entries at most, as a share of what the original takes.
 AIMED_SIZE = 10_000
 INSTRUCTIONS_AIMED = {PLAIN: 0.40, ALPHA: 0.40, LONG: 0.40, ARTICLE: 0.40, READING_ALONE: 0.15, MESSAGES: 0.15}
 SECONDS_AIMED = 0.50
 MEMORY_AIMED = {PLAIN: 0.75, ALPHA: 0.60, LONG: 0.50, ARTICLE: 0.85}
-AIMED_AT_START = 2_000_000
+INSTRUCTIONS, SECONDS, MEMORY = "instructions", "processor seconds", "memory"
+# Those of them that aren't met yet, or on a busy machine aren't met each time: bars only where they are asked for.
+NOT_MET = {(MESSAGES, INSTRUCTIONS), (ALPHA, INSTRUCTIONS), (ARTICLE, MEMORY), *((name, SECONDS) for name in INSTRUCTIONS_AIMED)}
 
 
 class Figures(NamedTuple):
@@ -209,12 +211,12 @@ def print_bars(measured, bars):
                            lambda size: f"{size:.1f} MB")
 
 
-def aims_of(job):
-    """What is aimed at for this job: a quantity, its figure of a run, and the share of the original's."""
-    yield "instructions", lambda figures: figures.instructions, INSTRUCTIONS_AIMED[job.name]
-    yield "processor seconds", lambda figures: figures.cpu, SECONDS_AIMED
+def shares_of(job):
+    """What is asked of this job: a quantity, its figure of a run, and the greatest share of the original's."""
+    yield INSTRUCTIONS, lambda figures: figures.instructions, INSTRUCTIONS_AIMED[job.name]
+    yield SECONDS, lambda figures: figures.cpu, SECONDS_AIMED
     if job.name in MEMORY_AIMED:
-        yield "memory", lambda figures: figures.megabytes, MEMORY_AIMED[job.name]
+        yield MEMORY, lambda figures: figures.megabytes, MEMORY_AIMED[job.name]
 
 
 def share(figure, program, original):
@@ -225,17 +227,18 @@ def share(figure, program, original):
     return figure(program) / figure(original)
 
 
-def print_aims(measured, bars):
+def print_shares(measured, bars, are_aims):
+    """The bars of shares: those that are met, or those that are still aims."""
     for job, figures in measured.items():
-        program, original = figures["program"], figures.get("original")
-        if job.name == jobs.START:
-            bars.judge("aim: instructions at the start", program.failure or program.instructions, AIMED_AT_START, millions)
         if job.entries != AIMED_SIZE or job.name not in INSTRUCTIONS_AIMED:
             continue
-        for what, figure, most in aims_of(job):
+        program, original = figures["program"], figures.get("original")
+        for what, figure, most in shares_of(job):
+            if ((job.name, what) in NOT_MET) != are_aims:
+                continue
             found = share(figure, program, original) if original else None
-            bars.judge(f"aim: {job.name}, {job.entries:,} entries, share of the original's {what}", found, most if original else None,
-                       lambda number: f"{number:.2f}")
+            bars.judge(f"{'aim: ' if are_aims else ''}{job.name}, {job.entries:,} entries, share of the original's {what}", found,
+                       most if original else None, lambda number: f"{number:.3f}")
 
 
 def exponent(smaller, larger, start):
@@ -276,7 +279,7 @@ def numbers(text):
 
 def read_arguments():
     parser = argparse.ArgumentParser()
-    parser.add_argument("--aims", action="store_true", help="the aims are bars too")
+    parser.add_argument("--aims", action="store_true", help="the aims that aren't met yet are bars too")
     parser.add_argument("--sizes", type=numbers, default=[1_000, 10_000], help="numbers of entries, rising")
     parser.add_argument("--counted", type=int, default=10_000, help="instructions are counted up to so many entries")
     parser.add_argument("--styles", type=lambda text: text.split(","), default=[ARTICLE, PLAIN, ALPHA, LONG])
@@ -342,8 +345,9 @@ def main():
     bars = Bars()
     if any(tool.name == "program" for tool in tools):
         print_bars(measured, bars)
+        print_shares(measured, bars, False)
         if arguments.aims:
-            print_aims(measured, bars)
+            print_shares(measured, bars, True)
     else:
         bars.missed += 1
     for tool in tools:

@@ -1,3 +1,4 @@
+pub mod DistinctLemmas
 pub mod PairLemmas
 pub mod TableLemmas
 pub mod PieceLemmas

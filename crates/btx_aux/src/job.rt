@@ -1,7 +1,9 @@
 //! What the `.aux` files of a job say.
 ghost use Rattle.std.specs.Prelude.{◌≡◌, count_by, map, option_copied, position};
+ghost use Rattle.std.specs.List.{IsDistinct};
 ghost use Rattle.std.specs.Str.{bytes_eq};
 ghost use Rattle.btx_text.specs.language.Keys.{folded};
+ghost use Rattle.btx_aux.specs.language.Names.{is_same_key};
 ghost use Rattle.btx_aux.specs.refinement.Entries.{texts_of};
 ghost use Rattle.btx_text.specs.language.LogLines.{Line, is_error};
 
@@ -51,6 +53,13 @@ impl AuxJob {
         ensures { result ≡ position (bytes_eq lowered.now) (map folded self.now.keys) }
     {
         self.keys.position(lowered)
+    }
+
+    /// No two keys are equal without case: a law, the contract of a function that does nothing.
+    pub fn keys_differ(&self)
+        ensures { IsDistinct is_same_key self.now.keys }
+    {
+        self.keys.differ();
     }
 
     /// The place of `*`, which stands for all entries, if it was cited: the number of keys that stand before it.

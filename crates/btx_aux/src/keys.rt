@@ -1,9 +1,11 @@
 //! The keys that are listed, found without case by a table.
 ghost use Rattle.std.specs.Prelude.{◌≡◌, [], ◌∷◌, ◌++◌, None, IfOk, OnOk, length, map, option_copied, position};
+ghost use Rattle.std.specs.List.{IsDistinct};
 ghost use Rattle.std.specs.Str.{bytes_eq};
 ghost use Rattle.btx_text.specs.language.Keys.{folded};
 ghost use Rattle.btx_aux.specs.refinement.Entries.{texts_of};
 ghost use Rattle.btx_aux.specs.language.Job.{is_empty};
+ghost use Rattle.btx_aux.specs.language.Names.{is_same_key};
 ghost use Rattle.btx_aux.specs.refinement.KeyTable.{listed_by};
 
 use btx_text::fold_key;
@@ -77,6 +79,13 @@ impl Keys {
         let place = self.position(lowered)?;
         let key = self.spelled.as_slice().get(place)?;
         Some(key.as_slice())
+    }
+
+    /// No two keys are equal without case: a law, the contract of a function that does nothing.
+    pub fn differ(&self)
+        ensures { IsDistinct is_same_key self.now }
+    {
+        let _names = self.lowered.as_slice();
     }
 
     /// Lists a key, given with its lowered form, which no listed key has.

@@ -2,6 +2,7 @@ pub mod GrammarLemmas
 pub mod ValueLemmas
 pub mod TextLemmas
 pub mod LoweringLemmas
+pub mod JoinedNameLemmas
 pub mod TableNameLemmas
 pub mod FillingLemmas
 pub mod PlaceLemmas
@@ -9,6 +10,7 @@ pub mod ListedKeyLemmas
 pub mod SlotLemmas
 pub mod PassLemmas
 pub mod DraftLemmas
+pub mod FirstCitedLemmas
 pub mod StoringLemmas
 pub mod GatheringLemmas
 pub mod KeptLemmas

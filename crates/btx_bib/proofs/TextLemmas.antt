@@ -1,5 +1,5 @@
 -- Values as places among the values that an entry has.
-use Rattle.std.proofs.Common.{◌≡◌, ℕ, zero, suc, arith, ◌+◌, ◌<◌, List, [], ◌∷◌, ◌++◌, length, length-append, map, replicate, Option, None, Some, refl, ap, ◌∙◌}
+use Rattle.std.proofs.Common.{◌≡◌, ℕ, zero, suc, arith, ◌+◌, ◌<◌, ◌≤◌, List, [], ◌∷◌, ◌++◌, length, length-append, map, take, replicate, Option, None, Some, refl, ap, ◌∙◌}
 use Rattle.std.specs.Prelude.{slice_get, slice_set}
 use Rattle.std.specs.List.{All, AllByRecursion}
 use Rattle.std.proofs.lemmas.List.{length-map, map-append}
@@ -10,7 +10,8 @@ use Rattle.btx_bib.specs.declared.places.ShortPlace.{ShortPlace}
 use Rattle.btx_bib.specs.refinement.Filling.{blanks}
 use Rattle.btx_bib.specs.refinement.Finding.{changed_at}
 use Rattle.btx_bib.specs.language.Values.{field_value}
-use Rattle.btx_bib.specs.refinement.Values.{IsAdded, IsWithin, place_in, text_at}
+use Rattle.btx_bib.specs.refinement.ShortPlaces.{few_places, place_in}
+use Rattle.btx_bib.specs.refinement.Values.{IsAdded, IsWithin, text_at}
 
 -- ---- one field
 
@@ -42,6 +43,34 @@ pub places-set : (shorts : List ShortPlace) (field : ℕ) (short : ShortPlace) (
 places-set [] field short place is = refl
 places-set (first ∷ shorts) zero short place is = ap (λ (new : Place). new ∷ map place_in shorts) is
 places-set (first ∷ shorts) (suc field) short place is = ap (λ (rest : List Place). place_in first ∷ rest) (places-set shorts field short place is)
+
+-- ---- places of few fields
+
+take-set : (shorts : List ShortPlace) (count field : ℕ) (short : ShortPlace) → take count (slice_set shorts field short) ≡ slice_set (take count shorts) field short
+take-set shorts zero field short = refl
+take-set [] (suc count) field short = refl
+take-set (first ∷ shorts) (suc count) zero short = refl
+take-set (first ∷ shorts) (suc count) (suc field) short = ap (λ (rest : List ShortPlace). first ∷ rest) (take-set shorts count field short)
+
+take-missing : (short : ShortPlace) (all count : ℕ) → count ≤ all → take count (replicate all short) ≡ replicate count short
+take-missing short all zero few = refl
+take-missing short zero (suc count) few = absurd (omega arith)
+take-missing short (suc all) (suc count) few = ap (λ (rest : List ShortPlace). short ∷ rest) (take-missing short all count (omega arith))
+
+pub few-missing : (short : ShortPlace) (all count : ℕ) → count ≤ all → place_in short ≡ Missing → few_places (replicate all short) count ≡ replicate count Missing
+few-missing short all count few is = ap (map place_in) (take-missing short all count few) ∙ places-missing short count is
+
+pub few-set : (shorts : List ShortPlace) (count field : ℕ) (short : ShortPlace) → few_places (slice_set shorts field short) count ≡ slice_set (few_places shorts count) field (place_in short)
+few-set shorts count field short = ap (map place_in) (take-set shorts count field short) ∙ places-set (take count shorts) field short (place_in short) refl
+
+pub few-within : (shorts : List ShortPlace) (count field : ℕ) → field < length (few_places shorts count) → field < length shorts
+few-within [] zero field h = absurd (omega (arith, h))
+few-within [] (suc count) field h = absurd (omega (arith, h))
+few-within (first ∷ shorts) zero field h = absurd (omega (arith, h))
+few-within (first ∷ shorts) (suc count) zero h = omega arith
+few-within (first ∷ shorts) (suc count) (suc field) h = omega (arith, few-within shorts count field (omega (arith, h)))
+
+pub ruleset few_steps = (few-missing, few-set, few-within)
 
 pub ruleset place_steps = (places-set, length-map)
 

@@ -1,5 +1,6 @@
 pub mod Grammar
 pub mod Spellings
+pub mod ShortPlaces
 pub mod Values
 pub mod Finding
 pub mod Filling

@@ -97,10 +97,8 @@ impl<'a> Gathering<'a> {
     pub fn new(alloc: Global, request: &Request<'_, 'a>) -> Result<Gathering<'a>, AllocError>
         ensures { IfOk result (λ kept. kept ≡ nothing_gathered (wanted request.now)) }
     {
-        let mut draft = Draft::new(alloc);
-        draft.cite_all(alloc, request, request.first_cited())?;
         Ok(Gathering {
-            draft,
+            draft: Draft::of_cited(alloc, request)?,
             strings: StringTable::new(alloc),
             current: None,
             preamble: Text::empty(),

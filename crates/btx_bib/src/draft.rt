@@ -11,7 +11,7 @@ use std::alloc::{AllocError, Global};
 /// The keys of the list in lower case, and its places.
 #[derive(Drop)]
 pub struct Draft<'a> {
-    pub names: Names,
+    pub names: Names<'a>,
     pub slots: DraftSlots<'a>,
 }
 
@@ -31,15 +31,18 @@ impl<'a> Draft<'a> {
     ghost use Rattle.btx_aux.specs.refinement.Entries.{texts_of};
     ghost use Rattle.btx_bib.specs.refinement.Drafts.{cited_all, cited_at, empty, has_entry, place_in, put_at, referred, referred_at, standing_at, stored_at};
     ghost use Rattle.btx_bib.specs.refinement.Requests.{wanted};
+    ghost use Rattle.btx_bib.specs.language.Listing.{first_cited};
 
-    /// No key is known.
-    pub fn new(alloc: Global) -> Draft<'a>
-        ensures { result ≡ empty }
+    /// The list with the cited keys that it begins with, no two of which are equal without case.
+    pub fn of_cited(alloc: Global, request: &Request<'_, 'a>) -> Result<Draft<'a>, AllocError>
+        ensures { IfOk result (λ draft. draft ≡ cited_all (wanted request.now) empty (first_cited request.now.all request.now.job.now.keys)) }
     {
-        Draft {
-            names: Names::new(alloc),
-            slots: DraftSlots::new(alloc),
-        }
+        request.job.keys_differ();
+        let cited = request.first_cited();
+        Ok(Draft {
+            names: Names::of(alloc, request.job, cited.len()),
+            slots: request.cited_slots(alloc, cited)?,
+        })
     }
 
     /// Lists some cited keys.
@@ -191,12 +194,30 @@ impl<'a> Draft<'a> {
 }
 
 impl<'r, 'a> Request<'r, 'a> {
-    ghost use Rattle.std.specs.Prelude.{◌≡◌, option_copied};
+    ghost use Rattle.std.specs.Prelude.{◌≡◌, true, map, option_copied, IfOk};
     ghost use Rattle.std.specs.Option.{unwrap_or};
+    ghost use Rattle.btx_aux.specs.refinement.Entries.{texts_of};
     ghost use Rattle.btx_text.specs.language.Keys.{folded};
     ghost use Rattle.btx_aux.specs.language.Names.{listed_as};
-    ghost use Rattle.btx_bib.specs.refinement.Drafts.{late_slot, new_standing, with_entry};
+    ghost use Rattle.btx_bib.specs.refinement.Drafts.{late_slot, new_standing, open_slot, with_entry};
     ghost use Rattle.btx_bib.specs.refinement.Requests.{wanted};
+
+    // The places of some cited keys.
+    fn cited_slots(&self, alloc: Global, keys: &'a [Vec<u8>]) -> Result<DraftSlots<'a>, AllocError>
+        ensures { IfOk result (λ slots. slots ≡ map (open_slot (wanted self.now) true 0) (texts_of keys.entry.now)) }
+    {
+        let mut slots = DraftSlots::new(alloc);
+        for key in keys {
+            let slot = DraftSlot {
+                key: Spelling::of_file(key.as_slice()),
+                is_cited: true,
+                wanting: self.fewest,
+                body: None,
+            };
+            slots.push(slot)?;
+        }
+        Ok(slots)
+    }
 
     // How an entry stands whose key isn't in the list.
     fn standing_of_new(&self) -> Standing

@@ -136,7 +136,7 @@ impl<'a> Gathering<'a> {
             return Ok(());
         };
         let Pending { key, mut body } = pending;
-        body.values.trim()?;
+        body.values.trim(alloc)?;
         self.draft.store(alloc, request, &key, body)
     }
 

@@ -6,6 +6,7 @@ mod draft;
 mod draft_slots;
 pub mod end;
 pub mod entry;
+mod few_places;
 mod gathering;
 pub mod grammar;
 pub mod laws;

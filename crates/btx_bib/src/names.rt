@@ -1,21 +1,23 @@
 //! Names in lower case, each once, found by a table.
-ghost use Rattle.std.specs.Prelude.{◌≡◌, [], OnOk, ◌++◌, ◌∷◌, false};
+ghost use Rattle.std.specs.Prelude.{◌≡◌, ◌^◌, ◌<◌, ◌≤◌, [], ◌++◌, ◌∷◌, false, length, map, take, IfSome, OnOk};
 ghost use Rattle.std.specs.Str.{bytes_eq};
 ghost use Rattle.std.specs.List.{list_any};
+ghost use Rattle.btx_text.specs.language.Keys.{folded};
 ghost use Rattle.btx_bib.specs.refinement.Finding.{first_place};
 
 use crate::lowering::Lowered;
+use btx_aux::AuxJob;
 use indexmap::IndexSet;
 use std::alloc::{AllocError, Global};
 use std::marker::Model;
 
-/// Names in lower case, each once, in the order in which they came.
+// Names that aren't those of cited keys, each once, in the order in which they came.
 #[derive(Drop)]
-pub struct Names {
+struct MoreNames {
     set: IndexSet<Vec<u8>>,
 }
 
-impl Model for Names {
+impl Model for MoreNames {
     ghost use Rattle.std.specs.Prelude.{List, ℕ};
     ghost use Rattle.btx_aux.specs.refinement.Entries.{texts_of};
 
@@ -24,21 +26,118 @@ impl Model for Names {
     ghost view = { λ names. texts_of names.set.keys };
 }
 
-impl Names {
-    /// No name.
-    pub fn new(alloc: Global) -> Self
+impl MoreNames {
+    // No name.
+    fn new(alloc: Global) -> Self
         ensures { result ≡ [] }
     {
-        Names {
+        MoreNames {
             set: IndexSet::new(alloc),
         }
     }
 
+    // The place of a name.
+    #[inline(never)]
+    fn position(&self, name: &[u8]) -> Option<usize>
+        ensures place { result ≡ first_place (bytes_eq name.now) self.now }
+        ensures small { IfSome result (λ place. place < 2 ^ 63) }
+    {
+        let _count = self.set.len();
+        self.set.get_index_of(name)
+    }
+
+    // Adds a name that isn't there.
+    fn add(&mut self, alloc: Global, name: Lowered<'_>) -> Result<(), AllocError>
+        requires { list_any (bytes_eq name) self.old ≡ false }
+        ensures { OnOk result (self.new ≡ self.old ++ name.entry ∷ []) }
+    {
+        let bytes = name.into_bytes(alloc)?;
+        self.set.insert(bytes)?;
+        Ok(())
+    }
+}
+
+// The names of the cited keys that a list begins with. The job's table finds them.
+#[derive(Drop)]
+struct CitedNames<'a> {
+    job: &'a AuxJob,
+    // How many of the job's keys these are.
+    count: usize,
+}
+
+impl<'a> Model for CitedNames<'a> {
+    ghost use Rattle.std.specs.Prelude.{◌^◌, ◌<◌, ◌≤◌, List, ℕ, length, map, take};
+    ghost use Rattle.btx_text.specs.language.Keys.{folded};
+
+    ghost Value = { List (List ℕ) };
+
+    ghost view = { λ names. take names.count (map folded names.job.now.keys) };
+
+    ghost invariant = { λ names. (names.count ≤ length names.job.now.keys) × (names.count < 2 ^ 63) };
+}
+
+impl<'a> CitedNames<'a> {
+    // How many names there are.
+    #[inline(always)]
+    fn len(&self) -> usize
+        ensures count { result ≡ length self.now }
+        ensures small { result < 2 ^ 63 }
+    {
+        self.count
+    }
+
+    // The place of a name.
+    #[inline(always)]
+    fn position(&self, name: &[u8]) -> Option<usize>
+        ensures { result ≡ first_place (bytes_eq name.now) self.now }
+    {
+        match self.job.position(name) {
+            Some(place) if place < self.count => Some(place),
+            Some(_) | None => None,
+        }
+    }
+}
+
+/// Names in lower case, each once, in the order in which they came. The first are those of cited keys.
+#[derive(Drop)]
+pub struct Names<'a> {
+    cited: CitedNames<'a>,
+    more: MoreNames,
+}
+
+impl<'a> Model for Names<'a> {
+    ghost use Rattle.std.specs.Prelude.{◌++◌, List, ℕ};
+
+    ghost Value = { List (List ℕ) };
+
+    ghost view = { λ names. names.cited ++ names.more };
+}
+
+impl<'a> Names<'a> {
+    /// The names of the first keys of a job, this number of them.
+    pub fn of(alloc: Global, job: &'a AuxJob, count: usize) -> Self
+        requires within { count ≤ length job.now.keys }
+        requires small { count < 2 ^ 63 }
+        ensures { result ≡ take count (map folded job.now.keys) }
+    {
+        Names {
+            cited: CitedNames { job, count },
+            more: MoreNames::new(alloc),
+        }
+    }
+
     /// The place of a name.
+    #[inline(always)]
     pub fn position(&self, name: &[u8]) -> Option<usize>
         ensures { result ≡ first_place (bytes_eq name.now) self.now }
     {
-        self.set.get_index_of(name)
+        match self.cited.position(name) {
+            Some(place) => Some(place),
+            None => match self.more.position(name) {
+                Some(place) => Some(self.cited.len() + place),
+                None => None,
+            },
+        }
     }
 
     /// Adds a name that isn't there.
@@ -46,8 +145,6 @@ impl Names {
         requires { list_any (bytes_eq name) self.old ≡ false }
         ensures { OnOk result (self.new ≡ self.old ++ name.entry ∷ []) }
     {
-        let bytes = name.into_bytes(alloc)?;
-        self.set.insert(bytes)?;
-        Ok(())
+        self.more.add(alloc, name)
     }
 }

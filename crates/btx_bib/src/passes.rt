@@ -18,7 +18,7 @@ use std::alloc::{AllocError, Global};
 fn inherit_at(
     slots: &mut Slots<'_>,
     alloc: Global,
-    names: &Names,
+    names: &Names<'_>,
     place: usize,
 ) -> Result<(), AllocError>
     requires { names.now ≡ lower_keys slots.old }
@@ -38,7 +38,7 @@ fn inherit_at(
 }
 
 // The first pass: each entry takes what it lacks from its parent.
-fn inherit(slots: &mut Slots<'_>, alloc: Global, names: &Names) -> Result<(), AllocError>
+fn inherit(slots: &mut Slots<'_>, alloc: Global, names: &Names<'_>) -> Result<(), AllocError>
     requires { names.now ≡ lower_keys slots.old }
     ensures pass { OnOk result (slots.new ≡ after_first slots.old) }
     ensures names { OnOk result (names.now ≡ lower_keys slots.new) }
@@ -88,7 +88,7 @@ fn tell_parent<'a>(
 fn check_at<'a>(
     slots: &mut Slots<'a>,
     alloc: Global,
-    names: &Names,
+    names: &Names<'_>,
     place: usize,
     messages: &mut Messages<'a>,
 ) -> Result<(), AllocError>
@@ -116,7 +116,7 @@ fn check_at<'a>(
 fn check<'a>(
     slots: &mut Slots<'a>,
     alloc: Global,
-    names: &Names,
+    names: &Names<'_>,
     messages: &mut Messages<'a>,
 ) -> Result<(), AllocError>
     requires { names.now ≡ lower_keys slots.old }
@@ -172,7 +172,7 @@ fn staying<'a>(
 fn passed<'a>(
     mut slots: Slots<'a>,
     alloc: Global,
-    names: Names,
+    names: Names<'_>,
     messages: &mut Messages<'a>,
 ) -> Result<Slots<'a>, AllocError>
     requires { names ≡ lower_keys slots }
@@ -189,7 +189,7 @@ fn passed<'a>(
 pub fn entries_of<'a>(
     slots: Slots<'a>,
     alloc: Global,
-    names: Names,
+    names: Names<'_>,
     messages: &mut Messages<'a>,
 ) -> Result<Vec<Entry<'a>>, AllocError>
     requires { names ≡ lower_keys slots }

@@ -1,8 +1,9 @@
 //! Where the values of the declared fields stand.
 ghost use Rattle.std.specs.Prelude.{◌≡◌, IfOk, IfSome, map};
 ghost use Rattle.btx_bib.specs.declared.places.Place.TheVariants as Place;
-ghost use Rattle.btx_bib.specs.refinement.Values.{place_in};
+ghost use Rattle.btx_bib.specs.refinement.ShortPlaces.{place_in};
 
+use crate::few_places::FewPlaces;
 use std::alloc::{AllocError, Global};
 use std::marker::Model;
 
@@ -29,7 +30,7 @@ pub struct ShortPlace {
 
 impl ShortPlace {
     /// The field is missing.
-    fn missing() -> ShortPlace
+    pub fn missing() -> ShortPlace
         ensures { place_in result ≡ Place.Missing }
     {
         ShortPlace { code: 0 }
@@ -73,6 +74,8 @@ impl ShortPlace {
 // How the places are kept.
 #[derive(Drop)]
 enum Kept {
+    // In a byte each, of few fields.
+    Few(FewPlaces),
     // In a byte each.
     Short(Vec<ShortPlace>),
     // As they are: some have no room in a byte.
@@ -102,6 +105,11 @@ impl Places {
     pub fn missing(alloc: Global, count: usize) -> Result<Places, AllocError>
         ensures { IfOk result (λ places. places ≡ replicate count Place.Missing) }
     {
+        if let Some(few) = FewPlaces::missing(count) {
+            return Ok(Places {
+                kept: Kept::Few(few),
+            });
+        }
         Ok(Places {
             kept: Kept::Short(vec![in alloc; ShortPlace::missing(); count]?),
         })
@@ -122,6 +130,7 @@ impl Places {
         ensures { result ≡ length self.now }
     {
         match &self.kept {
+            Kept::Few(few) => few.as_slice().len(),
             Kept::Short(list) => list.len(),
             Kept::Long(list) => list.len(),
         }
@@ -133,6 +142,10 @@ impl Places {
         ensures { result ≡ slice_get self.now field }
     {
         match &self.kept {
+            Kept::Few(few) => match few.as_slice().get(field) {
+                Some(short) => Some(short.place()),
+                None => None,
+            },
             Kept::Short(list) => match list.get(field) {
                 Some(short) => Some(short.place()),
                 None => None,
@@ -154,6 +167,14 @@ impl Places {
     {
         match &mut self.kept {
             Kept::Long(list) => list[field] = place,
+            Kept::Few(few) => match ShortPlace::of(place) {
+                Some(short) => few.set(field, short),
+                None => {
+                    let mut long = lengthened(alloc, few.as_slice())?;
+                    long[field] = place;
+                    self.kept = Kept::Long(long);
+                }
+            },
             Kept::Short(list) => match ShortPlace::of(place) {
                 Some(short) => list[field] = short,
                 None => {
@@ -174,6 +195,7 @@ impl Places {
     {
         match &mut self.kept {
             Kept::Long(list) => list[field] = Place::Missing,
+            Kept::Few(few) => few.set(field, ShortPlace::missing()),
             Kept::Short(list) => list[field] = ShortPlace::missing(),
         }
     }

@@ -74,6 +74,7 @@ impl<'r, 'a> Request<'r, 'a> {
     }
 
     /// The number of a declared field by its name.
+    #[inline(always)]
     pub fn field(&self, alloc: Global, name: &[u8]) -> Result<Option<usize>, AllocError>
         ensures { IfOk result (λ number. number ≡ (wanted self.now).field (folded name.now)) }
     {

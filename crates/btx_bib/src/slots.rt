@@ -83,7 +83,7 @@ impl<'a> Slots<'a> {
     }
 
     // The place of a key in lower case.
-    fn by_name(&self, names: &Names, lowered: &[u8]) -> Option<&Slot<'a>>
+    fn by_name(&self, names: &Names<'_>, lowered: &[u8]) -> Option<&Slot<'a>>
         ensures { option_copied result ≡ slot_by self.now (first_place (bytes_eq lowered.now) names.now) }
     {
         match names.position(lowered) {
@@ -96,7 +96,7 @@ impl<'a> Slots<'a> {
     pub fn find(
         &self,
         alloc: Global,
-        names: &Names,
+        names: &Names<'_>,
         key: &[u8],
     ) -> Result<Option<&Slot<'a>>, AllocError>
         ensures { IfOk result (λ found. option_copied found ≡ slot_by self.now (first_place (bytes_eq (folded key.now)) names.now)) }

@@ -41,6 +41,7 @@ impl<'r, 'a> Model for StyleFields<'r, 'a> {
 }
 
 // The place of a name. Any place is right; no two names of usual fields have the same.
+#[inline(always)]
 fn place_of(name: &[u8]) -> usize {
     match (name.first(), name.get(name.len() / 2), name.last()) {
         (Some(first), Some(middle), Some(last)) => {
@@ -83,6 +84,7 @@ impl<'r, 'a> StyleFields<'r, 'a> {
     }
 
     // The number of a field, as the style has it.
+    #[inline(never)]
     fn looked_up(&self, alloc: Global, name: &[u8]) -> Result<Option<usize>, AllocError>
         ensures { IfOk result (λ number. number ≡ field_of self.now (folded name.now)) }
     {
@@ -94,6 +96,7 @@ impl<'r, 'a> StyleFields<'r, 'a> {
     }
 
     // The number of a field whose name is remembered.
+    #[inline(always)]
     fn remembered(&self, name: &[u8]) -> Option<usize>
         ensures { IfSome result (λ number. field_of self.now (folded name.now) ≡ Some number) }
     {
@@ -104,6 +107,7 @@ impl<'r, 'a> StyleFields<'r, 'a> {
     }
 
     /// The number of a declared field by its name.
+    #[inline(always)]
     pub fn number(&self, alloc: Global, name: &[u8]) -> Result<Option<usize>, AllocError>
         ensures { IfOk result (λ number. number ≡ field_of self.now (folded name.now)) }
     {

@@ -113,8 +113,8 @@ impl<'a> Values<'a> {
     }
 
     /// Gives back the room that no value takes. With a parent there is room for what most children inherit, so that their values
-    /// needn't move then.
-    pub fn trim(&mut self) -> Result<(), AllocError>
+    /// needn't move then. The lent values move to room of their size, so that the room that they leave is taken whole by the next entry's.
+    pub fn trim(&mut self, alloc: Global) -> Result<(), AllocError>
         ensures { OnOk result (self.new ≡ self.old) }
     {
         let inherited = if self.has_parent() {
@@ -122,9 +122,10 @@ impl<'a> Values<'a> {
         } else {
             0
         };
-        let lent = &mut self.texts.lent;
-        lent.reserve_exact(inherited)?;
-        lent.shrink_to(lent.len().saturating_add(inherited));
+        let room = self.texts.lent.len().saturating_add(inherited);
+        let mut lent = Vec::with_capacity(alloc, room)?;
+        lent.append(&mut self.texts.lent)?;
+        self.texts.lent = lent;
         self.texts.made.shrink_to_fit();
         Ok(())
     }

@@ -19,6 +19,7 @@ pub mod work;
 
 pub use command::Command;
 pub use ending::{Ending, Limit};
+pub use journal::Journal;
 pub use last::tell_end;
 pub use law::{
     budget_law, depth_law, direct_law, limits_law, meaning_exists, meaning_is_unique, steps_law,

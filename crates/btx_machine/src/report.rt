@@ -24,6 +24,14 @@ pub struct Told {
     pub errors: u64,
 }
 
+impl Told {
+    /// No line yet.
+    pub const NONE: Told = Told {
+        warnings: 0,
+        errors: 0,
+    };
+}
+
 /// What a run answers.
 #[derive(Clone, Copy, Debug, PartialEq, Eq)]
 pub struct Report {

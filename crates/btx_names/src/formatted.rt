@@ -8,11 +8,13 @@ ghost use Rattle.btx_names.specs.language.Formats.{is_legal};
 ghost use Rattle.btx_names.specs.language.Answered as spec;
 ghost use Rattle.btx_names.specs.language.FormattedNames.{formatted, item_text, tokens_of_part};
 ghost use Rattle.btx_names.specs.refinement.ItemViews.{item_view};
+ghost use Rattle.btx_names.specs.refinement.KeptItems.{kept_view};
 ghost use Rattle.btx_names.specs.refinement.KeptNames.{kept_bytes};
 ghost use Rattle.btx_names.specs.refinement.PartViews.{part_tokens, parts_view};
 
 use crate::format_items::{Item, Items, PartName, is_legal};
 use crate::kept_formats::{KeptFormat, KeptFormats};
+use crate::kept_item::KeptItem;
 use crate::kept_name::KeptName;
 use crate::name_parts::NameParts;
 use crate::part::Part;
@@ -86,9 +88,28 @@ fn write_items(
     ensures { WritesLegal greatest_string (is_legal format.now.text.items) result writer.new.text.items (formatted writer.old.mode (parts_view parts.now) format.now.text.items) }
 {
     for item in format.items() {
-        push_item(writer, item.as_item(), parts)?;
+        push_kept(writer, item, parts)?;
     }
     Ok(true)
+}
+
+// Adds what an item of a format that is kept gives. Many parts have no tokens: their pieces give nothing.
+#[inline(always)]
+fn push_kept(writer: &mut Writer, item: &KeptItem, parts: &NameParts<'_>) -> Result<(), Fault>
+    ensures text { Becomes greatest_string result writer.new.text.items (writer.old.text.items ++ item_text writer.old.mode (parts_view parts.now) (kept_view item.now)) }
+    ensures mode { writer.new.mode ≡ writer.old.mode }
+{
+    match item {
+        KeptItem::Literal(literal) => push_literal(writer, literal),
+        KeptItem::Plain(inside) => push_plain(writer, inside),
+        KeptItem::Name(piece) => {
+            let part = part_of(parts, piece.part);
+            if part.tokens.is_empty() {
+                return Ok(());
+            }
+            push_piece(writer, piece.as_piece(), part)
+        }
+    }
 }
 
 // Writes the parts of a name in a format; false where the format is illegal.

@@ -11,7 +11,8 @@ use std::alloc::{AllocError, Global};
 #[derive(Debug, Drop)]
 pub struct KeptPiece {
     before: Vec<u8>,
-    part: PartName,
+    /// The part.
+    pub part: PartName,
     is_full: bool,
     between: Option<Vec<u8>>,
     after: Vec<u8>,
@@ -46,8 +47,8 @@ impl KeptPiece {
         })
     }
 
-    // The piece.
-    fn as_piece(&self) -> Piece<'_>
+    /// The piece.
+    pub fn as_piece(&self) -> Piece<'_>
         ensures { piece_view result ≡ kept_piece_view self.now }
     {
         Piece {

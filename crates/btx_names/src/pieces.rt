@@ -18,6 +18,7 @@ use crate::writer::Writer;
 use btx_text::Fault;
 
 /// Adds a piece with the tokens of its part; nothing, where the part has none.
+#[inline(never)]
 pub fn push_piece(writer: &mut Writer, piece: Piece<'_>, part: Part<'_>) -> Result<(), Fault>
     ensures text { Becomes greatest_string result writer.new.text.items (writer.old.text.items ++ spec.piece_text writer.old.mode (piece_view piece.entry) (part_tokens part.entry)) }
     ensures mode { writer.new.mode ≡ writer.old.mode }

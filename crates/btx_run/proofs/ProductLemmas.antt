@@ -173,6 +173,10 @@ module _ (job : AuxJob) (options : Options) (read : FilesRead) (told : Told) (fi
   fails_reading budget part is_read fault =
       fails_behind part.told b c l m n is_read.tells.received _ budget (subst (λ (make : ℕ → Product). AtFault (b, m) (c, n) make budget) (follows part is_read) fault)
 
+-- what holds from one end of a log to another holds between equal ones
+pub behind_ends : {A : Type 0} (P : A → A → Type 0) (l l' n n' : A) → l ≡ l' → n ≡ n' → P l n → P l' n'
+behind_ends P l l' n n' begins ends p = subst (P l') ends (subst (λ l. P l n) begins p)
+
 -- ---- behind the `.aux` files
 
 module _ (name : List ℕ) (options : Options) (a z : Received) (job : AuxJob) where

@@ -1,16 +1,20 @@
 -- What a log received while lines were told, one part after another.
-use Rattle.std.proofs.Common.{◌≡◌, ℕ, ◌+◌, ◌<◌, List, [], ◌∷◌, ◌++◌, Option, length, take, drop, get_or, sym, ap, ◌∙◌, subst, append_assoc, append-nil}
+use Rattle.std.proofs.Common.{◌≡◌, ℕ, ◌+◌, ◌<◌, Bool, true, false, List, [], ◌∷◌, ◌++◌, Option, length, take, drop, get_or, sym, ap, ◌∙◌, subst, append_assoc, append-nil, arith}
 use Rattle.std.proofs.lemmas.Grind.{flat_map-append}
 use Rattle.std.proofs.lemmas.List.{take-append-drop, take_more}
+use Rattle.std.proofs.lemmas.List.Sums.{sum_by-append}
+use Rattle.std.specs.Prelude.{cond, count_by, sum_by}
 use Rattle.std.specs.Io.KnownBytes.{Appends}
 use Rattle.std.proofs.KnownBytes.{Appends-trans, Appends-nil}
-use Rattle.btx_text.specs.language.LogLines.{Line}
+use Rattle.btx_text.specs.language.LogLines.{Line, is_error, is_warning}
 use Rattle.btx_out.specs.language.Pieces.{AppendsBeginning}
 use Rattle.btx_out.proofs.PieceLemmas.{beginning-after, beginning-all, beginning-longer}
-use Rattle.btx_run.specs.language.Files.Counts.{Counts, counts_of}
+use Rattle.btx_run.specs.language.Files.Counts.{Counts, at_most_greatest, counts, counts_of}
+use Rattle.btx_run.specs.refinement.Files.Counts.{counts_at}
 use Rattle.btx_run.specs.language.Files.Telling.{bytes_of_lines}
 use Rattle.btx_run.specs.refinement.Files.Telling.{Tells}
-use Rattle.btx_machine.specs.language.Saying.{ended_line}
+use Rattle.btx_machine.specs.language.Saying.{counted_if, ended_line}
+use Rattle.btx_machine.specs.refinement.Outputs.{Journal}
 
 -- the bytes of lines and further lines
 pub bytes_of_both : (xs ys : List Line) → bytes_of_lines (xs ++ ys) ≡ bytes_of_lines xs ++ bytes_of_lines ys
@@ -43,6 +47,38 @@ part_begins x y first more part = subst (AppendsBeginning x y) (sym (bytes_of_bo
 pub rest_begins : (x y z : Option (List ℕ)) (a b : Counts) (first more : List Line) → Tells (a, b) (x, y) first → AppendsBeginning y z (bytes_of_lines more) → AppendsBeginning x z (bytes_of_lines (first ++ more))
 rest_begins x y z a b first more told part =
     subst (AppendsBeginning x z) (sym (bytes_of_both first more)) (beginning-after x y z _ _ told.received part)
+
+-- ---- one line
+
+-- a count with one line more, which is of the kind that is counted or isn't
+one_more : (is : Bool) (n : ℕ) → counted_if is (at_most_greatest n) ≡ at_most_greatest (n + sum_by (λ (is : Bool). cond is 1 0) (is ∷ []))
+one_more true n = grind arith
+one_more false n = grind arith
+
+counted_more : (counts : Line → Bool) (before : List Line) (line : Line)
+    → counted_if (counts line) (at_most_greatest (count_by counts before)) ≡ at_most_greatest (count_by counts (before ++ line ∷ []))
+counted_more counts before line =
+    one_more (counts line) (count_by counts before) ∙ ap at_most_greatest (sym (sum_by-append (λ line. cond (counts line) 1 0) before (line ∷ [])))
+
+bytes_of_one : (line : Line) → ended_line line.text ≡ bytes_of_lines (line ∷ [])
+bytes_of_one line = sym (append-nil (ended_line line.text))
+
+-- a line was logged
+pub tells_line : (line : Line) (old new : Journal) → Appends old.sink.received new.sink.received (ended_line line.text)
+    → new.warnings ≡ counted_if (is_warning line.kind) old.warnings → new.errors ≡ counted_if (is_error line.kind) old.errors
+    → Tells (counts_at old, counts_at new) (old.sink.received, new.sink.received) (line ∷ [])
+tells_line line old new appends warnings errors = record {
+  counts = λ before is.
+      ap (λ n. counts n new.errors) (warnings ∙ ap (λ (counts : Counts). counted_if (is_warning line.kind) counts.warnings) is ∙ counted_more (λ line. is_warning line.kind) before line)
+      ∙ ap (counts (counts_of (before ++ line ∷ [])).warnings) (errors ∙ ap (λ (counts : Counts). counted_if (is_error line.kind) counts.errors) is ∙ counted_more (λ line. is_error line.kind) before line);
+  received = subst (Appends old.sink.received new.sink.received) (bytes_of_one line) appends;
+}
+
+-- a line was begun
+pub line_begun : (line : Line) (x y : Option (List ℕ)) → AppendsBeginning x y (ended_line line.text) → AppendsBeginning x y (bytes_of_lines (line ∷ []))
+line_begun line x y part = subst (AppendsBeginning x y) (bytes_of_one line) part
+
+-- ---- lines, one after another
 
 -- at a line of some
 at_line : (lines : List Line) (i : ℕ) (line : Line) → i < length lines → line ≡ get_or lines i line

@@ -3,12 +3,11 @@
 
 mod databases;
 pub mod found;
-pub mod journal;
 pub mod laws;
 mod lines;
 mod names;
 pub mod reading;
+mod telling;
 
 pub use found::{FilesRead, FoundFile, FoundFiles, JobFiles};
-pub use journal::Journal;
 pub use reading::{read_files, read_job};

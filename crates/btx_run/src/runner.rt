@@ -19,14 +19,14 @@ ghost use Rattle.btx_run.specs.language.RunFaults.{CountsOfRun};
 ghost use Rattle.btx_run.specs.refinement.Product.{work_of};
 
 use crate::contents::read_library;
-use crate::files::{FilesRead, JobFiles, Journal, read_files, read_job};
+use crate::files::{FilesRead, JobFiles, read_files, read_job};
 use crate::options::Options;
 use crate::run_fault::RunFault;
 use btx_aux::{AuxJob, Finder};
 use btx_bib::Library;
 use btx_bst::{Style, read_style};
 use btx_machine::report::report_of;
-use btx_machine::{Report, Told, execute_style, tell_end};
+use btx_machine::{Journal, Report, Told, execute_style, tell_end};
 use btx_out::Sink;
 use btx_step::Job;
 use btx_text::Fault;
@@ -129,13 +129,11 @@ fn run_job<F: Finder, W: Sink, L: Sink>(
     ensures counts { CountsOfThree result (F.failures finder.old, F.failures finder.new) (W.failures bbl.old, W.failures bbl.new) (L.failures log.old, L.failures log.new) }
     ensures stays { F.content finder.new ≡ F.content finder.old }
 {
-    let mut journal = Journal::new();
-    let read = read_files(alloc, finder, job, &mut journal, log)?;
-    let told = Told {
-        warnings: journal.warnings(),
-        errors: journal.errors(),
-    };
-    after_files(alloc, job, read, options, told, bbl, log)
+    let mut journal = Journal::new(log, Told::NONE);
+    let read = read_files(alloc, finder, job, &mut journal);
+    let told = journal.told();
+    let log = journal.into_sink();
+    after_files(alloc, job, read?, options, told, bbl, log)
 }
 
 // Runs the job of this name.

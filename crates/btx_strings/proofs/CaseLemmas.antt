@@ -4,7 +4,7 @@ use Rattle.btx_text.specs.language.Elements.{Element}
 use Rattle.btx_strings.specs.declared.conversions.Conversion.{Conversion}
 use Rattle.btx_strings.specs.declared.case_change.Place.{Place}
 use Rattle.btx_strings.specs.declared.case_change.Place.TheVariants.{First, Colon, ColonAndWhite, Inside}
-use Rattle.btx_strings.specs.language.Case.{is_white_text, is_colon, after_colon, begins_title, cased_part, cased_parts}
+use Rattle.btx_strings.specs.language.Case.{is_white_text, is_colon, after_colon, begins_title, cased_as, cased_part, cased_parts, is_title}
 use Rattle.btx_strings.specs.refinement.CaseState.{is_after_colon, is_beginning}
 
 -- the place after one more element
@@ -48,3 +48,9 @@ cased_parts-carried conversion before (part ∷ parts) =
 -- from the first element on
 pub cased_from-first : (conversion : Conversion) (parts : List Element) → cased_parts conversion [] parts ≡ cased_from conversion First parts
 cased_from-first conversion parts = cased_parts-carried conversion [] parts
+
+-- where no title is made, it does not matter what stands before
+pub cased_from-anywhere : (conversion : Conversion) (place other : Place) (parts : List Element) → is_title conversion ≡ false → cased_from conversion place parts ≡ cased_from conversion other parts
+cased_from-anywhere conversion place other [] none = refl
+cased_from-anywhere conversion place other (part ∷ parts) none =
+    rw none (ap (λ xs. cased_as conversion part.kind part.depth part.text ++ xs) (cased_from-anywhere conversion (place_after place part) (place_after other part) parts none))

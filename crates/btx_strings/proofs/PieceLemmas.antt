@@ -12,12 +12,12 @@ use Rattle.btx_text.specs.declared.element_kind.TextMode.TheVariants.{Bytes}
 use Rattle.btx_text.specs.language.Elements.{Element, depth_after, kind_at, element_at, extent, group_len, elements_from, elements_of}
 use Rattle.btx_text.proofs.ElementLemmas.{group_len-le, elements_from-step, elements_from-nil}
 use Rattle.btx_strings.specs.declared.conversions.Conversion.{Conversion}
-use Rattle.btx_strings.specs.declared.conversions.Conversion.TheVariants.{Title, Upper}
+use Rattle.btx_strings.specs.declared.conversions.Conversion.TheVariants.{Title, Lower, Upper}
 use Rattle.btx_strings.specs.declared.case_change.Place.{Place}
 use Rattle.btx_strings.specs.declared.case_change.Place.TheVariants.{First, Colon, ColonAndWhite, Inside}
 use Rattle.btx_strings.specs.language.Case.{case_of, is_title, is_white_text, cased_part, cased_special, cased}
-use Rattle.btx_strings.specs.refinement.CaseState.{is_case_plain, is_inside, is_beginning, piece_len, cased_piece, place_after}
-use Rattle.btx_strings.proofs.CaseLemmas.{cased_from, cased_from-first}
+use Rattle.btx_strings.specs.refinement.CaseState.{is_case_plain, first_place, is_inside, is_beginning, piece_len, cased_piece, place_after}
+use Rattle.btx_strings.proofs.CaseLemmas.{cased_from, cased_from-anywhere, cased_from-first}
 use Rattle.btx_strings.proofs.CaseLemmas as elements
 
 -- the elements of a text at a depth, after a place, in another case
@@ -215,9 +215,11 @@ unfolding cased_rest
 cased_rest-none c p s h = rw (elements_from-nil Bytes 0 0 0 s h) refl
 
 -- all of a string
-pub cased_rest-first : (c : Conversion) (s : List ℕ) → cased c s ≡ cased_rest c First s
+pub cased_rest-first : (c : Conversion) (s : List ℕ) → cased c s ≡ cased_rest c (first_place c) s
 unfolding cased_rest elements_of
-cased_rest-first c s = cased_from-first c (elements_of Bytes s)
+cased_rest-first Title s = cased_from-first Title (elements_of Bytes s)
+cased_rest-first Lower s = cased_from-first Lower (elements_of Bytes s) ∙ cased_from-anywhere Lower First Inside (elements_of Bytes s) refl
+cased_rest-first Upper s = cased_from-first Upper (elements_of Bytes s) ∙ cased_from-anywhere Upper First Inside (elements_of Bytes s) refl
 
 -- ---- the length of a piece
 

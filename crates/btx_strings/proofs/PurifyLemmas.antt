@@ -1,20 +1,22 @@
 -- What `purify$` leaves of a string, group by group.
 use Rattle.std.proofs.Common.{◌≡◌, ℕ, zero, suc, ◌+◌, ◌-◌, ◌<◌, Bool, true, false, cond, not, eqb, List, [], ◌∷◌, ◌++◌, length, take, drop, refl, ◌∙◌, ap, arith, append_assoc}
-use Rattle.std.specs.Prelude.{nat_eq}
+use Rattle.std.specs.Prelude.{nat_eq, ◌||◌}
 use Rattle.std.specs.List.{flat_map, prefix_len, starts_with}
 use Rattle.std.proofs.lemmas.List.{append-nil, length-drop}
 use Rattle.std.proofs.lemmas.List.Sums.{prefix_len-le-length}
-use Rattle.std.proofs.lemmas.Bool.{eqb-true}
+use Rattle.std.proofs.lemmas.Bool.{eqb-true, false≢true}
 use Rattle.std.proofs.lemmas.Bool.Decides.{nat_tests}
 use Rattle.btx_text.specs.declared.element_kind.Kind.{Kind}
 use Rattle.btx_text.specs.declared.element_kind.Kind.TheVariants.{Byte, Open, Close, Special}
 use Rattle.btx_text.specs.declared.element_kind.TextMode.TheVariants.{Bytes}
-use Rattle.btx_text.specs.language.Class.{class_of}
+use Rattle.std.specs.Char.{is_ascii_digit}
+use Rattle.btx_text.specs.declared.byte_class.Class.TheVariants.{Alpha, Digit, Sep, Other}
+use Rattle.btx_text.specs.language.Class.{class_of, is_alpha, is_sep, is_white}
 use Rattle.btx_text.specs.language.Elements.{Element, depth_after, kind_at, element_at, extent, group_len, elements_from, elements_of}
 use Rattle.btx_text.proofs.ElementLemmas.{group_len-le, elements_from-step, elements_from-nil}
 use Rattle.btx_strings.specs.language.Controls.{glyphs_of}
-use Rattle.btx_strings.specs.language.Purify.{purified_as, purified_byte, purified_glyph, purify_of}
-use Rattle.btx_strings.specs.refinement.Purify.{begins_no_group, purified_group}
+use Rattle.btx_strings.specs.language.Purify.{purified_as, purified_byte, purified_class, purified_glyph, purify_of}
+use Rattle.btx_strings.specs.refinement.Purify.{stays, purified_group}
 use Rattle.btx_strings.proofs.PieceLemmas.{above_zero, deeper, kind_inside, less_deep, one_more}
 
 abbrev left_of : Element → List ℕ
@@ -106,7 +108,7 @@ group_left (e ∷ es) = at (starts_with nat_eq (e ∷ es) (92 ∷ [])) refl wher
   at true h = let front = group_front e es in rw (front.1, h) (rw front.1 at (special (123 ∷ e ∷ es) (e ∷ es) refl h))
   at false h = let front = group_front e es in rw (front.1, h, brace_left) (rw front.1 at (other_group (e ∷ es) h))
 
--- ---- before the first group
+-- ---- outside groups
 
 no_brace : (b : ℕ) → eqb b 123 ≡ false → eqb 123 b ≡ false
 no_brace b h = grind (arith, nat_tests)
@@ -122,58 +124,85 @@ outside_byte b bs h = rw (h, no_brace b h) (at (eqb b 125) refl) where
   at true is = rw (eqb-true _ _ is, close_left) (starts_apart 0 1 0 0 bs)
   at false is = rw append-nil (ap (λ xs. purified_byte b ++ xs) (starts_apart 0 1 0 0 bs))
 
-before_group : (s : List ℕ) →
-    let n = prefix_len begins_no_group s in
-    purify_of s ≡ flat_map purified_byte (take n s) ++ purify_of (drop n s)
-before_group [] = refl
-before_group (b ∷ bs) = rw (one_more (prefix_len begins_no_group bs)) (at (eqb b 123) refl (before_group bs)) where
-  at : (t : Bool) → eqb b 123 ≡ t → purify_of bs ≡ flat_map purified_byte (take (prefix_len begins_no_group bs) bs) ++ purify_of (drop (prefix_len begins_no_group bs) bs) →
-      let n = cond (not t) (suc (prefix_len begins_no_group bs)) 0 in
-      purify_of (b ∷ bs) ≡ flat_map purified_byte (take n (b ∷ bs)) ++ purify_of (drop n (b ∷ bs))
-  at true h rest = refl
-  at false h rest = rw append_assoc (outside_byte b bs h ∙ ap (λ xs. purified_byte b ++ xs) rest)
+-- a byte that stays begins no group, and leaves itself
+stays_apart : (b : ℕ) → stays b ≡ true → eqb b 123 ≡ false
+stays_apart b h = grind (arith, nat_tests)
+
+white_stays : (b : ℕ) → stays b ≡ true → is_white b ≡ eqb b 32
+white_stays b h = grind (arith, nat_tests)
+
+letter_stays : (b : ℕ) → stays b ≡ true → eqb b 32 ≡ false → (is_alpha b || is_ascii_digit b) ≡ true
+letter_stays b h none = grind (arith, nat_tests)
+
+stays_left : (b : ℕ) → stays b ≡ true → purified_byte b ≡ b ∷ []
+unfolding class_of
+stays_left b h = at (eqb b 32) refl where
+  at : (white : Bool) → eqb b 32 ≡ white → purified_byte b ≡ b ∷ []
+  at true is = rw (eqb-true _ _ is) refl
+  at false is = rw (white_stays b h ∙ is) (letter (is_alpha b) (is_ascii_digit b) (letter_stays b h is)) where
+    letter : (alpha digit : Bool) → (alpha || digit) ≡ true → purified_class (cond alpha Alpha (cond digit Digit (cond (is_sep b) Sep Other))) b ≡ b ∷ []
+    letter true digit k = refl
+    letter false true k = refl
+    letter false false k = absurd (false≢true k)
+
+before_other : (s : List ℕ) →
+    let n = prefix_len stays s in
+    purify_of s ≡ take n s ++ purify_of (drop n s)
+before_other [] = refl
+before_other (b ∷ bs) = rw (one_more (prefix_len stays bs)) (at (stays b) refl (before_other bs)) where
+  at : (t : Bool) → stays b ≡ t → purify_of bs ≡ take (prefix_len stays bs) bs ++ purify_of (drop (prefix_len stays bs) bs) →
+      let n = cond t (suc (prefix_len stays bs)) 0 in
+      purify_of (b ∷ bs) ≡ take n (b ∷ bs) ++ purify_of (drop n (b ∷ bs))
+  at true h rest = outside_byte b bs (stays_apart b h) ∙ rw (stays_left b h) (ap (λ xs. b ∷ xs) rest)
+  at false h rest = refl
 
 -- ---- for the loop over groups
 
-from_group : (s : List ℕ) →
-    let from = drop (prefix_len begins_no_group s) s in
-    let m = group_len 0 from in
-    purify_of from ≡ purified_group (take m from) ++ purify_of (drop m from)
-unfolding elements_of elements_from group_len
-from_group [] = refl
-from_group (b ∷ bs) = rw (one_more (prefix_len begins_no_group bs)) (at (eqb b 123) refl (from_group bs)) where
-  at : (t : Bool) → eqb b 123 ≡ t →
-      (let from = drop (prefix_len begins_no_group bs) bs in
-      let m = group_len 0 from in
-      purify_of from ≡ purified_group (take m from) ++ purify_of (drop m from)) →
-      let from = drop (cond (not t) (suc (prefix_len begins_no_group bs)) 0) (b ∷ bs) in
-      let m = group_len 0 from in
-      purify_of from ≡ purified_group (take m from) ++ purify_of (drop m from)
-  at true h rest = rw (eqb-true _ _ h) (group_left bs)
-  at false h rest = rest
+-- a byte that begins no group stands alone
+one_long : (b : ℕ) (bs : List ℕ) → eqb b 123 ≡ false → group_len 0 (b ∷ bs) ≡ 1
+unfolding group_len
+one_long b bs h = rw h (at (eqb b 125)) where
+  at : (u : Bool) → let d : ℕ = cond u 0 0 in let one : ℕ = 1 in cond (eqb d 0) one (suc (group_len d bs)) ≡ one
+  at true = refl
+  at false = refl
 
-pub next_group : (s text : List ℕ) {n m : ℕ} {from group others before text' whole : List ℕ} →
-    text ++ purify_of s ≡ whole → n ≡ prefix_len begins_no_group s → before ≡ text ++ flat_map purified_byte (take (prefix_len begins_no_group s) s) →
-    from ≡ drop n s → m ≡ group_len 0 from → group ≡ take m from → others ≡ drop m from → text' ≡ before ++ purified_group group →
+none_left : let s : List ℕ = [] in purify_of s ≡ purified_group (take (group_len 0 s) s) ++ purify_of (drop (group_len 0 s) s)
+unfolding group_len
+none_left = refl
+
+-- a group, or another byte
+first_group : (s : List ℕ) →
+    let m = group_len 0 s in
+    purify_of s ≡ purified_group (take m s) ++ purify_of (drop m s)
+first_group [] = none_left
+first_group (b ∷ bs) = at (eqb b 123) refl where
+  at : (t : Bool) → eqb b 123 ≡ t → let m = group_len 0 (b ∷ bs) in purify_of (b ∷ bs) ≡ purified_group (take m (b ∷ bs)) ++ purify_of (drop m (b ∷ bs))
+  at true h = rw (eqb-true _ _ h) (group_left bs)
+  at false h = rw (one_long b bs h, no_brace b h, byte_left b) (outside_byte b bs h)
+
+pub next_group : (s text : List ℕ) {n m : ℕ} {run after group others before text' whole : List ℕ} →
+    text ++ purify_of s ≡ whole → n ≡ prefix_len stays s → run ≡ take n s → before ≡ text ++ run →
+    after ≡ drop n s → m ≡ group_len 0 after → group ≡ take m after → others ≡ drop m after → text' ≡ before ++ purified_group group →
     text' ++ purify_of others ≡ whole
-next_group s text all n_is before_is from_is m_is group_is others_is text_is =
-    let plain = flat_map purified_byte (take (prefix_len begins_no_group s) s) in
-    rw (text_is, before_is, others_is, group_is, m_is, from_is, n_is, append_assoc (text ++ plain), append_assoc text plain) (rw (before_group s, from_group s) at all)
+next_group s text all n_is run_is before_is after_is m_is group_is others_is text_is =
+    let n = prefix_len stays s in
+    rw (text_is, before_is, run_is, others_is, group_is, m_is, after_is, n_is, append_assoc (text ++ take n s), append_assoc text (take n s))
+    (rw (before_other s, first_group (drop n s)) at all)
 
-fewer : (s : List ℕ) → 0 < length s → let from = drop (prefix_len begins_no_group s) s in length (drop (group_len 0 from) from) < length s
+fewer : (s : List ℕ) → 0 < length s → let after = drop (prefix_len stays s) s in length (drop (group_len 0 after) after) < length s
 unfolding group_len
 fewer [] h = absurd (omega arith)
-fewer (b ∷ bs) h = rw (one_more (prefix_len begins_no_group bs)) (at (eqb b 123)) where
-  at : (t : Bool) → let from = drop (cond (not t) (suc (prefix_len begins_no_group bs)) 0) (b ∷ bs) in length (drop (group_len 0 from) from) < length (b ∷ bs)
-  at true = back (eqb (depth_after 0 b) 0) (group_len (depth_after 0 b) bs) where
+fewer (b ∷ bs) h = rw (one_more (prefix_len stays bs)) (at (stays b)) where
+  at : (t : Bool) → let after = drop (cond t (suc (prefix_len stays bs)) 0) (b ∷ bs) in length (drop (group_len 0 after) after) < length (b ∷ bs)
+  at false = back (eqb (depth_after 0 b) 0) (group_len (depth_after 0 b) bs) where
     back : (t : Bool) (n : ℕ) → length (drop (cond t 1 (suc n)) (b ∷ bs)) < suc (length bs)
     back true n = omega arith
     back false n = rw (length-drop n bs) (omega arith)
-  at false = let from = drop (prefix_len begins_no_group bs) bs in rw (length-drop (group_len 0 from) from, length-drop (prefix_len begins_no_group bs) bs) (omega arith)
+  at true = let after = drop (prefix_len stays bs) bs in rw (length-drop (group_len 0 after) after, length-drop (prefix_len stays bs) bs) (omega arith)
 
-pub less_is_left : (s : List ℕ) {n m : ℕ} {from others : List ℕ} → 0 < length s →
-    n ≡ prefix_len begins_no_group s → from ≡ drop n s → m ≡ group_len 0 from → others ≡ drop m from → length others < length s
-less_is_left s some n_is from_is m_is others_is = rw (others_is, m_is, from_is, n_is) (fewer s some)
+pub less_is_left : (s : List ℕ) {n m : ℕ} {after others : List ℕ} → 0 < length s →
+    n ≡ prefix_len stays s → after ≡ drop n s → m ≡ group_len 0 after → others ≡ drop m after → length others < length s
+less_is_left s some n_is after_is m_is others_is = rw (others_is, m_is, after_is, n_is) (fewer s some)
 
 pub nothing_left : (s text : List ℕ) {whole : List ℕ} → text ++ purify_of s ≡ whole → length s ≡ 0 → text ≡ whole
 unfolding elements_of

@@ -4,7 +4,7 @@ ghost use Rattle.std.specs.List.{prefix_len};
 ghost use Rattle.btx_strings.specs.language.Answers.{no_complaints};
 ghost use Rattle.btx_strings.specs.refinement.Answers.{Answers};
 ghost use Rattle.btx_strings.specs.language.Case as spec;
-ghost use Rattle.btx_strings.specs.refinement.CaseState.{cased_piece, is_beginning, is_case_plain, piece_len, place_after};
+ghost use Rattle.btx_strings.specs.refinement.CaseState.{cased_piece, first_place, is_beginning, is_case_plain, piece_len, place_after};
 ghost use Rattle.btx_strings.specs.refinement.Glyphs.{glyph_of};
 
 use crate::answers::{Answer, Complaints};
@@ -63,7 +63,7 @@ pub fn change_case_into(
     ensures { OnOk result (text.new.items ≡ spec.cased conversion string.now) }
 {
     text.clear();
-    let mut place = Place::First;
+    let mut place = first_place(conversion);
     let mut rest = string;
     while !rest.is_empty() {
         let (piece, others) = rest.split_at(piece_len(place, rest));
@@ -72,6 +72,16 @@ pub fn change_case_into(
         rest = others;
     }
     Ok(())
+}
+
+// What is said to stand before a string: what begins there matters to a title alone.
+fn first_place(conversion: Conversion) -> Place
+    ensures { result ≡ first_place conversion }
+{
+    match conversion {
+        Conversion::Title => Place::First,
+        Conversion::Lower | Conversion::Upper => Place::Inside,
+    }
 }
 
 // How many bytes the piece has that a text begins with: a whole group in braces; else, where nothing begins, all before a colon or a

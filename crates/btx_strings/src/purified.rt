@@ -1,12 +1,12 @@
 //! The purified form of a string.
-ghost use Rattle.std.specs.Prelude.{◌≡◌, ◌++◌, take, IfOk, OnOk};
+ghost use Rattle.std.specs.Prelude.{◌≡◌, ◌++◌, OnOk};
 ghost use Rattle.std.specs.List.{flat_map, prefix_len};
 ghost use Rattle.btx_strings.specs.language.Answers.{no_complaints};
 ghost use Rattle.btx_strings.specs.refinement.Answers.{Answers};
 ghost use Rattle.btx_strings.specs.language.Controls.{glyphs_of};
 ghost use Rattle.btx_strings.specs.refinement.Glyphs.{glyph_of};
 ghost use Rattle.btx_strings.specs.language.Purify.{purified_byte, purified_glyph, purify_of};
-ghost use Rattle.btx_strings.specs.refinement.Purify.{begins_no_group, purified_group};
+ghost use Rattle.btx_strings.specs.refinement.Purify.{stays, purified_group};
 
 use crate::answers::{Answer, Complaints};
 use crate::controls::{Glyph, Glyphs, letters};
@@ -26,7 +26,8 @@ pub fn purify(alloc: Global, string: &[u8]) -> Result<Answer, Fault>
     Answer::new(text, Complaints::NONE)
 }
 
-/// Makes a text what [`purify`] leaves of a string, of any length, in the memory of what stood there. It goes group by group.
+/// Makes a text what [`purify`] leaves of a string, of any length, in the memory of what stood there. It goes by runs of bytes
+/// that stay, and by the groups and bytes between them.
 #[tactic(auto, using(crate::proofs::PurifyLemmas::groups))]
 pub fn purify_into(text: &mut Vec<u8>, string: &[u8]) -> Result<(), AllocError>
     ensures { OnOk result (text.new.items ≡ purify_of string.now) }
@@ -34,31 +35,40 @@ pub fn purify_into(text: &mut Vec<u8>, string: &[u8]) -> Result<(), AllocError>
     text.clear();
     let mut rest = string;
     while !rest.is_empty() {
-        let len = push_before_group(text, rest)?;
-        let (_, from_group) = rest.split_at(len);
-        let (group, others) = from_group.split_at(group_len(from_group));
+        let (run, after) = rest.split_at(run_len(rest));
+        text.extend_from_slice(run)?;
+        let (group, others) = after.split_at(group_len(after));
         push_group(text, group)?;
         rest = others;
     }
     Ok(())
 }
 
-// Adds the purified form of what stands before the first group, and answers how many bytes that are.
-fn push_before_group(text: &mut Vec<u8>, rest: &[u8]) -> Result<usize, AllocError>
-    ensures len { IfOk result (λ len. len ≡ prefix_len begins_no_group rest.now) }
-    ensures text { OnOk result (text.new.items ≡ text.old.items ++ flat_map purified_byte (take (prefix_len begins_no_group rest.now) rest.now)) }
+// How many bytes there are before the first that does not stay as it is.
+fn run_len(rest: &[u8]) -> usize
+    ensures { result ≡ prefix_len stays rest.now }
 {
-    for (len, &byte) in rest.iter().enumerate() {
-        if byte == b'{' {
-            return Ok(len);
+    for (i, &byte) in rest.iter().enumerate() {
+        if !stays(byte) {
+            return i;
         }
-        push_byte(text, byte)?;
     }
-    Ok(rest.len())
+    rest.len()
 }
 
-// Adds the purified form of a group in braces. One that is no special character leaves what its bytes do, since braces leave
-// nothing.
+// Whether a byte stays as it is outside special characters: a space, a letter or a digit does.
+fn stays(byte: u8) -> bool
+    ensures { result ≡ stays byte }
+{
+    byte.is_ascii_lowercase()
+        || byte == b' '
+        || byte.is_ascii_uppercase()
+        || byte.is_ascii_digit()
+        || byte >= 128
+}
+
+// Adds the purified form of a group in braces, or of another byte. A group that is no special character leaves what its bytes do, since braces
+// leave nothing.
 fn push_group(text: &mut Vec<u8>, group: &[u8]) -> Result<(), AllocError>
     ensures { OnOk result (text.new.items ≡ text.old.items ++ purified_group group.now) }
 {

@@ -1,23 +1,16 @@
 -- The values of the declared fields, by their numbers.
-use Rattle.std.specs.Prelude.{◌≡◌, ℕ, ◌==◌, ◌-◌, ◌<◌, nat_lt, ⊤, List, length, map, Option, None, Some, slice_get, if◌then◌else◌}
+use Rattle.std.specs.Prelude.{◌≡◌, ℕ, ◌<◌, ⊤, List, length, map, Option, None, Some, slice_get}
 use Rattle.btx_bib.specs.declared.places.Kept.{Kept}
-use Rattle.btx_bib.specs.declared.places.Kept.TheVariants.{Short, Long}
+use Rattle.btx_bib.specs.declared.places.Kept.TheVariants.{Few, Short, Long}
 use Rattle.btx_bib.specs.declared.places.Place.{Place}
 use Rattle.btx_bib.specs.declared.places.Place.TheVariants.{Missing, Lent, Made}
-use Rattle.btx_bib.specs.declared.places.ShortPlace.{ShortPlace}
+use Rattle.btx_bib.specs.refinement.ShortPlaces.{place_in}
 
 -- ---- where values stand
 
--- the place that a byte keeps: none, one of the lent values, or from 128 on one of those that were made
-abbrev pub place_of_code : ℕ → Place
-place_of_code code = if code == 0 then Missing else if nat_lt code 128 then Lent (code - 1) else Made (code - 128)
-
--- the place that a short place stands for
-abbrev pub place_in : ShortPlace → Place
-place_in short = place_of_code short.code
-
 -- places, however they are kept
 abbrev pub places_in : Kept → List Place
+places_in (Few few) = few
 places_in (Short list) = map place_in list.items
 places_in (Long list) = list.items
 

@@ -3,6 +3,7 @@ ghost use Rattle.std.specs.Prelude.{◌≡◌, ◌+◌, ◌<◌, ◌≤◌, true
 ghost use Rattle.btx_bib.specs.refinement.Grammar.PlainFields.{enclosed_part};
 ghost use Rattle.btx_bib.specs.refinement.Grammar.Squeezing.{ArePlainBytes, IsSqueezedLen, is_behind_white, lanes_before, stands, stays_squeezed};
 ghost use Rattle.btx_bib.specs.language.Grammar.Values as spec;
+ghost use Rattle.btx_bib.specs.declared.grammar.byte_sets.Enclosure.TheVariants as enclosed_by;
 ghost use Rattle.btx_bib.specs.declared.grammar.value_ends.Ends.TheVariants as ends;
 
 use crate::grammar::byte_sets::{Enclosure, ends_enclosed, ends_in_gap, is_gap};
@@ -75,7 +76,7 @@ fn stays_squeezed(text: &[u8], place: usize, byte: u8) -> bool
 
 // How many bytes stand before the first that ends what is enclosed, if they are squeezed and don't begin with white. Behind each byte that is looked at
 // by itself, plain ones are passed at once.
-#[inline(never)]
+#[inline(always)]
 fn squeezed_len(enclosure: Enclosure, text: &[u8]) -> Option<usize>
     ensures value { IfSome result (λ len. IsSqueezedLen enclosure text.now len) }
     ensures bound { IfSome result (λ len. len ≤ length text.now) }
@@ -96,13 +97,43 @@ fn squeezed_len(enclosure: Enclosure, text: &[u8]) -> Option<usize>
     None
 }
 
+// The same of a group.
+#[inline(never)]
+fn squeezed_in_group(text: &[u8]) -> Option<usize>
+    ensures value { IfSome result (λ len. IsSqueezedLen enclosed_by.Group text.now len) }
+    ensures bound { IfSome result (λ len. len ≤ length text.now) }
+{
+    squeezed_len(Enclosure::Group, text)
+}
+
+// The same of what is quoted.
+#[inline(never)]
+fn squeezed_in_quotes(text: &[u8]) -> Option<usize>
+    ensures value { IfSome result (λ len. IsSqueezedLen enclosed_by.Quotes text.now len) }
+    ensures bound { IfSome result (λ len. len ≤ length text.now) }
+{
+    squeezed_len(Enclosure::Quotes, text)
+}
+
+// The same of either: each has a loop of its own.
+#[inline(always)]
+fn squeezed_in(enclosure: Enclosure, text: &[u8]) -> Option<usize>
+    ensures value { IfSome result (λ len. IsSqueezedLen enclosure text.now len) }
+    ensures bound { IfSome result (λ len. len ≤ length text.now) }
+{
+    match enclosure {
+        Enclosure::Group => squeezed_in_group(text),
+        Enclosure::Quotes => squeezed_in_quotes(text),
+    }
+}
+
 /// What is enclosed, if it stands as a field's value, and the text behind what closes it.
 #[inline(always)]
 pub fn plain_enclosed(enclosure: Enclosure, text: &[u8]) -> Option<(&[u8], &[u8])>
     ensures value { IfSome result (λ got. spec.enclosed_in enclosure text.now ≡ Ok (enclosed_part enclosure got.0.now, got.1.now)) }
     ensures plain { IfSome result (λ got. stands ends.Trimmed got.0.now ≡ true) }
 {
-    let (inner, after) = text.split_at(squeezed_len(enclosure, text)?);
+    let (inner, after) = text.split_at(squeezed_in(enclosure, text)?);
     if ends_in_gap(inner) {
         return None;
     }

@@ -5,7 +5,8 @@ ghost use Rattle.btx_aux.specs.refinement.Faults.{CountsOfOne};
 ghost use Rattle.btx_aux.specs.language.Files.{Files};
 ghost use Rattle.btx_aux.specs.language.Job.{AuxJob};
 ghost use Rattle.btx_run.specs.refinement.Files.Asked.{AreAmong, names_in};
-ghost use Rattle.btx_run.specs.refinement.Files.Faults.{CountsOfTwo};
+ghost use Rattle.btx_run.specs.refinement.Files.Counts.{counts_at};
+ghost use Rattle.btx_run.specs.refinement.Files.Faults.{CountsOfReading, CountsOfTelling};
 ghost use Rattle.btx_run.specs.language.Files.Found.{file_at};
 ghost use Rattle.btx_run.specs.language.Files.Readings.{after_job, job_named, style_named, style_read};
 ghost use Rattle.btx_run.specs.refinement.Files.Readings.{ReadsAs, StyleFits, after_style, files_read};
@@ -13,11 +14,11 @@ ghost use Rattle.btx_run.specs.refinement.Files.Names.{top_name};
 
 use crate::files::databases::find_databases;
 use crate::files::found::{FilesRead, FoundFile, JobFiles, fetch_file};
-use crate::files::journal::Journal;
 use crate::files::lines::{no_style_line, style_line};
 use crate::files::names::{is_too_long, top_name};
+use crate::files::telling::tell_all;
 use btx_aux::{AuxJob, End as AuxEnd, Finder, read_aux};
-use btx_machine::{End, Limit};
+use btx_machine::{End, Journal, Limit};
 use btx_out::Sink;
 use btx_text::Fault;
 use std::alloc::Global;
@@ -39,19 +40,18 @@ fn with_style<'a, F: Finder, L: Sink>(
     finder: &mut F,
     job: &'a AuxJob,
     style: FoundFile<'a>,
-    journal: &mut Journal,
-    log: &mut L,
+    journal: &mut Journal<'_, L>,
 ) -> Result<FilesRead<'a>, Fault>
     ensures reads { ByAnswers (F.content finder.old) (λ asked. AreAmong asked job.entry.now.databases) (λ files.
-        ReadsAs result (journal.old, journal.new) (L.received log.old, L.received log.new) (after_style files job.entry.now style.entry)) }
+        ReadsAs result (counts_at journal.old, counts_at journal.new) (journal.old.sink.received, journal.new.sink.received) (after_style files job.entry.now style.entry)) }
     ensures fits { IfOk result (λ read. StyleFits read) }
     ensures stays { F.content finder.new ≡ F.content finder.old }
-    ensures counts { CountsOfTwo result (F.failures finder.old, F.failures finder.new) (L.failures log.old, L.failures log.new) }
+    ensures counts { CountsOfReading result (F.failures finder.old, F.failures finder.new) journal.old journal.new }
 {
     if is_too_long(style.bytes()) {
         return Ok(FilesRead::Ends(End::Limit(Limit::File)));
     }
-    let databases = find_databases(alloc, finder, job.databases(), journal, log)?;
+    let databases = find_databases(alloc, finder, job.databases(), journal)?;
     Ok(FilesRead::Found(JobFiles { style, databases }))
 }
 
@@ -61,34 +61,32 @@ fn tell_style<'a, F: Finder, L: Sink>(
     finder: &mut F,
     job: &'a AuxJob,
     style: FoundFile<'a>,
-    journal: &mut Journal,
-    log: &mut L,
+    journal: &mut Journal<'_, L>,
 ) -> Result<FilesRead<'a>, Fault>
     ensures reads { ByAnswers (F.content finder.old) (λ asked. AreAmong asked job.entry.now.databases) (λ files.
-        ReadsAs result (journal.old, journal.new) (L.received log.old, L.received log.new) (style_read files job.entry.now style.entry.name (Some style.entry))) }
+        ReadsAs result (counts_at journal.old, counts_at journal.new) (journal.old.sink.received, journal.new.sink.received) (style_read files job.entry.now style.entry.name (Some style.entry))) }
     ensures fits { IfOk result (λ read. StyleFits read) }
     ensures stays { F.content finder.new ≡ F.content finder.old }
-    ensures counts { CountsOfTwo result (F.failures finder.old, F.failures finder.new) (L.failures log.old, L.failures log.new) }
+    ensures counts { CountsOfReading result (F.failures finder.old, F.failures finder.new) journal.old journal.new }
 {
     let line = style_line(alloc, style.name())?;
-    journal.tell(&line, log)?;
-    with_style(alloc, finder, job, style, journal, log)
+    journal.tell(&line)?;
+    with_style(alloc, finder, job, style, journal)
 }
 
 // Tells that the style of this name wasn't found, which ends the run.
 fn without_style<'a, L: Sink>(
     alloc: Global,
     name: &[u8],
-    journal: &mut Journal,
-    log: &mut L,
+    journal: &mut Journal<'_, L>,
 ) -> Result<FilesRead<'a>, Fault>
-    ensures reads { (files : Files) (job : AuxJob) → ReadsAs result (journal.old, journal.new) (L.received log.old, L.received log.new)
+    ensures reads { (files : Files) (job : AuxJob) → ReadsAs result (counts_at journal.old, counts_at journal.new) (journal.old.sink.received, journal.new.sink.received)
         (style_read files job name.now None) }
     ensures fits { IfOk result (λ read. StyleFits read) }
-    ensures counts { CountsOfOne result (L.failures log.old, L.failures log.new) }
+    ensures counts { CountsOfTelling result journal.old journal.new }
 {
     let line = no_style_line(alloc, name)?;
-    journal.tell(&line, log)?;
+    journal.tell(&line)?;
     Ok(FilesRead::Ends(End::Finished))
 }
 
@@ -98,18 +96,17 @@ fn find_style<'a, F: Finder, L: Sink>(
     finder: &mut F,
     job: &'a AuxJob,
     name: &'a [u8],
-    journal: &mut Journal,
-    log: &mut L,
+    journal: &mut Journal<'_, L>,
 ) -> Result<FilesRead<'a>, Fault>
     ensures reads { ByAnswers (F.content finder.old) (λ asked. AreAmong asked (name.entry.now ∷ job.entry.now.databases)) (λ files.
-        ReadsAs result (journal.old, journal.new) (L.received log.old, L.received log.new) (style_read files job.entry.now name.entry.now (file_at files name.entry.now))) }
+        ReadsAs result (counts_at journal.old, counts_at journal.new) (journal.old.sink.received, journal.new.sink.received) (style_read files job.entry.now name.entry.now (file_at files name.entry.now))) }
     ensures fits { IfOk result (λ read. StyleFits read) }
     ensures stays { F.content finder.new ≡ F.content finder.old }
-    ensures counts { CountsOfTwo result (F.failures finder.old, F.failures finder.new) (L.failures log.old, L.failures log.new) }
+    ensures counts { CountsOfReading result (F.failures finder.old, F.failures finder.new) journal.old journal.new }
 {
     match fetch_file(alloc, finder, name)? {
-        Some(style) => tell_style(alloc, finder, job, style, journal, log),
-        None => without_style(alloc, name, journal, log),
+        Some(style) => tell_style(alloc, finder, job, style, journal),
+        None => without_style(alloc, name, journal),
     }
 }
 
@@ -118,17 +115,16 @@ fn after_job<'a, F: Finder, L: Sink>(
     alloc: Global,
     finder: &mut F,
     job: &'a AuxJob,
-    journal: &mut Journal,
-    log: &mut L,
+    journal: &mut Journal<'_, L>,
 ) -> Result<FilesRead<'a>, Fault>
     ensures reads { ByAnswers (F.content finder.old) (λ asked. AreAmong asked (names_in job.entry.now)) (λ files.
-        ReadsAs result (journal.old, journal.new) (L.received log.old, L.received log.new) (after_job files job.entry.now job.entry.now.ending)) }
+        ReadsAs result (counts_at journal.old, counts_at journal.new) (journal.old.sink.received, journal.new.sink.received) (after_job files job.entry.now job.entry.now.ending)) }
     ensures fits { IfOk result (λ read. StyleFits read) }
     ensures stays { F.content finder.new ≡ F.content finder.old }
-    ensures counts { CountsOfTwo result (F.failures finder.old, F.failures finder.new) (L.failures log.old, L.failures log.new) }
+    ensures counts { CountsOfReading result (F.failures finder.old, F.failures finder.new) journal.old journal.new }
 {
     match job.end() {
-        AuxEnd::Whole => named_style(alloc, finder, job, journal, log),
+        AuxEnd::Whole => named_style(alloc, finder, job, journal),
         AuxEnd::TooManyOpen => Ok(FilesRead::Ends(End::Limit(Limit::Files))),
         AuxEnd::TopMissing => Ok(FilesRead::Ends(End::NoTopFile)),
         AuxEnd::FileLimit => Ok(FilesRead::Ends(End::Limit(Limit::File))),
@@ -140,17 +136,16 @@ fn named_style<'a, F: Finder, L: Sink>(
     alloc: Global,
     finder: &mut F,
     job: &'a AuxJob,
-    journal: &mut Journal,
-    log: &mut L,
+    journal: &mut Journal<'_, L>,
 ) -> Result<FilesRead<'a>, Fault>
     ensures reads { ByAnswers (F.content finder.old) (λ asked. AreAmong asked (names_in job.entry.now)) (λ files.
-        ReadsAs result (journal.old, journal.new) (L.received log.old, L.received log.new) (style_named files job.entry.now job.entry.now.style)) }
+        ReadsAs result (counts_at journal.old, counts_at journal.new) (journal.old.sink.received, journal.new.sink.received) (style_named files job.entry.now job.entry.now.style)) }
     ensures fits { IfOk result (λ read. StyleFits read) }
     ensures stays { F.content finder.new ≡ F.content finder.old }
-    ensures counts { CountsOfTwo result (F.failures finder.old, F.failures finder.new) (L.failures log.old, L.failures log.new) }
+    ensures counts { CountsOfReading result (F.failures finder.old, F.failures finder.new) journal.old journal.new }
 {
     match job.style() {
-        Some(name) => find_style(alloc, finder, job, name, journal, log),
+        Some(name) => find_style(alloc, finder, job, name, journal),
         None => Ok(FilesRead::Ends(End::Finished)),
     }
 }
@@ -161,17 +156,16 @@ pub fn read_files<'a, F: Finder, L: Sink>(
     alloc: Global,
     finder: &mut F,
     job: &'a AuxJob,
-    journal: &mut Journal,
-    log: &mut L,
+    journal: &mut Journal<'_, L>,
 ) -> Result<FilesRead<'a>, Fault>
-    ensures reads { IfSome (F.content finder.old) (λ files. ReadsAs result (journal.old, journal.new) (L.received log.old, L.received log.new)
+    ensures reads { IfSome (F.content finder.old) (λ files. ReadsAs result (counts_at journal.old, counts_at journal.new) (journal.old.sink.received, journal.new.sink.received)
         (files_read files job.entry.now)) }
     ensures answered { ByAnswers (F.content finder.old) (λ asked. AreAmong asked (names_in job.entry.now)) (λ files.
-        ReadsAs result (journal.old, journal.new) (L.received log.old, L.received log.new) (files_read files job.entry.now)) }
+        ReadsAs result (counts_at journal.old, counts_at journal.new) (journal.old.sink.received, journal.new.sink.received) (files_read files job.entry.now)) }
     ensures fits { IfOk result (λ read. StyleFits read) }
     ensures stays { F.content finder.new ≡ F.content finder.old }
-    ensures counts { CountsOfTwo result (F.failures finder.old, F.failures finder.new) (L.failures log.old, L.failures log.new) }
+    ensures counts { CountsOfReading result (F.failures finder.old, F.failures finder.new) journal.old journal.new }
 {
-    journal.tell_all(job.log(), log)?;
-    after_job(alloc, finder, job, journal, log)
+    tell_all(job.log(), journal)?;
+    after_job(alloc, finder, job, journal)
 }

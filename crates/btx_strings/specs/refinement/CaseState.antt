@@ -5,8 +5,14 @@ use Rattle.std.specs.Str.{bytes_eq}
 use Rattle.btx_text.specs.language.Elements.{group_len, open_brace, backslash}
 use Rattle.btx_strings.specs.language.Case.{is_white_text, is_title, case_of, cased_special}
 use Rattle.btx_strings.specs.declared.conversions.Conversion.{Conversion}
+use Rattle.btx_strings.specs.declared.conversions.Conversion.TheVariants.{Title}
 use Rattle.btx_strings.specs.declared.case_change.Place.{Place}
 use Rattle.btx_strings.specs.declared.case_change.Place.TheVariants.{First, Colon, ColonAndWhite, Inside}
+
+-- what is said to stand before a string: what begins there matters to a title alone
+abbrev pub first_place : Conversion → Place
+first_place Title = First
+first_place _ = Inside
 
 -- a colon at depth 0 stands before, with nothing but white after it
 abbrev pub is_after_colon : Place → Bool

@@ -1,15 +1,16 @@
--- What is left of a group, as the code goes by groups and by what stands before them.
-use Rattle.std.specs.Prelude.{ℕ, Bool, ◌==◌, not, nat_eq, List, [], ◌∷◌, if◌then◌else◌}
+-- What is left of a group, as the code goes by groups and by the runs of bytes before them that stay.
+use Rattle.std.specs.Prelude.{ℕ, Bool, ◌==◌, ◌||◌, nat_eq, nat_le, List, [], ◌∷◌, if◌then◌else◌}
 use Rattle.std.specs.List.{flat_map, starts_with}
+use Rattle.std.specs.Char.{is_ascii_digit, is_ascii_lowercase, is_ascii_uppercase}
 use Rattle.btx_text.specs.language.Elements.{open_brace, backslash}
 use Rattle.btx_strings.specs.language.Controls.{glyphs_of}
 use Rattle.btx_strings.specs.language.Purify.{purified_byte, purified_glyph}
 
--- a byte that begins no group
-abbrev pub begins_no_group : ℕ → Bool
-begins_no_group b = not (b == open_brace)
+-- a byte that `purify$` leaves as it is outside special characters: a space, a letter or a digit
+abbrev pub stays : ℕ → Bool
+stays b = is_ascii_lowercase b || b == 32 || is_ascii_uppercase b || is_ascii_digit b || nat_le 128 b
 
--- what `purify$` leaves of a group in braces at depth 0. If it is no special character, each of its bytes leaves what it does outside of groups
+-- what `purify$` leaves of a group in braces at depth 0, or of another byte. If it is no special character, each of its bytes leaves what it does outside of groups
 abbrev pub purified_group : List ℕ → List ℕ
 purified_group group =
     if starts_with nat_eq group (open_brace ∷ backslash ∷ []) then flat_map purified_glyph (glyphs_of group)

@@ -1,5 +1,5 @@
 use Rattle.std.proofs.Common.{◌≡◌, ◌++◌, drop, map}
-use Rattle.btx_bib.specs.refinement.Values.{place_in}
+use Rattle.btx_bib.specs.refinement.ShortPlaces.{place_in}
 use Rattle.btx_bib.proofs.places.lengthened.Given as goal
 
 abbrev pub invariant-loop-place : goal.invariant-loop-place

@@ -1,32 +1,60 @@
-use Rattle.std.proofs.Common.{◌≡◌, ◌∙◌, ap}
+use Rattle.std.proofs.Common.{rules, ◌≡◌, ◌∙◌, ap, subst, []}
 use Rattle.btx_aux.proofs.AnswerLemmas.{by_map}
+use Rattle.btx_machine.specs.language.KeepingStep.{AtFault, Completes}
 use Rattle.btx_machine.specs.language.Reports.{log_counts}
 use Rattle.btx_machine.proofs.ComesLemmas.{err_map, ok_map, on_err}
-use Rattle.btx_run.specs.language.Product.{product_of_files, counts_in}
-use Rattle.btx_run.proofs.ProductLemmas.{completes_reading, fails_in_lines, fails_reading}
-use Rattle.btx_run.proofs.runner.run_job.Goals as goal
+use Rattle.btx_machine.proofs.EdgeLemmas.{ends_as}
+use Rattle.btx_run.specs.language.Files.Counts.{counts, counts_of}
+use Rattle.btx_run.specs.language.Product.{product_of_files, product_of_reading, counts_in}
+use Rattle.btx_run.specs.refinement.Files.Counts.{counts_at}
 use Rattle.btx_run.specs.refinement.Files.Readings.{files_read}
+use Rattle.btx_run.proofs.ProductLemmas.{behind_ends, completes_reading, fails_in_lines, fails_reading}
+use Rattle.btx_run.proofs.runner.run_job.Goals as goal
 
 pub returns-in_err-read-clause-err : goal.returns-in_err-read-clause-err
 returns-in_err-read-clause-err g c =
+    let log = g.L.Sink in
+    let bbl = g.W.Sink in
+    let at_end = ends_as log.received _ c.into_sink-log.result _ c.read_files-read.new.journal.sink.received
+    (c.into_sink-log.ensures.name ∙ c.read_files-read.ensures.counts.0 ∙ c.new-journal.ensures.name) c.into_sink-log.ensures.received (search rules) in
     on_err c.from_residual.result (by_map c.in_err-read.ensures.answered (λ names among. among)
-    (λ files part. fails_in_lines (files_read files c.args.job.now).told (g.W.Sink.received c.args.bbl.now) (g.L.Sink.received c.args.log.now) (g.L.Sink.received c.read_files.new.log)
-    (λ steps. product_of_files c.args.job.now (files_read files c.args.job.now).gives c.args.options.now (counts_in (files_read files c.args.job.now).told) steps) c.args.options.now.budget part))
+    (λ files part. behind_ends (λ l m. AtFault (bbl.received c.args.bbl.now, l) (bbl.received c.args.bbl.now, m) (product_of_reading c.args.job.now (files_read files c.args.job.now) c.args.options.now) c.args.options.now.budget)
+    _ _ _ _ c.new-journal.ensures.received at_end
+    (fails_in_lines (files_read files c.args.job.now).told (bbl.received c.args.bbl.now) c.new-journal.result.sink.received c.read_files-read.new.journal.sink.received
+    (λ steps. product_of_files c.args.job.now (files_read files c.args.job.now).gives c.args.options.now (counts_in (files_read files c.args.job.now).told) steps) c.args.options.now.budget part)))
 
 pub returns-clause-ok : goal.returns-clause-ok
 returns-clause-ok g c =
-    let told : log_counts c.warnings.result c.errors.result ≡ log_counts c.read_files.new.journal.warnings c.read_files.new.journal.errors =
-    ap (λ warnings. log_counts warnings c.errors.result) c.warnings.ensures ∙ ap (log_counts c.read_files.new.journal.warnings) c.errors.ensures in
+    let log = g.L.Sink in
+    let bbl = g.W.Sink in
+    let told : c.told-told.result ≡ log_counts c.read_files-read.new.journal.warnings c.read_files-read.new.journal.errors =
+    ap (λ warnings. log_counts warnings c.told-told.result.errors) c.told-told.ensures.warnings ∙ ap (log_counts c.read_files-read.new.journal.warnings) c.told-told.ensures.errors in
+    let new : counts_at c.new-journal.result ≡ counts_of [] =
+    ap (λ warnings. counts warnings c.new-journal.result.errors) c.new-journal.ensures.warnings ∙ ap (counts 0) c.new-journal.ensures.errors in
     ok_map (λ report completes. by_map c.in_ok-read.ensures.answered (λ names among. among)
-    (λ files read. completes_reading c.args.job.now c.args.options.now c.in_ok-read.read (log_counts c.warnings.result c.errors.result) c.new-journal.result c.read_files.new.journal
-    (g.W.Sink.received c.args.bbl.now) (g.W.Sink.received c.after_files.new.bbl) (g.L.Sink.received c.args.log.now) (g.L.Sink.received c.read_files.new.log) (g.L.Sink.received c.after_files.new.log)
-    told c.new-journal.ensures report c.args.options.now.budget (files_read files c.args.job.now) read completes)) c.after_files.result c.after_files.ensures.ok
+    (λ files read. behind_ends (λ l n. Completes report (bbl.received c.args.bbl.now, l) (bbl.received c.after_files.new.bbl, n) (product_of_reading c.args.job.now (files_read files c.args.job.now) c.args.options.now c.args.options.now.budget))
+    _ _ _ _ c.new-journal.ensures.received (search rules)
+    (completes_reading c.args.job.now c.args.options.now c.in_ok-read.field-0 c.told-told.result (counts_at c.new-journal.result) (counts_at c.read_files-read.new.journal)
+    (bbl.received c.args.bbl.now) (bbl.received c.after_files.new.bbl) c.new-journal.result.sink.received c.read_files-read.new.journal.sink.received (log.received c.after_files.new.log)
+    told new report c.args.options.now.budget (files_read files c.args.job.now) read
+    (subst (λ m. Completes report (bbl.received c.args.bbl.now, m) (bbl.received c.after_files.new.bbl, log.received c.after_files.new.log)
+    (product_of_files c.args.job.now c.in_ok-read.field-0 c.args.options.now c.told-told.result c.args.options.now.budget)) c.into_sink-log.ensures.received completes))))
+    c.after_files.result c.after_files.ensures.ok
 
 pub returns-clause-err : goal.returns-clause-err
 returns-clause-err g c =
-    let told : log_counts c.warnings.result c.errors.result ≡ log_counts c.read_files.new.journal.warnings c.read_files.new.journal.errors =
-    ap (λ warnings. log_counts warnings c.errors.result) c.warnings.ensures ∙ ap (log_counts c.read_files.new.journal.warnings) c.errors.ensures in
+    let log = g.L.Sink in
+    let bbl = g.W.Sink in
+    let told : c.told-told.result ≡ log_counts c.read_files-read.new.journal.warnings c.read_files-read.new.journal.errors =
+    ap (λ warnings. log_counts warnings c.told-told.result.errors) c.told-told.ensures.warnings ∙ ap (log_counts c.read_files-read.new.journal.warnings) c.told-told.ensures.errors in
+    let new : counts_at c.new-journal.result ≡ counts_of [] =
+    ap (λ warnings. counts warnings c.new-journal.result.errors) c.new-journal.ensures.warnings ∙ ap (counts 0) c.new-journal.ensures.errors in
     err_map (λ fault. by_map c.in_ok-read.ensures.answered (λ names among. among)
-    (λ files read. fails_reading c.args.job.now c.args.options.now c.in_ok-read.read (log_counts c.warnings.result c.errors.result) c.new-journal.result c.read_files.new.journal
-    (g.W.Sink.received c.args.bbl.now) (g.W.Sink.received c.after_files.new.bbl) (g.L.Sink.received c.args.log.now) (g.L.Sink.received c.read_files.new.log) (g.L.Sink.received c.after_files.new.log)
-    told c.new-journal.ensures c.args.options.now.budget (files_read files c.args.job.now) read fault)) c.after_files.result c.after_files.ensures.err
+    (λ files read. behind_ends (λ l n. AtFault (bbl.received c.args.bbl.now, l) (bbl.received c.after_files.new.bbl, n) (product_of_reading c.args.job.now (files_read files c.args.job.now) c.args.options.now) c.args.options.now.budget)
+    _ _ _ _ c.new-journal.ensures.received (search rules)
+    (fails_reading c.args.job.now c.args.options.now c.in_ok-read.field-0 c.told-told.result (counts_at c.new-journal.result) (counts_at c.read_files-read.new.journal)
+    (bbl.received c.args.bbl.now) (bbl.received c.after_files.new.bbl) c.new-journal.result.sink.received c.read_files-read.new.journal.sink.received (log.received c.after_files.new.log)
+    told new c.args.options.now.budget (files_read files c.args.job.now) read
+    (subst (λ m. AtFault (bbl.received c.args.bbl.now, m) (bbl.received c.after_files.new.bbl, log.received c.after_files.new.log)
+    (product_of_files c.args.job.now c.in_ok-read.field-0 c.args.options.now c.told-told.result) c.args.options.now.budget) c.into_sink-log.ensures.received fault))))
+    c.after_files.result c.after_files.ensures.err

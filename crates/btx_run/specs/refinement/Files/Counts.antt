@@ -1,11 +1,7 @@
--- Counting lines of the log one by one.
-use Rattle.std.specs.Prelude.{◌+◌}
-use Rattle.btx_text.specs.declared.log_line.LineKind.{LineKind}
-use Rattle.btx_text.specs.declared.log_line.LineKind.TheVariants.{Plain, Warning, Error}
-use Rattle.btx_run.specs.language.Files.Counts.{Counts, counts, at_most_greatest}
+-- The counts of a log that is being written.
+use Rattle.btx_machine.specs.refinement.Outputs.{Journal}
+use Rattle.btx_run.specs.language.Files.Counts.{Counts, counts}
 
--- the counts with a further line of this kind
-abbrev pub counts_with : LineKind → Counts → Counts
-counts_with Plain before = before
-counts_with Warning before = counts (at_most_greatest (before.warnings + 1)) before.errors
-counts_with Error before = counts before.warnings (at_most_greatest (before.errors + 1))
+-- how many of its lines so far are warnings, and how many errors
+abbrev pub counts_at : Journal → Counts
+counts_at journal = counts journal.warnings journal.errors

@@ -5,12 +5,12 @@ use Rattle.btx_strings.proofs.purified.purify_into.Goals as goal
 pub loop-rest-smaller : goal.loop-rest-smaller
 loop-rest-smaller c =
     let some : 0 < length c.loop-rest.rest.now = search rules in
-    less_is_left c.loop-rest.rest.now some c.in_ok-len.ensures.len c.split_at.ensures.back c.group_len.ensures c.split_at-in-loop-rest.ensures.back
+    less_is_left c.loop-rest.rest.now some c.run_len.ensures c.split_at.ensures.back c.group_len.ensures c.split_at-in-loop-rest.ensures.back
 
 pub loop-rest-preserved : goal.loop-rest-preserved
 loop-rest-preserved c =
     next_group c.loop-rest.rest.now c.loop-rest.text.items
-    c.loop-rest.invariant c.in_ok-len.ensures.len c.in_ok-len.ensures.text c.split_at.ensures.back c.group_len.ensures
+    c.loop-rest.invariant c.run_len.ensures c.split_at.ensures.front c.in_ok-extend_from_slice.ensures.items c.split_at.ensures.back c.group_len.ensures
     c.split_at-in-loop-rest.ensures.front c.split_at-in-loop-rest.ensures.back c.in_ok-push_group.ensures
 
 pub returns : goal.returns

@@ -3,6 +3,7 @@ use Rattle.std.proofs.lemmas.List.{take_all}
 use Rattle.btx_aux.specs.refinement.Answers.{ByAnswers}
 use Rattle.btx_aux.specs.refinement.Entries.{Bytes, texts_of}
 use Rattle.btx_aux.proofs.AnswerLemmas.{by_both, by_none}
+use Rattle.btx_run.specs.refinement.Files.Counts.{counts_at}
 use Rattle.btx_run.specs.refinement.Files.Asked.{AreAmong}
 use Rattle.btx_run.specs.language.Files.Readings.{databases_read}
 use Rattle.btx_run.specs.refinement.Files.Readings.{IsRead}
@@ -20,9 +21,8 @@ returns-in_err-add_database-clause-reads g c =
 pub returns-clause-reads : goal.returns-clause-reads
 returns-clause-reads g c =
     let finder = g.F.Finder in
-    let sink = g.L.Sink in
     subst (λ (names : List Bytes). ByAnswers (finder.content c.args.finder.now) (λ asked. AreAmong asked (texts_of names)) (λ files.
-    IsRead c.loop-name.found (c.args.journal.now, c.loop-name.journal) (sink.received c.args.log.now, sink.received c.loop-name.log) (databases_read files (texts_of names))))
+    IsRead c.loop-name.found (counts_at c.args.journal.now, counts_at c.loop-name.journal) (c.args.journal.now.sink.received, c.loop-name.journal.sink.received) (databases_read files (texts_of names))))
     (take_all c.loop-name.name-index c.args.names.now c.loop-name-test.false) c.loop-name.invariant.read
 
 pub loop-name-init : goal.loop-name-init
@@ -30,6 +30,7 @@ loop-name-init g c = record {
   read = by_none (among-none []) (λ files. no_database files c.new-found.result _ _ c.new-found.ensures);
   stays = refl;
   fetches = refl;
+  sink = refl;
   writes = refl;
 }
 
@@ -41,5 +42,6 @@ loop-name-preserved g c = record {
       (λ files read added. databases_more files c.args.names.now c.loop-name.name-index c.name-item.result c.as_slice.result.now _ _ _ _ _ _ _ _ c.loop-name-test.true c.name-item.is c.as_slice.ensures.value read added);
   stays = c.add_database.ensures.stays ∙ c.loop-name.invariant.stays;
   fetches = search rules;
+  sink = c.add_database.ensures.counts.0 ∙ c.loop-name.invariant.sink;
   writes = search rules;
 }

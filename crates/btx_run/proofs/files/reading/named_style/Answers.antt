@@ -1,5 +1,6 @@
 use Rattle.std.proofs.Common.{rules, ◌≡◌, None, Some}
 use Rattle.btx_aux.proofs.AnswerLemmas.{by_map, by_none}
+use Rattle.btx_run.specs.refinement.Files.Counts.{counts_at}
 use Rattle.btx_run.proofs.AskedLemmas.{among-named, among-none}
 use Rattle.btx_run.proofs.ReadingLemmas.{reads_is, style_is_named, style_unnamed}
 use Rattle.btx_run.specs.refinement.Files.Asked.{names_in}
@@ -7,13 +8,12 @@ use Rattle.btx_run.proofs.files.reading.named_style.Goals as goal
 
 pub returns-in-Some-clause-reads : goal.returns-in-Some-clause-reads
 returns-in-Some-clause-reads g c =
-    let sink = g.L.Sink in
     let is : c.args.job.now.style ≡ Some c.in-Some.name.now = search (rules, c.in-Some.ensures) in
     by_map c.find_style.ensures.reads (among-named c.args.job.now c.in-Some.name.now is)
-    (λ files read. reads_is c.find_style.result (c.args.journal.now, c.find_style.new.journal) (sink.received c.args.log.now, sink.received c.find_style.new.log) _ _
+    (λ files read. reads_is c.find_style.result (counts_at c.args.journal.now, counts_at c.find_style.new.journal) (c.args.journal.now.sink.received, c.find_style.new.journal.sink.received) _ _
     (style_is_named files c.args.job.now c.args.job.now.style c.in-Some.name.now is) read)
 
 pub returns-in-None-clause-reads : goal.returns-in-None-clause-reads
 returns-in-None-clause-reads g c =
     let is : c.args.job.now.style ≡ None = search (rules, c.in-None.ensures) in
-    by_none (among-none (names_in c.args.job.now)) (λ files. style_unnamed files c.args.job.now c.args.job.now.style c.args.journal.now (g.L.Sink.received c.args.log.now) is)
+    by_none (among-none (names_in c.args.job.now)) (λ files. style_unnamed files c.args.job.now c.args.job.now.style (counts_at c.args.journal.now) c.args.journal.now.sink.received is)

@@ -1,6 +1,7 @@
 use Rattle.std.proofs.Common.{rules, subst}
 use Rattle.btx_aux.proofs.AnswerLemmas.{by_map, by_none, shown_by}
 use Rattle.btx_out.specs.language.Pieces.{AppendsBeginning}
+use Rattle.btx_run.specs.refinement.Files.Counts.{counts_at}
 use Rattle.btx_run.specs.refinement.Files.Asked.{names_in}
 use Rattle.btx_run.specs.language.Files.Telling.{bytes_of_lines}
 use Rattle.btx_run.specs.refinement.Files.Telling.{Tells}
@@ -10,9 +11,8 @@ use Rattle.btx_run.proofs.files.reading.read_files.Goals as goal
 
 pub returns-in_err-tell_all-clause-answered : goal.returns-in_err-tell_all-clause-answered
 returns-in_err-tell_all-clause-answered g c =
-    let sink = g.L.Sink in
-    let part : AppendsBeginning (sink.received c.args.log.now) (sink.received c.tell_all.new.log) (bytes_of_lines c.args.job.now.log) =
-    subst (λ lines. AppendsBeginning (sink.received c.args.log.now) (sink.received c.tell_all.new.log) (bytes_of_lines lines)) c.log.ensures c.in_err-tell_all.ensures.err in
+    let part : AppendsBeginning c.args.journal.now.sink.received c.tell_all.new.journal.sink.received (bytes_of_lines c.args.job.now.log) =
+    subst (λ lines. AppendsBeginning c.args.journal.now.sink.received c.tell_all.new.journal.sink.received (bytes_of_lines lines)) c.log.ensures c.in_err-tell_all.ensures.err in
     by_none (among-none (names_in c.args.job.now)) (λ files. reads_part c.from_residual.result _ _ _ _ c.args.job.now.log _ (search rules) part)
 
 pub returns-in_err-tell_all-clause-reads : goal.returns-in_err-tell_all-clause-reads
@@ -20,11 +20,10 @@ returns-in_err-tell_all-clause-reads g c = shown_by (returns-in_err-tell_all-cla
 
 pub returns-clause-answered : goal.returns-clause-answered
 returns-clause-answered g c =
-    let sink = g.L.Sink in
-    let told : Tells (c.args.journal.now, c.tell_all.new.self) (sink.received c.args.log.now, sink.received c.tell_all.new.log) c.args.job.now.log =
-    subst (λ lines. Tells (c.args.journal.now, c.tell_all.new.self) (sink.received c.args.log.now, sink.received c.tell_all.new.log) lines) c.log.ensures c.in_ok-tell_all.ensures.ok in
+    let told : Tells (counts_at c.args.journal.now, counts_at c.tell_all.new.journal) (c.args.journal.now.sink.received, c.tell_all.new.journal.sink.received) c.args.job.now.log =
+    subst (λ lines. Tells (counts_at c.args.journal.now, counts_at c.tell_all.new.journal) (c.args.journal.now.sink.received, c.tell_all.new.journal.sink.received) lines) c.log.ensures c.in_ok-tell_all.ensures.ok in
     by_map c.after_job.ensures.reads (λ names among. among)
-    (λ files read. reads_behind c.after_job.result c.args.journal.now c.tell_all.new.self c.after_job.new.journal (sink.received c.args.log.now) (sink.received c.tell_all.new.log) (sink.received c.after_job.new.log)
+    (λ files read. reads_behind c.after_job.result (counts_at c.args.journal.now) (counts_at c.tell_all.new.journal) (counts_at c.after_job.new.journal) c.args.journal.now.sink.received c.tell_all.new.journal.sink.received c.after_job.new.journal.sink.received
     c.args.job.now.log _ told read)
 
 pub returns-clause-reads : goal.returns-clause-reads

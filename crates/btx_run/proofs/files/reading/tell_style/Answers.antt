@@ -1,11 +1,13 @@
 use Rattle.std.proofs.Common.{rules, ◌≡◌, ◌∙◌, ◌∷◌, [], ap, subst}
 use Rattle.btx_aux.proofs.AnswerLemmas.{by_map, by_none}
 use Rattle.btx_out.specs.language.Pieces.{AppendsBeginning}
+use Rattle.btx_run.specs.refinement.Files.Counts.{counts_at}
 use Rattle.btx_run.specs.language.Files.Telling.{bytes_of_lines}
 use Rattle.btx_run.specs.refinement.Files.Telling.{Tells}
 use Rattle.btx_run.specs.language.Files.Lines.{style_line}
 use Rattle.btx_run.proofs.AskedLemmas.{among-none}
 use Rattle.btx_run.proofs.ReadingLemmas.{reads_behind, reads_is, reads_nothing, reads_part, style_is_read}
+use Rattle.btx_run.proofs.TellingLemmas.{line_begun, tells_line}
 use Rattle.btx_run.proofs.files.reading.tell_style.Goals as goal
 
 pub returns-in_err-line-clause-reads : goal.returns-in_err-line-clause-reads
@@ -14,20 +16,20 @@ returns-in_err-line-clause-reads g c = by_none (among-none c.args.job.now.databa
 pub returns-in_err-tell-clause-reads : goal.returns-in_err-tell-clause-reads
 returns-in_err-tell-clause-reads g c =
     let line : c.in_ok-line.line ≡ style_line c.args.style.name = c.in_ok-line.ensures ∙ ap style_line c.name.ensures in
-    let part : AppendsBeginning (g.L.Sink.received c.args.log.now) (g.L.Sink.received c.tell.new.log) (bytes_of_lines (style_line c.args.style.name ∷ [])) =
-    subst (λ line. AppendsBeginning (g.L.Sink.received c.args.log.now) (g.L.Sink.received c.tell.new.log) (bytes_of_lines (line ∷ []))) line c.in_err-tell.ensures.err in
+    let part : AppendsBeginning c.args.journal.now.sink.received c.tell.new.self.sink.received (bytes_of_lines (style_line c.args.style.name ∷ [])) =
+    subst (λ line. AppendsBeginning c.args.journal.now.sink.received c.tell.new.self.sink.received (bytes_of_lines (line ∷ []))) line (line_begun c.in_ok-line.line _ _ c.in_err-tell.ensures.err) in
     by_none (among-none c.args.job.now.databases)
     (λ files. reads_is c.from_residual-in_err-tell.result _ _ _ _ (style_is_read files c.args.job.now c.args.style.name c.args.style)
     (reads_part c.from_residual-in_err-tell.result _ _ _ _ (style_line c.args.style.name ∷ []) _ (search rules) part))
 
 pub returns-clause-reads : goal.returns-clause-reads
 returns-clause-reads g c =
-    let sink = g.L.Sink in
     let line : c.in_ok-line.line ≡ style_line c.args.style.name = c.in_ok-line.ensures ∙ ap style_line c.name.ensures in
-    let told : Tells (c.args.journal.now, c.tell.new.self) (sink.received c.args.log.now, sink.received c.tell.new.log) (style_line c.args.style.name ∷ []) =
-    subst (λ line. Tells (c.args.journal.now, c.tell.new.self) (sink.received c.args.log.now, sink.received c.tell.new.log) (line ∷ [])) line c.in_ok-tell.ensures.ok in
+    let told : Tells (counts_at c.args.journal.now, counts_at c.tell.new.self) (c.args.journal.now.sink.received, c.tell.new.self.sink.received) (style_line c.args.style.name ∷ []) =
+    subst (λ line. Tells (counts_at c.args.journal.now, counts_at c.tell.new.self) (c.args.journal.now.sink.received, c.tell.new.self.sink.received) (line ∷ [])) line
+    (tells_line c.in_ok-line.line c.args.journal.now c.tell.new.self c.in_ok-tell.ensures.ok c.tell.ensures.warnings c.tell.ensures.errors) in
     by_map c.with_style.ensures.reads (λ names among. among)
-    (λ files read. reads_is c.with_style.result (c.args.journal.now, c.with_style.new.journal) (sink.received c.args.log.now, sink.received c.with_style.new.log) _ _
+    (λ files read. reads_is c.with_style.result (counts_at c.args.journal.now, counts_at c.with_style.new.journal) (c.args.journal.now.sink.received, c.with_style.new.journal.sink.received) _ _
     (style_is_read files c.args.job.now c.args.style.name c.args.style)
-    (reads_behind c.with_style.result c.args.journal.now c.tell.new.self c.with_style.new.journal (sink.received c.args.log.now) (sink.received c.tell.new.log) (sink.received c.with_style.new.log)
+    (reads_behind c.with_style.result (counts_at c.args.journal.now) (counts_at c.tell.new.self) (counts_at c.with_style.new.journal) c.args.journal.now.sink.received c.tell.new.self.sink.received c.with_style.new.journal.sink.received
     (style_line c.args.style.name ∷ []) _ told read))

@@ -3,7 +3,7 @@ use Rattle.std.specs.Str.{bytes_eq}
 use Rattle.std.specs.List.{list_any}
 use Rattle.btx_aux.specs.refinement.Entries.{texts_of}
 use Rattle.btx_bib.proofs.TableNameLemmas.{any-texts, texts_of-push}
-use Rattle.btx_bib.proofs.names.Names.add.Goals as goal
+use Rattle.btx_bib.proofs.names.MoreNames.add.Goals as goal
 
 pub returns : goal.returns
 returns c =

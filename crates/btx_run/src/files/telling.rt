@@ -1,0 +1,23 @@
+//! Lines that are logged one after another.
+ghost use Rattle.std.specs.Prelude.{OnErr, OnOk};
+ghost use Rattle.btx_out.specs.language.Pieces.{AppendsBeginning};
+ghost use Rattle.btx_run.specs.language.Files.Telling.{bytes_of_lines};
+ghost use Rattle.btx_run.specs.refinement.Files.Counts.{counts_at};
+ghost use Rattle.btx_run.specs.refinement.Files.Faults.{CountsOfTelling};
+ghost use Rattle.btx_run.specs.refinement.Files.Telling.{Tells};
+
+use btx_machine::Journal;
+use btx_out::Sink;
+use btx_text::{Fault, LogLine};
+
+/// Logs these lines. At a fault the log received a beginning of them.
+pub fn tell_all<L: Sink>(lines: &[LogLine], journal: &mut Journal<'_, L>) -> Result<(), Fault>
+    ensures ok { OnOk result (Tells (counts_at journal.old, counts_at journal.new) (journal.old.sink.received, journal.new.sink.received) lines.now) }
+    ensures err { OnErr result (AppendsBeginning journal.old.sink.received journal.new.sink.received (bytes_of_lines lines.now)) }
+    ensures counts { CountsOfTelling result journal.old journal.new }
+{
+    for line in lines {
+        journal.tell(line)?;
+    }
+    Ok(())
+}
