@@ -1,6 +1,7 @@
 """Weaves the book as one Markdown file, which pandoc turns into a PDF; links stand below each definition, since code has none."""
 
 import re
+import textwrap
 
 import chapters
 import glossary
@@ -20,10 +21,15 @@ mainfont: "DejaVu Serif"
 monofont: "DejaVu Sans Mono"
 monofontoptions: "Scale=0.8"
 colorlinks: true
+header-includes: |
+  \\sloppy
 toc: true
 toc-depth: 2
 ---
 """
+
+# How many characters of code stand side by side on a page of these measures.
+PAGE = 98
 
 
 def anchor(definition):
@@ -35,8 +41,15 @@ def references(found, most=8):
     return ", ".join(f"[{it.name.replace('_', chr(92) + '_')}](#{anchor(it)}) {it.number}" for it in found[:most]) + more
 
 
+def on_page(line):
+    """A line of code as the lines that it takes on a page: what follows its first one is indented, and a comment stays one."""
+    pad = re.match(r"\s*", line)[0]
+    after = f"{pad}-- " if line.startswith(f"{pad}-- ") else f"{pad}    "
+    return textwrap.wrap(line, PAGE, subsequent_indent=after, break_on_hyphens=False) or [line]
+
+
 def code(definition):
-    return "```\n" + "\n".join(layout.shown(definition)) + "\n```"
+    return "```\n" + "\n".join(part for line in layout.shown(definition) for part in on_page(line)) + "\n```"
 
 
 def definition_markdown(it):
@@ -113,7 +126,14 @@ def notation_markdown(blocks, by_id, found, sections):
     return "\n".join(out)
 
 
+def without_mathematics(text):
+    r"""A `$` outside code as `\$`, since pandoc takes two of them in a paragraph for the ends of a formula."""
+    pieces = re.split(r"(?ms)(^```.*?^```$|`[^`\n]*`)", text)
+    return "".join(piece if number % 2 else piece.replace("$", r"\$") for number, piece in enumerate(pieces))
+
+
 def book_markdown(book):
     """The whole book."""
     parts = [HEAD, book.summary + "\n", notation_markdown(book.notation, book.by_id, book.found, book.sections)]
-    return "\n".join(parts + [chapter_markdown(chapter, book.examples, book.by_id) for chapter in book.chapters] + [rules.as_markdown()])
+    parts += [chapter_markdown(chapter, book.examples, book.by_id) for chapter in book.chapters] + [rules.as_markdown()]
+    return without_mathematics("\n".join(parts))
