@@ -214,7 +214,7 @@ def changes():
 def functions_of(crate):
     """How many functions stand in a crate's code: without those of its tests, unless the whole crate is tests."""
     texts = {path: path.read_text(encoding="utf-8") for path in (ROOT / "crates" / crate / "src").rglob("*.rt")}
-    if not crate.endswith("_trials"):
+    if not crate.endswith("_tests"):
         tests = {name for text in texts.values() for name in TEST_MODULE.findall(text)}
         texts = {path: TESTS_IN_PLACE.split(text)[0] for path, text in texts.items() if path.stem not in tests}
     return sum(len(FUNCTION.findall(text)) for text in texts.values())
@@ -243,7 +243,7 @@ def missing_words():
 
 def lines_of(folder, ending):
     """How many lines the files of this folder have, in the crates that the program stands on or that are libraries of their own."""
-    others = re.compile(r"_trials$|^btx_example$")
+    others = re.compile(r"_tests$|^btx_example$")
     files = [path for crate in crates() if not others.search(crate) for path in (ROOT / "crates" / crate / folder).rglob("*" + ending)]
     return sum(path.read_bytes().count(b"\n") for path in files)
 

@@ -33,7 +33,7 @@ KINDS = {
     "a kind of file": ("a style, .bst", r"\\bibstyle|\"\.bst\"|The style file|couldn't open style", ("CHANGELOG.md",)),
 }
 # What a file is, by its path: the first that fits.
-SORTS = (("documents", re.compile(r"\.md$|\.1$|^docs/")), ("tests", re.compile(r"^tests/|^examples/|_trials/|/wrong-bodies/|/must-fail/|/checks/|/stdout$")),
+SORTS = (("documents", re.compile(r"\.md$|\.1$|^docs/")), ("tests", re.compile(r"^tests/|^examples/|_tests/|/wrong-bodies/|/must-fail/|/checks/|/stdout$")),
          ("definitions", re.compile(r"/specs/")), ("proofs", re.compile(r"/proofs/")), ("code", re.compile(r"^crates/\w+/src/")), ("scripts", re.compile("")))
 ORDER = ("code", "definitions", "proofs", "tests", "documents", "scripts")
 

@@ -2,8 +2,8 @@
 use btx_run::{
     End, KeptBytes, Limit, LineLength, MemoryFinder, Options, Over, Report, RunFault, TextMode, run,
 };
+use btx_tests::texts::joined;
 use btx_text::Fault;
-use btx_trials::texts::joined;
 use std::alloc::{AllocError, Global};
 use std::process::Abort;
 use std::test::Fail;

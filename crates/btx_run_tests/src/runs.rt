@@ -3,9 +3,9 @@ use crate::jobs::{
     AUX, DATABASE, Ending, FOUND, File, Outputs, STYLE, ends_as, job_of, run_named, run_over,
 };
 use btx_run::{RunFault, budget_law};
+use btx_tests::texts::{joined, text_of};
+use btx_tests::worked_lines::{ROWS, Row};
 use btx_text::Fault;
-use btx_trials::texts::{joined, text_of};
-use btx_trials::worked_lines::{ROWS, Row};
 use std::alloc::{AllocError, Global};
 use std::process::Abort;
 use std::test::Fail;

@@ -1,8 +1,8 @@
 //! Runs whose devices fail: what they have written then.
 use crate::jobs::{AUX, DATABASE, File, STYLE, job_of, options};
 use btx_run::{FetchFault, MemoryFinder, Over, RunFault, run};
-use btx_trials::fakes::{Failing, FakeWriter};
-use btx_trials::finders::FailingFinder;
+use btx_tests::fakes::{Failing, FakeWriter};
+use btx_tests::finders::FailingFinder;
 use std::alloc::Global;
 use std::process::Abort;
 use std::test::Fail;
