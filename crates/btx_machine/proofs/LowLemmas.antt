@@ -297,7 +297,7 @@ module _ (r : ℕ) where
   row_low job built_in.Assign c = λ f u x v s h. assigned_low job f x s h
   row_low job built_in.AddPeriod c = λ text u s h. text_low said.Nothing (add_period_of text) s h
   row_low job built_in.CallType c = absurd c
-  row_low job built_in.ChangeCase c = λ letter u text v s h. text_low (strings.conversion_said (case_complaints letter).x9 letter) (change_case_of text letter) s h
+  row_low job built_in.ChangeCase c = λ letter u text v s h. text_low (strings.conversion_said (case_complaints letter).illegal_conversion letter) (change_case_of text letter) s h
   row_low job built_in.CharacterToInteger c = λ text u s h. code_low text s h
   row_low job built_in.Cite c = λ s h. cites_low job s.current s h
   row_low job built_in.Duplicate c = λ x u s h. pushes_low said.Nothing x (with_literals (x ∷ s.literals) s) u (u, h)

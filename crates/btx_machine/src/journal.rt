@@ -1,5 +1,5 @@
 //! The log of a run.
-ghost use Rattle.std.specs.Prelude.{◌≡◌, IfOk, OnErr, OnOk};
+ghost use Rattle.std.specs.Prelude.{◌≡◌, IfErr, IfOk, OnErr, OnOk};
 ghost use Rattle.std.specs.Io.KnownBytes.{Appends};
 ghost use Rattle.btx_out.specs.language.Pieces.{AppendsBeginning};
 ghost use Rattle.btx_text.specs.language.LogLines.{is_error, is_warning};
@@ -61,10 +61,11 @@ impl<'s, L: Sink> Journal<'s, L> {
         }
     }
 
-    /// Writes a line, and counts it. At a fault the log received a beginning of the line.
+    /// Writes a line, and counts it. The only fault is the device's; the log then received a prefix of the line.
     pub fn tell(&mut self, line: &LogLine) -> Result<(), Fault>
         ensures ok { OnOk result (Appends self.old.sink.received self.new.sink.received (ended_line line.now.text)) }
         ensures err { OnErr result (AppendsBeginning self.old.sink.received self.new.sink.received (ended_line line.now.text)) }
+        ensures fault { IfErr result (λ fault. fault ≡ Fault.Device) }
         ensures warnings { self.new.warnings ≡ counted_if (is_warning line.now.kind) self.old.warnings }
         ensures errors { self.new.errors ≡ counted_if (is_error line.now.kind) self.old.errors }
         ensures sink { self.new.sink.name ≡ self.old.sink.name }

@@ -106,23 +106,23 @@ von_in_utf8 : format_name_text Utf8 (0xC3 ∷ 0x89 ∷ codes "lie Cartan") (pos 
 unfolding kind_at group_len elements_from elements_of is_separator pieces_from names_of run_len tokens_from tokens_of letters_of is_lower_special first_is_lower is_von split_at_comma sections_of ends_in_comma before_final up_to_last before_first part_named piece_item inside_item group_item items_from items_of initial_of between_text with_tokens finished piece_text names_before nth_name one_name_text one_name_complaints sequence_size second_fits is_sequence begins_sequence
 von_in_utf8 = refl
 
-wrong_no_such_name : format_name_complaints (codes "A") (pos 2) (codes "{lll}") ≡ record no_complaints { x10 = true }
+wrong_no_such_name : format_name_complaints (codes "A") (pos 2) (codes "{lll}") ≡ record no_complaints { no_such_name = true }
 unfolding kind_at group_len elements_from elements_of is_separator pieces_from names_of run_len tokens_from tokens_of letters_of is_lower_special first_is_lower is_von split_at_comma sections_of ends_in_comma before_final up_to_last before_first part_named piece_item inside_item group_item items_from items_of initial_of between_text with_tokens finished piece_text names_before nth_name one_name_text one_name_complaints
 wrong_no_such_name = refl
 
-wrong_comma_at_the_end : format_name_complaints (codes "Knuth, Donald,") (pos 1) (codes "{ll}") ≡ record no_complaints { x11 = true }
+wrong_comma_at_the_end : format_name_complaints (codes "Knuth, Donald,") (pos 1) (codes "{ll}") ≡ record no_complaints { comma_at_end = true }
 unfolding kind_at group_len elements_from elements_of is_separator pieces_from names_of run_len tokens_from tokens_of letters_of is_lower_special first_is_lower is_von split_at_comma sections_of ends_in_comma before_final up_to_last before_first part_named piece_item inside_item group_item items_from items_of initial_of between_text with_tokens finished piece_text names_before nth_name one_name_text one_name_complaints
 wrong_comma_at_the_end = refl
 
-wrong_third_comma : format_name_complaints (codes "a, b, c, d") (pos 1) (codes "{ll}") ≡ record no_complaints { x12 = true }
+wrong_third_comma : format_name_complaints (codes "a, b, c, d") (pos 1) (codes "{ll}") ≡ record no_complaints { too_many_commas = true }
 unfolding kind_at group_len elements_from elements_of is_separator pieces_from names_of run_len tokens_from tokens_of letters_of is_lower_special first_is_lower is_von split_at_comma sections_of ends_in_comma before_final up_to_last before_first part_named piece_item inside_item group_item items_from items_of initial_of between_text with_tokens finished piece_text names_before nth_name one_name_text one_name_complaints
 wrong_third_comma = refl
 
-wrong_format : format_name_complaints (codes "A") (pos 1) (codes "{lll}") ≡ record no_complaints { x13 = true }
+wrong_format : format_name_complaints (codes "A") (pos 1) (codes "{lll}") ≡ record no_complaints { illegal_format = true }
 unfolding kind_at group_len elements_from elements_of is_separator pieces_from names_of run_len tokens_from tokens_of letters_of is_lower_special first_is_lower is_von split_at_comma sections_of ends_in_comma before_final up_to_last before_first part_named piece_item inside_item group_item items_from items_of initial_of between_text with_tokens finished piece_text names_before nth_name one_name_text one_name_complaints
 wrong_format = refl
 
-wrong_in_three_ways : format_name_complaints (codes "a, b, c, d,") (pos 1) (codes "{ll}}") ≡ record no_complaints { x11 = true; x12 = true; x13 = true }
+wrong_in_three_ways : format_name_complaints (codes "a, b, c, d,") (pos 1) (codes "{ll}}") ≡ record no_complaints { comma_at_end = true; too_many_commas = true; illegal_format = true }
 unfolding kind_at group_len elements_from elements_of is_separator pieces_from names_of run_len tokens_from tokens_of letters_of is_lower_special first_is_lower is_von split_at_comma sections_of ends_in_comma before_final up_to_last before_first part_named piece_item inside_item group_item items_from items_of initial_of between_text with_tokens finished piece_text names_before nth_name one_name_text one_name_complaints
 wrong_in_three_ways = refl
 

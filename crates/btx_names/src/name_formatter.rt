@@ -46,8 +46,8 @@ impl NameFormatter {
         }
     }
 
-    /// A name of a string in a format, with what was wrong: `x10` where there is no name of the number, which counts from 1, and else `x11`
-    /// for a comma at the name's end, `x12` for a third comma, `x13` for an illegal format. With `x10` or `x13` the text is empty.
+    /// A name of a string in a format, with what was wrong: `no_such_name` where there is no name of the number, which counts from 1, and else
+    /// `comma_at_end`, `too_many_commas` and `illegal_format`, each as it holds. With `no_such_name` or `illegal_format` the text is empty.
     /// [`Fault::StringLimit`] where the text would be longer than a string may be, [`Fault::Memory`] where memory is refused.
     pub fn format(
         &mut self,
@@ -71,7 +71,7 @@ impl NameFormatter {
             None => Answer::new(
                 Vec::new(self.alloc),
                 Complaints {
-                    x10: true,
+                    no_such_name: true,
                     ..Complaints::NONE
                 },
             ),

@@ -32,7 +32,7 @@ use Rattle.btx_machine.proofs.DeepLemmas as depth
 use Rattle.btx_run.specs.declared.files.found.FilesRead.{FilesRead}
 use Rattle.btx_run.specs.declared.files.found.JobFiles.{JobFiles}
 use Rattle.btx_run.specs.declared.options.Options.{Options}
-use Rattle.btx_run.specs.language.Files.Counts.{Counts, counts_of}
+use Rattle.btx_run.specs.language.Files.Counts.{Counts, counts, counts_of}
 use Rattle.btx_run.specs.language.Files.Readings.{Logged, job_named}
 use Rattle.btx_run.specs.refinement.Files.Readings.{IsRead, files_read}
 use Rattle.btx_run.specs.language.Files.Telling.{bytes_of_lines}
@@ -41,7 +41,9 @@ use Rattle.btx_run.specs.language.Contents.{database_of, style_in}
 use Rattle.btx_run.specs.language.Product.{product, product_of_files, product_of_reading, product_with, logged_before, counts_in, work_in}
 use Rattle.btx_run.specs.refinement.Product.{work_of}
 use Rattle.btx_machine.specs.refinement.KeepingStep.{LastLineBehindList, KeepsStep}
+use Rattle.btx_machine.specs.refinement.Outputs.{Journal}
 use Rattle.btx_machine.specs.refinement.Product.{product_early}
+use Rattle.btx_run.specs.refinement.Files.Counts.{counts_at}
 
 -- ---- what the style works on
 
@@ -60,6 +62,14 @@ completes_of a b told limit budget here there is r h = subst (λ work. IfOk r (�
 pub fails_of : (a b : Received) (told : Told) (limit budget : ℕ) (here there : Job) → here ≡ there → (r : Result Report Fault)
     → OnErr r (AtFault a b (style_product here told limit) budget) → OnErr r (AtFault a b (style_product there told limit) budget)
 fails_of a b told limit budget here there is r h = subst (λ work. OnErr r (AtFault a b (style_product work told limit) budget)) is h
+
+-- what a log counted, as one value
+pub counts_are : (counted : Told) (warnings errors : ℕ) → counted.warnings ≡ warnings → counted.errors ≡ errors → counted ≡ log_counts warnings errors
+counts_are counted warnings errors these those = ap (λ warnings. log_counts warnings counted.errors) these ∙ ap (log_counts warnings) those
+
+-- a log without warnings and errors has the counts of no lines
+pub counts_of_none : (journal : Journal) → journal.warnings ≡ 0 → journal.errors ≡ 0 → counts_at journal ≡ counts_of []
+counts_of_none journal none_warns none_errs = ap (λ warnings. counts warnings journal.errors) none_warns ∙ ap (counts 0) none_errs
 
 -- no more than 4,096 bodies are open at once
 pub never_deeper : (a b : Received) (work : Job) (told : Told) (limit budget : ℕ) (r : Result Report Fault)

@@ -10,25 +10,25 @@ use std::alloc::Global;
 #[derive(Clone, Copy, Debug, PartialEq, Eq)]
 pub struct Complaints {
     /// The conversion of a case change was not one of the letters `t`, `l` and `u`.
-    pub x9: bool,
+    pub illegal_conversion: bool,
     /// There is no name of the number asked for.
-    pub x10: bool,
+    pub no_such_name: bool,
     /// The name had a comma at its end.
-    pub x11: bool,
+    pub comma_at_end: bool,
     /// The name had more than two commas.
-    pub x12: bool,
+    pub too_many_commas: bool,
     /// The format string was illegal.
-    pub x13: bool,
+    pub illegal_format: bool,
 }
 
 impl Complaints {
     /// Nothing was wrong.
     pub const NONE: Complaints = Complaints {
-        x9: false,
-        x10: false,
-        x11: false,
-        x12: false,
-        x13: false,
+        illegal_conversion: false,
+        no_such_name: false,
+        comma_at_end: false,
+        too_many_commas: false,
+        illegal_format: false,
     };
 }
 

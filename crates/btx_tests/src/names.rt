@@ -20,43 +20,43 @@ const RUN_TOGETHER: &str = "{ll{}}";
 
 // Complaints of a name's number, of a comma at its end, of too many commas, of the format, and of the last three.
 const NUMBER: Complaints = Complaints {
-    x9: false,
-    x10: true,
-    x11: false,
-    x12: false,
-    x13: false,
+    illegal_conversion: false,
+    no_such_name: true,
+    comma_at_end: false,
+    too_many_commas: false,
+    illegal_format: false,
 };
 
 const COMMA: Complaints = Complaints {
-    x9: false,
-    x10: false,
-    x11: true,
-    x12: false,
-    x13: false,
+    illegal_conversion: false,
+    no_such_name: false,
+    comma_at_end: true,
+    too_many_commas: false,
+    illegal_format: false,
 };
 
 const COMMAS: Complaints = Complaints {
-    x9: false,
-    x10: false,
-    x11: false,
-    x12: true,
-    x13: false,
+    illegal_conversion: false,
+    no_such_name: false,
+    comma_at_end: false,
+    too_many_commas: true,
+    illegal_format: false,
 };
 
 const FORMAT: Complaints = Complaints {
-    x9: false,
-    x10: false,
-    x11: false,
-    x12: false,
-    x13: true,
+    illegal_conversion: false,
+    no_such_name: false,
+    comma_at_end: false,
+    too_many_commas: false,
+    illegal_format: true,
 };
 
 const ALL: Complaints = Complaints {
-    x9: false,
-    x10: false,
-    x11: true,
-    x12: true,
-    x13: true,
+    illegal_conversion: false,
+    no_such_name: false,
+    comma_at_end: true,
+    too_many_commas: true,
+    illegal_format: true,
 };
 
 // Whether a name has this text in a format, and these complaints.

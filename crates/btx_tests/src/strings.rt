@@ -163,7 +163,7 @@ const NO_CONVERSIONS: [&[u8]; 4] = [b"x", b"", b"tt", b"t "];
 
 fn first_conversion(alloc: Global) -> usize {
     let complaints = Complaints {
-        x9: true,
+        illegal_conversion: true,
         ..Complaints::NONE
     };
     for (number, conversion) in NO_CONVERSIONS.iter().enumerate() {

@@ -108,27 +108,35 @@ fn name_said<'a>(
 ) -> Result<Said<'a>, AllocError>
     ensures { IfOk result (λ said. said ≡ spec.name_said complaints names.entry number format.entry) }
 {
-    if !(complaints.x10 || complaints.x11 || complaints.x12 || complaints.x13) {
+    if !(complaints.no_such_name
+        || complaints.comma_at_end
+        || complaints.too_many_commas
+        || complaints.illegal_format)
+    {
         return Ok(Said::Nothing);
     }
     let names = names.share()?;
     let mut notes = Notes::new(alloc);
     push_if(
         &mut notes,
-        complaints.x10,
+        complaints.no_such_name,
         Note::NoSuchName(number, names.copy(alloc)?),
     )?;
     push_if(
         &mut notes,
-        complaints.x11,
+        complaints.comma_at_end,
         Note::FinalComma(number, names.copy(alloc)?),
     )?;
     push_if(
         &mut notes,
-        complaints.x12,
+        complaints.too_many_commas,
         Note::TooManyCommas(number, names),
     )?;
-    push_if(&mut notes, complaints.x13, Note::IllegalFormat(format))?;
+    push_if(
+        &mut notes,
+        complaints.illegal_format,
+        Note::IllegalFormat(format),
+    )?;
     Ok(Said::Noted(notes))
 }
 

@@ -1,14 +1,12 @@
-use Rattle.std.proofs.Common.{rules, ◌≡◌, ◌∙◌, ap, subst, []}
+use Rattle.std.proofs.Common.{rules, ◌∙◌, subst}
 use Rattle.btx_aux.proofs.AnswerLemmas.{by_map}
 use Rattle.btx_machine.specs.language.KeepingStep.{AtFault, Completes}
-use Rattle.btx_machine.specs.language.Reports.{log_counts}
 use Rattle.btx_machine.proofs.ComesLemmas.{err_map, ok_map, on_err}
 use Rattle.btx_machine.proofs.EdgeLemmas.{ends_as}
-use Rattle.btx_run.specs.language.Files.Counts.{counts, counts_of}
 use Rattle.btx_run.specs.language.Product.{product_of_files, product_of_reading, counts_in}
 use Rattle.btx_run.specs.refinement.Files.Counts.{counts_at}
 use Rattle.btx_run.specs.refinement.Files.Readings.{files_read}
-use Rattle.btx_run.proofs.ProductLemmas.{behind_ends, completes_reading, fails_in_lines, fails_reading}
+use Rattle.btx_run.proofs.ProductLemmas.{behind_ends, completes_reading, counts_are, counts_of_none, fails_in_lines, fails_reading}
 use Rattle.btx_run.proofs.runner.run_job.Goals as goal
 
 pub returns-in_err-read-clause-err : goal.returns-in_err-read-clause-err
@@ -27,10 +25,8 @@ pub returns-clause-ok : goal.returns-clause-ok
 returns-clause-ok g c =
     let log = g.L.Sink in
     let bbl = g.W.Sink in
-    let told : c.told-told.result ≡ log_counts c.read_files-read.new.journal.warnings c.read_files-read.new.journal.errors =
-    ap (λ warnings. log_counts warnings c.told-told.result.errors) c.told-told.ensures.warnings ∙ ap (log_counts c.read_files-read.new.journal.warnings) c.told-told.ensures.errors in
-    let new : counts_at c.new-journal.result ≡ counts_of [] =
-    ap (λ warnings. counts warnings c.new-journal.result.errors) c.new-journal.ensures.warnings ∙ ap (counts 0) c.new-journal.ensures.errors in
+    let told = counts_are c.told-told.result _ _ c.told-told.ensures.warnings c.told-told.ensures.errors in
+    let new = counts_of_none c.new-journal.result c.new-journal.ensures.warnings c.new-journal.ensures.errors in
     ok_map (λ report completes. by_map c.in_ok-read.ensures.answered (λ names among. among)
     (λ files read. behind_ends (λ l n. Completes report (bbl.received c.args.bbl.now, l) (bbl.received c.after_files.new.bbl, n) (product_of_reading c.args.job.now (files_read files c.args.job.now) c.args.options.now c.args.options.now.budget))
     _ _ _ _ c.new-journal.ensures.received (search rules)
@@ -45,10 +41,8 @@ pub returns-clause-err : goal.returns-clause-err
 returns-clause-err g c =
     let log = g.L.Sink in
     let bbl = g.W.Sink in
-    let told : c.told-told.result ≡ log_counts c.read_files-read.new.journal.warnings c.read_files-read.new.journal.errors =
-    ap (λ warnings. log_counts warnings c.told-told.result.errors) c.told-told.ensures.warnings ∙ ap (log_counts c.read_files-read.new.journal.warnings) c.told-told.ensures.errors in
-    let new : counts_at c.new-journal.result ≡ counts_of [] =
-    ap (λ warnings. counts warnings c.new-journal.result.errors) c.new-journal.ensures.warnings ∙ ap (counts 0) c.new-journal.ensures.errors in
+    let told = counts_are c.told-told.result _ _ c.told-told.ensures.warnings c.told-told.ensures.errors in
+    let new = counts_of_none c.new-journal.result c.new-journal.ensures.warnings c.new-journal.ensures.errors in
     err_map (λ fault. by_map c.in_ok-read.ensures.answered (λ names among. among)
     (λ files read. behind_ends (λ l n. AtFault (bbl.received c.args.bbl.now, l) (bbl.received c.after_files.new.bbl, n) (product_of_reading c.args.job.now (files_read files c.args.job.now) c.args.options.now) c.args.options.now.budget)
     _ _ _ _ c.new-journal.ensures.received (search rules)
