@@ -1,4 +1,4 @@
--- What was written and told goes on.
+-- What was written and logged goes on.
 use Rattle.std.proofs.Common.{◌≡◌, ℕ, ◌≤◌, List, [], ◌∷◌, ◌++◌, ◌⊎◌, inl, inr, sym, ap, ◌∙◌, refl, append-nil, append_assoc}
 use Rattle.btx_out.specs.language.Breaking.{written_of}
 use Rattle.btx_out.specs.laws.Breaking.{left}

@@ -9,7 +9,7 @@ use Rattle.btx_machine.specs.language.States.{Out, state}
 use Rattle.btx_machine.specs.refinement.Written.{Start, StandsFor}
 use Rattle.btx_machine.specs.language.Saying.{ended_line}
 use Rattle.btx_machine.specs.declared.report.Report.{Report}
-use Rattle.btx_machine.specs.declared.report.Told.{Told}
+use Rattle.btx_machine.specs.declared.report.LogCounts.{LogCounts}
 use Rattle.btx_machine.specs.language.Reports.{end_as, log_counts, report_of, last_line}
 use Rattle.btx_machine.specs.language.Product.{bbl_at, report_at}
 use Rattle.btx_machine.specs.refinement.Closing.{FinishedAt, FinishedPart, Closes, ClosesPart}
@@ -24,13 +24,13 @@ module _ (work : Work) (end : Ending) (steps : ℕ) (mid new : Outputs) (log : m
   whole : FinishedAt work.outputs end new
   whole start out h = subst (λ (r : Receiver). Appends start.bbl r.received (bbl_at start.limit end out)) (sym bbl) (fin start out h)
 
-  module _ (deepest : ℕ) (d : deepest ≡ work.store.deepest) (told : Told) (tw : told.warnings ≡ mid.log.warnings) (te : told.errors ≡ mid.log.errors) (report : Report) (r : report ≡ report_of (end_as end) steps deepest told) where
+  module _ (deepest : ℕ) (d : deepest ≡ work.store.deepest) (counts : LogCounts) (tw : counts.warnings ≡ mid.log.warnings) (te : counts.errors ≡ mid.log.errors) (report : Report) (r : report ≡ report_of (end_as end) steps deepest counts) where
     report_is : (start : Start) (out : Out) → StandsFor start work.outputs out → report ≡ report_at end steps (state work.store out)
     report_is start out h =
         let w : mid.log.warnings ≡ work.outputs.log.warnings = ap (λ (log : Journal). log.warnings) log in
         let e : mid.log.errors ≡ work.outputs.log.errors = ap (λ (log : Journal). log.errors) log in
-        let told_is : told ≡ log_counts out.warnings out.errors = ap (λ n. log_counts n told.errors) (tw ∙ w ∙ h.warnings) ∙ ap (log_counts out.warnings) (te ∙ e ∙ h.errors) in
-        r ∙ ap (λ n. report_of (end_as end) steps n told) d ∙ ap (report_of (end_as end) steps work.store.deepest) told_is
+        let told_is : counts ≡ log_counts out.warnings out.errors = ap (λ n. log_counts n counts.errors) (tw ∙ w ∙ h.warnings) ∙ ap (log_counts out.warnings) (te ∙ e ∙ h.errors) in
+        r ∙ ap (λ n. report_of (end_as end) steps n counts) d ∙ ap (report_of (end_as end) steps work.store.deepest) told_is
 
     pub line_part : AppendsBeginning mid.log.sink.received new.log.sink.received (ended_line (last_line report)) → ClosesPart work end steps new
     line_part part start out h =

@@ -8,7 +8,7 @@ ghost use Rattle.btx_machine.specs.language.Reports.{last_line};
 ghost use Rattle.btx_machine.specs.language.Saying.{counted_if, ended_line};
 
 use crate::last::tell_end;
-use crate::report::{Report, Told};
+use crate::report::{LogCounts, Report};
 use btx_out::{Log, Sink};
 use btx_text::{Fault, LineKind, LogLine};
 use std::alloc::Global;
@@ -36,26 +36,26 @@ impl<'s, L: Sink> Model for Journal<'s, L> {
 
 impl<'s, L: Sink> Journal<'s, L> {
     /// A log that goes on in a sink, after lines with these counts.
-    pub fn new(sink: &'s mut L, told: Told) -> Self
+    pub fn new(sink: &'s mut L, counts: LogCounts) -> Self
         ensures name { result.sink.name ≡ sink.entry.ghost_name }
         ensures received { result.sink.received ≡ L.received sink.old }
         ensures failures { result.sink.failures ≡ L.failures sink.old }
-        ensures warnings { result.warnings ≡ told.warnings }
-        ensures errors { result.errors ≡ told.errors }
+        ensures warnings { result.warnings ≡ counts.warnings }
+        ensures errors { result.errors ≡ counts.errors }
     {
         Journal {
             sink,
-            warnings: told.warnings,
-            errors: told.errors,
+            warnings: counts.warnings,
+            errors: counts.errors,
         }
     }
 
     /// How many warnings and errors the log has.
-    pub fn told(&self) -> Told
+    pub fn counts(&self) -> LogCounts
         ensures warnings { result.warnings ≡ self.now.warnings }
         ensures errors { result.errors ≡ self.now.errors }
     {
-        Told {
+        LogCounts {
             warnings: self.warnings,
             errors: self.errors,
         }

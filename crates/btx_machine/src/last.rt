@@ -72,7 +72,7 @@ pub fn conclude<W: Sink, L: Sink>(
     ensures counts { CountsOfBoth result work.old.outputs work.new.outputs }
 {
     finish(&mut work.outputs, end)?;
-    let told = work.outputs.told();
-    let report = report_of(End::of(end), steps, work.store.deepest(), told);
+    let counts = work.outputs.counts();
+    let report = report_of(End::of(end), steps, work.store.deepest(), counts);
     work.outputs.end(work.alloc, report)
 }

@@ -25,5 +25,5 @@ pub use law::{
     budget_law, depth_law, direct_law, limits_law, meaning_exists, meaning_is_unique, steps_law,
     worked_bodies_come_to_this,
 };
-pub use report::{End, Report, Told};
+pub use report::{End, LogCounts, Report};
 pub use run::execute_style;

@@ -10,7 +10,7 @@ ghost use Rattle.btx_machine.specs.language.Saying.{ended_line, line_logged, not
 ghost use Rattle.btx_machine.specs.refinement.Saying.{current_key, wrote, pending_ended};
 
 use crate::journal::Journal;
-use crate::report::{Report, Told};
+use crate::report::{LogCounts, Report};
 use btx_bib::Message;
 use btx_out::{Breaker, LineLength, Sink};
 use btx_step::lines::line_of;
@@ -77,11 +77,11 @@ impl<'s, W: Sink, L: Sink> Outputs<'s, W, L> {
     }
 
     /// How many warnings and errors the log has.
-    pub fn told(&self) -> Told
+    pub fn counts(&self) -> LogCounts
         ensures warnings { result.warnings ≡ self.now.log.warnings }
         ensures errors { result.errors ≡ self.now.log.errors }
     {
-        self.log.told()
+        self.log.counts()
     }
 
     /// Writes and logs what is said while a function of this name is executed.

@@ -19,14 +19,14 @@ pub enum End {
 
 /// How many lines of the log are warnings, and how many are errors; the greatest value stands for itself and all above.
 #[derive(Clone, Copy, Debug, PartialEq, Eq)]
-pub struct Told {
+pub struct LogCounts {
     pub warnings: u64,
     pub errors: u64,
 }
 
-impl Told {
+impl LogCounts {
     /// No line yet.
-    pub const NONE: Told = Told {
+    pub const NONE: LogCounts = LogCounts {
         warnings: 0,
         errors: 0,
     };
@@ -92,15 +92,15 @@ impl End {
 }
 
 /// The report of a run that ended so.
-pub fn report_of(end: End, steps: u64, deepest: usize, told: Told) -> Report
-    ensures { result ≡ report_of end steps deepest told }
+pub fn report_of(end: End, steps: u64, deepest: usize, counts: LogCounts) -> Report
+    ensures { result ≡ report_of end steps deepest counts }
 {
     Report {
-        status: end.status(told.errors),
+        status: end.status(counts.errors),
         end,
         steps,
         deepest,
-        warnings: told.warnings,
-        errors: told.errors,
+        warnings: counts.warnings,
+        errors: counts.errors,
     }
 }

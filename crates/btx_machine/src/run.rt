@@ -14,7 +14,7 @@ use crate::items::do_items;
 use crate::journal::Journal;
 use crate::last::conclude;
 use crate::outputs::Outputs;
-use crate::report::{Report, Told};
+use crate::report::{LogCounts, Report};
 use crate::work::Work;
 use btx_out::{LineLength, Sink};
 use btx_step::{Job, Store};
@@ -26,21 +26,21 @@ use std::alloc::Global;
 pub fn execute_style<'a, W: Sink, L: Sink>(
     alloc: Global,
     job: &Job<'a>,
-    told: Told,
+    counts: LogCounts,
     line: LineLength,
     budget: u64,
     bbl: &mut W,
     log: &mut L,
 ) -> Result<Report, Fault>
     ensures ok { IfOk result (λ report. Completes report (W.received bbl.old, L.received log.old) (W.received bbl.new, L.received log.new)
-        (style_product job.now told line budget)) }
+        (style_product job.now counts line budget)) }
     ensures bound { IfOk result (λ report. report.steps ≤ budget) }
     ensures err { OnErr result (AtFault (W.received bbl.old, L.received log.old) (W.received bbl.new, L.received log.new)
-        (style_product job.now told line) budget) }
+        (style_product job.now counts line) budget) }
     ensures counts { CountsOfOutputs result (W.failures bbl.old, W.failures bbl.new) (L.failures log.old, L.failures log.new) }
 {
     let store = Store::new(alloc, job)?;
-    let outputs = Outputs::new(bbl, line, Journal::new(log, told));
+    let outputs = Outputs::new(bbl, line, Journal::new(log, counts));
     let mut work = Work {
         alloc,
         store,

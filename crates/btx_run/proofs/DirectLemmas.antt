@@ -8,7 +8,7 @@ use Rattle.btx_bst.specs.language.Style.{type_of}
 use Rattle.btx_bst.proofs.ReferenceLemmas.{style-refers_within}
 use Rattle.btx_bib.specs.language.Requests.{asked}
 use Rattle.btx_machine.specs.declared.report.Report.{Report}
-use Rattle.btx_machine.specs.declared.report.Told.{Told}
+use Rattle.btx_machine.specs.declared.report.LogCounts.{LogCounts}
 use Rattle.btx_machine.specs.language.DirectDepth.{StaysWithin}
 use Rattle.btx_machine.specs.laws.DirectDepth.{KindsRefer}
 use Rattle.btx_machine.proofs.DirectRuns as machine
@@ -20,7 +20,8 @@ use Rattle.btx_run.specs.language.Contents.{database_of, style_in, library_in}
 use Rattle.btx_run.specs.language.DirectStyles.{WhereDirect}
 use Rattle.btx_run.specs.language.Files.Readings.{job_named, reading_of}
 use Rattle.btx_run.specs.laws.Laws.{DirectLaw}
-use Rattle.btx_run.specs.language.Product.{product, product_of_files, counts_in, work_in}
+use Rattle.btx_run.specs.language.Files.Counts.{counts_of}
+use Rattle.btx_run.specs.language.Product.{product, product_of_files, work_in}
 use Rattle.btx_run.proofs.KindLemmas.{databases_fit, kind_fits, types_first}
 
 module _ (job : AuxJob) (found : JobFiles) (options : Options) where
@@ -34,15 +35,15 @@ module _ (job : AuxJob) (found : JobFiles) (options : Options) where
       kind_fits n (library_in job found options.min_crossrefs).entries entry number
       (databases_fit n (asked style job options.min_crossrefs) (λ name. types_first n (type_of style name) (within.types name)) style.macros (map database_of found.databases)) e
 
-  found_within : (told : Told) (budget : ℕ) → IsDirect (style_in found) → StaysWithin (length (style_in found).bodies) (product_of_files job (Found found) options told budget).report
-  found_within told budget direct = machine.holds (work_in job found options) told options.line budget within kinds direct
+  found_within : (counts : LogCounts) (budget : ℕ) → IsDirect (style_in found) → StaysWithin (length (style_in found).bodies) (product_of_files job (Found found) options counts budget).report
+  found_within counts budget direct = machine.holds (work_in job found options) counts options.line budget within kinds direct
 
-files_within : (job : AuxJob) (read : FilesRead) (options : Options) (told : Told) (budget : ℕ) → WhereDirect read (λ functions. StaysWithin functions (product_of_files job read options told budget).report)
-files_within job (Ends end) options told budget = tt
-files_within job (Found found) options told budget = found_within job found options told budget
+files_within : (job : AuxJob) (read : FilesRead) (options : Options) (counts : LogCounts) (budget : ℕ) → WhereDirect read (λ functions. StaysWithin functions (product_of_files job read options counts budget).report)
+files_within job (Ends end) options counts budget = tt
+files_within job (Found found) options counts budget = found_within job found options counts budget
 
 pub holds : DirectLaw
-holds files name options budget = let read = reading_of files name in files_within (job_named files name) read.gives options (counts_in read.told) budget
+holds files name options budget = let read = reading_of files name in files_within (job_named files name) read.gives options (counts_of read.lines) budget
 
 -- so is the report of a run
 pub report_stays : (files : Files) (name : List ℕ) (options : Options) (report : Report) → report ≡ (product files name options).report → WhereDirect (reading_of files name).gives (λ functions. StaysWithin functions report)

@@ -1,4 +1,4 @@
--- Laws of what is told of databases that are looked for.
+-- Laws of what is logged of databases that are looked for.
 use Rattle.std.proofs.Common.{◌≡◌, ℕ, suc, ◌+◌, List, [], ◌∷◌, ◌++◌, Option, None, Some, cond, length, map, refl, ap, ◌∙◌, append-nil, length-append, arith}
 use Rattle.std.specs.List.{filter}
 use Rattle.std.specs.Option.{option_map}

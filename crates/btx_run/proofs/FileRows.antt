@@ -11,14 +11,15 @@ use Rattle.btx_run.specs.declared.files.found.FilesRead.{FilesRead}
 use Rattle.btx_run.specs.declared.files.found.FilesRead.TheVariants.{Ends, Found}
 use Rattle.btx_machine.specs.declared.report.End.TheVariants as ended
 use Rattle.btx_run.specs.language.Files.Lines.{database_line, no_style_line, style_line, no_database_line}
-use Rattle.btx_run.specs.language.Files.Counts.{counts, counts_of}
+use Rattle.btx_machine.specs.language.Reports.{log_counts}
+use Rattle.btx_run.specs.language.Files.Counts.{counts_of}
 use Rattle.btx_run.specs.language.Files.Readings.{Logged, after_job, reading_of, style_named, style_read}
 use Rattle.btx_run.specs.refinement.Files.Readings.{after_style}
 use Rattle.btx_run.specs.refinement.Files.Found.{named_file}
 
--- the texts of what is told
+-- the texts of what is logged
 abbrev texts : Logged FilesRead → List (List ℕ)
-texts part = map (λ (line : Line). line.text) part.told
+texts part = map (λ (line : Line). line.text) part.lines
 
 -- the job `job` with these databases, and the files beside `job.aux`
 abbrev with_databases : List ℕ → List (List ℕ × List ℕ) → Logged FilesRead
@@ -29,11 +30,11 @@ with_databases names files =
 abbrev second_missing : Logged FilesRead
 second_missing = with_databases (codes "a,b,c") ((codes "s.bst", codes "READ") ∷ (codes "c.bib", codes "C") ∷ (codes "a.bib", codes "A") ∷ [])
 
-second_missing-told : second_missing.told ≡ aux_note_line (TopFile (codes "job.aux")) ∷ style_line (codes "s.bst") ∷ database_line 1 (codes "a.bib") ∷ no_database_line (codes "b.bib") ∷ database_line 2 (codes "c.bib") ∷ []
+second_missing-told : second_missing.lines ≡ aux_note_line (TopFile (codes "job.aux")) ∷ style_line (codes "s.bst") ∷ database_line 1 (codes "a.bib") ∷ no_database_line (codes "b.bib") ∷ database_line 2 (codes "c.bib") ∷ []
 unfolding line_pieces trimmed after_job style_named style_read after_style job_of_files job_events said pieces_of aux_command_named words_of
 second_missing-told = refl
 
-second_missing-counts : counts_of second_missing.told ≡ counts 0 1
+second_missing-counts : counts_of second_missing.lines ≡ log_counts 0 1
 unfolding line_pieces trimmed aux_note_kind aux_note_text aux_complaint_text mark_of place_text style_line no_style_line database_line no_database_line after_job style_named style_read after_style job_of_files job_events said pieces_of aux_command_named words_of
 second_missing-counts = refl
 

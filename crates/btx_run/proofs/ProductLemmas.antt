@@ -26,19 +26,19 @@ use Rattle.btx_machine.specs.language.States.{Outcome, Done, Stopped, Limit}
 use Rattle.btx_machine.specs.language.Written.{Received}
 use Rattle.btx_machine.specs.declared.report.End.TheVariants.{NoTopFile}
 use Rattle.btx_machine.specs.declared.report.Report.{Report}
-use Rattle.btx_machine.specs.declared.report.Told.{Told}
+use Rattle.btx_machine.specs.declared.report.LogCounts.{LogCounts}
 use Rattle.btx_machine.proofs.ComesLemmas.{ok_map}
 use Rattle.btx_machine.proofs.DeepLemmas as depth
 use Rattle.btx_run.specs.declared.files.found.FilesRead.{FilesRead}
 use Rattle.btx_run.specs.declared.files.found.JobFiles.{JobFiles}
 use Rattle.btx_run.specs.declared.options.Options.{Options}
-use Rattle.btx_run.specs.language.Files.Counts.{Counts, counts, counts_of}
+use Rattle.btx_run.specs.language.Files.Counts.{counts_of}
 use Rattle.btx_run.specs.language.Files.Readings.{Logged, job_named}
 use Rattle.btx_run.specs.refinement.Files.Readings.{IsRead, files_read}
 use Rattle.btx_run.specs.language.Files.Telling.{bytes_of_lines}
 use Rattle.btx_run.specs.refinement.Files.Telling.{Tells}
 use Rattle.btx_run.specs.language.Contents.{database_of, style_in}
-use Rattle.btx_run.specs.language.Product.{product, product_of_files, product_of_reading, product_with, logged_before, counts_in, work_in}
+use Rattle.btx_run.specs.language.Product.{product, product_of_files, product_of_reading, product_with, logged_before, work_in}
 use Rattle.btx_run.specs.refinement.Product.{work_of}
 use Rattle.btx_machine.specs.refinement.KeepingStep.{LastLineBehindList, KeepsStep}
 use Rattle.btx_machine.specs.refinement.Outputs.{Journal}
@@ -55,27 +55,27 @@ found_is job found options style library is_style is_library =
     ap (λ (library : Library). work_of style library options) is_library
     ∙ ap (λ (style : Style). work_of style (library_of (asked style job options.min_crossrefs) style.macros (map database_of found.databases)) options) is_style
 
-pub completes_of : (a b : Received) (told : Told) (limit budget : ℕ) (here there : Job) → here ≡ there → (r : Result Report Fault)
-    → IfOk r (λ report. Completes report a b (style_product here told limit budget)) → IfOk r (λ report. Completes report a b (style_product there told limit budget))
-completes_of a b told limit budget here there is r h = subst (λ work. IfOk r (λ report. Completes report a b (style_product work told limit budget))) is h
+pub completes_of : (a b : Received) (counts : LogCounts) (limit budget : ℕ) (here there : Job) → here ≡ there → (r : Result Report Fault)
+    → IfOk r (λ report. Completes report a b (style_product here counts limit budget)) → IfOk r (λ report. Completes report a b (style_product there counts limit budget))
+completes_of a b counts limit budget here there is r h = subst (λ work. IfOk r (λ report. Completes report a b (style_product work counts limit budget))) is h
 
-pub fails_of : (a b : Received) (told : Told) (limit budget : ℕ) (here there : Job) → here ≡ there → (r : Result Report Fault)
-    → OnErr r (AtFault a b (style_product here told limit) budget) → OnErr r (AtFault a b (style_product there told limit) budget)
-fails_of a b told limit budget here there is r h = subst (λ work. OnErr r (AtFault a b (style_product work told limit) budget)) is h
+pub fails_of : (a b : Received) (counts : LogCounts) (limit budget : ℕ) (here there : Job) → here ≡ there → (r : Result Report Fault)
+    → OnErr r (AtFault a b (style_product here counts limit) budget) → OnErr r (AtFault a b (style_product there counts limit) budget)
+fails_of a b counts limit budget here there is r h = subst (λ work. OnErr r (AtFault a b (style_product work counts limit) budget)) is h
 
 -- what a log counted, as one value
-pub counts_are : (counted : Told) (warnings errors : ℕ) → counted.warnings ≡ warnings → counted.errors ≡ errors → counted ≡ log_counts warnings errors
+pub counts_are : (counted : LogCounts) (warnings errors : ℕ) → counted.warnings ≡ warnings → counted.errors ≡ errors → counted ≡ log_counts warnings errors
 counts_are counted warnings errors these those = ap (λ warnings. log_counts warnings counted.errors) these ∙ ap (log_counts warnings) those
 
 -- a log without warnings and errors has the counts of no lines
 pub counts_of_none : (journal : Journal) → journal.warnings ≡ 0 → journal.errors ≡ 0 → counts_at journal ≡ counts_of []
-counts_of_none journal none_warns none_errs = ap (λ warnings. counts warnings journal.errors) none_warns ∙ ap (counts 0) none_errs
+counts_of_none journal none_warns none_errs = ap (λ warnings. log_counts warnings journal.errors) none_warns ∙ ap (log_counts 0) none_errs
 
 -- no more than 4,096 bodies are open at once
-pub never_deeper : (a b : Received) (work : Job) (told : Told) (limit budget : ℕ) (r : Result Report Fault)
-    → IfOk r (λ report. Completes report a b (style_product work told limit budget)) → IfOk r (λ report. report.deepest ≤ 4096)
-never_deeper a b work told limit budget =
-    ok_map (λ report completes. subst (λ (report : Report). report.deepest ≤ 4096) (sym completes.report_is) (depth.holds work told limit budget))
+pub never_deeper : (a b : Received) (work : Job) (counts : LogCounts) (limit budget : ℕ) (r : Result Report Fault)
+    → IfOk r (λ report. Completes report a b (style_product work counts limit budget)) → IfOk r (λ report. report.deepest ≤ 4096)
+never_deeper a b work counts limit budget =
+    ok_map (λ report completes. subst (λ (report : Report). report.deepest ≤ 4096) (sym completes.report_is) (depth.holds work counts limit budget))
 
 -- a run whose style was executed had its top file
 had_top_file : (limit budget : ℕ) (outcome : Outcome) → (product_of limit budget outcome).report.end ≡ NoTopFile → ⊥
@@ -83,56 +83,56 @@ had_top_file limit budget (Done s left) is = cc
 had_top_file limit budget (Stopped s) is = cc
 had_top_file limit budget (Limit kind s left) is = cc
 
-pub touched_with_top_file : {W : Type 0} (bbl after : W) (a b : Received) (work : Job) (told : Told) (limit budget : ℕ) (r : Result Report Fault)
-    → IfOk r (λ report. Completes report a b (style_product work told limit budget)) → IfOk r (λ report. report.end ≡ NoTopFile → after ≡ bbl)
-touched_with_top_file bbl after a b work told limit budget =
-    ok_map (λ report completes is. absurd (had_top_file limit budget (executed work told budget) (sym (ap (λ (report : Report). report.end) completes.report_is) ∙ is)))
+pub touched_with_top_file : {W : Type 0} (bbl after : W) (a b : Received) (work : Job) (counts : LogCounts) (limit budget : ℕ) (r : Result Report Fault)
+    → IfOk r (λ report. Completes report a b (style_product work counts limit budget)) → IfOk r (λ report. report.end ≡ NoTopFile → after ≡ bbl)
+touched_with_top_file bbl after a b work counts limit budget =
+    ok_map (λ report completes is. absurd (had_top_file limit budget (executed work counts budget) (sym (ap (λ (report : Report). report.end) completes.report_is) ∙ is)))
 
 -- ---- a run that ends at once
 
-pub completes_early : (b l m : Option (List ℕ)) (told report : Report) → told ≡ report → (r : Result Report Fault)
-    → IfOk r (λ answer. answer ≡ told) → OnOk r (Appends l m (ended_line (last_line told)))
+pub completes_early : (b l m : Option (List ℕ)) (answered report : Report) → answered ≡ report → (r : Result Report Fault)
+    → IfOk r (λ answer. answer ≡ answered) → OnOk r (Appends l m (ended_line (last_line answered)))
     → IfOk r (λ answer. Completes answer (b, l) (b, m) (product_early report))
-completes_early b l m told report is (Ok answer) same writes = record {
+completes_early b l m answered report is (Ok answer) same writes = record {
   report_is = same ∙ is;
   bbl_whole = Appends-nil b;
   log_whole = subst (λ report. Appends l m (ended_line (last_line report))) is writes;
 }
-completes_early b l m told report is (Err fault) same writes = tt
+completes_early b l m answered report is (Err fault) same writes = tt
 
-pub fails_early : (b l m : Option (List ℕ)) (told report : Report) (budget : ℕ) → told ≡ report → AppendsBeginning l m (ended_line (last_line told))
+pub fails_early : (b l m : Option (List ℕ)) (answered report : Report) (budget : ℕ) → answered ≡ report → AppendsBeginning l m (ended_line (last_line answered))
     → AtFault (b, l) (b, m) (λ steps. product_early report) budget
-fails_early b l m told report budget is part = record { beginnings = begins; last_line = inl (Appends-nil b); step = inl begins }
+fails_early b l m answered report budget is part = record { beginnings = begins; last_line = inl (Appends-nil b); step = inl begins }
   where
     begins : BothBegin (b, l) (b, m) (product_early report)
     begins = record { bbl_begins = beginning-none_same b []; log_begins = subst (λ report. AppendsBeginning l m (ended_line (last_line report))) is part }
 
--- ---- behind the lines that were told before
+-- ---- behind the lines that were logged before
 
-module _ (lines : List Line) (b c l m n : Option (List ℕ)) (told : Appends l m (bytes_of_lines lines)) where
+module _ (lines : List Line) (b c l m n : Option (List ℕ)) (lines_logged : Appends l m (bytes_of_lines lines)) where
   pub completes_behind : (report : Report) (whole : Product) → Completes report (b, m) (c, n) whole → Completes report (b, l) (c, n) (logged_before lines whole)
   completes_behind report whole completes = record {
     report_is = completes.report_is;
     bbl_whole = completes.bbl_whole;
-    log_whole = subst (Appends l n) (sym (append_assoc (bytes_of_lines lines) whole.told _)) (Appends-trans l m n _ _ told completes.log_whole);
+    log_whole = subst (Appends l n) (sym (append_assoc (bytes_of_lines lines) whole.log_so_far _)) (Appends-trans l m n _ _ lines_logged completes.log_whole);
   }
 
   begins_behind : (whole : Product) → BothBegin (b, m) (c, n) whole → BothBegin (b, l) (c, n) (logged_before lines whole)
   begins_behind whole begins = record {
     bbl_begins = begins.bbl_begins;
-    log_begins = subst (AppendsBeginning l n) (sym (append_assoc (bytes_of_lines lines) whole.told _)) (beginning-after l m n _ _ told begins.log_begins);
+    log_begins = subst (AppendsBeginning l n) (sym (append_assoc (bytes_of_lines lines) whole.log_so_far _)) (beginning-after l m n _ _ lines_logged begins.log_begins);
   }
 
   last_behind : (whole : Product) → LastLineBehindList (b, m) (c, n) whole → LastLineBehindList (b, l) (c, n) (logged_before lines whole)
   last_behind whole (inl list) = inl list
-  last_behind whole (inr part) = inr (beginning-after l m n _ _ told part)
+  last_behind whole (inr part) = inr (beginning-after l m n _ _ lines_logged part)
 
   extends_behind : (whole : Product) → BothExtend (b, m) (c, n) whole → BothExtend (b, l) (c, n) (logged_before lines whole)
   extends_behind whole extends = record {
     bbl_extends = extends.bbl_extends;
     log_extends = record {
       more = extends.log_extends.more;
-      received = subst (Appends l n) (sym (append_assoc (bytes_of_lines lines) whole.told extends.log_extends.more)) (Appends-trans l m n _ _ told extends.log_extends.received);
+      received = subst (Appends l n) (sym (append_assoc (bytes_of_lines lines) whole.log_so_far extends.log_extends.more)) (Appends-trans l m n _ _ lines_logged extends.log_extends.received);
     };
   }
 
@@ -148,7 +148,7 @@ module _ (lines : List Line) (b c l m n : Option (List ℕ)) (told : Appends l m
   pub fails_behind : (make : ℕ → Product) (budget : ℕ) → AtFault (b, m) (c, n) make budget → AtFault (b, l) (c, n) (λ steps. logged_before lines (make steps)) budget
   fails_behind make budget fault = record { beginnings = begins_behind (make budget) fault.beginnings; last_line = last_behind (make budget) fault.last_line; step = keeps_behind make budget fault.step }
 
--- a fault while these lines were told
+-- a fault while these lines were logged
 pub fails_in_lines : (lines : List Line) (b l m : Option (List ℕ)) (make : ℕ → Product) (budget : ℕ) → AppendsBeginning l m (bytes_of_lines lines)
     → AtFault (b, l) (b, m) (λ steps. logged_before lines (make steps)) budget
 fails_in_lines lines b l m make budget part = record { beginnings = begins budget; last_line = inr (beginning-longer l m _ _ part); step = inl (begins 0) }
@@ -158,30 +158,30 @@ fails_in_lines lines b l m make budget part = record { beginnings = begins budge
 
 -- ---- behind the reading of the files
 
--- what was told, by the counts of its lines
-pub told_is : (warnings errors : ℕ) (first counts : Counts) (log : Received) (lines : List Line)
-    → warnings ≡ counts.warnings → errors ≡ counts.errors → first ≡ counts_of [] → Tells (first, counts) log lines → log_counts warnings errors ≡ counts_in lines
-told_is warnings errors first counts log lines is_warnings is_errors new told =
+-- what was logged, by the counts of its lines
+pub counts_of_lines : (warnings errors : ℕ) (first counts : LogCounts) (log : Received) (lines : List Line)
+    → warnings ≡ counts.warnings → errors ≡ counts.errors → first ≡ counts_of [] → Tells (first, counts) log lines → log_counts warnings errors ≡ counts_of lines
+counts_of_lines warnings errors first counts log lines is_warnings is_errors new tells =
     ap (λ warnings. log_counts warnings errors) is_warnings
     ∙ ap (log_counts counts.warnings) is_errors
-    ∙ ap (λ (counts : Counts). log_counts counts.warnings counts.errors) (told.counts [] new)
+    ∙ ap (λ (counts : LogCounts). log_counts counts.warnings counts.errors) (tells.counts [] new)
 
-module _ (job : AuxJob) (options : Options) (read : FilesRead) (told : Told) (first counts : Counts) (b c l m n : Option (List ℕ)) (is_told : told ≡ log_counts counts.warnings counts.errors) (new : first ≡ counts_of []) where
+module _ (job : AuxJob) (options : Options) (read : FilesRead) (given : LogCounts) (first counts : LogCounts) (b c l m n : Option (List ℕ)) (is_given : given ≡ log_counts counts.warnings counts.errors) (new : first ≡ counts_of []) where
   -- what follows is what follows the reading
-  follows : (part : Logged FilesRead) → IsRead read (first, counts) (l, m) part → product_of_files job read options told ≡ product_of_files job part.gives options (counts_in part.told)
+  follows : (part : Logged FilesRead) → IsRead read (first, counts) (l, m) part → product_of_files job read options given ≡ product_of_files job part.gives options (counts_of part.lines)
   follows part is_read =
-      ap (λ read. product_of_files job read options told) is_read.gives
-      ∙ ap (product_of_files job part.gives options) (is_told ∙ told_is counts.warnings counts.errors first counts (l, m) part.told refl refl new is_read.tells)
+      ap (λ read. product_of_files job read options given) is_read.gives
+      ∙ ap (product_of_files job part.gives options) (is_given ∙ counts_of_lines counts.warnings counts.errors first counts (l, m) part.lines refl refl new is_read.tells)
 
   pub completes_reading : (report : Report) (budget : ℕ) (part : Logged FilesRead) → IsRead read (first, counts) (l, m) part
-      → Completes report (b, m) (c, n) (product_of_files job read options told budget) → Completes report (b, l) (c, n) (product_of_reading job part options budget)
+      → Completes report (b, m) (c, n) (product_of_files job read options given budget) → Completes report (b, l) (c, n) (product_of_reading job part options budget)
   completes_reading report budget part is_read completes =
-      completes_behind part.told b c l m n is_read.tells.received report _ (subst (λ (make : ℕ → Product). Completes report (b, m) (c, n) (make budget)) (follows part is_read) completes)
+      completes_behind part.lines b c l m n is_read.tells.received report _ (subst (λ (make : ℕ → Product). Completes report (b, m) (c, n) (make budget)) (follows part is_read) completes)
 
   pub fails_reading : (budget : ℕ) (part : Logged FilesRead) → IsRead read (first, counts) (l, m) part
-      → AtFault (b, m) (c, n) (product_of_files job read options told) budget → AtFault (b, l) (c, n) (product_of_reading job part options) budget
+      → AtFault (b, m) (c, n) (product_of_files job read options given) budget → AtFault (b, l) (c, n) (product_of_reading job part options) budget
   fails_reading budget part is_read fault =
-      fails_behind part.told b c l m n is_read.tells.received _ budget (subst (λ (make : ℕ → Product). AtFault (b, m) (c, n) make budget) (follows part is_read) fault)
+      fails_behind part.lines b c l m n is_read.tells.received _ budget (subst (λ (make : ℕ → Product). AtFault (b, m) (c, n) make budget) (follows part is_read) fault)
 
 -- what holds from one end of a log to another holds between equal ones
 pub behind_ends : {A : Type 0} (P : A → A → Type 0) (l l' n n' : A) → l ≡ l' → n ≡ n' → P l n → P l' n'

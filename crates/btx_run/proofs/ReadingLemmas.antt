@@ -11,7 +11,7 @@ use Rattle.btx_aux.specs.refinement.Entries.{Bytes, texts_of}
 use Rattle.btx_aux.specs.language.Files.{Files, file_of}
 use Rattle.btx_out.specs.language.Pieces.{AppendsBeginning}
 use Rattle.btx_out.proofs.PieceLemmas.{beginning-none_same}
-use Rattle.btx_run.specs.language.Files.Counts.{Counts}
+use Rattle.btx_machine.specs.declared.report.LogCounts.{LogCounts}
 use Rattle.btx_run.specs.language.Files.Found.{NamedFile, file_at}
 use Rattle.btx_aux.specs.language.Job.{AuxJob}
 use Rattle.btx_aux.specs.declared.end.End.{End as AuxEnd}
@@ -31,7 +31,7 @@ use Rattle.btx_run.specs.refinement.Files.Found.{named_file}
 
 -- ---- contents
 
--- what holds of every content holds of the one that is told
+-- what holds of every content holds of the one that is logged
 pub of_any : (content : Option Files) (P : Files → Type 0) → ((files : Files) → P files) → IfSome content P
 of_any None P p = tt
 of_any (Some files) P p = p files
@@ -73,35 +73,35 @@ untrue : false ≡ true → ⊥
 untrue h = cc
 
 -- a fault before anything was written
-pub reads_nothing : {T : Type 0} (r : Result T Fault) (a b : Counts) (x : Option (List ℕ)) (part : Logged T) → IsErr r → ReadsAs r (a, b) (x, x) part
+pub reads_nothing : {T : Type 0} (r : Result T Fault) (a b : LogCounts) (x : Option (List ℕ)) (part : Logged T) → IsErr r → ReadsAs r (a, b) (x, x) part
 reads_nothing (Ok value) a b x part err = absurd (untrue err)
 reads_nothing (Err fault) a b x part err = beginning-none_same x _
 
 -- a fault, where a beginning of the part was written
-pub reads_failing : {T : Type 0} (r : Result T Fault) (a b : Counts) (x y : Option (List ℕ)) (part : Logged T) → IsErr r → AppendsBeginning x y (bytes_of_lines part.told) → ReadsAs r (a, b) (x, y) part
+pub reads_failing : {T : Type 0} (r : Result T Fault) (a b : LogCounts) (x y : Option (List ℕ)) (part : Logged T) → IsErr r → AppendsBeginning x y (bytes_of_lines part.lines) → ReadsAs r (a, b) (x, y) part
 reads_failing (Ok value) a b x y part err begins = absurd (untrue err)
 reads_failing (Err fault) a b x y part err begins = begins
 
 -- lines, and then a part
-pub reads_behind : {T : Type 0} (r : Result T Fault) (a b c : Counts) (x y z : Option (List ℕ)) (lines : List Line) (part : Logged T)
+pub reads_behind : {T : Type 0} (r : Result T Fault) (a b c : LogCounts) (x y z : Option (List ℕ)) (lines : List Line) (part : Logged T)
     → Tells (a, b) (x, y) lines → ReadsAs r (b, c) (y, z) part → ReadsAs r (a, c) (x, z) (behind lines part)
 reads_behind (Ok value) a b c x y z lines part told read = record { gives = read.gives; tells = tells_both a b c x y z _ _ told read.tells }
 reads_behind (Err fault) a b c x y z lines part told read = rest_begins x y z a b _ _ told read
 
 -- a fault while the lines before a part were written
-pub reads_part : {T : Type 0} (r : Result T Fault) (a b : Counts) (x y : Option (List ℕ)) (lines : List Line) (part : Logged T)
+pub reads_part : {T : Type 0} (r : Result T Fault) (a b : LogCounts) (x y : Option (List ℕ)) (lines : List Line) (part : Logged T)
     → IsErr r → AppendsBeginning x y (bytes_of_lines lines) → ReadsAs r (a, b) (x, y) (behind lines part)
 reads_part (Ok value) a b x y lines part err told = absurd (untrue err)
 reads_part (Err fault) a b x y lines part err told = part_begins x y _ _ told
 
 -- a part without a line
-pub reads_at_once : {T : Type 0} (value : T) (a : Counts) (x : Option (List ℕ)) → IsRead value (a, a) (x, x) (logged [] value)
+pub reads_at_once : {T : Type 0} (value : T) (a : LogCounts) (x : Option (List ℕ)) → IsRead value (a, a) (x, x) (logged [] value)
 reads_at_once value a x = record { gives = refl; tells = tells_nothing a x }
 
 -- ---- databases
 
 -- none yet
-pub no_database : (files : Files) (found : List NamedFile) (a : Counts) (x : Option (List ℕ)) → found ≡ [] → IsRead found (a, a) (x, x) (databases_read files [])
+pub no_database : (files : Files) (found : List NamedFile) (a : LogCounts) (x : Option (List ℕ)) → found ≡ [] → IsRead found (a, a) (x, x) (databases_read files [])
 no_database files found a x none = subst (λ (found : List NamedFile). IsRead found (a, a) (x, x) (logged [] [])) (sym none) (reads_at_once [] a x)
 
 databases_told-append : (files : Files) (earlier xs ys : List (List ℕ))
@@ -131,7 +131,7 @@ found_more files names i name lt is =
     ∙ ap (λ l. files_found files (texts_of (take i names)) ++ l) (append-nil (option_to_list (file_at files name.items)))
 
 -- a database's line was logged
-pub database_is_read : (files : Files) (number : ℕ) (name : List ℕ) (found : Option NamedFile) (line : Line) (a b : Counts) (x y : Option (List ℕ)) → found ≡ file_at files name
+pub database_is_read : (files : Files) (number : ℕ) (name : List ℕ) (found : Option NamedFile) (line : Line) (a b : LogCounts) (x y : Option (List ℕ)) → found ≡ file_at files name
     → line ≡ database_logged number name found → Tells (a, b) (x, y) (line ∷ []) → IsRead found (a, b) (x, y) (database_read files number name)
 database_is_read files number name found line a b x y is is_line told = record {
   gives = is;
@@ -139,28 +139,28 @@ database_is_read files number name found line a b x y is is_line told = record {
 }
 
 -- a beginning of it
-pub database_is_begun : (files : Files) (number : ℕ) (name : List ℕ) (found : Option NamedFile) (line : Line) (r : Result (Option NamedFile) Fault) (a b : Counts) (x y : Option (List ℕ))
+pub database_is_begun : (files : Files) (number : ℕ) (name : List ℕ) (found : Option NamedFile) (line : Line) (r : Result (Option NamedFile) Fault) (a b : LogCounts) (x y : Option (List ℕ))
     → IsErr r → found ≡ file_at files name → line ≡ database_logged number name found → AppendsBeginning x y (bytes_of_lines (line ∷ [])) → ReadsAs r (a, b) (x, y) (database_read files number name)
 database_is_begun files number name found line r a b x y err is is_line part =
     reads_failing r a b x y _ err (subst (λ line. AppendsBeginning x y (bytes_of_lines (line ∷ []))) (is_line ∙ ap (database_logged number name) is) part)
 
 -- a database that was read as the next one is kept
-pub adds_found : (files : Files) (before after : List NamedFile) (number : ℕ) (name : List ℕ) (found : Option NamedFile) (a b : Counts) (x y : Option (List ℕ))
+pub adds_found : (files : Files) (before after : List NamedFile) (number : ℕ) (name : List ℕ) (found : Option NamedFile) (a b : LogCounts) (x y : Option (List ℕ))
     → number ≡ length before + 1 → after ≡ before ++ option_to_list found → IsRead found (a, b) (x, y) (database_read files number name)
     → IsAdded before after (a, b) (x, y) (database_read files (length before + 1) name)
 adds_found files before after number name found a b x y next kept read = record {
   kept = kept ∙ ap (λ found. before ++ option_to_list found) read.gives;
-  tells = subst (λ number. Tells (a, b) (x, y) (database_read files number name).told) next read.tells;
+  tells = subst (λ number. Tells (a, b) (x, y) (database_read files number name).lines) next read.tells;
 }
 
 -- a fault at a database
-pub adds_begun : (files : Files) (before after : List NamedFile) (number : ℕ) (name : List ℕ) (r : Result (Unit {0}) Fault) (a b : Counts) (x y : Option (List ℕ))
-    → IsErr r → number ≡ length before + 1 → AppendsBeginning x y (bytes_of_lines (database_read files number name).told) → AddsAs r before after (a, b) (x, y) (database_read files (length before + 1) name)
+pub adds_begun : (files : Files) (before after : List NamedFile) (number : ℕ) (name : List ℕ) (r : Result (Unit {0}) Fault) (a b : LogCounts) (x y : Option (List ℕ))
+    → IsErr r → number ≡ length before + 1 → AppendsBeginning x y (bytes_of_lines (database_read files number name).lines) → AddsAs r before after (a, b) (x, y) (database_read files (length before + 1) name)
 adds_begun files before after number name (Ok done) a b x y err next part = absurd (untrue err)
-adds_begun files before after number name (Err fault) a b x y err next part = subst (λ number. AppendsBeginning x y (bytes_of_lines (database_read files number name).told)) next part
+adds_begun files before after number name (Err fault) a b x y err next part = subst (λ number. AppendsBeginning x y (bytes_of_lines (database_read files number name).lines)) next part
 
 -- one database more
-pub databases_more : (files : Files) (names : List Bytes) (i : ℕ) (name : Bytes) (text : List ℕ) (found later : List NamedFile) (a b c : Counts) (x y z : Option (List ℕ))
+pub databases_more : (files : Files) (names : List Bytes) (i : ℕ) (name : Bytes) (text : List ℕ) (found later : List NamedFile) (a b c : LogCounts) (x y z : Option (List ℕ))
     → i < length names → name ≡ get_or names i name → text ≡ name.items
     → IsRead found (a, b) (x, y) (databases_read files (texts_of (take i names)))
     → IsAdded found later (b, c) (y, z) (database_read files (length found + 1) text)
@@ -174,7 +174,7 @@ databases_more files names i name text found later a b c x y z lt is same read a
 }
 
 -- a fault at a database
-pub databases_begin : (files : Files) (names : List Bytes) (i : ℕ) (name : Bytes) (text : List ℕ) (found : List NamedFile) (a b : Counts) (x y z : Option (List ℕ))
+pub databases_begin : (files : Files) (names : List Bytes) (i : ℕ) (name : Bytes) (text : List ℕ) (found : List NamedFile) (a b : LogCounts) (x y z : Option (List ℕ))
     → i < length names → name ≡ get_or names i name → text ≡ name.items
     → IsRead found (a, b) (x, y) (databases_read files (texts_of (take i names)))
     → AppendsBeginning y z (bytes_of_lines (database_logged (length found + 1) text (file_at files text) ∷ []))
@@ -192,7 +192,7 @@ databases_begin files names i name text found a b x y z lt is same read part =
 
 -- ---- the style
 
-pub style_too_long : (files : Files) (job : AuxJob) (style : NamedFile) (a : Counts) (x : Option (List ℕ)) → is_too_long style.bytes ≡ true
+pub style_too_long : (files : Files) (job : AuxJob) (style : NamedFile) (a : LogCounts) (x : Option (List ℕ)) → is_too_long style.bytes ≡ true
     → IsRead (Ends (ended.Limit kind.File)) (a, a) (x, x) (after_style files job style)
 unfolding after_style
 style_too_long files job style a x long = rw long (reads_at_once (Ends (ended.Limit kind.File)) a x)
@@ -201,7 +201,7 @@ style_too_long files job style a x long = rw long (reads_at_once (Ends (ended.Li
 pub style_fits : (bytes : List ℕ) → is_too_long bytes ≡ false → length bytes ≤ greatest_file
 style_fits bytes short = grind (arith, nat_tests)
 
-pub databases_found : (files : Files) (job : AuxJob) (style : NamedFile) (names : List (List ℕ)) (found : List NamedFile) (a b : Counts) (x y : Option (List ℕ))
+pub databases_found : (files : Files) (job : AuxJob) (style : NamedFile) (names : List (List ℕ)) (found : List NamedFile) (a b : LogCounts) (x y : Option (List ℕ))
     → is_too_long style.bytes ≡ false → names ≡ job.databases → IsRead found (a, b) (x, y) (databases_read files names)
     → IsRead (Found (record { style = style; databases = found })) (a, b) (x, y) (after_style files job style)
 unfolding after_style
@@ -209,7 +209,7 @@ databases_found files job style names found a b x y short is read =
     let here = subst (λ names. IsRead found (a, b) (x, y) (databases_read files names)) is read in
     rw short (record { gives = ap (λ l. Found (record { style = style; databases = l })) here.gives; tells = here.tells })
 
-pub databases_fail : (r : Result FilesRead Fault) (files : Files) (job : AuxJob) (style : NamedFile) (names : List (List ℕ)) (a b : Counts) (x y : Option (List ℕ))
+pub databases_fail : (r : Result FilesRead Fault) (files : Files) (job : AuxJob) (style : NamedFile) (names : List (List ℕ)) (a b : LogCounts) (x y : Option (List ℕ))
     → IsErr r → is_too_long style.bytes ≡ false → names ≡ job.databases → AppendsBeginning x y (bytes_of_lines (databases_logged files [] names))
     → ReadsAs r (a, b) (x, y) (after_style files job style)
 unfolding after_style
@@ -225,7 +225,7 @@ pub style_is_missed : (files : Files) (job : AuxJob) (name : List ℕ) → style
 unfolding style_read
 style_is_missed files job name = refl
 
-pub style_missed : (files : Files) (job : AuxJob) (name : List ℕ) (line : Line) (a b : Counts) (x y : Option (List ℕ))
+pub style_missed : (files : Files) (job : AuxJob) (name : List ℕ) (line : Line) (a b : LogCounts) (x y : Option (List ℕ))
     → line ≡ no_style_line name → Tells (a, b) (x, y) (line ∷ []) → IsRead (Ends ended.Finished) (a, b) (x, y) (style_read files job name None)
 unfolding style_read
 style_missed files job name line a b x y is told = record { gives = refl; tells = subst (λ line. Tells (a, b) (x, y) (line ∷ [])) is told }
@@ -249,7 +249,7 @@ style_is_missing r files job name found counted log none is read = subst (λ (st
 
 -- ---- the job
 
-pub style_unnamed : (files : Files) (job : AuxJob) (named : Option (List ℕ)) (a : Counts) (x : Option (List ℕ)) → named ≡ None
+pub style_unnamed : (files : Files) (job : AuxJob) (named : Option (List ℕ)) (a : LogCounts) (x : Option (List ℕ)) → named ≡ None
     → IsRead (Ends ended.Finished) (a, a) (x, x) (style_named files job named)
 unfolding style_named
 style_unnamed files job named a x is = subst (λ named. IsRead (Ends ended.Finished) (a, a) (x, x) (style_named files job named)) (sym is) (reads_at_once (Ends ended.Finished) a x)
@@ -262,17 +262,17 @@ pub after_whole : (files : Files) (job : AuxJob) (end : AuxEnd) → end ≡ aux.
 unfolding after_job
 after_whole files job end is = ap (after_job files job) is
 
-pub after_many : (files : Files) (job : AuxJob) (end : AuxEnd) (a : Counts) (x : Option (List ℕ)) → end ≡ aux.TooManyOpen
+pub after_many : (files : Files) (job : AuxJob) (end : AuxEnd) (a : LogCounts) (x : Option (List ℕ)) → end ≡ aux.TooManyOpen
     → IsRead (Ends (ended.Limit kind.Files)) (a, a) (x, x) (after_job files job end)
 unfolding after_job
 after_many files job end a x is = subst (λ end. IsRead (Ends (ended.Limit kind.Files)) (a, a) (x, x) (after_job files job end)) (sym is) (reads_at_once (Ends (ended.Limit kind.Files)) a x)
 
-pub after_none : (files : Files) (job : AuxJob) (end : AuxEnd) (a : Counts) (x : Option (List ℕ)) → end ≡ aux.TopMissing
+pub after_none : (files : Files) (job : AuxJob) (end : AuxEnd) (a : LogCounts) (x : Option (List ℕ)) → end ≡ aux.TopMissing
     → IsRead (Ends ended.NoTopFile) (a, a) (x, x) (after_job files job end)
 unfolding after_job
 after_none files job end a x is = subst (λ end. IsRead (Ends ended.NoTopFile) (a, a) (x, x) (after_job files job end)) (sym is) (reads_at_once (Ends ended.NoTopFile) a x)
 
-pub after_long : (files : Files) (job : AuxJob) (end : AuxEnd) (a : Counts) (x : Option (List ℕ)) → end ≡ aux.FileLimit
+pub after_long : (files : Files) (job : AuxJob) (end : AuxEnd) (a : LogCounts) (x : Option (List ℕ)) → end ≡ aux.FileLimit
     → IsRead (Ends (ended.Limit kind.File)) (a, a) (x, x) (after_job files job end)
 unfolding after_job
 after_long files job end a x is = subst (λ end. IsRead (Ends (ended.Limit kind.File)) (a, a) (x, x) (after_job files job end)) (sym is) (reads_at_once (Ends (ended.Limit kind.File)) a x)

@@ -9,7 +9,7 @@ use Rattle.btx_text.specs.language.LogLines.{Line}
 use Rattle.btx_machine.specs.declared.ending.Limit.TheVariants as kind
 use Rattle.btx_machine.specs.declared.report.End.{End}
 use Rattle.btx_machine.specs.declared.report.End.TheVariants as ended
-use Rattle.btx_machine.specs.declared.report.Told.{Told}
+use Rattle.btx_machine.specs.declared.report.LogCounts.{LogCounts}
 use Rattle.btx_machine.specs.language.Product.{Product}
 use Rattle.btx_machine.specs.laws.StepsNeeded.{NeedsSteps, NeededSteps, StoppedSteps}
 use Rattle.btx_machine.proofs.NeedsLemmas as machine
@@ -20,7 +20,8 @@ use Rattle.btx_run.specs.language.Files.Found.{NamedFile, file_at}
 use Rattle.btx_run.specs.language.Files.Readings.{Logged, logged, databases_read, style_read, style_named, after_job, job_named, reading_of}
 use Rattle.btx_run.specs.refinement.Files.Readings.{after_style, with_style}
 use Rattle.btx_run.specs.laws.Laws.{NeedsLaw, StoppedLaw}
-use Rattle.btx_run.specs.language.Product.{product_of_files, logged_before, counts_in, work_in}
+use Rattle.btx_run.specs.language.Files.Counts.{counts_of}
+use Rattle.btx_run.specs.language.Product.{product_of_files, logged_before, work_in}
 use Rattle.btx_text.specs.language.Limits.{is_too_long}
 
 -- ---- what a run needs that isn't stopped
@@ -31,15 +32,15 @@ behind_lines lines run whole needs = record {
   enough = λ budget le. ap (logged_before lines) (needs.enough budget le);
 }
 
-after : (job : AuxJob) (read : FilesRead) (options : Options) (told : Told) → NeededSteps (product_of_files job read options told)
-after job (Ends end) options told budget not = record { fewer = λ budget lt. absurd (omega (arith, lt)); enough = λ budget le. refl }
-after job (Found found) options told budget not = machine.needed (work_in job found options) told options.line budget not
+after : (job : AuxJob) (read : FilesRead) (options : Options) (counts : LogCounts) → NeededSteps (product_of_files job read options counts)
+after job (Ends end) options counts budget not = record { fewer = λ budget lt. absurd (omega (arith, lt)); enough = λ budget le. refl }
+after job (Found found) options counts budget not = machine.needed (work_in job found options) counts options.line budget not
 
 pub needed : NeedsLaw
 needed files name options budget not =
     let read = reading_of files name in
-    let run = product_of_files (job_named files name) read.gives options (counts_in read.told) in
-    behind_lines read.told run (run budget) (after (job_named files name) read.gives options (counts_in read.told) budget not)
+    let run = product_of_files (job_named files name) read.gives options (counts_of read.lines) in
+    behind_lines read.lines run (run budget) (after (job_named files name) read.gives options (counts_of read.lines) budget not)
 
 -- ---- what a stopped run took
 
@@ -82,12 +83,12 @@ job_goes_on files job aux.TooManyOpen = other_end (ended.Limit kind.Files) refl
 job_goes_on files job aux.TopMissing = other_end ended.NoTopFile refl
 job_goes_on files job aux.FileLimit = other_end (ended.Limit kind.File) refl
 
-after_stopped : (job : AuxJob) (read : FilesRead) (options : Options) (told : Told) → GoesOn read → StoppedSteps (product_of_files job read options told)
-after_stopped job (Ends end) options told goes budget e = absurd (goes e)
-after_stopped job (Found found) options told goes budget e = machine.stopped (work_in job found options) told options.line budget e
+after_stopped : (job : AuxJob) (read : FilesRead) (options : Options) (counts : LogCounts) → GoesOn read → StoppedSteps (product_of_files job read options counts)
+after_stopped job (Ends end) options counts goes budget e = absurd (goes e)
+after_stopped job (Found found) options counts goes budget e = machine.stopped (work_in job found options) counts options.line budget e
 
 pub stopped : StoppedLaw
 stopped files name options budget e =
     let read = reading_of files name in
     let job = job_named files name in
-    after_stopped job read.gives options (counts_in read.told) (job_goes_on files job job.ending) budget e
+    after_stopped job read.gives options (counts_of read.lines) (job_goes_on files job job.ending) budget e

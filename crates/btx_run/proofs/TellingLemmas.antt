@@ -1,4 +1,4 @@
--- What a log received while lines were told, one part after another.
+-- What a log received while lines were logged, one part after another.
 use Rattle.std.proofs.Common.{◌≡◌, ℕ, ◌+◌, ◌<◌, Bool, true, false, List, [], ◌∷◌, ◌++◌, Option, length, take, drop, get_or, sym, ap, ◌∙◌, subst, append_assoc, append-nil, arith}
 use Rattle.std.proofs.lemmas.Grind.{flat_map-append}
 use Rattle.std.proofs.lemmas.List.{take-append-drop, take_more}
@@ -9,7 +9,9 @@ use Rattle.std.proofs.KnownBytes.{Appends-trans, Appends-nil}
 use Rattle.btx_text.specs.language.LogLines.{Line, is_error, is_warning}
 use Rattle.btx_out.specs.language.Pieces.{AppendsBeginning}
 use Rattle.btx_out.proofs.PieceLemmas.{beginning-after, beginning-all, beginning-longer}
-use Rattle.btx_run.specs.language.Files.Counts.{Counts, at_most_greatest, counts, counts_of}
+use Rattle.btx_machine.specs.declared.report.LogCounts.{LogCounts}
+use Rattle.btx_machine.specs.language.Reports.{log_counts}
+use Rattle.btx_run.specs.language.Files.Counts.{at_most_greatest, counts_of}
 use Rattle.btx_run.specs.refinement.Files.Counts.{counts_at}
 use Rattle.btx_run.specs.language.Files.Telling.{bytes_of_lines}
 use Rattle.btx_run.specs.refinement.Files.Telling.{Tells}
@@ -20,22 +22,22 @@ use Rattle.btx_machine.specs.refinement.Outputs.{Journal}
 pub bytes_of_both : (xs ys : List Line) → bytes_of_lines (xs ++ ys) ≡ bytes_of_lines xs ++ bytes_of_lines ys
 bytes_of_both xs ys = flat_map-append (λ (line : Line). ended_line line.text) xs ys
 
--- nothing was told
-pub tells_nothing : (counts : Counts) (log : Option (List ℕ)) → Tells (counts, counts) (log, log) []
+-- nothing was logged
+pub tells_nothing : (counts : LogCounts) (log : Option (List ℕ)) → Tells (counts, counts) (log, log) []
 tells_nothing counts log = record {
   counts = λ before is. is ∙ ap counts_of (sym (append-nil before));
   received = Appends-nil log;
 }
 
 -- lines, and then further ones
-pub tells_both : (a b c : Counts) (x y z : Option (List ℕ)) (first more : List Line) → Tells (a, b) (x, y) first → Tells (b, c) (y, z) more → Tells (a, c) (x, z) (first ++ more)
+pub tells_both : (a b c : LogCounts) (x y z : Option (List ℕ)) (first more : List Line) → Tells (a, b) (x, y) first → Tells (b, c) (y, z) more → Tells (a, c) (x, z) (first ++ more)
 tells_both a b c x y z first more told told' = record {
   counts = λ before is. told'.counts (before ++ first) (told.counts before is) ∙ ap counts_of (append_assoc before first more);
   received = subst (Appends x z) (sym (bytes_of_both first more)) (Appends-trans x y z _ _ told.received told'.received);
 }
 
 -- all of the first lines is a beginning
-pub told_begins : (x y : Option (List ℕ)) (a b : Counts) (first more : List Line) → Tells (a, b) (x, y) first → AppendsBeginning x y (bytes_of_lines (first ++ more))
+pub told_begins : (x y : Option (List ℕ)) (a b : LogCounts) (first more : List Line) → Tells (a, b) (x, y) first → AppendsBeginning x y (bytes_of_lines (first ++ more))
 told_begins x y a b first more told =
     subst (AppendsBeginning x y) (sym (bytes_of_both first more)) (beginning-longer x y _ _ (beginning-all x y _ told.received))
 
@@ -44,7 +46,7 @@ pub part_begins : (x y : Option (List ℕ)) (first more : List Line) → Appends
 part_begins x y first more part = subst (AppendsBeginning x y) (sym (bytes_of_both first more)) (beginning-longer x y _ _ part)
 
 -- all of the first lines, and then a beginning of the further ones
-pub rest_begins : (x y z : Option (List ℕ)) (a b : Counts) (first more : List Line) → Tells (a, b) (x, y) first → AppendsBeginning y z (bytes_of_lines more) → AppendsBeginning x z (bytes_of_lines (first ++ more))
+pub rest_begins : (x y z : Option (List ℕ)) (a b : LogCounts) (first more : List Line) → Tells (a, b) (x, y) first → AppendsBeginning y z (bytes_of_lines more) → AppendsBeginning x z (bytes_of_lines (first ++ more))
 rest_begins x y z a b first more told part =
     subst (AppendsBeginning x z) (sym (bytes_of_both first more)) (beginning-after x y z _ _ told.received part)
 
@@ -69,8 +71,8 @@ pub tells_line : (line : Line) (old new : Journal) → Appends old.sink.received
     → Tells (counts_at old, counts_at new) (old.sink.received, new.sink.received) (line ∷ [])
 tells_line line old new appends warnings errors = record {
   counts = λ before is.
-      ap (λ n. counts n new.errors) (warnings ∙ ap (λ (counts : Counts). counted_if (is_warning line.kind) counts.warnings) is ∙ counted_more (λ line. is_warning line.kind) before line)
-      ∙ ap (counts (counts_of (before ++ line ∷ [])).warnings) (errors ∙ ap (λ (counts : Counts). counted_if (is_error line.kind) counts.errors) is ∙ counted_more (λ line. is_error line.kind) before line);
+      ap (λ n. log_counts n new.errors) (warnings ∙ ap (λ (counts : LogCounts). counted_if (is_warning line.kind) counts.warnings) is ∙ counted_more (λ line. is_warning line.kind) before line)
+      ∙ ap (log_counts (counts_of (before ++ line ∷ [])).warnings) (errors ∙ ap (λ (counts : LogCounts). counted_if (is_error line.kind) counts.errors) is ∙ counted_more (λ line. is_error line.kind) before line);
   received = subst (Appends old.sink.received new.sink.received) (bytes_of_one line) appends;
 }
 
@@ -87,13 +89,13 @@ at_line lines i line lt is =
     sym (take-append-drop (i + 1) lines) ∙ ap (λ l. l ++ drop (i + 1) lines) (take_more lines i line lt ∙ ap (λ x. take i lines ++ x ∷ []) (sym is))
 
 -- one line more
-pub tells_one_more : (lines : List Line) (i : ℕ) (line : Line) (a b c : Counts) (x y z : Option (List ℕ)) → i < length lines → line ≡ get_or lines i line
+pub tells_one_more : (lines : List Line) (i : ℕ) (line : Line) (a b c : LogCounts) (x y z : Option (List ℕ)) → i < length lines → line ≡ get_or lines i line
     → Tells (a, b) (x, y) (take i lines) → Tells (b, c) (y, z) (line ∷ []) → Tells (a, c) (x, z) (take (i + 1) lines)
 tells_one_more lines i line a b c x y z lt is told next =
     subst (Tells (a, c) (x, z)) (sym (take_more lines i line lt ∙ ap (λ l. take i lines ++ l ∷ []) (sym is))) (tells_both a b c x y z _ _ told next)
 
 -- the lines so far, and a beginning of the next
-pub line_begins : (lines : List Line) (i : ℕ) (line : Line) (a b : Counts) (x y z : Option (List ℕ)) → i < length lines → line ≡ get_or lines i line
+pub line_begins : (lines : List Line) (i : ℕ) (line : Line) (a b : LogCounts) (x y z : Option (List ℕ)) → i < length lines → line ≡ get_or lines i line
     → Tells (a, b) (x, y) (take i lines) → AppendsBeginning y z (bytes_of_lines (line ∷ [])) → AppendsBeginning x z (bytes_of_lines lines)
 line_begins lines i line a b x y z lt is told part =
     subst (λ l. AppendsBeginning x z (bytes_of_lines l)) (sym (at_line lines i line lt is))

@@ -26,7 +26,7 @@ use btx_aux::{AuxJob, Finder};
 use btx_bib::Library;
 use btx_bst::{Style, read_style};
 use btx_machine::report::report_of;
-use btx_machine::{Journal, Report, Told, execute_style, tell_end};
+use btx_machine::{Journal, LogCounts, Report, execute_style, tell_end};
 use btx_out::Sink;
 use btx_step::Job;
 use btx_text::Fault;
@@ -38,15 +38,15 @@ fn execute<'a, W: Sink, L: Sink>(
     style: &'a Style<'a>,
     library: &'a Library<'a>,
     options: &Options,
-    told: Told,
+    counts: LogCounts,
     bbl: &mut W,
     log: &mut L,
 ) -> Result<Report, Fault>
     ensures ok { IfOk result (λ report. Completes report (W.received bbl.old, L.received log.old) (W.received bbl.new, L.received log.new)
-        (executed (work_of style.now library.now options.now) told options.now.line options.now.budget)) }
+        (executed (work_of style.now library.now options.now) counts options.now.line options.now.budget)) }
     ensures bound { IfOk result (λ report. report.steps ≤ options.now.budget) }
     ensures err { OnErr result (AtFault (W.received bbl.old, L.received log.old) (W.received bbl.new, L.received log.new)
-        (executed (work_of style.now library.now options.now) told options.now.line) options.now.budget) }
+        (executed (work_of style.now library.now options.now) counts options.now.line) options.now.budget) }
     ensures counts { CountsOfOutputs result (W.failures bbl.old, W.failures bbl.new) (L.failures log.old, L.failures log.new) }
 {
     let job = Job::new(
@@ -56,7 +56,7 @@ fn execute<'a, W: Sink, L: Sink>(
         options.entry_max,
         options.global_max,
     );
-    execute_style(alloc, &job, told, options.line, options.budget, bbl, log)
+    execute_style(alloc, &job, counts, options.line, options.budget, bbl, log)
 }
 
 // Executes a style that was found, after these lines of the log: its text and the databases are read first.
@@ -65,21 +65,21 @@ fn execute_found<'a, W: Sink, L: Sink>(
     job: &'a AuxJob,
     found: &'a JobFiles<'a>,
     options: &Options,
-    told: Told,
+    counts: LogCounts,
     bbl: &mut W,
     log: &mut L,
 ) -> Result<Report, Fault>
     requires { length found.now.style.bytes ≤ greatest_file }
     ensures ok { IfOk result (λ report. Completes report (W.received bbl.old, L.received log.old) (W.received bbl.new, L.received log.new)
-        (executed (work_in job.now found.now options.now) told options.now.line options.now.budget)) }
+        (executed (work_in job.now found.now options.now) counts options.now.line options.now.budget)) }
     ensures bound { IfOk result (λ report. report.steps ≤ options.now.budget) }
     ensures err { OnErr result (AtFault (W.received bbl.old, L.received log.old) (W.received bbl.new, L.received log.new)
-        (executed (work_in job.now found.now options.now) told options.now.line) options.now.budget) }
+        (executed (work_in job.now found.now options.now) counts options.now.line) options.now.budget) }
     ensures counts { CountsOfOutputs result (W.failures bbl.old, W.failures bbl.new) (L.failures log.old, L.failures log.new) }
 {
     let style = read_style(alloc, found.style.name(), found.style.bytes())?;
     let library = read_library(alloc, &style, job, &found.databases, options.min_crossrefs)?;
-    execute(alloc, &style, &library, options, told, bbl, log)
+    execute(alloc, &style, &library, options, counts, bbl, log)
 }
 
 // Goes on from the files of a job, after these lines of the log: the run ends at once, or the style is executed.
@@ -88,23 +88,23 @@ fn after_files<'a, W: Sink, L: Sink>(
     job: &'a AuxJob,
     read: FilesRead<'a>,
     options: &Options,
-    told: Told,
+    counts: LogCounts,
     bbl: &mut W,
     log: &mut L,
 ) -> Result<Report, Fault>
     requires { StyleFits read }
     ensures ok { IfOk result (λ report. Completes report (W.received bbl.old, L.received log.old) (W.received bbl.new, L.received log.new)
-        (product_of_files job.now read.entry options.now told options.now.budget)) }
+        (product_of_files job.now read.entry options.now counts options.now.budget)) }
     ensures bound { IfOk result (λ report. report.steps ≤ options.now.budget) }
     ensures deep { IfOk result (λ report. report.deepest ≤ 4096) }
     ensures err { OnErr result (AtFault (W.received bbl.old, L.received log.old) (W.received bbl.new, L.received log.new)
-        (product_of_files job.now read.entry options.now told) options.now.budget) }
+        (product_of_files job.now read.entry options.now counts) options.now.budget) }
     ensures untouched { IfOk result (λ report. report.end ≡ NoTopFile → bbl.new ≡ bbl.old) }
     ensures counts { CountsOfOutputs result (W.failures bbl.old, W.failures bbl.new) (L.failures log.old, L.failures log.new) }
 {
     match read {
-        FilesRead::Ends(end) => tell_end(alloc, report_of(end, 0, 0, told), log),
-        FilesRead::Found(found) => execute_found(alloc, job, &found, options, told, bbl, log),
+        FilesRead::Ends(end) => tell_end(alloc, report_of(end, 0, 0, counts), log),
+        FilesRead::Found(found) => execute_found(alloc, job, &found, options, counts, bbl, log),
     }
 }
 
@@ -129,11 +129,11 @@ fn run_job<F: Finder, W: Sink, L: Sink>(
     ensures counts { CountsOfThree result (F.failures finder.old, F.failures finder.new) (W.failures bbl.old, W.failures bbl.new) (L.failures log.old, L.failures log.new) }
     ensures stays { F.content finder.new ≡ F.content finder.old }
 {
-    let mut journal = Journal::new(log, Told::NONE);
+    let mut journal = Journal::new(log, LogCounts::NONE);
     let read = read_files(alloc, finder, job, &mut journal);
-    let told = journal.told();
+    let counts = journal.counts();
     let log = journal.into_sink();
-    after_files(alloc, job, read?, options, told, bbl, log)
+    after_files(alloc, job, read?, options, counts, bbl, log)
 }
 
 // Runs the job of this name.

@@ -20,7 +20,7 @@ pub record BothBegin (before after : Received) (product : Product) : Type 0 wher
 -- both outputs begin with a product's, the log's last line aside
 pub record BothExtend (before after : Received) (product : Product) : Type 0 where
   pub bbl_extends : AppendsAtLeast before.0 after.0 product.bbl
-  pub log_extends : AppendsAtLeast before.1 after.1 product.told
+  pub log_extends : AppendsAtLeast before.1 after.1 product.log_so_far
 
 -- there is a number of steps n below the budget such that each output begins with what a run of n steps writes, the log's last line aside, and
 -- is a prefix of what a run of n + 1 steps writes
@@ -34,6 +34,6 @@ pub record WithinOneStep (before after : Received) (make : ℕ → Product) (bud
 pub record AtFault (before after : Received) (make : ℕ → Product) (budget : ℕ) : Type 0 where
   pub beginnings : BothBegin before after (make budget)
   -- nothing of the log's last line was written, or the list was written to its end
-  pub last_line : Appends before.0 after.0 (make budget).bbl ⊎ AppendsBeginning before.1 after.1 (make budget).told
+  pub last_line : Appends before.0 after.0 (make budget).bbl ⊎ AppendsBeginning before.1 after.1 (make budget).log_so_far
   -- both are prefixes of what a run without a step writes, or both broke off within the same step
   pub step : BothBegin before after (make 0) ⊎ WithinOneStep before after make budget

@@ -8,22 +8,21 @@ use Rattle.btx_step.specs.language.Starts.{first_store}
 use Rattle.btx_machine.specs.declared.ending.Ending.{Ending}
 use Rattle.btx_machine.specs.declared.ending.Ending.TheVariants as ending
 use Rattle.btx_machine.specs.declared.report.Report.{Report}
-use Rattle.btx_machine.specs.declared.report.Told.{Told}
+use Rattle.btx_machine.specs.declared.report.LogCounts.{LogCounts}
 use Rattle.btx_machine.specs.language.States.{Out, State, state, Outcome, Done, Stopped, Limit}
 use Rattle.btx_machine.specs.language.Saying.{ended_line}
 use Rattle.btx_machine.specs.language.Reports.{end_as, log_counts, report_of, last_line}
 use Rattle.btx_machine.specs.language.Items.{do_items}
 
--- the list of references, the log before its last line (here `told`; elsewhere in this chapter that is also two counts), and the report, which that
--- line gives
+-- the list of references, the log before its last line, and the report, which that line gives
 pub record Product : Type 0 where
   pub bbl : List ℕ
-  pub told : List ℕ
+  pub log_so_far : List ℕ
   pub report : Report
 
 -- the whole log: its last line gives the report
 abbrev pub log_of : Product → List ℕ
-log_of product = product.told ++ ended_line (last_line product.report)
+log_of product = product.log_so_far ++ ended_line (last_line product.report)
 
 -- the list of references at an end, in lines of at most `line_length` bytes: where the run finished, a pending line that isn't empty is ended; else
 -- the lines that have ended stand, and the part of the pending one that can't change
@@ -37,7 +36,7 @@ report_at end steps s = report_of (end_as end) steps s.store.deepest (log_counts
 
 -- the product of a run that ended in a state after some steps: the list of references, the log before its last line, and the report
 abbrev pub product_at : ℕ → Ending → ℕ → State → Product
-product_at line_length end steps s = record { bbl = bbl_at line_length end s.out; told = s.out.log; report = report_at end steps s }
+product_at line_length end steps s = record { bbl = bbl_at line_length end s.out; log_so_far = s.out.log; report = report_at end steps s }
 
 -- the product of an outcome, with a budget; a stopped run took all its steps
 abbrev pub product_of : ℕ → ℕ → Outcome → Product
@@ -46,17 +45,17 @@ product_of line_length budget (Stopped s) = product_at line_length ending.Stoppe
 product_of line_length budget (Limit kind s left) = product_at line_length (ending.Limit kind) (budget - left) s
 
 -- no output yet; the counts are those of the warnings and errors that were logged before
-abbrev pub no_out : Told → Out
-no_out told = record { lines = []; pending = []; log = []; warnings = told.warnings; errors = told.errors }
+abbrev pub no_out : LogCounts → Out
+no_out counts = record { lines = []; pending = []; log = []; warnings = counts.warnings; errors = counts.errors }
 
 -- the state before the first command: nothing is written, and all variables have the values with which they begin
-abbrev pub first : Job → Told → State
-first job told = state (first_store job) (no_out told)
+abbrev pub first : Job → LogCounts → State
+first job counts = state (first_store job) (no_out counts)
 
 -- the outcome of the style's commands and messages, one after another, from the first state on
-abbrev pub executed : Job → Told → ℕ → Outcome
-executed job told budget = do_items job job.style.items [] budget (first job told)
+abbrev pub executed : Job → LogCounts → ℕ → Outcome
+executed job counts budget = do_items job job.style.items [] budget (first job counts)
 
--- the product of a style, in lines of at most `line_length` bytes, with a budget; `told` counts what was logged before
-abbrev pub style_product : Job → Told → ℕ → ℕ → Product
-style_product job told line_length budget = product_of line_length budget (executed job told budget)
+-- the product of a style, in lines of at most `line_length` bytes, with a budget; `counts` are those of what was logged before
+abbrev pub style_product : Job → LogCounts → ℕ → ℕ → Product
+style_product job counts line_length budget = product_of line_length budget (executed job counts budget)

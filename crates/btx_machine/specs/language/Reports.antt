@@ -6,7 +6,7 @@ use Rattle.btx_machine.specs.declared.ending.Limit.TheVariants.{Literals, Calls,
 use Rattle.btx_machine.specs.declared.report.End.{End}
 use Rattle.btx_machine.specs.declared.report.End.TheVariants as ended
 use Rattle.btx_machine.specs.declared.report.Report.{Report}
-use Rattle.btx_machine.specs.declared.report.Told.{Told}
+use Rattle.btx_machine.specs.declared.report.LogCounts.{LogCounts}
 
 -- the end of a run whose style was executed
 abbrev pub end_as : Ending → End
@@ -34,18 +34,18 @@ status_of (ended.Limit kind) errors = 3
 status_of ended.NoTopFile errors = 3
 
 -- the counts of a log that has this number of warnings and this number of errors
-abbrev pub log_counts : ℕ → ℕ → Told
+abbrev pub log_counts : ℕ → ℕ → LogCounts
 log_counts warnings errors = record { warnings = warnings; errors = errors }
 
 -- the report of a run: its status, its end, its steps, the most bodies that were open at once, and the counts of its log
-abbrev pub report_of : End → ℕ → ℕ → Told → Report
-report_of end steps deepest told = record {
-  status = status_of end told.errors;
+abbrev pub report_of : End → ℕ → ℕ → LogCounts → Report
+report_of end steps deepest counts = record {
+  status = status_of end counts.errors;
   end = end;
   steps = steps;
   deepest = deepest;
-  warnings = told.warnings;
-  errors = told.errors;
+  warnings = counts.warnings;
+  errors = counts.errors;
 }
 
 -- the last line of the log, without its line feed: how the run ended, its counts and its steps. A run that takes all 100 steps of its budget and

@@ -2,7 +2,7 @@
 use Rattle.std.specs.Prelude.{◌≡◌, ◌≢◌, ℕ, ◌<◌, ◌≤◌}
 use Rattle.btx_step.specs.language.Jobs.{Job}
 use Rattle.btx_machine.specs.declared.report.End.TheVariants.{Stopped}
-use Rattle.btx_machine.specs.declared.report.Told.{Told}
+use Rattle.btx_machine.specs.declared.report.LogCounts.{LogCounts}
 use Rattle.btx_machine.specs.language.Product.{Product, style_product}
 
 -- a run was stopped, and took all its steps
@@ -25,8 +25,8 @@ StoppedSteps run = (budget : ℕ) → (run budget).report.end ≡ Stopped → (r
 
 -- every run of a style that isn't stopped needs just the steps that it took
 abbrev pub StepsNeededLaw : Type 0
-StepsNeededLaw = (job : Job) (told : Told) (limit : ℕ) → NeededSteps (style_product job told limit)
+StepsNeededLaw = (job : Job) (counts : LogCounts) (limit : ℕ) → NeededSteps (style_product job counts limit)
 
 -- a stopped run of a style took all steps of its budget
 abbrev pub StoppedStepsLaw : Type 0
-StoppedStepsLaw = (job : Job) (told : Told) (limit : ℕ) → StoppedSteps (style_product job told limit)
+StoppedStepsLaw = (job : Job) (counts : LogCounts) (limit : ℕ) → StoppedSteps (style_product job counts limit)

@@ -12,4 +12,4 @@ so_far line_length out = written_of line_length out.lines out.pending
 
 -- the product of a run that ends before its style is executed
 abbrev pub product_early : Report → Product
-product_early report = record { bbl = []; told = []; report = report }
+product_early report = record { bbl = []; log_so_far = []; report = report }

@@ -6,8 +6,8 @@ use Rattle.btx_aux.specs.language.Files.{Files}
 use Rattle.btx_aux.specs.language.Job.{AuxJob}
 use Rattle.btx_step.specs.language.Jobs.{Job}
 use Rattle.btx_machine.specs.language.Product.{Product, style_product}
-use Rattle.btx_machine.specs.language.Reports.{report_of, log_counts}
-use Rattle.btx_machine.specs.declared.report.Told.{Told}
+use Rattle.btx_machine.specs.language.Reports.{report_of}
+use Rattle.btx_machine.specs.declared.report.LogCounts.{LogCounts}
 use Rattle.btx_run.specs.declared.files.found.FilesRead.{FilesRead}
 use Rattle.btx_run.specs.declared.files.found.FilesRead.TheVariants.{Ends, Found}
 use Rattle.btx_run.specs.declared.files.found.JobFiles.{JobFiles}
@@ -27,22 +27,18 @@ work_in job found options = record {
   global_max = options.global_max;
 }
 
--- the number of warnings and of errors among the lines, each at most the greatest number of 64 bits
-abbrev pub counts_in : List Line → Told
-counts_in lines = log_counts (counts_of lines).warnings (counts_of lines).errors
-
 -- a product with further log lines before its own
 abbrev pub logged_before : List Line → Product → Product
-logged_before lines product = record product { told = bytes_of_lines lines ++ product.told }
+logged_before lines product = record product { log_so_far = bytes_of_lines lines ++ product.log_so_far }
 
 -- what follows the reading of the files, after these lines of the log, with a budget: the run ends at once, or the style is executed
-abbrev pub product_of_files : AuxJob → FilesRead → Options → Told → ℕ → Product
-product_of_files job (Ends ending) options told budget = record { bbl = []; told = []; report = report_of ending 0 0 told }
-product_of_files job (Found found) options told budget = style_product (work_in job found options) told options.line budget
+abbrev pub product_of_files : AuxJob → FilesRead → Options → LogCounts → ℕ → Product
+product_of_files job (Ends ending) options counts budget = record { bbl = []; log_so_far = []; report = report_of ending 0 0 counts }
+product_of_files job (Found found) options counts budget = style_product (work_in job found options) counts options.line budget
 
 -- the product of a job whose files were read so, with a budget: what was logged, and what follows
 abbrev pub product_of_reading : AuxJob → Logged FilesRead → Options → ℕ → Product
-product_of_reading job read options budget = logged_before read.told (product_of_files job read.gives options (counts_in read.told) budget)
+product_of_reading job read options budget = logged_before read.lines (product_of_files job read.gives options (counts_of read.lines) budget)
 
 -- the product of the job of this name, with a budget
 abbrev pub product_with : Files → List ℕ → Options → ℕ → Product

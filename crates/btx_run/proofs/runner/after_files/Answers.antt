@@ -19,7 +19,7 @@ returns-in-Ends-clause-counts g c = counts_of_end c.tell_end.result _ _ c.tell_e
 
 pub returns-in-Found-clause-deep : goal.returns-in-Found-clause-deep
 returns-in-Found-clause-deep g c =
-    never_deeper _ _ (work_in c.args.job.now c.in-Found.found c.args.options.now) c.args.told c.args.options.now.line c.args.options.now.budget c.execute_found.result c.execute_found.ensures.ok
+    never_deeper _ _ (work_in c.args.job.now c.in-Found.found c.args.options.now) c.args.counts c.args.options.now.line c.args.options.now.budget c.execute_found.result c.execute_found.ensures.ok
 
 pub returns-in-Found-clause-err : goal.returns-in-Found-clause-err
 returns-in-Found-clause-err g c = rw c.in-Found.is c.execute_found.ensures.err
@@ -29,4 +29,4 @@ returns-in-Ends-clause-untouched g c = ok_map (λ report same is. refl) c.tell_e
 
 pub returns-in-Found-clause-untouched : goal.returns-in-Found-clause-untouched
 returns-in-Found-clause-untouched g c =
-    touched_with_top_file _ _ _ _ (work_in c.args.job.now c.in-Found.found c.args.options.now) c.args.told c.args.options.now.line c.args.options.now.budget c.execute_found.result c.execute_found.ensures.ok
+    touched_with_top_file _ _ _ _ (work_in c.args.job.now c.in-Found.found c.args.options.now) c.args.counts c.args.options.now.line c.args.options.now.budget c.execute_found.result c.execute_found.ensures.ok

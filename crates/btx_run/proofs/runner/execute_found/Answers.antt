@@ -12,7 +12,7 @@ use Rattle.btx_run.specs.refinement.Product.{work_of}
 pub returns-in_err-style-clause-err : goal.returns-in_err-style-clause-err
 returns-in_err-style-clause-err g c =
     on_err c.from_residual.result (nothing_written (g.W.Sink.received c.args.bbl.now, g.L.Sink.received c.args.log.now)
-    (style_product (work_in c.args.job.now c.args.found.now c.args.options.now) c.args.told c.args.options.now.line) c.args.options.now.budget)
+    (style_product (work_in c.args.job.now c.args.found.now c.args.options.now) c.args.counts c.args.options.now.line) c.args.options.now.budget)
 
 pub returns-in_err-style-clause-counts : goal.returns-in_err-style-clause-counts
 returns-in_err-style-clause-counts g c =
@@ -21,7 +21,7 @@ returns-in_err-style-clause-counts g c =
 pub returns-in_err-library-clause-err : goal.returns-in_err-library-clause-err
 returns-in_err-library-clause-err g c =
     on_err c.from_residual-in_err-library.result (nothing_written (g.W.Sink.received c.args.bbl.now, g.L.Sink.received c.args.log.now)
-    (style_product (work_in c.args.job.now c.args.found.now c.args.options.now) c.args.told c.args.options.now.line) c.args.options.now.budget)
+    (style_product (work_in c.args.job.now c.args.found.now c.args.options.now) c.args.counts c.args.options.now.line) c.args.options.now.budget)
 
 pub returns-clause-ok : goal.returns-clause-ok
 returns-clause-ok g c =
@@ -29,7 +29,7 @@ returns-clause-ok g c =
     c.in_ok-style.ensures.0 ∙ ap (λ name. style_of name c.bytes.result.now) c.name.ensures ∙ ap (style_of c.args.found.now.style.name) c.bytes.ensures in
     let works : work_of c.in_ok-style.style c.in_ok-library.library c.args.options.now ≡ work_in c.args.job.now c.args.found.now c.args.options.now =
     found_is c.args.job.now c.args.found.now c.args.options.now c.in_ok-style.style c.in_ok-library.library style c.in_ok-library.ensures.library in
-    completes_of _ _ c.args.told c.args.options.now.line c.args.options.now.budget _ _ works c.execute.result c.execute.ensures.ok
+    completes_of _ _ c.args.counts c.args.options.now.line c.args.options.now.budget _ _ works c.execute.result c.execute.ensures.ok
 
 pub returns-clause-err : goal.returns-clause-err
 returns-clause-err g c =
@@ -37,4 +37,4 @@ returns-clause-err g c =
     c.in_ok-style.ensures.0 ∙ ap (λ name. style_of name c.bytes.result.now) c.name.ensures ∙ ap (style_of c.args.found.now.style.name) c.bytes.ensures in
     let works : work_of c.in_ok-style.style c.in_ok-library.library c.args.options.now ≡ work_in c.args.job.now c.args.found.now c.args.options.now =
     found_is c.args.job.now c.args.found.now c.args.options.now c.in_ok-style.style c.in_ok-library.library style c.in_ok-library.ensures.library in
-    fails_of _ _ c.args.told c.args.options.now.line c.args.options.now.budget _ _ works c.execute.result c.execute.ensures.err
+    fails_of _ _ c.args.counts c.args.options.now.line c.args.options.now.budget _ _ works c.execute.result c.execute.ensures.err

@@ -3,7 +3,8 @@ use Rattle.btx_aux.proofs.AnswerLemmas.{by_map}
 use Rattle.btx_machine.specs.language.KeepingStep.{AtFault, Completes}
 use Rattle.btx_machine.proofs.ComesLemmas.{err_map, ok_map, on_err}
 use Rattle.btx_machine.proofs.EdgeLemmas.{ends_as}
-use Rattle.btx_run.specs.language.Product.{product_of_files, product_of_reading, counts_in}
+use Rattle.btx_run.specs.language.Files.Counts.{counts_of}
+use Rattle.btx_run.specs.language.Product.{product_of_files, product_of_reading}
 use Rattle.btx_run.specs.refinement.Files.Counts.{counts_at}
 use Rattle.btx_run.specs.refinement.Files.Readings.{files_read}
 use Rattle.btx_run.proofs.ProductLemmas.{behind_ends, completes_reading, counts_are, counts_of_none, fails_in_lines, fails_reading}
@@ -18,37 +19,37 @@ returns-in_err-read-clause-err g c =
     on_err c.from_residual.result (by_map c.in_err-read.ensures.answered (λ names among. among)
     (λ files part. behind_ends (λ l m. AtFault (bbl.received c.args.bbl.now, l) (bbl.received c.args.bbl.now, m) (product_of_reading c.args.job.now (files_read files c.args.job.now) c.args.options.now) c.args.options.now.budget)
     _ _ _ _ c.new-journal.ensures.received at_end
-    (fails_in_lines (files_read files c.args.job.now).told (bbl.received c.args.bbl.now) c.new-journal.result.sink.received c.read_files-read.new.journal.sink.received
-    (λ steps. product_of_files c.args.job.now (files_read files c.args.job.now).gives c.args.options.now (counts_in (files_read files c.args.job.now).told) steps) c.args.options.now.budget part)))
+    (fails_in_lines (files_read files c.args.job.now).lines (bbl.received c.args.bbl.now) c.new-journal.result.sink.received c.read_files-read.new.journal.sink.received
+    (λ steps. product_of_files c.args.job.now (files_read files c.args.job.now).gives c.args.options.now (counts_of (files_read files c.args.job.now).lines) steps) c.args.options.now.budget part)))
 
 pub returns-clause-ok : goal.returns-clause-ok
 returns-clause-ok g c =
     let log = g.L.Sink in
     let bbl = g.W.Sink in
-    let told = counts_are c.told-told.result _ _ c.told-told.ensures.warnings c.told-told.ensures.errors in
+    let told = counts_are c.counts-counts.result _ _ c.counts-counts.ensures.warnings c.counts-counts.ensures.errors in
     let new = counts_of_none c.new-journal.result c.new-journal.ensures.warnings c.new-journal.ensures.errors in
     ok_map (λ report completes. by_map c.in_ok-read.ensures.answered (λ names among. among)
     (λ files read. behind_ends (λ l n. Completes report (bbl.received c.args.bbl.now, l) (bbl.received c.after_files.new.bbl, n) (product_of_reading c.args.job.now (files_read files c.args.job.now) c.args.options.now c.args.options.now.budget))
     _ _ _ _ c.new-journal.ensures.received (search rules)
-    (completes_reading c.args.job.now c.args.options.now c.in_ok-read.field-0 c.told-told.result (counts_at c.new-journal.result) (counts_at c.read_files-read.new.journal)
+    (completes_reading c.args.job.now c.args.options.now c.in_ok-read.field-0 c.counts-counts.result (counts_at c.new-journal.result) (counts_at c.read_files-read.new.journal)
     (bbl.received c.args.bbl.now) (bbl.received c.after_files.new.bbl) c.new-journal.result.sink.received c.read_files-read.new.journal.sink.received (log.received c.after_files.new.log)
     told new report c.args.options.now.budget (files_read files c.args.job.now) read
     (subst (λ m. Completes report (bbl.received c.args.bbl.now, m) (bbl.received c.after_files.new.bbl, log.received c.after_files.new.log)
-    (product_of_files c.args.job.now c.in_ok-read.field-0 c.args.options.now c.told-told.result c.args.options.now.budget)) c.into_sink-log.ensures.received completes))))
+    (product_of_files c.args.job.now c.in_ok-read.field-0 c.args.options.now c.counts-counts.result c.args.options.now.budget)) c.into_sink-log.ensures.received completes))))
     c.after_files.result c.after_files.ensures.ok
 
 pub returns-clause-err : goal.returns-clause-err
 returns-clause-err g c =
     let log = g.L.Sink in
     let bbl = g.W.Sink in
-    let told = counts_are c.told-told.result _ _ c.told-told.ensures.warnings c.told-told.ensures.errors in
+    let told = counts_are c.counts-counts.result _ _ c.counts-counts.ensures.warnings c.counts-counts.ensures.errors in
     let new = counts_of_none c.new-journal.result c.new-journal.ensures.warnings c.new-journal.ensures.errors in
     err_map (λ fault. by_map c.in_ok-read.ensures.answered (λ names among. among)
     (λ files read. behind_ends (λ l n. AtFault (bbl.received c.args.bbl.now, l) (bbl.received c.after_files.new.bbl, n) (product_of_reading c.args.job.now (files_read files c.args.job.now) c.args.options.now) c.args.options.now.budget)
     _ _ _ _ c.new-journal.ensures.received (search rules)
-    (fails_reading c.args.job.now c.args.options.now c.in_ok-read.field-0 c.told-told.result (counts_at c.new-journal.result) (counts_at c.read_files-read.new.journal)
+    (fails_reading c.args.job.now c.args.options.now c.in_ok-read.field-0 c.counts-counts.result (counts_at c.new-journal.result) (counts_at c.read_files-read.new.journal)
     (bbl.received c.args.bbl.now) (bbl.received c.after_files.new.bbl) c.new-journal.result.sink.received c.read_files-read.new.journal.sink.received (log.received c.after_files.new.log)
     told new c.args.options.now.budget (files_read files c.args.job.now) read
     (subst (λ m. AtFault (bbl.received c.args.bbl.now, m) (bbl.received c.after_files.new.bbl, log.received c.after_files.new.log)
-    (product_of_files c.args.job.now c.in_ok-read.field-0 c.args.options.now c.told-told.result) c.args.options.now.budget) c.into_sink-log.ensures.received fault))))
+    (product_of_files c.args.job.now c.in_ok-read.field-0 c.args.options.now c.counts-counts.result) c.args.options.now.budget) c.into_sink-log.ensures.received fault))))
     c.after_files.result c.after_files.ensures.err

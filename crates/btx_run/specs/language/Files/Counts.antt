@@ -1,21 +1,14 @@
 -- How many warnings and errors a log has. A count that would be above the greatest number of 64 bits stays there (this project's own).
 use Rattle.std.specs.Prelude.{ℕ, ◌-◌, ◌^◌, min, count_by, List}
 use Rattle.btx_text.specs.language.LogLines.{Line, is_error, is_warning}
-
--- the warnings and the errors of a log
-pub record Counts : Type 0 where
-  pub warnings : ℕ
-  pub errors : ℕ
-
--- this number of warnings and this number of errors
-abbrev pub counts : ℕ → ℕ → Counts
-counts warnings errors = record { warnings = warnings; errors = errors }
+use Rattle.btx_machine.specs.declared.report.LogCounts.{LogCounts}
+use Rattle.btx_machine.specs.language.Reports.{log_counts}
 
 -- a number, or the greatest of 64 bits
 abbrev pub at_most_greatest : ℕ → ℕ
 at_most_greatest n = min n (2 ^ 64 - 1)
 
 -- the number of warnings and of errors among the lines, each at most the greatest number of 64 bits
-abbrev pub counts_of : List Line → Counts
+abbrev pub counts_of : List Line → LogCounts
 counts_of lines =
-    counts (at_most_greatest (count_by (λ line. is_warning line.kind) lines)) (at_most_greatest (count_by (λ line. is_error line.kind) lines))
+    log_counts (at_most_greatest (count_by (λ line. is_warning line.kind) lines)) (at_most_greatest (count_by (λ line. is_error line.kind) lines))

@@ -18,16 +18,16 @@ use Rattle.btx_aux.specs.language.Names.{with_ending}
 
 -- a part of the reading: its lines of the log, and what it gives
 pub record Logged (T : Type 0) : Type 0 where
-  pub told : List Line
+  pub lines : List Line
   pub gives : T
 
 -- a part of the reading, made of its log lines and its result
 abbrev pub logged : {T : Type 0} → List Line → T → Logged T
-logged told gives = record { told = told; gives = gives }
+logged lines gives = record { lines = lines; gives = gives }
 
 -- a part of the reading with further log lines before its own
 abbrev pub behind : {T : Type 0} → List Line → Logged T → Logged T
-behind lines part = logged (lines ++ part.told) part.gives
+behind lines part = logged (lines ++ part.lines) part.gives
 
 -- ---- databases
 
@@ -54,7 +54,7 @@ databases_read files names = logged (databases_logged files [] names) (files_fou
 
 -- the reading after the style was found: a style that is too long ends the run, and no database is looked for
 abbrev pub style_found : NamedFile → Logged (List NamedFile) → Logged FilesRead
-style_found style databases = if is_too_long style.bytes then logged [] (Ends (ended.Limit kind.File)) else logged databases.told (Found (record { style = style; databases = databases.gives }))
+style_found style databases = if is_too_long style.bytes then logged [] (Ends (ended.Limit kind.File)) else logged databases.lines (Found (record { style = style; databases = databases.gives }))
 
 -- the style of this name, once it is looked for, and then the databases. If there is no such file that is an error, and the run ends as `finished`,
 -- with the status 2

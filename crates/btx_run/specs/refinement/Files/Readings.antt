@@ -34,26 +34,26 @@ StyleFits (Found found) = length found.style.bytes ≤ greatest_file
 -- the part was read: the answer is what it gives, and its lines were logged
 pub record IsRead {T : Type 0} (value : T) (counted : Counted) (log : LogReceived) (part : Logged T) : Type 0 where
   pub gives : value ≡ part.gives
-  pub tells : Tells counted log part.told
+  pub tells : Tells counted log part.lines
 
 -- a part that was read, or at a fault a prefix of its lines
 abbrev pub ReadsAs : {T : Type 0} → Result T Fault → Counted → LogReceived → Logged T → Type 0
 ReadsAs (Ok value) counted log part = IsRead value counted log part
-ReadsAs (Err fault) counted log part = AppendsBeginning log.0 log.1 (bytes_of_lines part.told)
+ReadsAs (Err fault) counted log part = AppendsBeginning log.0 log.1 (bytes_of_lines part.lines)
 
 -- a database was logged, and is kept behind those before it if it was found
 pub record IsAdded (before after : List NamedFile) (counted : Counted) (log : LogReceived) (part : Logged (Option NamedFile)) : Type 0 where
   pub kept : after ≡ before ++ option_to_list part.gives
-  pub tells : Tells counted log part.told
+  pub tells : Tells counted log part.lines
 
 -- a database that was added so, or at a fault a prefix of what is logged of it
 abbrev pub AddsAs : {T : Type 0} → Result T Fault → List NamedFile → List NamedFile → Counted → LogReceived → Logged (Option NamedFile) → Type 0
 AddsAs (Ok value) before after counted log part = IsAdded before after counted log part
-AddsAs (Err fault) before after counted log part = AppendsBeginning log.0 log.1 (bytes_of_lines part.told)
+AddsAs (Err fault) before after counted log part = AppendsBeginning log.0 log.1 (bytes_of_lines part.lines)
 
 -- a style with the databases that were found
 abbrev pub with_style : NamedFile → Logged (List NamedFile) → Logged FilesRead
-with_style style part = logged part.told (Found (record { style = style; databases = part.gives }))
+with_style style part = logged part.lines (Found (record { style = style; databases = part.gives }))
 
 -- what was logged of the `.aux` files, and what follows them
 abbrev pub files_read : Files → AuxJob → Logged FilesRead

@@ -2,7 +2,8 @@
 use Rattle.std.specs.Prelude.{◌≡◌, ℕ, List, ◌++◌, Option}
 use Rattle.std.specs.Io.KnownBytes.{Appends}
 use Rattle.btx_text.specs.language.LogLines.{Line}
-use Rattle.btx_run.specs.language.Files.Counts.{Counts, counts_of}
+use Rattle.btx_machine.specs.declared.report.LogCounts.{LogCounts}
+use Rattle.btx_run.specs.language.Files.Counts.{counts_of}
 use Rattle.btx_run.specs.language.Files.Telling.{bytes_of_lines}
 
 -- what the log received before and after
@@ -11,7 +12,7 @@ LogReceived = Option (List ℕ) × Option (List ℕ)
 
 -- the counts before and after
 abbrev pub Counted : Type 0
-Counted = Counts × Counts
+Counted = LogCounts × LogCounts
 
 -- these lines were logged: the log received their bytes, and where the counts were those of the lines before, they are now those of
 -- the lines before and these

@@ -4,7 +4,7 @@ use Rattle.btx_machine.specs.refinement.Outputs.{SameSinks}
 use Rattle.btx_machine.proofs.SayLemmas.{Tells}
 use Rattle.btx_machine.proofs.outputs.Outputs.note_all.Given as goal
 
--- the lines of the notes that are left remain to be told
+-- the lines of the notes that are left remain to be logged
 abbrev pub invariant-loop-note : goal.invariant-loop-note
 invariant-loop-note g l = record {
   breaker : l.self.breaker ≡ l.fn.self.breaker;
