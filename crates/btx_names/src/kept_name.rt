@@ -1,5 +1,5 @@
 //! A name with the list that it stands in.
-ghost use Rattle.std.specs.Prelude.{◌≡◌, ◌≤◌, ◌||◌, drop, length, slice_get, IfOk, MatchOption, None, Some, [], IsTrue};
+ghost use Rattle.std.specs.Prelude.{◌≡◌, ◌≤◌, ◌||◌, drop, length, slice_get, OnOk, MatchOption, None, Some, [], IsTrue};
 ghost use Rattle.std.specs.List.{All};
 ghost use Rattle.btx_names.specs.refinement.NamesFrom.{names_from};
 ghost use Rattle.btx_names.specs.language.NameLists.{names_of};
@@ -49,11 +49,16 @@ impl KeptName {
     ghost use Rattle.btx_names.specs.refinement.KeptNames.{IsFound, kept_bytes};
     ghost use Rattle.btx_names.specs.refinement.PartViews.{parts_view};
 
-    /// The name of a list that `before` others precede, if there is one.
-    pub fn find(alloc: Global, names: &[u8], before: usize) -> Result<Option<KeptName>, AllocError>
-        ensures { IfOk result (IsFound names.now before) }
+    /// Puts the name of a list that `before` others precede into `found`, if there is one, and else none.
+    pub fn find(
+        alloc: Global,
+        names: &[u8],
+        before: usize,
+        found: &mut Option<KeptName>,
+    ) -> Result<(), AllocError>
+        ensures { OnOk result (IsFound names.now before found.new) }
     {
-        KeptName::find_in(Vec::new(alloc), TokenList::new(alloc), names, before)
+        KeptName::find_in(Vec::new(alloc), TokenList::new(alloc), names, before, found)
     }
 
     /// Whether this is the name of a list that `before` others precede.
@@ -63,57 +68,73 @@ impl KeptName {
         self.before == before && self.names.as_slice() == names
     }
 
-    /// The name of a list that `before` others precede, if there is one. It takes the place of this one: where it stands in the same list and
-    /// later, it is found from this one on, and its bytes and tokens are kept in the memory of this one's.
-    pub fn go_to(self, names: &[u8], before: usize) -> Result<Option<KeptName>, AllocError>
-        ensures { IfOk result (IsFound names.now before) }
+    /// Puts the name of a list that `before` others precede into `found`, if there is one, and else none. It takes the place of this one: where it
+    /// stands in the same list and later, it is found from this one on, and its bytes and tokens are kept in the memory of this one's.
+    pub fn go_to(
+        self,
+        names: &[u8],
+        before: usize,
+        found: &mut Option<KeptName>,
+    ) -> Result<(), AllocError>
+        ensures { OnOk result (IsFound names.now before found.new) }
     {
         if self.names.as_slice() != names {
-            return KeptName::find_in(self.names, self.list, names, before);
+            return KeptName::find_in(self.names, self.list, names, before, found);
         }
         if before <= self.before {
-            return KeptName::find_in_kept(self.names, self.list, before);
+            return KeptName::find_in_kept(self.names, self.list, before, found);
         }
         match start_behind(&self.names, self.place) {
-            Some(next) => {
-                KeptName::find_from(self.names, self.list, self.before + 1, next, before)
+            Some(next) => KeptName::find_from(
+                self.names,
+                self.list,
+                self.before + 1,
+                next,
+                before,
+                found,
+            ),
+            None => {
+                *found = None;
+                Ok(())
             }
-            None => Ok(None),
         }
     }
 
-    // The name of a list that `before` others precede, if there is one. What the two buffers hold is of no account.
+    // The same. What the two buffers hold is of no account.
     #[tactic(auto, using(crate::proofs::KeptLemmas::find_steps))]
     fn find_in(
         buffer: Vec<u8>,
         list: TokenList,
         names: &[u8],
         before: usize,
-    ) -> Result<Option<KeptName>, AllocError>
-        ensures { IfOk result (IsFound names.now before) }
+        found: &mut Option<KeptName>,
+    ) -> Result<(), AllocError>
+        ensures { OnOk result (IsFound names.now before found.new) }
     {
         let mut kept = buffer;
         kept.clear();
         kept.extend_from_slice(names)?;
-        KeptName::find_in_kept(kept, list, before)
+        KeptName::find_in_kept(kept, list, before, found)
     }
 
-    // The name of a list that `before` others precede, if there is one. What the second buffer holds is of no account.
+    // The same. What the second buffer holds is of no account.
     #[tactic(auto, using(crate::proofs::KeptLemmas::find_steps))]
     fn find_in_kept(
         names: Vec<u8>,
         list: TokenList,
         before: usize,
-    ) -> Result<Option<KeptName>, AllocError>
-        ensures { IfOk result (IsFound names.items before) }
+        found: &mut Option<KeptName>,
+    ) -> Result<(), AllocError>
+        ensures { OnOk result (IsFound names.items before found.new) }
     {
         if names.is_empty() {
-            return Ok(None);
+            *found = None;
+            return Ok(());
         }
-        KeptName::find_from(names, list, 0, 0, before)
+        KeptName::find_from(names, list, 0, 0, before, found)
     }
 
-    // The name of a list that `before` others precede, if there is one. The name that `known` others precede is known to begin at `from`.
+    // The same. The name that `known` others precede is known to begin at `from`.
     #[tactic(auto, using(crate::proofs::KeptLemmas::find_steps))]
     fn find_from(
         names: Vec<u8>,
@@ -121,18 +142,20 @@ impl KeptName {
         known: usize,
         from: usize,
         before: usize,
-    ) -> Result<Option<KeptName>, AllocError>
+        found: &mut Option<KeptName>,
+    ) -> Result<(), AllocError>
         requires inside { from ≤ length names.items }
         requires onwards { drop known (names_of names.items) ≡ names_from names.items from }
         requires earlier { known ≤ before }
-        ensures { IfOk result (IsFound names.items before) }
+        ensures { OnOk result (IsFound names.items before found.new) }
     {
         let Some(from) = name_start(&names, from, before - known) else {
-            return Ok(None);
+            *found = None;
+            return Ok(());
         };
         let read = ReadName::at(&names, from, list)?;
         let ranges = Ranges::of(&names, &read.list);
-        Ok(Some(KeptName {
+        let kept = KeptName {
             names,
             before,
             place: read.place,
@@ -140,7 +163,9 @@ impl KeptName {
             ranges,
             ends_in_comma: read.ends_in_comma,
             has_third_comma: read.has_third_comma,
-        }))
+        };
+        *found = Some(kept);
+        Ok(())
     }
 
     /// Its parts.

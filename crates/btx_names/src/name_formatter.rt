@@ -126,8 +126,7 @@ impl NameFormatter {
         if self.is_at(names, before) {
             return Ok(());
         }
-        self.name = self.found(names, before)?;
-        Ok(())
+        self.find(names, before)
     }
 
     // Whether the name that is kept is the one of a list that `before` others precede.
@@ -140,13 +139,13 @@ impl NameFormatter {
         }
     }
 
-    // The name of a list that `before` others precede, if there is one. None is kept any more: this one may stand in its memory.
-    fn found(&mut self, names: &[u8], before: usize) -> Result<Option<KeptName>, AllocError>
-        ensures { IfOk result (IsFound names.now before) }
+    // Keeps the name of a list that `before` others precede, if there is one, in the memory of the one that was kept.
+    fn find(&mut self, names: &[u8], before: usize) -> Result<(), AllocError>
+        ensures { OnOk result (IsFound names.now before self.new.name) }
     {
         match self.name.take() {
-            Some(name) => name.go_to(names, before),
-            None => KeptName::find(self.alloc, names, before),
+            Some(name) => name.go_to(names, before, &mut self.name),
+            None => KeptName::find(self.alloc, names, before, &mut self.name),
         }
     }
 }

@@ -14,6 +14,17 @@ use btx_text::string_elements::group_len;
 use btx_text::{Class, Fault, class};
 use std::alloc::{AllocError, Global};
 
+// Which bytes stay as they are outside special characters: an `x` stands for each that does, a space, a letter or a digit.
+static STAYING: [u8; 256] = *b"\
+    ................................\
+    x...............xxxxxxxxxx......\
+    .xxxxxxxxxxxxxxxxxxxxxxxxxx.....\
+    .xxxxxxxxxxxxxxxxxxxxxxxxxx.....\
+    xxxxxxxxxxxxxxxxxxxxxxxxxxxxxxxx\
+    xxxxxxxxxxxxxxxxxxxxxxxxxxxxxxxx\
+    xxxxxxxxxxxxxxxxxxxxxxxxxxxxxxxx\
+    xxxxxxxxxxxxxxxxxxxxxxxxxxxxxxxx";
+
 /// A string without what isn't text: white and separators become spaces, letters and digits stay, all else goes. Of a special
 /// character the letters and digits stay and foreign control sequences leave the letters that they stand for.
 ///
@@ -60,11 +71,7 @@ fn run_len(rest: &[u8]) -> usize
 fn stays(byte: u8) -> bool
     ensures { result ≡ stays byte }
 {
-    byte.is_ascii_lowercase()
-        || byte == b' '
-        || byte.is_ascii_uppercase()
-        || byte.is_ascii_digit()
-        || byte >= 128
+    STAYING[byte as usize] == b'x'
 }
 
 // Adds the purified form of a group in braces, or of another byte. A group that is no special character leaves what its bytes do, since braces

@@ -13,8 +13,8 @@ of-ranges-requires-clause-surname c =
     let is : IsNameAt names c.in-Some.from c.in_ok-read.read = rw c.deref-2.ensures.value at c.in_ok-read.ensures in
     surname_inside names c.in_ok-read.read.list _ is.list
 
-pub invariant_of-result : goal.invariant_of-result
-invariant_of-result c =
+pub invariant_of-kept : goal.invariant_of-kept
+invariant_of-kept c =
     let names = c.args.names.items in
     let from = c.in-Some.from in
     let found = rw c.deref.ensures.value at c.in-Some.ensures in

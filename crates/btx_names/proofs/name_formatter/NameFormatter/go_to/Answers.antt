@@ -14,4 +14,4 @@ returns c =
     let same : to_z w32 (of_z w32 number) ≡ number = grind (arith, to_z-of_z) in
     let counted : Some before ≡ names_before number = rw same at c.in-Some.ensures in
     let named : nth_name names number ≡ slice_get (names_of names) before = nth_name_some names number before (sym counted) in
-    rw named c.in_ok-self.ensures
+    rw named c.find.ensures
