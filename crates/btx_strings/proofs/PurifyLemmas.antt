@@ -208,4 +208,12 @@ pub nothing_left : (s text : List ℕ) {whole : List ℕ} → text ++ purify_of 
 unfolding elements_of
 nothing_left s text all none = rw (elements_from-nil Bytes 0 0 0 s none, append-nil) at all
 
+-- a run to the end
+pub nothing_behind : (s text : List ℕ) {n : ℕ} {run after before whole : List ℕ} →
+    text ++ purify_of s ≡ whole → n ≡ prefix_len stays s → run ≡ take n s → before ≡ text ++ run → after ≡ drop n s → length after ≡ 0 → before ≡ whole
+nothing_behind s text {n} {run} {after} {before} {whole} all n_is run_is before_is after_is none =
+    let n = prefix_len stays s in
+    let left : before ++ purify_of after ≡ whole = rw (before_is, run_is, after_is, n_is, append_assoc text (take n s)) (rw (before_other s) at all) in
+    nothing_left after before left none
+
 pub ruleset groups = (prefix_len-le-length, group_len-le)
