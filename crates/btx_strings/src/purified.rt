@@ -48,6 +48,9 @@ pub fn purify_into(text: &mut Vec<u8>, string: &[u8]) -> Result<(), AllocError>
     while !rest.is_empty() {
         let (run, after) = rest.split_at(run_len(rest));
         text.extend_from_slice(run)?;
+        if after.is_empty() {
+            return Ok(());
+        }
         let (group, others) = after.split_at(group_len(after));
         push_group(text, group)?;
         rest = others;

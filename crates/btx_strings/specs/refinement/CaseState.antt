@@ -1,5 +1,5 @@
 -- What the code keeps of what stands before, and the pieces that it goes by.
-use Rattle.std.specs.Prelude.{ℕ, Bool, true, false, ◌==◌, ◌&&◌, not, nat_eq, slice_index, List, [], ◌∷◌, map, codes, if◌then◌else◌}
+use Rattle.std.specs.Prelude.{◌≡◌, ◌<◌, ◌≤◌, ℕ, Bool, true, false, ◌==◌, ◌&&◌, not, nat_eq, slice_index, List, [], ◌∷◌, map, codes, if◌then◌else◌}
 use Rattle.std.specs.List.{prefix_len, starts_with}
 use Rattle.std.specs.Str.{bytes_eq}
 use Rattle.btx_text.specs.language.Elements.{group_len, open_brace, backslash}
@@ -36,6 +36,10 @@ is_inside _ = false
 -- a byte that a run may have: it begins no group, and it is no colon
 abbrev pub is_case_plain : ℕ → Bool
 is_case_plain b = not (b == 58) && not (b == open_brace)
+
+-- the bytes from a place up to another one are such
+abbrev pub ArePlain : List ℕ → ℕ → ℕ → Type 0
+ArePlain text from to = (place : ℕ) → from ≤ place → place < to → is_case_plain (slice_index text place) ≡ true
 
 -- how many bytes the piece has that a text begins with: a whole group; else, where nothing begins, a whole run; else one byte
 unfoldable pub piece_len : Place → List ℕ → ℕ
