@@ -45,8 +45,10 @@ impl Draft {
     ghost use Rattle.std.specs.Prelude.{◌≡◌, [], ◌∷◌, ◌++◌, OnOk, IfOk, option_copied, map, true, false, not};
     ghost use Rattle.btx_aux.specs.refinement.Drafts.{blank, learned, learned_words, asked_in, with_databases, with_database};
     ghost use Rattle.btx_aux.specs.language.Events.{event_at, asked_of};
-    ghost use Rattle.btx_aux.specs.language.Grammar.{Absent, Cites, Databases, Includes, Opens, Styles, Taken, is_whole, piece_of, pieces_of, words_of};
-    ghost use Rattle.btx_aux.specs.language.Notes.{aux_note_line, Wrong};
+    ghost use Rattle.btx_aux.specs.refinement.Grammar.{piece_of};
+    ghost use Rattle.btx_aux.specs.language.Grammar.{Absent, Cites, Databases, Includes, Opens, Styles, Taken, is_whole, pieces_of, words_of};
+    ghost use Rattle.btx_aux.specs.refinement.Notes.{aux_note_line};
+    ghost use Rattle.btx_aux.specs.language.Notes.{Wrong};
     ghost use Rattle.btx_aux.specs.refinement.Told.{complaint_told, note_told};
     ghost use Rattle.btx_aux.specs.refinement.Pieces.{piece_from};
     ghost use Rattle.btx_aux.specs.language.Job.{is_star, taken_with, database_complaints};

@@ -4,6 +4,7 @@ ghost use Rattle.std.specs.Char.{is_ascii_alphabetic};
 ghost use Rattle.btx_text.specs.language.Class.{is_alpha};
 ghost use Rattle.btx_text.specs.refinement.Parts.{part_of};
 ghost use Rattle.btx_names.specs.language.VonTokens as spec;
+ghost use Rattle.btx_names.specs.laws.VonTokens as part;
 ghost use Rattle.btx_names.specs.laws.VonTokens as law;
 
 use btx_strings::controls::letters;
@@ -59,14 +60,14 @@ fn letters_len(text: &[u8]) -> usize
 
 // Whether a control sequence without its backslash is a foreign letter.
 fn is_foreign(name: &[u8]) -> bool
-    ensures { result ≡ spec.is_foreign name.now }
+    ensures { result ≡ part.is_foreign name.now }
 {
     !letters(name).is_empty()
 }
 
 // Whether a text's first letter is there and in lower case.
 fn begins_lower(text: &[u8]) -> bool
-    ensures { result ≡ spec.begins_lower text.now }
+    ensures { result ≡ part.begins_lower text.now }
 {
     match first_letter(text) {
         Some(letter) => letter.is_ascii_lowercase(),

@@ -15,8 +15,8 @@ use Rattle.btx_text.specs.language.Class.{class_of, is_alpha, is_sep, is_white}
 use Rattle.btx_text.specs.language.Elements.{Element, depth_after, kind_at, element_at, extent, group_len, elements_from, elements_of}
 use Rattle.btx_text.proofs.ElementLemmas.{group_len-le, elements_from-step, elements_from-nil}
 use Rattle.btx_strings.specs.language.Controls.{glyphs_of}
-use Rattle.btx_strings.specs.language.Purify.{purified_as, purified_byte, purified_class, purified_glyph, purify_of}
-use Rattle.btx_strings.specs.refinement.Purify.{stays, purified_group}
+use Rattle.btx_strings.specs.language.Purify.{purified_as, purified_class, purified_glyph, purify_of}
+use Rattle.btx_strings.specs.refinement.Purify.{stays, purified_group, purified_byte}
 use Rattle.btx_strings.proofs.PieceLemmas.{above_zero, deeper, kind_inside, less_deep, one_more}
 
 abbrev left_of : Element → List ℕ

@@ -4,6 +4,7 @@ ghost use Rattle.std.specs.List.{prefix_len};
 ghost use Rattle.btx_strings.specs.language.Answers.{no_complaints};
 ghost use Rattle.btx_strings.specs.refinement.Answers.{Answers};
 ghost use Rattle.btx_strings.specs.language.Case as spec;
+ghost use Rattle.btx_strings.specs.refinement.Case as part;
 ghost use Rattle.btx_strings.specs.refinement.CaseState.{ArePlain, cased_piece, first_place, is_beginning, is_case_plain, piece_len, place_after};
 ghost use Rattle.btx_strings.specs.refinement.Glyphs.{glyph_of};
 
@@ -50,7 +51,7 @@ pub fn change_case(alloc: Global, string: &[u8], conversion: &[u8]) -> Result<An
 
 // A string in another case.
 fn cased(alloc: Global, string: &[u8], conversion: Conversion) -> Result<Answer, Fault>
-    ensures { Answers result (spec.cased conversion string.now) no_complaints }
+    ensures { Answers result (part.cased conversion string.now) no_complaints }
 {
     let mut text = Vec::with_capacity(alloc, string.len())?;
     change_case_into(&mut text, string, conversion)?;
@@ -64,7 +65,7 @@ pub fn change_case_into(
     string: &[u8],
     conversion: Conversion,
 ) -> Result<(), AllocError>
-    ensures { OnOk result (text.new.items ≡ spec.cased conversion string.now) }
+    ensures { OnOk result (text.new.items ≡ part.cased conversion string.now) }
 {
     text.clear();
     let mut place = first_place(conversion);
@@ -207,7 +208,7 @@ fn push_special(
     conversion: Conversion,
     special: &[u8],
 ) -> Result<(), AllocError>
-    ensures { OnOk result (text.new.items ≡ text.old.items ++ spec.cased_special conversion special.now) }
+    ensures { OnOk result (text.new.items ≡ text.old.items ++ part.cased_special conversion special.now) }
 {
     let mut gone = false;
     for glyph in Glyphs::of(special) {

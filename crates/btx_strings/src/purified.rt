@@ -5,8 +5,8 @@ ghost use Rattle.btx_strings.specs.language.Answers.{no_complaints};
 ghost use Rattle.btx_strings.specs.refinement.Answers.{Answers};
 ghost use Rattle.btx_strings.specs.language.Controls.{glyphs_of};
 ghost use Rattle.btx_strings.specs.refinement.Glyphs.{glyph_of};
-ghost use Rattle.btx_strings.specs.language.Purify.{purified_byte, purified_glyph, purify_of};
-ghost use Rattle.btx_strings.specs.refinement.Purify.{stays, purified_group};
+ghost use Rattle.btx_strings.specs.language.Purify.{purified_glyph, purify_of};
+ghost use Rattle.btx_strings.specs.refinement.Purify.{stays, purified_group, purified_byte};
 
 use crate::answers::{Answer, Complaints};
 use crate::controls::{Glyph, Glyphs, letters};
