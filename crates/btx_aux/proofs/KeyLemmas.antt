@@ -98,7 +98,7 @@ module _ (keys : List (List ℕ)) (key : List ℕ) where
   with_name-lowered : keys ≡ map folded keys → folded key ≡ key → with_name_once keys key ≡ with_key keys key
   with_name-lowered table form =
       let test : list_any (bytes_eq key) keys ≡ list_any (is_same_key key) keys =
-          ap (λ (k : List ℕ). list_any (bytes_eq k) keys) (sym form) ∙ ap (list_any (bytes_eq (folded key))) table ∙ sym (list_any-folded keys key) in
+      ap (λ (k : List ℕ). list_any (bytes_eq k) keys) (sym form) ∙ ap (list_any (bytes_eq (folded key))) table ∙ sym (list_any-folded keys key) in
       ap (λ (b : Bool). if b then keys else keys ++ key ∷ []) test
 
 pub listed_as-lowered : (keys : List (List ℕ)) (key : List ℕ) → keys ≡ map folded keys → folded key ≡ key → IfSome (listed_as keys key) (λ (earlier : List ℕ). earlier ≡ key)
@@ -106,8 +106,10 @@ listed_as-lowered [] key table form = tt
 listed_as-lowered (first ∷ keys) key table form = by_test (is_same_key key first) refl (listed_as-lowered keys key rest form) where
   at_first : first ≡ folded first
   at_first = cc
+
   rest : keys ≡ map folded keys
   rest = cc
+
   by_test : (b : Bool) → is_same_key key first ≡ b → IfSome (listed_as keys key) (λ (earlier : List ℕ). earlier ≡ key) → IfSome (cond b (Some first) (listed_as keys key)) (λ (earlier : List ℕ). earlier ≡ key)
   by_test true same others = at_first ∙ sym ((bytes_eq-Decides (folded key) (folded first)).0 same) ∙ form
   by_test false other others = others
