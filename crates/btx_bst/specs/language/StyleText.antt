@@ -2,7 +2,7 @@
 use Rattle.std.specs.Prelude.{ℕ, suc, false, List, [], ◌∷◌, Option, None, Some}
 use Rattle.btx_text.specs.language.Keys.{folded}
 use Rattle.btx_bst.specs.declared.command.Command.{Command}
-use Rattle.btx_bst.specs.language.Places.{Place, ink, size, skipped, beginning}
+use Rattle.btx_bst.specs.language.Places.{Place, ink, size, skipped, place_at}
 use Rattle.btx_bst.specs.language.Complaints.{Complaint, NotCommand}
 use Rattle.btx_bst.specs.language.Lists.{letters_at}
 use Rattle.btx_bst.specs.language.Items.{Message}
@@ -11,6 +11,7 @@ use Rattle.btx_bst.specs.language.Predefined.{predefined}
 use Rattle.btx_bst.specs.language.Outcomes.{CommandOutcome, outcome, after_read, with_item}
 use Rattle.btx_bst.specs.language.Commands.{command_at, command_named}
 use Rattle.btx_bst.specs.language.Turns.{Turn, Again, Ends, turns_within}
+use Rattle.btx_text.specs.language.Lines.{lines_of}
 
 -- how far the reading of a style has come: the style so far, and the place where it goes on
 pub record StyleState : Type 0 where
@@ -53,10 +54,11 @@ item_turn state = item_in state.style (ink state.place) (ink state.place).line
 unfoldable pub style_from : StyleState → Style
 style_from state = turns_within item_turn (λ (state : StyleState). state.style) (suc (size state.place)) state
 
--- the style whose file has the name `file` and the bytes `text`; before anything of it is read it has the names that are known before each style
+-- the style whose file has the name `file` and the bytes `text`; before anything of it is read it has the names that are known before each style, and
+-- the place is before the first line, with number 0
 unfoldable pub style_of : List ℕ → List ℕ → Style
 style_of file text =
     style_from (
     style_state
     (record { file = file; items = []; names = predefined; macros = []; bodies = []; texts = []; has_entry = false; before_read = None })
-    (beginning text))
+    (place_at 0 [] (lines_of text)))
