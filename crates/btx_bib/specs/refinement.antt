@@ -19,3 +19,4 @@ pub mod Told
 pub mod Known
 pub mod Databases
 pub mod Entries
+pub mod Listing

@@ -24,7 +24,7 @@ use Rattle.btx_bst.specs.language.BodyText.{BodyEnd, Whole, Broken, body_end}
 use Rattle.btx_bst.specs.language.Outcomes.{CommandOutcome, outcome, after_read, with_item}
 use Rattle.btx_bst.specs.language.Commands.{after_list, after_listed, entry_command, function_command, function_of, function_ended, has_read, read_command, run_command, run_of, sort_command, declare, macro_command, macro_of, function_in, command_at, command_named}
 use Rattle.btx_bst.specs.language.Predefined.{predefined}
-use Rattle.btx_bst.specs.language.StyleText.{StyleState, style_state, resumed, resumed_after, word_outcome, command_outcome, style_from, style_of}
+use Rattle.btx_bst.specs.language.StyleText.{StyleState, style_state, resumed, word_outcome, command_outcome, style_from, style_of}
 use Rattle.btx_bst.specs.laws.Spelling.{complaint_in, made_by, made_till, Division, IsBroken}
 use Rattle.btx_bst.specs.laws.ItemSpelling.{AreFull, IsEnd}
 use Rattle.btx_bst.specs.laws.Written.{AreNew, declared, made_in, with_made_function}
@@ -41,6 +41,7 @@ use Rattle.btx_bst.specs.refinement.Commands.{entry_lists, inside_at}
 use Rattle.btx_bst.specs.laws.StyleText.{unread_style}
 use Rattle.btx_bst.specs.laws.Names.{macro_lower}
 use Rattle.btx_bst.specs.laws.Places.{beginning}
+use Rattle.btx_bst.specs.refinement.StyleText.{resumed_after}
 
 -- a rule has what a command comes to, and nothing else
 pub record Gives (R : Style → Place → CommandOutcome → Type 0) (f : Style → Place → CommandOutcome) : Type 0 where

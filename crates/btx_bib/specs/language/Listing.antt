@@ -23,15 +23,11 @@ abbrev pub added : Option ℕ → Request → List Given → List (List ℕ)
 added None wanted stored = parents_in wanted stored
 added (Some place) wanted stored = map (λ (given : Given). given.key) stored
 
--- the keys of the list, each once, but for those that were cited after `*`: without `*` the cited keys and then the parents; with `*` the keys cited
--- before it and then all entries
-abbrev pub first_keys : Request → List Given → List (List ℕ)
-first_keys wanted stored = fold with_key [] (first_cited wanted.all wanted.cited ++ added wanted.all wanted stored)
-
--- the keys of the list, each once, in the list's order: with `*` those that were cited after it stand at the end, if no database has an entry for
--- them
+-- the keys of the list, each once, in the list's order: without `*` the cited keys and then the parents; with `*` the keys cited before it, then all
+-- entries, and at the end those keys cited after it for which no database has an entry
 abbrev pub list_keys : Request → List Given → List (List ℕ)
-list_keys wanted stored = fold with_key (first_keys wanted stored) (last_cited wanted.all wanted.cited)
+list_keys wanted stored =
+    fold with_key (fold with_key [] (first_cited wanted.all wanted.cited ++ added wanted.all wanted stored)) (last_cited wanted.all wanted.cited)
 
 -- the place of the list for a key: how it is spelled, which is as it was cited, else as its entry has it, else as it is given; whether it stays, since it
 -- was cited, or at least `wanted.fewest` stored entries name it as their `crossref` (with `*` that number is 0, so every key stays); and its entry, if one

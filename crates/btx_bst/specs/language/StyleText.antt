@@ -28,10 +28,6 @@ abbrev pub resumed : Option Complaint → Style → Place → StyleState
 resumed None style place = style_state style place
 resumed (Some complaint) style place = style_state (with_item (Message complaint place.number) style) (skipped place)
 
--- goes on after a command: directly after it, or after a complaint at the next empty line
-abbrev pub resumed_after : CommandOutcome → StyleState
-resumed_after outcome = resumed outcome.complaint outcome.style outcome.place
-
 -- what a command comes to, given its word and which of the ten it is; an error if it is none of them
 abbrev pub word_outcome : Style → Place → List ℕ → Option Command → CommandOutcome
 word_outcome style place word None = outcome (Some (NotCommand word)) style place
@@ -44,7 +40,7 @@ command_outcome style place = after_read style (letters_at place) (λ word behin
 -- at a place that isn't in whitespace or a comment: reads a command; at the end of the text the style ends
 abbrev pub item_in : Style → Place → List ℕ → Turn StyleState Style
 item_in style place [] = Ends style
-item_in style place (b ∷ bs) = Again (resumed_after (command_outcome style place))
+item_in style place (b ∷ bs) = let after = command_outcome style place in Again (resumed after.complaint after.style after.place)
 
 -- the command that stands next is read, or the text ends and with it the style
 unfoldable pub item_turn : StyleState → Turn StyleState Style
