@@ -1,6 +1,6 @@
 //! A place in a style's text, from which words are read.
 ghost use Rattle.std.specs.Prelude.{◌≡◌};
-ghost use Rattle.btx_bst.specs.language.Places.{Place, beginning, ink, skipped};
+ghost use Rattle.btx_bst.specs.language.Places.{Place, ink, skipped};
 ghost use Rattle.btx_bst.specs.language.Lists.{brace_in, closing, letters_at, next_name, opening, quoted_at};
 ghost use Rattle.btx_bst.specs.language.Words.{met_at};
 ghost use Rattle.btx_bst.specs.refinement.Views.{complaint_view, read_text, read_unit, word_view};
@@ -22,6 +22,7 @@ pub struct Cursor<'a> {
 impl<'a> Model for Cursor<'a> {
     ghost use Rattle.std.specs.Prelude.{◌<◌, ◌+◌, ◌^◌, length};
     ghost use Rattle.btx_bst.specs.language.Places.{Place, place_at};
+ghost use Rattle.btx_bst.specs.laws.Places.{beginning};
 
     ghost Value = { Place };
 

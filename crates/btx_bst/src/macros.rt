@@ -1,6 +1,5 @@
 //! The macros, found by a table.
 ghost use Rattle.std.specs.Prelude.{◌≡◌, [], ◌∷◌, ◌++◌, None, IfOk, OnOk, length, slice_get, option_copied, option_map, nat_eq};
-ghost use Rattle.btx_bst.specs.language.Names.{macro_lower};
 ghost use Rattle.btx_bst.specs.refinement.NameTables.{macro_pair};
 
 use crate::name::Name;
@@ -17,6 +16,7 @@ pub struct Macros<'a> {
 impl<'a> Model for Macros<'a> {
     ghost use Rattle.btx_bst.specs.language.Names.{Macros as Known};
     ghost use Rattle.btx_bst.specs.refinement.NameTables.{macros_view};
+ghost use Rattle.btx_bst.specs.laws.Names.{macro_lower};
 
     ghost Value = { Known };
 

@@ -4,7 +4,7 @@ ghost use Rattle.btx_bst.specs.language.Predefined.{predefined};
 ghost use Rattle.btx_bst.specs.language.StyleText.{style_of};
 ghost use Rattle.btx_bst.specs.refinement.StyleReads.{Reads};
 ghost use Rattle.btx_bst.specs.laws.References.{RefersWithin};
-ghost use Rattle.btx_bst.specs.language.Names.{named_lower, name_of, macro_lower};
+ghost use Rattle.btx_bst.specs.language.Names.{named_lower, name_of};
 ghost use Rattle.btx_bst.specs.language.Style.{field_of, type_of};
 ghost use Rattle.btx_bst.specs.refinement.Views.{items_view};
 ghost use Rattle.btx_text.specs.language.Limits.{greatest_file};
@@ -36,6 +36,7 @@ impl<'a> Model for Style<'a> {
 
     ghost use Rattle.btx_bst.specs.refinement.DraftViews.{draft_view};
     ghost use Rattle.btx_bst.specs.laws.References.{RefersWithin};
+ghost use Rattle.btx_bst.specs.laws.Names.{macro_lower};
 
     ghost view = { λ style. draft_view style.draft };
 
