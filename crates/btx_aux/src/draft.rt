@@ -129,9 +129,12 @@ impl Draft {
         requires { is_star key.now ≡ false }
         ensures { OnOk result (self.new ≡ learned self.old (event_at place.entry.file.now place.entry.line (Cites (Taken key.now)))) }
     {
+        if self.keys.add_plainly(alloc, key)? {
+            return Ok(());
+        }
         let lowered = lowered(alloc, key)?;
         match self.keys.find(lowered.as_slice()) {
-            None => self.keys.add(Vec::from_slice(alloc, key)?, lowered),
+            None => self.keys.add(alloc, key, lowered),
             Some(earlier) => {
                 if earlier == key {
                     return Ok(());
