@@ -65,10 +65,10 @@ module _ {T : Type 0} (test : T → Bool) where
     by_test false rest = ap (option_map suc) rest ∙ behind_next (length xs) (first_place test xs) (first_place test ys)
 
   -- the same, of a list that is one behind another, by the places in these
-  pub place-append : (xs ys names : List T) → xs ++ ys ≡ names → {first second : Option ℕ} → first ≡ first_place test xs → second ≡ first_place test ys
-      → option_or first (option_map (λ (p : ℕ). length xs + p) second) ≡ first_place test names
-  place-append xs ys names is first second =
-      ap (λ (place : Option ℕ). option_or place (option_map (λ (p : ℕ). length xs + p) _)) first
+  pub place-append : (xs ys names : List T) → xs ++ ys ≡ names → (found more : Option ℕ) → found ≡ first_place test xs → more ≡ first_place test ys
+      → option_or found (option_map (λ (p : ℕ). length xs + p) more) ≡ first_place test names
+  place-append xs ys names is found more first second =
+      ap (λ (place : Option ℕ). option_or place (option_map (λ (p : ℕ). length xs + p) more)) first
       ∙ ap (λ (place : Option ℕ). option_or (first_place test xs) (option_map (λ (p : ℕ). length xs + p) place)) second
       ∙ sym (first_place-append xs ys)
       ∙ ap (first_place test) is

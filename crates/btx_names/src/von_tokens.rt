@@ -4,7 +4,6 @@ ghost use Rattle.std.specs.Char.{is_ascii_alphabetic};
 ghost use Rattle.btx_text.specs.language.Class.{is_alpha};
 ghost use Rattle.btx_text.specs.refinement.Parts.{part_of};
 ghost use Rattle.btx_names.specs.language.VonTokens as spec;
-ghost use Rattle.btx_names.specs.laws.VonTokens as part;
 ghost use Rattle.btx_names.specs.laws.VonTokens as law;
 
 use btx_strings::controls::letters;

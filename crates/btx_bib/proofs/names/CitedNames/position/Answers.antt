@@ -1,4 +1,4 @@
-use Rattle.std.proofs.Common.{arith, ◌≡◌, ◌∙◌, ap, sym, map, nat_lt, true, false, if◌then◌else◌, Bool, Option, None, Some, ℕ}
+use Rattle.std.proofs.Common.{arith, ◌≡◌, ◌∙◌, ap, sym, map, nat_lt, true, false, if◌then◌else◌, Bool, None, Some}
 use Rattle.std.specs.Str.{bytes_eq}
 use Rattle.std.proofs.lemmas.Bool.Decides.{nat_tests}
 use Rattle.btx_text.specs.language.Keys.{folded}
