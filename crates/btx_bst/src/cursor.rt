@@ -22,7 +22,7 @@ pub struct Cursor<'a> {
 impl<'a> Model for Cursor<'a> {
     ghost use Rattle.std.specs.Prelude.{◌<◌, ◌+◌, ◌^◌, length};
     ghost use Rattle.btx_bst.specs.language.Places.{Place, place_at};
-ghost use Rattle.btx_bst.specs.laws.Places.{beginning};
+    ghost use Rattle.btx_bst.specs.laws.Places.{beginning};
 
     ghost Value = { Place };
 

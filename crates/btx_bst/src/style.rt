@@ -36,7 +36,7 @@ impl<'a> Model for Style<'a> {
 
     ghost use Rattle.btx_bst.specs.refinement.DraftViews.{draft_view};
     ghost use Rattle.btx_bst.specs.laws.References.{RefersWithin};
-ghost use Rattle.btx_bst.specs.laws.Names.{macro_lower};
+    ghost use Rattle.btx_bst.specs.laws.Names.{macro_lower};
 
     ghost view = { λ style. draft_view style.draft };
 

@@ -73,7 +73,13 @@ function_of style name place None =
     after_read style (closing place) (λ _ place.
     after_read style (opening place) (λ _ place.
     function_ended style (folded name) (body_end style.names (record {
-      place = place; tokens = []; around = []; bodies = style.bodies; texts = style.texts; items = style.items }))))
+      place = place;
+      tokens = [];
+      around = [];
+      bodies = style.bodies;
+      texts = style.texts;
+      items = style.items;
+    }))))
 
 -- FUNCTION gives a new name to a function: the name in braces, and its body in braces (btxhak, section 5.2)
 unfoldable pub function_command : Style → Place → CommandOutcome
