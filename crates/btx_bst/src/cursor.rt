@@ -4,6 +4,7 @@ ghost use Rattle.btx_bst.specs.language.Places.{Place, ink, skipped};
 ghost use Rattle.btx_bst.specs.language.Lists.{brace_in, closing, letters_at, next_name, opening, quoted_at};
 ghost use Rattle.btx_bst.specs.language.Words.{met_at};
 ghost use Rattle.btx_bst.specs.refinement.Views.{complaint_view, read_text, read_unit, word_view};
+ghost use Rattle.btx_bst.specs.laws.Places.{beginning};
 
 use crate::complaint::Complaint;
 use crate::fronts::{behind_white, letters_len, name_len, quote_len, word_front};
@@ -22,7 +23,6 @@ pub struct Cursor<'a> {
 impl<'a> Model for Cursor<'a> {
     ghost use Rattle.std.specs.Prelude.{◌<◌, ◌+◌, ◌^◌, length};
     ghost use Rattle.btx_bst.specs.language.Places.{Place, place_at};
-    ghost use Rattle.btx_bst.specs.laws.Places.{beginning};
 
     ghost Value = { Place };
 

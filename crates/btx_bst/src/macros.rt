@@ -1,6 +1,7 @@
 //! The macros, found by a table.
 ghost use Rattle.std.specs.Prelude.{◌≡◌, [], ◌∷◌, ◌++◌, None, IfOk, OnOk, length, slice_get, option_copied, option_map, nat_eq};
 ghost use Rattle.btx_bst.specs.refinement.NameTables.{macro_pair};
+ghost use Rattle.btx_bst.specs.laws.Names.{macro_lower};
 
 use crate::name::Name;
 use indexmap::IndexMap;
@@ -16,7 +17,6 @@ pub struct Macros<'a> {
 impl<'a> Model for Macros<'a> {
     ghost use Rattle.btx_bst.specs.language.Names.{Macros as Known};
     ghost use Rattle.btx_bst.specs.refinement.NameTables.{macros_view};
-    ghost use Rattle.btx_bst.specs.laws.Names.{macro_lower};
 
     ghost Value = { Known };
 

@@ -8,6 +8,7 @@ ghost use Rattle.btx_bst.specs.language.Names.{named_lower, name_of};
 ghost use Rattle.btx_bst.specs.language.Style.{field_of, type_of};
 ghost use Rattle.btx_bst.specs.refinement.Views.{items_view};
 ghost use Rattle.btx_text.specs.language.Limits.{greatest_file};
+ghost use Rattle.btx_bst.specs.laws.Names.{macro_lower};
 
 use crate::callee::{Callee, Kind};
 use crate::cursor::Cursor;
@@ -36,7 +37,6 @@ impl<'a> Model for Style<'a> {
 
     ghost use Rattle.btx_bst.specs.refinement.DraftViews.{draft_view};
     ghost use Rattle.btx_bst.specs.laws.References.{RefersWithin};
-    ghost use Rattle.btx_bst.specs.laws.Names.{macro_lower};
 
     ghost view = { λ style. draft_view style.draft };
 
