@@ -8,10 +8,11 @@ use Rattle.btx_aux.specs.language.Names.{listed_as, is_same_key, with_ending, wi
 use Rattle.btx_aux.specs.language.Grammar.{Piece, Taken, Cut, Cites, Databases, Opens}
 use Rattle.btx_aux.specs.language.Events.{event_at}
 use Rattle.btx_text.specs.language.LogLines.{Line}
-use Rattle.btx_aux.specs.language.Notes.{AuxComplaint, TopFile, LevelFile, CaseMismatch, RepeatedDatabase, Slipped, AuxNote, aux_note_line, Wrong}
+use Rattle.btx_aux.specs.language.Notes.{AuxComplaint, TopFile, LevelFile, CaseMismatch, RepeatedDatabase, Slipped, AuxNote, Wrong}
 use Rattle.btx_aux.specs.language.Job.{is_star, taken_with, database_complaints}
 use Rattle.btx_aux.specs.refinement.Drafts.{learned, asked_in, with_notes, with_database, with_databases, complaining}
 use Rattle.btx_text.specs.language.Lists.{only_if, is_among}
+use Rattle.btx_aux.specs.refinement.Notes.{aux_note_line}
 
 -- a draft with a further line in its log
 abbrev pub complained : Draft → AuxComplaint → ℕ → List ℕ → Draft

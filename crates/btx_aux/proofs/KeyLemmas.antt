@@ -1,6 +1,8 @@
 -- Keys and the table of their lowered forms, as a list of keys.
-use Rattle.std.proofs.Common.{◌≡◌, ℕ, ◌+◌, nat_lt, arith, Bool, true, false, not, cond, List, [], ◌∷◌, ◌++◌, map, length, Option, None, Some, refl, sym, ap, ◌∙◌}
+use Rattle.std.proofs.Common.{◌≡◌, ℕ, ◌+◌, nat_lt, arith, ◌||◌, Bool, true, false, not, cond, if◌then◌else◌, IfSome, List, [], ◌∷◌, ◌++◌, map, length, Option, None, Some, is_some, refl, sym, ap, ◌∙◌}
 use Rattle.std.specs.Prelude.{position, slice_get}
+use Rattle.std.specs.declared.alloc.Global.{Global}
+use Rattle.std.specs.declared.vec.Vec.{Vec}
 use Rattle.std.specs.Str.{bytes_eq}
 use Rattle.std.specs.Option.{option_and_then, option_map}
 use Rattle.std.specs.List.{find, list_any, position_or_len}
@@ -8,10 +10,14 @@ use Rattle.std.proofs.lemmas.List.{length-map}
 use Rattle.std.proofs.lemmas.List.Folds.{find_at}
 use Rattle.std.proofs.lemmas.Option.{slice_get_past, slice_get-map}
 use Rattle.std.proofs.lemmas.Bool.Decides.{nat_tests}
+use Rattle.std.proofs.lemmas.Slice.Eq.{bytes_eq-Decides}
+use Rattle.indexmap.specs.IndexSet.{insert_key}
 use Rattle.btx_text.specs.language.Keys.{folded}
 use Rattle.btx_aux.specs.refinement.Entries.{Bytes, texts_of}
 use Rattle.btx_aux.specs.refinement.KeyTable.{IsTableOf, listed_by}
-use Rattle.btx_aux.proofs.NameLemmas.{is_among-texts_of, texts_of-push}
+use Rattle.btx_aux.specs.language.Names.{is_same_key, listed_as, with_key, with_name_once}
+use Rattle.btx_aux.proofs.NameLemmas.{is_among-texts_of, texts_of-push, with_name-texts_of}
+use Rattle.btx_aux.proofs.TableLemmas.{same_key}
 
 -- ---- where something stands in a list
 
@@ -80,3 +86,48 @@ IsTableOf-push lowered keys l k table form =
     ∙ ap (λ (names : List (List ℕ)). names ++ l.items ∷ []) table
     ∙ ap (λ (name : List ℕ). map folded (texts_of keys) ++ name ∷ []) form
     ∙ sym (ap (map folded) (texts_of-push keys k) ∙ map-push (texts_of keys) k.items)
+
+-- ---- keys without capital letters
+
+list_any-folded : (keys : List (List ℕ)) (key : List ℕ) → list_any (is_same_key key) keys ≡ list_any (bytes_eq (folded key)) (map folded keys)
+list_any-folded [] key = refl
+list_any-folded (first ∷ keys) key = ap (λ (b : Bool). bytes_eq (folded key) (folded first) || b) (list_any-folded keys key)
+
+-- among keys that are lowered, a lowered key is listed where it stands
+module _ (keys : List (List ℕ)) (key : List ℕ) where
+  with_name-lowered : keys ≡ map folded keys → folded key ≡ key → with_name_once keys key ≡ with_key keys key
+  with_name-lowered table form =
+      let test : list_any (bytes_eq key) keys ≡ list_any (is_same_key key) keys =
+      ap (λ (k : List ℕ). list_any (bytes_eq k) keys) (sym form) ∙ ap (list_any (bytes_eq (folded key))) table ∙ sym (list_any-folded keys key) in
+      ap (λ (b : Bool). if b then keys else keys ++ key ∷ []) test
+
+pub listed_as-lowered : (keys : List (List ℕ)) (key : List ℕ) → keys ≡ map folded keys → folded key ≡ key → IfSome (listed_as keys key) (λ (earlier : List ℕ). earlier ≡ key)
+listed_as-lowered [] key table form = tt
+listed_as-lowered (first ∷ keys) key table form = by_test (is_same_key key first) refl (listed_as-lowered keys key rest form) where
+  at_first : first ≡ folded first
+  at_first = cc
+
+  rest : keys ≡ map folded keys
+  rest = cc
+
+  by_test : (b : Bool) → is_same_key key first ≡ b → IfSome (listed_as keys key) (λ (earlier : List ℕ). earlier ≡ key) → IfSome (cond b (Some first) (listed_as keys key)) (λ (earlier : List ℕ). earlier ≡ key)
+  by_test true same others = at_first ∙ sym ((bytes_eq-Decides (folded key) (folded first)).0 same) ∙ form
+  by_test false other others = others
+
+-- the table with a further lowered key
+module _ (lowered : List Bytes) (key : Bytes) where
+  pub IsTableOf-lowered : IsTableOf lowered lowered → folded key.items ≡ key.items → IsTableOf (insert_key same_key lowered key) (insert_key same_key lowered key)
+  IsTableOf-lowered table form = by_test (list_any (same_key key) lowered) where
+    by_test : (b : Bool) → IsTableOf (if b then lowered else lowered ++ key ∷ []) (if b then lowered else lowered ++ key ∷ [])
+    by_test true = table
+    by_test false = IsTableOf-push lowered lowered key key table (sym form)
+
+  pub with_key-lowered : (view : List (List ℕ)) → IsTableOf lowered lowered → texts_of lowered ≡ view → folded key.items ≡ key.items → texts_of (insert_key same_key lowered key) ≡ with_key view key.items
+  with_key-lowered view table is form =
+      with_name-texts_of lowered key
+      ∙ with_name-lowered (texts_of lowered) key.items table form
+      ∙ ap (λ (keys : List (List ℕ)). with_key keys key.items) is
+
+pub unspelled : (spelled : Option (Vec Bytes Global)) → is_some spelled ≡ false → spelled ≡ None
+unspelled None none = refl
+unspelled (Some list) none = let bad : true ≡ false = none in cc

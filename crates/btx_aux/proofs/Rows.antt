@@ -9,7 +9,8 @@ use Rattle.btx_aux.specs.laws.Pairs.{files_of_pairs}
 use Rattle.btx_aux.specs.language.Grammar.{pieces_of, aux_command_named, words_of}
 use Rattle.btx_aux.specs.language.Events.{AuxEvent, said, job_events}
 use Rattle.btx_aux.specs.language.Notes.{AuxComplaint, Slipped, AnotherBibdata, AnotherBibstyle, CaseMismatch, SecondStar, WrongExtension, AlreadyMet, NotOpened, RepeatedDatabase, AuxNote, TopFile, LevelFile, Wrong, NoCitations, NoBibdata, NoBibstyle}
-use Rattle.btx_aux.specs.language.Job.{cited_keys, all_of, databases_of, style_name_of, notes_of, end_of}
+use Rattle.btx_aux.specs.language.Job.{cited_keys, all_of, notes_of, end_of}
+use Rattle.btx_aux.specs.refinement.Job.{databases_of, style_name_of}
 
 -- what is compared: keys, the place of `*`, databases, style, the log's notes, the end
 abbrev Shown : Type 0

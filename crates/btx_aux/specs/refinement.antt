@@ -10,3 +10,7 @@ pub mod KeyTable
 pub mod Drafts
 pub mod Reads
 pub mod Faults
+pub mod Events
+pub mod Job
+pub mod Notes
+pub mod Grammar

@@ -2,12 +2,13 @@
 ghost use Rattle.std.specs.Prelude.{◌≡◌, ◌∷◌, ◌++◌, map, not, IfOk, IfSome, OnOk};
 ghost use Rattle.btx_aux.specs.refinement.Answers.{AsksTop, ByAnswers};
 ghost use Rattle.btx_aux.specs.refinement.Faults.{CountsOfOne};
-ghost use Rattle.btx_aux.specs.language.Job.{job_of_files, missing_notes};
+ghost use Rattle.btx_aux.specs.language.Job.{job_of_files};
 ghost use Rattle.btx_aux.specs.refinement.Drafts.{blank};
 ghost use Rattle.btx_aux.specs.refinement.Reads.{closed, topped};
-ghost use Rattle.btx_aux.specs.language.Notes.{aux_note_line};
 ghost use Rattle.btx_aux.specs.refinement.Told.{note_told};
 ghost use Rattle.btx_text.specs.language.Lists.{only_if};
+ghost use Rattle.btx_aux.specs.refinement.Notes.{aux_note_line};
+ghost use Rattle.btx_aux.specs.refinement.Job.{missing_notes};
 
 use crate::draft::Draft;
 use crate::end::End;

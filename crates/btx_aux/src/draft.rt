@@ -45,8 +45,10 @@ impl Draft {
     ghost use Rattle.std.specs.Prelude.{◌≡◌, [], ◌∷◌, ◌++◌, OnOk, IfOk, option_copied, map, true, false, not};
     ghost use Rattle.btx_aux.specs.refinement.Drafts.{blank, learned, learned_words, asked_in, with_databases, with_database};
     ghost use Rattle.btx_aux.specs.language.Events.{event_at, asked_of};
-    ghost use Rattle.btx_aux.specs.language.Grammar.{Absent, Cites, Databases, Includes, Opens, Styles, Taken, is_whole, piece_of, pieces_of, words_of};
-    ghost use Rattle.btx_aux.specs.language.Notes.{aux_note_line, Wrong};
+    ghost use Rattle.btx_aux.specs.refinement.Grammar.{piece_of};
+    ghost use Rattle.btx_aux.specs.language.Grammar.{Absent, Cites, Databases, Includes, Opens, Styles, Taken, is_whole, pieces_of, words_of};
+    ghost use Rattle.btx_aux.specs.refinement.Notes.{aux_note_line};
+    ghost use Rattle.btx_aux.specs.language.Notes.{Wrong};
     ghost use Rattle.btx_aux.specs.refinement.Told.{complaint_told, note_told};
     ghost use Rattle.btx_aux.specs.refinement.Pieces.{piece_from};
     ghost use Rattle.btx_aux.specs.language.Job.{is_star, taken_with, database_complaints};
@@ -129,9 +131,12 @@ impl Draft {
         requires { is_star key.now ≡ false }
         ensures { OnOk result (self.new ≡ learned self.old (event_at place.entry.file.now place.entry.line (Cites (Taken key.now)))) }
     {
+        if self.keys.add_plainly(alloc, key)? {
+            return Ok(());
+        }
         let lowered = lowered(alloc, key)?;
         match self.keys.find(lowered.as_slice()) {
-            None => self.keys.add(Vec::from_slice(alloc, key)?, lowered),
+            None => self.keys.add(alloc, key, lowered),
             Some(earlier) => {
                 if earlier == key {
                     return Ok(());

@@ -1,8 +1,9 @@
 //! What the log says of the `.aux` files, and the text of each line.
 ghost use Rattle.std.specs.Prelude.{◌≡◌, ◌++◌, IfOk, OnOk, decimal, codes};
 ghost use Rattle.btx_text.specs.language.LogLines.{place_text};
-ghost use Rattle.btx_aux.specs.language.Notes.{aux_complaint_text, aux_note_kind, aux_note_line, aux_note_text, aux_slip_text};
+ghost use Rattle.btx_aux.specs.language.Notes.{aux_complaint_text, aux_note_kind, aux_note_text};
 ghost use Rattle.btx_aux.specs.refinement.Told.{complaint_told, note_told};
+ghost use Rattle.btx_aux.specs.refinement.Notes.{aux_note_line, aux_slip_text};
 
 use crate::command::Slip;
 use btx_text::log_texts::{push_four, push_mark, push_number, push_place, push_two};

@@ -2,7 +2,7 @@
 use Rattle.std.proofs.Common.{◌≡◌, ℕ, Bool, true, false, if◌then◌else◌, List, [], ◌∷◌, ◌++◌, fold, sym, ap, ◌∙◌, append_assoc, append-nil}
 use Rattle.btx_bib.specs.declared.end.End.TheVariants as end
 use Rattle.btx_bib.specs.declared.message.Message.{Message}
-use Rattle.btx_bib.specs.language.Databases.{read_all, read_one, read_whole, with_macros}
+use Rattle.btx_bib.specs.language.Databases.{read_one}
 use Rattle.btx_bib.specs.language.Grammar.Items.{Placed}
 use Rattle.btx_bib.specs.language.Known.{Known, known_after, with_current_stored, goes_on}
 use Rattle.btx_bib.specs.laws.Known.{after_all}
@@ -10,7 +10,8 @@ use Rattle.btx_bib.specs.language.Told.{Database, Reading, read_next}
 use Rattle.btx_bib.specs.language.Wanted.{Request}
 use Rattle.btx_text.specs.language.Limits.{is_too_long}
 use Rattle.btx_bib.specs.refinement.Told.{messages_at}
-use Rattle.btx_bib.specs.laws.Databases.{database_events}
+use Rattle.btx_bib.specs.laws.Databases.{database_events, with_macros, read_all}
+use Rattle.btx_bib.specs.refinement.Databases.{read_whole}
 
 -- ---- each by itself
 

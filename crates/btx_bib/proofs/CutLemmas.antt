@@ -24,18 +24,18 @@ use Rattle.btx_bib.specs.language.Wanted.{Request}
 use Rattle.btx_bib.specs.language.Strings.{string_value, other_value, defined}
 use Rattle.btx_bib.specs.language.Entries.{Given}
 use Rattle.btx_bib.specs.language.Stored.{entry_with_key}
-use Rattle.btx_bib.specs.language.Known.{Known, goes_on, stored_in, with_current_stored, if_fits, after_field, after_event, known_after, keeping, with_field}
+use Rattle.btx_bib.specs.language.Known.{Known, goes_on, stored_in, with_current_stored, if_fits, after_field, after_event, known_after, keeping}
 use Rattle.btx_bib.specs.laws.Known.{after_all}
 use Rattle.btx_bib.specs.language.Told.{Database}
-use Rattle.btx_bib.specs.language.Databases.{library_of, library_by, read_all, with_macros}
+use Rattle.btx_bib.specs.language.Databases.{library_of, library_by}
 use Rattle.btx_bib.specs.laws.Cuts.{IsCutBetweenItems, GivesTheSame, CutGivesTheSame}
 use Rattle.btx_bib.proofs.ApartLemmas.{known_one, known_all, known-apart}
 use Rattle.btx_bib.proofs.GrammarLemmas.LongerLemmas.{part_on, event_on, placed_on, reading-on}
 use Rattle.btx_bib.proofs.GrammarLemmas.ReadingLemmas.{is_reading, one_reading}
 use Rattle.btx_bib.specs.refinement.Grammar.ValueTexts.{joined_text}
-use Rattle.btx_bib.specs.refinement.Known.{keeps_field, after_key}
+use Rattle.btx_bib.specs.refinement.Known.{keeps_field, after_key, with_field}
 use Rattle.btx_bib.specs.refinement.Grammar.Items.{item_end}
-use Rattle.btx_bib.specs.laws.Databases.{database_events}
+use Rattle.btx_bib.specs.laws.Databases.{database_events, with_macros, read_all}
 
 -- ---- what is read, without places
 

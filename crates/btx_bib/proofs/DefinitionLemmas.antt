@@ -17,11 +17,12 @@ use Rattle.btx_bib.specs.language.Wanted.{Request}
 use Rattle.btx_bib.specs.language.Strings.{Strings, string_value, other_value, defined}
 use Rattle.btx_bib.specs.language.Entries.{Given}
 use Rattle.btx_bib.specs.language.Stored.{is_wanted}
-use Rattle.btx_bib.specs.language.Known.{Known, goes_on, if_fits, after_field, after_event, known_after, with_current_stored, with_field}
+use Rattle.btx_bib.specs.language.Known.{Known, goes_on, if_fits, after_field, after_event, known_after, with_current_stored}
 use Rattle.btx_bib.specs.laws.Known.{after_all}
-use Rattle.btx_bib.specs.language.Databases.{nothing, with_macro, with_macros}
+use Rattle.btx_bib.specs.language.Databases.{with_macro}
 use Rattle.btx_bib.specs.laws.Storing.{defines, is_defined_in, LastDefinitionCounts, OthersKeepTheirs, is_macro_in, LastMacroCounts}
-use Rattle.btx_bib.specs.refinement.Known.{keeps_field}
+use Rattle.btx_bib.specs.refinement.Known.{keeps_field, with_field}
+use Rattle.btx_bib.specs.laws.Databases.{nothing, with_macros}
 
 -- ---- a table with one more definition
 

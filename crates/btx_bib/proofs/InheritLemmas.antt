@@ -22,13 +22,14 @@ use Rattle.btx_bib.specs.language.Listing.{list_keys, slot_of, slots_of}
 use Rattle.btx_bib.specs.language.Passes.{checked, checked_by, without_crossref, is_parent, slot_at, parent_at, body_values, with_field_values, without_parent, after_first, after_second, entries_of, entry_at, entry_by}
 use Rattle.btx_bib.specs.refinement.Steps.{lower_keys}
 use Rattle.btx_bib.specs.language.Known.{Known}
-use Rattle.btx_bib.specs.language.Databases.{library_of, library_by, read_all}
+use Rattle.btx_bib.specs.language.Databases.{library_of, library_by}
 use Rattle.btx_bib.specs.laws.Parents.{values_by, declared_value, parent_by_key, OwnStands, IsParentsOwn, IsParents, InheritsFromParent}
 use Rattle.btx_bib.proofs.ListedKeyLemmas.{same_key_equiv}
 use Rattle.btx_bib.proofs.StayingLemmas.{view-passed}
 use Rattle.btx_bib.proofs.ListLemmas.{distinct-names}
 use Rattle.btx_bib.proofs.ParentLemmas.{none-contained, one-contained}
 use Rattle.btx_bib.proofs.HeirLemmas.{first-grows, first-inherits, first-takes}
+use Rattle.btx_bib.specs.laws.Databases.{read_all}
 
 -- ---- the second pass leaves the fields behind `crossref` alone
 

@@ -42,6 +42,10 @@ module _ {T : Type 0} (test : T → Bool) where
     by_test true rest = rw (below_next count) refl
     by_test false rest = ap (option_map suc) rest ∙ within_next count (first_place test xs)
 
+  -- the same, of a list that is the first `count` of another
+  pub place-take : (count : ℕ) (xs names : List T) → take count xs ≡ names → {found : Option ℕ} → found ≡ first_place test xs → place_within count found ≡ first_place test names
+  place-take count xs names is found = ap (place_within count) found ∙ sym (first_place-take count xs) ∙ ap (first_place test) is
+
   behind_none : (n : ℕ) (place : Option ℕ) → n ≡ 0 → place ≡ option_map (λ (p : ℕ). n + p) place
   behind_none n None is = refl
   behind_none n (Some p) is = let same : p ≡ n + p = omega (arith, is) in ap Some same
@@ -59,6 +63,15 @@ module _ {T : Type 0} (test : T → Bool) where
         → (if b then Some 0 else option_map suc (first_place test (xs ++ ys))) ≡ option_or (if b then Some 0 else option_map suc (first_place test xs)) (option_map (λ (p : ℕ). suc (length xs) + p) (first_place test ys))
     by_test true rest = refl
     by_test false rest = ap (option_map suc) rest ∙ behind_next (length xs) (first_place test xs) (first_place test ys)
+
+  -- the same, of a list that is one behind another, by the places in these
+  pub place-append : (xs ys names : List T) → xs ++ ys ≡ names → (found more : Option ℕ) → found ≡ first_place test xs → more ≡ first_place test ys
+      → option_or found (option_map (λ (p : ℕ). length xs + p) more) ≡ first_place test names
+  place-append xs ys names is found more first second =
+      ap (λ (place : Option ℕ). option_or place (option_map (λ (p : ℕ). length xs + p) more)) first
+      ∙ ap (λ (place : Option ℕ). option_or (first_place test xs) (option_map (λ (p : ℕ). length xs + p) place)) second
+      ∙ sym (first_place-append xs ys)
+      ∙ ap (first_place test) is
 
 or_second : (a b : Bool) → (a || b) ≡ false → b ≡ false
 or_second true b none = cc

@@ -16,7 +16,7 @@ use Rattle.btx_bib.specs.declared.message.Message.TheVariants as message
 use Rattle.btx_bib.specs.language.Grammar.Fields.{Field}
 use Rattle.btx_bib.specs.language.Grammar.Items.{Event, Comment, Preamble, Definition, Entry, FieldOf, End, Wrong, is_repeated}
 use Rattle.btx_bib.specs.language.Grammar.ValueTexts.{value_text}
-use Rattle.btx_bib.specs.language.Known.{Known, with_current_stored, after_event, after_field, if_fits, stored_in, with_field}
+use Rattle.btx_bib.specs.language.Known.{Known, with_current_stored, after_event, after_field, if_fits, stored_in}
 use Rattle.btx_bib.specs.language.Told.{Database, event_messages, field_messages, type_messages, value_messages, spot_at, spot_before}
 use Rattle.btx_bib.specs.language.Wanted.{Request}
 use Rattle.btx_bib.specs.language.Entries.{Given, body_of, field_values}
@@ -30,7 +30,7 @@ use Rattle.btx_bib.specs.refinement.Gatherings.{begun, begun_by, closed, closed_
 use Rattle.btx_bib.proofs.FillingLemmas.{values_from-none, values_from-push, with_value-new}
 use Rattle.btx_bib.proofs.SlotLemmas.{entry_of-new}
 use Rattle.btx_bib.proofs.StoringLemmas.{draft, Covered, Covered-stored, none-of, standing-draft, standing_of, stored_at-draft}
-use Rattle.btx_bib.specs.refinement.Known.{keeps_field, after_key}
+use Rattle.btx_bib.specs.refinement.Known.{keeps_field, after_key, with_field}
 
 module _ (wanted : Request) where
   -- the entry that is being read, as it is kept

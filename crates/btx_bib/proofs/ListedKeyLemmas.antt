@@ -12,7 +12,8 @@ use Rattle.btx_aux.specs.language.Names.{is_same_key, with_key}
 use Rattle.btx_bib.specs.declared.draft_slots.DraftSlot.{DraftSlot}
 use Rattle.btx_bib.specs.language.Entries.{Given}
 use Rattle.btx_bib.specs.refinement.Finding.{first_place, changed_at}
-use Rattle.btx_bib.specs.language.Stored.{is_any_key, entry_with_key}
+use Rattle.btx_bib.specs.language.Stored.{entry_with_key}
+use Rattle.btx_bib.specs.laws.Stored.{is_any_key}
 
 -- ---- the same key
 

@@ -7,12 +7,15 @@ use Rattle.std.proofs.lemmas.Bool.Decides.{nat_tests}
 use Rattle.btx_aux.specs.language.Names.{is_same_key, listed_as}
 use Rattle.btx_bib.specs.language.Wanted.{Request}
 use Rattle.btx_bib.specs.language.Entries.{Given}
-use Rattle.btx_bib.specs.language.Stored.{entry_with_key, is_any_key, keys_in, parents_in, references}
-use Rattle.btx_bib.specs.language.Listing.{first_cited, added, last_cited, first_keys, list_keys, spelled, stays}
+use Rattle.btx_bib.specs.language.Stored.{entry_with_key, parents_in, references}
+use Rattle.btx_bib.specs.language.Listing.{first_cited, added, last_cited, list_keys}
 use Rattle.btx_bib.specs.laws.Laws.{keeps_entry, stored_by}
 use Rattle.btx_bib.specs.laws.Parents.{NoParentLeaves}
 use Rattle.btx_bib.proofs.ListedKeyLemmas.{same_key_equiv, entry_of-same, is_any_key-append, is_any_key-fold}
 use Rattle.btx_bib.proofs.StayingLemmas.{list-is-kept}
+use Rattle.btx_bib.specs.laws.Listing.{spelled, stays}
+use Rattle.btx_bib.specs.laws.Stored.{is_any_key, keys_in}
+use Rattle.btx_bib.specs.refinement.Listing.{first_keys}
 
 or-right : (a b : Bool) → b ≡ true → (a || b) ≡ true
 or-right true b h = refl

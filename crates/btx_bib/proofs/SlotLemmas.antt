@@ -10,9 +10,10 @@ use Rattle.btx_bib.specs.declared.draft_slots.DraftSlot.{DraftSlot}
 use Rattle.btx_bib.specs.language.Wanted.{Request}
 use Rattle.btx_bib.specs.language.Entries.{Given, body_of}
 use Rattle.btx_bib.specs.language.Stored.{entry_with_key, references}
-use Rattle.btx_bib.specs.language.Listing.{slot_of, spelled}
+use Rattle.btx_bib.specs.language.Listing.{slot_of}
 use Rattle.btx_bib.specs.refinement.Drafts.{with_entry, once_more, settled}
 use Rattle.btx_bib.proofs.ListedKeyLemmas.{same_key_equiv, entry_of-same}
+use Rattle.btx_bib.specs.laws.Listing.{spelled}
 
 -- the place for a key, by how it was cited, its entry and the references to it
 abbrev pub slot_by : Request → Bool → List ℕ → Option (List ℕ) → Option Given → ℕ → DraftSlot

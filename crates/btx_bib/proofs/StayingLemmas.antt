@@ -15,11 +15,13 @@ use Rattle.btx_bib.specs.language.Wanted.{Request}
 use Rattle.btx_bib.specs.language.Entries.{Given, body_of}
 use Rattle.btx_bib.specs.language.Stored.{entry_with_key, parents_in, references_by}
 use Rattle.btx_bib.specs.language.Requests.{asked, fewest_of}
-use Rattle.btx_bib.specs.language.Listing.{list_keys, slot_of, slots_of, spelled, stays}
+use Rattle.btx_bib.specs.language.Listing.{list_keys, slot_of, slots_of}
 use Rattle.btx_bib.specs.language.Passes.{passed, inherited, inherited_from, checked, checked_by, without_crossref, is_parent, slot_at, parent_at, parent_slot, with_field_values, after_first, after_second, entries_of, entry_at, entry_by}
 use Rattle.btx_bib.specs.language.Known.{Known}
-use Rattle.btx_bib.specs.language.Databases.{library_of, library_by, read_all}
+use Rattle.btx_bib.specs.language.Databases.{library_of, library_by}
 use Rattle.btx_bib.specs.laws.Laws.{ListIsKept, StarredCitedOrReferred, keeps_entry, list_of}
+use Rattle.btx_bib.specs.laws.Listing.{spelled, stays}
+use Rattle.btx_bib.specs.laws.Databases.{read_all}
 
 -- ---- what the passes leave alone
 

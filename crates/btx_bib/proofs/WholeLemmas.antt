@@ -8,7 +8,7 @@ use Rattle.btx_bib.specs.declared.end.End.TheVariants as end
 use Rattle.btx_bib.specs.declared.gathering.Gathering.{Gathering}
 use Rattle.btx_bib.specs.declared.message.Message.{Message}
 use Rattle.btx_bib.specs.declared.slots.Slot.{Slot}
-use Rattle.btx_bib.specs.language.Databases.{library_by, library_of, nothing, with_macro, with_macros}
+use Rattle.btx_bib.specs.language.Databases.{library_by, library_of, with_macro}
 use Rattle.btx_bib.specs.refinement.Drafts.{settled_all}
 use Rattle.btx_bib.specs.language.Grammar.ValueTexts.{squeezed}
 use Rattle.btx_bib.specs.language.Known.{Known, goes_on}
@@ -22,6 +22,7 @@ use Rattle.btx_bib.proofs.AlongLemmas.{all-kept, all-sound, all-told}
 use Rattle.btx_bib.proofs.ApartLemmas.{known_all, reading-apart}
 use Rattle.btx_bib.proofs.KeptLemmas.{Sound, kept_of}
 use Rattle.btx_bib.proofs.StoringLemmas.{covered-none, first-draft, last-draft, names-listing, slots-listing}
+use Rattle.btx_bib.specs.laws.Databases.{nothing, with_macros}
 
 -- the macro at an index, and the others
 

@@ -6,3 +6,5 @@ pub mod Cuts
 pub mod Storing
 pub mod WorkedLibraries
 pub mod Databases
+pub mod Listing
+pub mod Stored

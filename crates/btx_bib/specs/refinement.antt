@@ -17,3 +17,6 @@ pub mod Wordings
 pub mod Passes
 pub mod Told
 pub mod Known
+pub mod Databases
+pub mod Entries
+pub mod Listing

@@ -6,9 +6,10 @@ use Rattle.btx_bst.specs.language.Style.{Style}
 use Rattle.btx_bst.specs.language.Items.{Message}
 use Rattle.btx_bst.specs.language.Outcomes.{CommandOutcome, outcome, with_item}
 use Rattle.btx_bst.specs.language.Turns.{Again, Ends}
-use Rattle.btx_bst.specs.language.StyleText.{StyleState, style_state, resumed_after, command_outcome, item_in, item_turn, style_from}
+use Rattle.btx_bst.specs.language.StyleText.{StyleState, style_state, command_outcome, item_in, item_turn, style_from}
 use Rattle.btx_bst.specs.laws.ItemSpelling.{SpelledCommand, Whole, Faulty, IsEnd, GivesStyle, GivenLaw, GivingLaw, AreFull, SkippedLaw, SkippedToEndLaw}
 use Rattle.btx_bst.proofs.StyleLemmas.{style_from-again, style_from-ends, item_turn-less}
+use Rattle.btx_bst.specs.refinement.StyleText.{resumed_after}
 
 end_in : (style : Style) (p : Place) (line : List ℕ) → line ≡ [] → item_in style p line ≡ Ends style
 end_in style p [] e = refl

@@ -3,8 +3,9 @@ use Rattle.std.proofs.Common.{◌≡◌, ℕ, suc, ◌+◌, ◌<◌, ◌≤◌, 
 use Rattle.std.proofs.lemmas.List.{length-map}
 use Rattle.btx_text.specs.language.Lines.{lines_of, line_pieces, trimmed, white_before}
 use Rattle.btx_text.specs.language.Class.{is_white}
-use Rattle.btx_bst.specs.language.Places.{beginning, size, lines_size, place_at, behind_white, ink_from, skipped_from, line_or}
+use Rattle.btx_bst.specs.language.Places.{size, lines_size, place_at, behind_white, ink_from, skipped_from, line_or}
 use Rattle.std.specs.List.{onto_first}
+use Rattle.btx_bst.specs.laws.Places.{beginning}
 
 in_front-len : (b : ℕ) (pieces : List (List ℕ)) (n : ℕ) → length pieces ≤ n → length (onto_first b pieces) ≤ suc n
 in_front-len b [] n h = omega arith

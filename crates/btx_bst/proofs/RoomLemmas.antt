@@ -6,14 +6,13 @@ use Rattle.std.specs.Borrow.{Bor}
 use Rattle.btx_bst.specs.declared.callee.Kind.{Kind}
 use Rattle.btx_bst.specs.declared.complaint.Complaint.{Complaint}
 use Rattle.btx_text.specs.language.Limits.{greatest_file}
-use Rattle.btx_bst.specs.language.Places.{Place, size, beginning}
+use Rattle.btx_bst.specs.language.Places.{Place, size}
 use Rattle.btx_bst.specs.language.Style.{Style}
 use Rattle.btx_bst.specs.language.Predefined.{predefined}
 use Rattle.btx_bst.proofs.PlaceLemmas.{beginning-size}
 use Rattle.btx_bst.specs.language.Names.{Names}
 use Rattle.btx_bst.specs.language.Lists.{front_of, opening, closing, next_name, letters_at, list_at}
 use Rattle.btx_bst.specs.language.Complaints.{NoCommand}
-use Rattle.btx_bst.specs.language.Fronts.{letters_len}
 use Rattle.btx_bst.specs.language.BodyText.{Inside, BodyEnd, Whole, Broken, body_end}
 use Rattle.btx_bst.specs.refinement.Weights.{names_weight, HasRoom}
 use Rattle.btx_bst.specs.refinement.Views.{read_unit, read_text, listed_view, body_end_view, complaint_view}
@@ -21,6 +20,8 @@ use Rattle.btx_bst.proofs.ListLemmas.{Sized, opening-size, closing-size, name_at
 use Rattle.btx_bst.proofs.BodyTurnLemmas.{weight_of, inside_of, body_end-weight}
 use Rattle.btx_bst.proofs.StyleLemmas.{Adds, body_end-grows}
 use Rattle.btx_bst.specs.laws.StyleText.{unread_style}
+use Rattle.btx_bst.specs.refinement.Fronts.{letters_len}
+use Rattle.btx_bst.specs.laws.Places.{beginning}
 
 unit-size : (r : Result (Unit {0}) Complaint) (q : Place) (n : ℕ) → Sized n (read_unit r q) → size q ≤ n
 unit-size (Ok x) q n h = omega arith

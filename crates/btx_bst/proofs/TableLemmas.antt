@@ -13,8 +13,8 @@ use Rattle.btx_bst.specs.declared.built_in.TheConstants.{BUILT_INS}
 use Rattle.btx_bst.specs.declared.callee.Callee.{Callee}
 use Rattle.btx_bst.specs.declared.callee.Callee.TheVariants as callee
 use Rattle.btx_bst.specs.language.BuiltIns.{built_ins, built_in_of, built_in_name}
-use Rattle.btx_bst.specs.language.Names.{Names, named_lower, macro_lower}
-use Rattle.btx_bst.specs.laws.Names.{no_names}
+use Rattle.btx_bst.specs.language.Names.{Names, named_lower}
+use Rattle.btx_bst.specs.laws.Names.{no_names, macro_lower}
 use Rattle.btx_bst.specs.refinement.NameTables.{Entries, found_in, pairs_in, words_in, with_built_in, IsTable, macros_view}
 
 abbrev pub same_name : Vec ℕ Global → Vec ℕ Global → Bool

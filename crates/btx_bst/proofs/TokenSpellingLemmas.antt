@@ -8,11 +8,12 @@ use Rattle.btx_text.specs.language.Class.{is_white, is_name_byte, begins_name}
 use Rattle.btx_bst.specs.language.Places.{Place, place_at, further, behind_white, line_or, ink_from, ink}
 use Rattle.btx_bst.specs.language.Complaints.{Complaint, NoCommand, NoName, NoQuote}
 use Rattle.btx_bst.specs.language.Reads.{Read, Took, Slip}
-use Rattle.btx_bst.specs.language.Fronts.{len_till, quote_len, letters_len}
+use Rattle.btx_bst.specs.language.Fronts.{len_till, quote_len}
 use Rattle.btx_bst.specs.language.Lists.{brace_in, front_of, name_in, quoted_text, quoted_in, letters_at}
 use Rattle.btx_bst.specs.laws.TokenSpelling.{NoneIn, Begins, EndsBefore, IsUpTo, IsBlank, ends_gap, AllWhite, InkIn, GapFrom, Gap, BehindGap, IsMissing, StyleSignHere, StyleNameHere, IsNoText, TextHere, LettersHere}
 use Rattle.std.specs.Char.{is_ascii_digit}
 use Rattle.btx_bst.specs.laws.Fronts.{is_no_letter, ends_name, is_quote}
+use Rattle.btx_bst.specs.refinement.Fronts.{letters_len}
 
 -- ---- runs of bytes
 

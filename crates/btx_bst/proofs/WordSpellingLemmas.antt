@@ -8,12 +8,13 @@ use Rattle.btx_text.specs.language.Class.{is_white}
 use Rattle.btx_bst.specs.language.Places.{Place, place_at, further, ink}
 use Rattle.btx_bst.specs.language.Complaints.{BadInteger, TextAfter}
 use Rattle.btx_bst.specs.language.Fronts.{len_till, ends_word, word_len, quote_len, digits_len, is_word_end}
-use Rattle.btx_bst.specs.language.Words.{BodyWord, Open, Close, String, Integer, Quoted, Name, Faulty, Unended, Ended, Front, front, string_before, string_ended, string_at, digits_value, signed, integer_before, integer_front, integer_at, word_front, Met, met, met_in, met_at}
+use Rattle.btx_bst.specs.language.Words.{BodyWord, Open, Close, String, Integer, Quoted, Name, Faulty, Unended, Ended, Front, front, string_ended, string_at, digits_value, signed, integer_before, integer_front, integer_at, word_front, Met, met, met_in, met_at}
 use Rattle.btx_bst.specs.laws.Spelling.{Parts, Nothing, Plain, Group, Spells, Fragment, Here, After, AfterGroup, Inner, Breaks}
 use Rattle.btx_bst.specs.laws.TokenSpelling.{NoneIn, Begins, EndsBefore, IsUpTo, ends_gap, GapFrom}
 use Rattle.btx_bst.specs.laws.WordSpelling.{IsBodyWord, IsNumeral, Fits, number_of, IsInteger, IsOverlong, IsNoInteger, IsString, begins_plainly, IsToken, NextWord, AreParts, BreakOff, TokensLaw}
 use Rattle.btx_bst.proofs.TokenSpellingLemmas.{len_text, upto_take, upto_drop, upto_met, gap_one, gap_met}
 use Rattle.btx_bst.specs.laws.Fronts.{is_no_digit, is_quote}
+use Rattle.btx_bst.specs.refinement.Words.{string_before}
 
 -- ---- ends of words
 

@@ -16,7 +16,7 @@ use Rattle.btx_bst.specs.language.Complaints.{NoCommand, NoClose, Another, Befor
 use Rattle.btx_bst.specs.language.Reads.{Read as OneRead, Took, Slip}
 use Rattle.btx_bst.specs.language.Items as item
 use Rattle.btx_bst.specs.language.Items.{Item}
-use Rattle.btx_bst.specs.language.Fronts.{len_till, letters_len}
+use Rattle.btx_bst.specs.language.Fronts.{len_till}
 use Rattle.btx_bst.specs.language.Words as words
 use Rattle.btx_bst.specs.language.Words.{BodyWord}
 use Rattle.btx_bst.specs.language.Names.{Names, named, with_name}
@@ -33,6 +33,7 @@ use Rattle.btx_bst.proofs.StyleLemmas.{style_from-again}
 use Rattle.btx_bst.proofs.SpellingLemmas.{spelled}
 use Rattle.btx_bst.proofs.ItemSpellingLemmas.{given, more_turn}
 use Rattle.btx_bst.specs.refinement.Commands.{entry_lists, run_name, macro_name}
+use Rattle.btx_bst.specs.refinement.Fronts.{letters_len}
 
 -- ---- white
 

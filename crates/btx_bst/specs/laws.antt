@@ -16,3 +16,4 @@ pub mod WordSpelling
 pub mod CommandSpelling
 pub mod Fronts
 pub mod StyleText
+pub mod Places

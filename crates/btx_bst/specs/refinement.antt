@@ -12,3 +12,5 @@ pub mod Commands
 pub mod Direct
 pub mod StyleText
 pub mod Words
+pub mod Lists
+pub mod Fronts

@@ -1,9 +1,10 @@
 //! A place in a style's text, from which words are read.
 ghost use Rattle.std.specs.Prelude.{◌≡◌};
-ghost use Rattle.btx_bst.specs.language.Places.{Place, beginning, ink, skipped};
+ghost use Rattle.btx_bst.specs.language.Places.{Place, ink, skipped};
 ghost use Rattle.btx_bst.specs.language.Lists.{brace_in, closing, letters_at, next_name, opening, quoted_at};
 ghost use Rattle.btx_bst.specs.language.Words.{met_at};
 ghost use Rattle.btx_bst.specs.refinement.Views.{complaint_view, read_text, read_unit, word_view};
+ghost use Rattle.btx_bst.specs.laws.Places.{beginning};
 
 use crate::complaint::Complaint;
 use crate::fronts::{behind_white, letters_len, name_len, quote_len, word_front};

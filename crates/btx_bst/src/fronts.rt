@@ -2,6 +2,7 @@
 ghost use Rattle.std.specs.Prelude.{◌≡◌, ◌≤◌, ◌∷◌, length};
 ghost use Rattle.btx_bst.specs.language.Places as places;
 ghost use Rattle.btx_bst.specs.language.Fronts as spec;
+ghost use Rattle.btx_bst.specs.refinement.Fronts as part;
 ghost use Rattle.btx_bst.specs.laws.Fronts as kept_spec;
 ghost use Rattle.btx_bst.specs.language.Words as words;
 ghost use Rattle.btx_bst.specs.refinement.Views.{word_view};
@@ -31,7 +32,7 @@ pub fn behind_white(line: &[u8]) -> &[u8]
 /// How many letters a line begins with.
 #[tactic(auto, using(crate::proofs::FrontLemmas::len_steps))]
 pub fn letters_len(line: &[u8]) -> usize
-    ensures value { result ≡ spec.letters_len line.now }
+    ensures value { result ≡ part.letters_len line.now }
     ensures bound { result ≤ length line.now }
 {
     for (i, &byte) in line.iter().enumerate() {

@@ -1,7 +1,7 @@
 //! The macros, found by a table.
 ghost use Rattle.std.specs.Prelude.{◌≡◌, [], ◌∷◌, ◌++◌, None, IfOk, OnOk, length, slice_get, option_copied, option_map, nat_eq};
-ghost use Rattle.btx_bst.specs.language.Names.{macro_lower};
 ghost use Rattle.btx_bst.specs.refinement.NameTables.{macro_pair};
+ghost use Rattle.btx_bst.specs.laws.Names.{macro_lower};
 
 use crate::name::Name;
 use indexmap::IndexMap;

@@ -4,10 +4,11 @@ ghost use Rattle.btx_bst.specs.language.Predefined.{predefined};
 ghost use Rattle.btx_bst.specs.language.StyleText.{style_of};
 ghost use Rattle.btx_bst.specs.refinement.StyleReads.{Reads};
 ghost use Rattle.btx_bst.specs.laws.References.{RefersWithin};
-ghost use Rattle.btx_bst.specs.language.Names.{named_lower, name_of, macro_lower};
+ghost use Rattle.btx_bst.specs.language.Names.{named_lower, name_of};
 ghost use Rattle.btx_bst.specs.language.Style.{field_of, type_of};
 ghost use Rattle.btx_bst.specs.refinement.Views.{items_view};
 ghost use Rattle.btx_text.specs.language.Limits.{greatest_file};
+ghost use Rattle.btx_bst.specs.laws.Names.{macro_lower};
 
 use crate::callee::{Callee, Kind};
 use crate::cursor::Cursor;

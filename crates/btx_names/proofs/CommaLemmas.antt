@@ -8,9 +8,10 @@ use Rattle.std.specs.Option.{is_some}
 use Rattle.btx_text.specs.language.Elements.{depth_after, depth_of}
 use Rattle.btx_names.specs.declared.runs.Stop.TheVariants.{Comma}
 use Rattle.btx_names.specs.language.Runs.{is_break, run_len}
-use Rattle.btx_names.specs.language.NameParts.{is_all_breaks, split_at_comma, cut_first, cut_again, sections_of, has_third_comma}
+use Rattle.btx_names.specs.language.NameParts.{split_at_comma, cut_first, cut_again, sections_of, has_third_comma}
 use Rattle.btx_names.specs.laws.Commas.{is_comma_at, counts_at, commas_of, commas_in}
 use Rattle.btx_names.proofs.SeparatorLemmas.{depth_push}
+use Rattle.btx_names.specs.laws.NameParts.{is_all_breaks}
 
 -- ---- a place, by what stands before and behind it
 

@@ -9,12 +9,13 @@ use Rattle.std.specs.Option.{option_map_or, option_or}
 use Rattle.btx_text.specs.language.Class.{is_white, is_sep}
 use Rattle.btx_text.specs.language.Elements.{depth_after, depth_of}
 use Rattle.btx_names.specs.language.Runs.{is_break}
-use Rattle.btx_names.specs.language.NameParts.{is_all_breaks, ends_in_comma}
+use Rattle.btx_names.specs.language.NameParts.{ends_in_comma}
 use Rattle.btx_names.specs.laws.Commas.{ends_at, final_commas_of}
 use Rattle.btx_names.proofs.SplitLemmas.{never}
 use Rattle.btx_names.proofs.SeparatorLemmas.{depth_push}
 use Rattle.btx_names.proofs.CommaLemmas.{comma_here, behind}
 use Rattle.btx_names.specs.refinement.NameParts.{is_ink, last_ink}
+use Rattle.btx_names.specs.laws.NameParts.{is_all_breaks}
 
 -- ---- the last byte that is ink
 

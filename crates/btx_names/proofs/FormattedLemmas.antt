@@ -8,13 +8,14 @@ use Rattle.btx_text.specs.declared.fault.Fault.TheVariants.{Memory, Device, File
 use Rattle.btx_strings.specs.declared.answers.Complaints.{Complaints}
 use Rattle.btx_strings.specs.refinement.Answers.{Answers}
 use Rattle.btx_names.specs.refinement.Becomes.{WritesLegal}
-use Rattle.btx_names.specs.language.NameParts.{NameParts, Sections, sections_of, ends_in_comma, has_third_comma, parts_by, parts_of}
+use Rattle.btx_names.specs.language.NameParts.{NameParts, Sections, sections_of, ends_in_comma, has_third_comma, parts_by}
 use Rattle.btx_names.specs.language.Formats.{is_legal}
-use Rattle.btx_names.specs.language.FormattedNames.{formatted}
 use Rattle.btx_names.specs.refinement.Right.{IsWritten, IsText}
 use Rattle.btx_strings.specs.language.Answers.{no_complaints}
 use Rattle.btx_names.specs.language.Answered.{names_before, nth_name, one_name_text, one_name_complaints}
 use Rattle.btx_names.specs.refinement.Answered.{complaints_with, text_of_answer, complaints_of_answer}
+use Rattle.btx_names.specs.refinement.FormattedNames.{formatted}
+use Rattle.btx_names.specs.laws.NameParts.{parts_of}
 
 pub nth_name_none : (names : List ℕ) (number : ℤ) → names_before number ≡ None → nth_name names number ≡ None
 unfolding nth_name

@@ -12,10 +12,10 @@ use Rattle.btx_names.specs.declared.name_tokens.Joint.{Joint}
 use Rattle.btx_names.specs.declared.place.Place.{Place}
 use Rattle.btx_names.specs.declared.runs.Stop.TheVariants.{Break, Comma}
 use Rattle.btx_names.specs.language.NameLists.{is_separator}
-use Rattle.btx_names.specs.language.NameParts.{Sections, is_all_breaks, split_at_comma, cut_first, cut_again, sections_of, ends_in_comma, has_third_comma}
+use Rattle.btx_names.specs.language.NameParts.{Sections, split_at_comma, cut_first, cut_again, sections_of, ends_in_comma, has_third_comma}
 use Rattle.btx_names.specs.language.Runs.{is_break, run_len}
 use Rattle.btx_names.specs.language.Tokens.{NameToken, joint_of, tokens_of}
-use Rattle.btx_names.specs.laws.NameParts.{surname_of}
+use Rattle.btx_names.specs.laws.NameParts.{surname_of, is_all_breaks}
 use Rattle.btx_names.specs.refinement.NameTokens.{Hold, tokens_in}
 use Rattle.btx_names.specs.refinement.Places.{bytes_at}
 use Rattle.btx_names.specs.refinement.ReadNames.{IsNameAt}

@@ -14,10 +14,10 @@ use Rattle.btx_strings.specs.language.Controls.{control_name, lone, is_brace, gl
 use Rattle.btx_strings.specs.laws.Controls.{glyphs_text}
 use Rattle.btx_strings.proofs.ControlLemmas.{glyphs_from-skip}
 use Rattle.btx_strings.proofs.ReadingLemmas.{glyphs_of-reads}
-use Rattle.btx_names.specs.language.VonTokens.{is_foreign, begins_lower, is_lower_special, casing_of}
+use Rattle.btx_names.specs.language.VonTokens.{is_lower_special, casing_of}
 use Rattle.btx_names.specs.laws.VonGlyphs.{are_lower}
 use Rattle.btx_names.proofs.SplitLemmas.{never}
-use Rattle.btx_names.specs.laws.VonTokens.{casing}
+use Rattle.btx_names.specs.laws.VonTokens.{casing, is_foreign, begins_lower}
 use Rattle.std.specs.Char.{is_ascii_alphabetic, is_ascii_lowercase}
 
 -- ---- the text of a special character

@@ -8,9 +8,10 @@ use Rattle.btx_names.specs.refinement.Steps.{passes}
 use Rattle.btx_names.specs.language.VonTokens.{is_von}
 use Rattle.btx_names.specs.declared.token_counts.TokenTest.{TokenTest}
 use Rattle.btx_names.specs.declared.token_counts.TokenTest.TheVariants.{Von, Apart}
-use Rattle.btx_names.specs.language.NameParts.{Sections, One, Two, Three, unsplit, sections_of, parts_of, parts_by, is_hyphen, before_final, up_to_last, before_first, von_end}
+use Rattle.btx_names.specs.language.NameParts.{Sections, One, Two, Three, unsplit, sections_of, parts_by, is_hyphen, before_final, up_to_last, before_first, von_end}
 use Rattle.btx_names.proofs.CountLemmas.{before_final_front}
 use Rattle.btx_names.proofs.RangeLemmas.{before_first-le}
+use Rattle.btx_names.specs.laws.NameParts.{parts_of}
 
 -- ---- the first that passes
 

@@ -7,3 +7,4 @@ pub mod FormatTexts
 pub mod WrittenFormats
 pub mod Gaps
 pub mod VonTokens
+pub mod Formats

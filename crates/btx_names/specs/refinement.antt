@@ -16,3 +16,4 @@ pub mod Answered
 pub mod Formats
 pub mod Tokens
 pub mod NameParts
+pub mod FormattedNames

@@ -6,11 +6,12 @@ ghost use Rattle.btx_text.specs.language.Limits.{greatest_string};
 ghost use Rattle.btx_names.specs.refinement.Becomes.{Becomes, WritesLegal, WritesUntilIllegal};
 ghost use Rattle.btx_names.specs.language.Formats.{is_legal};
 ghost use Rattle.btx_names.specs.language.Answered as spec;
-ghost use Rattle.btx_names.specs.language.FormattedNames.{formatted, item_text, tokens_of_part};
+ghost use Rattle.btx_names.specs.language.FormattedNames.{item_text, tokens_of_part};
 ghost use Rattle.btx_names.specs.refinement.ItemViews.{item_view};
 ghost use Rattle.btx_names.specs.refinement.KeptItems.{kept_view};
 ghost use Rattle.btx_names.specs.refinement.KeptNames.{kept_bytes};
 ghost use Rattle.btx_names.specs.refinement.PartViews.{part_tokens, parts_view};
+ghost use Rattle.btx_names.specs.refinement.FormattedNames.{formatted};
 
 use crate::format_items::{Item, Items, PartName, is_legal};
 use crate::kept_formats::{KeptFormat, KeptFormats};

@@ -4,6 +4,7 @@ ghost use Rattle.std.specs.List.{All};
 ghost use Rattle.btx_names.specs.refinement.NamesFrom.{names_from};
 ghost use Rattle.btx_names.specs.language.NameLists.{names_of};
 ghost use Rattle.btx_names.specs.language.NameParts as spec;
+ghost use Rattle.btx_names.specs.laws.NameParts as part;
 ghost use Rattle.btx_names.specs.refinement.NameTokens.{Hold};
 ghost use Rattle.btx_names.specs.refinement.Places.{bytes_at};
 ghost use Rattle.btx_names.specs.refinement.Steps.{first_name_len};
@@ -170,7 +171,7 @@ impl KeptName {
 
     /// Its parts.
     pub fn parts(&self) -> NameParts<'_>
-        ensures { parts_view result ≡ spec.parts_of (kept_bytes self.now) }
+        ensures { parts_view result ≡ part.parts_of (kept_bytes self.now) }
     {
         NameParts::of(&self.names, &self.list, self.ranges)
     }

@@ -11,8 +11,8 @@ ghost use Rattle.btx_text.specs.declared.element_kind.TextMode.TheVariants.{Byte
 ghost use Rattle.btx_names.specs.language.NameLists.{names_of};
 ghost use Rattle.btx_names.specs.laws.NameLists.{separators_of};
 ghost use Rattle.btx_names.specs.laws.Commas.{commas_in, commas_of, final_commas_of};
-ghost use Rattle.btx_names.specs.language.NameParts.{ends_in_comma, has_third_comma, is_hyphen, One, before_final, parts_of, sections_of};
-ghost use Rattle.btx_names.specs.laws.NameParts.{HasJrByForm, before_last, final_of, parts_in_order, surname_of};
+ghost use Rattle.btx_names.specs.language.NameParts.{ends_in_comma, has_third_comma, is_hyphen, One, before_final, sections_of};
+ghost use Rattle.btx_names.specs.laws.NameParts.{HasJrByForm, before_last, final_of, parts_in_order, surname_of, parts_of};
 ghost use Rattle.btx_names.specs.laws.Gaps.{and_gap, byte_gap, pieces_between};
 ghost use Rattle.btx_names.specs.language.Formats.{FormatItem, FormatPiece, is_legal, items_of};
 ghost use Rattle.btx_names.specs.language.FormattedNames.{finished, period_of, piece_text, shown, tie_of, with_tokens};

@@ -1,5 +1,5 @@
 //! What stands between two names.
-ghost use Rattle.std.specs.Prelude.{◌≡◌, ◌==◌, ◌&&◌};
+ghost use Rattle.std.specs.Prelude.{◌≡◌, ◌≤◌, ◌==◌, ◌&&◌, length, slice_index};
 ghost use Rattle.btx_names.specs.language.NameLists as spec;
 ghost use Rattle.btx_names.specs.refinement.Steps as steps;
 ghost use Rattle.std.specs.Int.{is_in_range};
@@ -7,18 +7,23 @@ ghost use Rattle.std.specs.Int.{is_in_range};
 use btx_text::classify::is_white;
 use btx_text::depths::depth_after;
 
-// Whether a separator stands where the brace depth is given: a white byte, `and` in any case, and a white byte, at depth 0.
+// Whether `and` in any case stands behind the first byte of a text.
+fn has_and(text: &[u8]) -> bool
+    requires { 4 ≤ length text.now }
+    ensures { result ≡ (spec.is_letter 97 (slice_index text.now 1) && spec.is_letter 110 (slice_index text.now 2) && spec.is_letter 100 (slice_index text.now 3)) }
+{
+    matches!(text[1], b'a' | b'A')
+        && matches!(text[2], b'n' | b'N')
+        && matches!(text[3], b'd' | b'D')
+}
+
+// Whether a separator stands where the brace depth is given: a white byte, `and` in any case, and a white byte, at depth 0. The
+// `and` is looked for first, since few white bytes stand before one.
 #[tactic(auto, unfolding(crate::specs::language::NameLists::is_separator))]
 pub(crate) fn separates(depth: usize, text: &[u8]) -> bool
     ensures { result ≡ (depth == 0 && spec.is_separator text.now) }
 {
-    depth == 0
-        && text.len() >= 5
-        && is_white(text[0])
-        && matches!(text[1], b'a' | b'A')
-        && matches!(text[2], b'n' | b'N')
-        && matches!(text[3], b'd' | b'D')
-        && is_white(text[4])
+    depth == 0 && text.len() >= 5 && has_and(text) && is_white(text[0]) && is_white(text[4])
 }
 
 // Whether a byte is from `!` to `z`. Such a byte is neither white nor a brace: it begins no separator, and it leaves the depth as it is.

@@ -59,14 +59,14 @@ fn letters_len(text: &[u8]) -> usize
 
 // Whether a control sequence without its backslash is a foreign letter.
 fn is_foreign(name: &[u8]) -> bool
-    ensures { result ≡ spec.is_foreign name.now }
+    ensures { result ≡ law.is_foreign name.now }
 {
     !letters(name).is_empty()
 }
 
 // Whether a text's first letter is there and in lower case.
 fn begins_lower(text: &[u8]) -> bool
-    ensures { result ≡ spec.begins_lower text.now }
+    ensures { result ≡ law.begins_lower text.now }
 {
     match first_letter(text) {
         Some(letter) => letter.is_ascii_lowercase(),

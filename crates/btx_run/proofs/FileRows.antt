@@ -2,7 +2,7 @@
 use Rattle.std.specs.Prelude.{◌≡◌, ℕ, List, [], ◌∷◌, ◌++◌, map, codes, refl}
 use Rattle.btx_text.specs.language.Lines.{line_pieces, trimmed}
 use Rattle.btx_text.specs.language.LogLines.{Line, mark_of, place_text}
-use Rattle.btx_aux.specs.language.Notes.{TopFile, aux_complaint_text, aux_note_kind, aux_note_line, aux_note_text}
+use Rattle.btx_aux.specs.language.Notes.{TopFile, aux_complaint_text, aux_note_kind, aux_note_text}
 use Rattle.btx_aux.specs.laws.Pairs.{files_of_pairs}
 use Rattle.btx_aux.specs.language.Grammar.{pieces_of, aux_command_named, words_of}
 use Rattle.btx_aux.specs.language.Events.{said, job_events}
@@ -16,6 +16,7 @@ use Rattle.btx_run.specs.language.Files.Counts.{counts_of}
 use Rattle.btx_run.specs.language.Files.Readings.{Logged, after_job, reading_of, style_named, style_read}
 use Rattle.btx_run.specs.refinement.Files.Readings.{after_style}
 use Rattle.btx_run.specs.refinement.Files.Found.{named_file}
+use Rattle.btx_aux.specs.refinement.Notes.{aux_note_line}
 
 -- the texts of what is logged
 abbrev texts : Logged FilesRead → List (List ℕ)

@@ -9,7 +9,7 @@ use Rattle.btx_bib.specs.declared.entry.Entry.{Entry}
 use Rattle.btx_bib.specs.declared.message.Message.{Message}
 use Rattle.btx_bib.specs.declared.slots.Body.{Body}
 use Rattle.btx_bib.specs.declared.slots.Slot.{Slot}
-use Rattle.btx_bib.specs.language.Databases.{library_by, library_of, read_all}
+use Rattle.btx_bib.specs.language.Databases.{library_by, library_of}
 use Rattle.btx_bib.specs.language.Entries.{Given, body_of}
 use Rattle.btx_bib.specs.language.Known.{Known}
 use Rattle.btx_bib.specs.language.Library.{entry_type}
@@ -18,6 +18,7 @@ use Rattle.btx_bib.specs.language.Passes.{with_field_values, passed, slot_at, pa
 use Rattle.btx_bib.specs.language.Stored.{entry_with_key}
 use Rattle.btx_bib.specs.language.Told.{Database}
 use Rattle.btx_bib.specs.language.Wanted.{Request}
+use Rattle.btx_bib.specs.laws.Databases.{read_all}
 
 module _ (n : ℕ) where
   -- one of the first n functions, or none

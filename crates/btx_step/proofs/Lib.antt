@@ -12,6 +12,7 @@ pub mod AppliedLemmas
 pub mod KeepLemmas
 pub mod AssignLemmas
 pub mod LeaveLemmas
+pub mod EntryValueLemmas
 pub mod FunctionRows
 pub mod StartLemmas
 pub mod ApartLemmas

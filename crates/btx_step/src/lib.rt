@@ -22,4 +22,4 @@ pub use literal::{Literal, Wanted};
 pub use next::{Limit, Next};
 pub use said::{Note, Notes, Said};
 pub use store::Store;
-pub use values::Values;
+pub use values::EntryValues;

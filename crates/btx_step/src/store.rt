@@ -30,7 +30,7 @@ use crate::literal::{Literal, Wanted};
 use crate::next::{Limit, Next};
 use crate::said::{Note, Notes, Said};
 use crate::stand_in::StandIn;
-use crate::values::Values;
+use crate::values::EntryValues;
 use btx_bst::{BuiltIn, Callee, Token};
 use btx_names::NameFormatter;
 use btx_stack::{Literals, Variable};
@@ -45,7 +45,7 @@ pub struct Store<'a> {
     literals: Literals<'a>,
     integers: Vec<i32>,
     strings: Vec<Variable<'a>>,
-    entries: Vec<Values<'a>>,
+    entries: EntryValues<'a>,
     current: Option<usize>,
     deepest: usize,
     // What is kept of names and formats from call to call. It is no part of what the store means.
@@ -63,7 +63,7 @@ impl<'a> Model for Store<'a> {
       literals = store.literals;
       integers = store.integers.items;
       strings = store.strings.items;
-      entries = store.entries.items;
+      entries = store.entries;
       current = store.current;
       deepest = store.deepest;
     } };

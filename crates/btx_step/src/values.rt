@@ -1,26 +1,36 @@
 //! The values of variables, by number.
-ghost use Rattle.std.specs.Prelude.{◌≡◌, ◌≤◌, length, slice_get};
-ghost use Rattle.std.specs.Prelude.{IfOk};
-ghost use Rattle.btx_step.specs.refinement.Variables.{integer_in, string_in, integer_set, string_set};
+ghost use Rattle.std.specs.Prelude.{◌≡◌, ◌<◌, ◌≤◌, ◌+◌, ◌*◌, ◌^◌, ◌⊎◌, pos, [], length, replicate, slice_get, slice_set};
+ghost use Rattle.std.specs.Prelude.{IfOk, IfSome, IfNone};
+ghost use Rattle.btx_step.specs.language.Variables.{integer_of, string_of, values_of};
+ghost use Rattle.btx_step.specs.refinement.Variables.{integer_in, integer_set, string_set};
 
 use crate::list::item;
 use btx_text::Text;
 use std::alloc::{AllocError, Global};
 use std::marker::Model;
 
-/// The values of an entry's variables, each kind by number.
+/// The values of the variables of all entries, those of an entry behind those of the one before it.
 #[derive(Drop)]
-pub struct Values<'a> {
+pub struct EntryValues<'a> {
+    entries: usize,
+    // How many integer variables each entry has.
+    integers_each: usize,
+    // How many string variables each entry has.
+    strings_each: usize,
     integers: Vec<i32>,
     strings: Vec<Text<'a>>,
 }
 
-impl<'a> Model for Values<'a> {
-    ghost use Rattle.btx_step.specs.language.Stores.{EntryVariables as Stored};
+impl<'a> Model for EntryValues<'a> {
+    ghost use Rattle.std.specs.Prelude.{List, length, ◌≡◌, ◌*◌};
+    ghost use Rattle.btx_step.specs.language.Stores.{EntryVariables};
+    ghost use Rattle.btx_step.specs.refinement.Variables.{rows};
 
-    ghost Value = { Stored };
+    ghost Value = { List EntryVariables };
 
-    ghost view = { λ values. record { integers = values.integers.items; strings = values.strings.items } };
+    ghost view = { λ v. rows v.entries v.integers_each v.strings_each v.integers.items v.strings.items };
+
+    ghost invariant = { λ v. (length v.integers.items ≡ v.entries * v.integers_each) × (length v.strings.items ≡ v.entries * v.strings_each) };
 }
 
 /// The integer of a number, 0 where there is none.
@@ -33,69 +43,111 @@ pub fn integer_at(integers: &[i32], index: u32) -> i32
     }
 }
 
-/// The string of a number, the empty one where there is none.
-pub fn string_at<'a>(
-    alloc: Global,
-    strings: &[Text<'a>],
-    index: u32,
-) -> Result<Text<'a>, AllocError>
-    ensures { IfOk result (λ text. text ≡ string_in (slice_get strings.now index)) }
-{
-    match item(strings, index as usize) {
-        Some(text) => text.copy(alloc),
-        None => Ok(Text::empty()),
-    }
-}
-
-impl<'a> Values<'a> {
-    /// These values.
-    pub fn new(integers: Vec<i32>, strings: Vec<Text<'a>>) -> Self
-        ensures { result ≡ record { integers = integers.items; strings = strings.entry.items } }
+impl<'a> EntryValues<'a> {
+    /// The values before the first command: 0, and the empty string. `entries` is the number of entries, `integers` and `strings` that of the variables
+    /// of each.
+    #[tactic(auto, using(crate::proofs::EntryValueLemmas::first_rows))]
+    pub fn new(
+        alloc: Global,
+        entries: usize,
+        integers: usize,
+        strings: usize,
+    ) -> Result<Self, AllocError>
+        ensures { IfOk result (λ values. values ≡ replicate entries (record { integers = replicate integers (pos 0); strings = replicate strings [] })) }
     {
-        Values { integers, strings }
-    }
-
-    /// The value of an integer variable.
-    pub fn integer(&self, index: u32) -> i32
-        ensures { result ≡ integer_in (slice_get self.now.integers index) }
-    {
-        integer_at(&self.integers, index)
+        Ok(EntryValues {
+            entries,
+            integers_each: integers,
+            strings_each: strings,
+            integers: vec![in alloc; 0; product(entries, integers)?]?,
+            strings: empty_strings(alloc, product(entries, strings)?)?,
+        })
     }
 
-    /// The value of a string variable.
-    pub fn string(&self, alloc: Global, index: u32) -> Result<Text<'a>, AllocError>
-        ensures { IfOk result (λ text. text ≡ string_in (slice_get self.now.strings index)) }
+    /// The value of an integer variable of an entry, 0 where there is none.
+    #[tactic(auto, using(crate::proofs::EntryValueLemmas::integer_there, crate::proofs::EntryValueLemmas::integer_nowhere))]
+    pub fn integer(&self, entry: usize, number: u32) -> i32
+        ensures { result ≡ integer_of self.now entry number }
     {
-        string_at(alloc, &self.strings, index)
+        match place(self.entries, self.integers_each, entry, number) {
+            Some(place) => self.integers[place],
+            None => 0,
+        }
     }
 
-    /// The bytes of a string variable.
-    pub fn string_bytes(&self, index: u32) -> &[u8]
-        ensures { result.now ≡ string_in (slice_get self.now.strings index) }
+    /// The value of a string variable of an entry, the empty one where there is none. No bytes are copied where they are shared.
+    #[tactic(auto, using(crate::proofs::EntryValueLemmas::string_there, crate::proofs::EntryValueLemmas::string_nowhere))]
+    pub fn string(&self, alloc: Global, entry: usize, number: u32) -> Result<Text<'a>, AllocError>
+        ensures { IfOk result (λ text. text ≡ string_of self.now entry number) }
     {
-        match item(&self.strings, index as usize) {
-            Some(text) => text.as_bytes(),
+        match place(self.entries, self.strings_each, entry, number) {
+            Some(place) => self.strings[place].copy(alloc),
+            None => Ok(Text::empty()),
+        }
+    }
+
+    /// The bytes of a string variable of an entry.
+    #[tactic(auto, using(crate::proofs::EntryValueLemmas::string_there, crate::proofs::EntryValueLemmas::string_nowhere))]
+    pub fn string_bytes(&self, entry: usize, number: u32) -> &[u8]
+        ensures { result.now ≡ string_of self.now entry number }
+    {
+        match place(self.entries, self.strings_each, entry, number) {
+            Some(place) => self.strings[place].as_bytes(),
             None => &[],
         }
     }
 
-    /// Gives an integer variable a value.
-    pub fn set_integer(&mut self, index: u32, value: i32)
-        ensures { self.new ≡ integer_set index value self.old }
+    /// Gives an integer variable of an entry a value, if there is such a variable.
+    #[tactic(auto, using(crate::proofs::EntryValueLemmas::integer_put, crate::proofs::EntryValueLemmas::integer_kept))]
+    pub fn set_integer(&mut self, entry: usize, number: u32, value: i32)
+        ensures { self.new ≡ slice_set self.old entry (integer_set number value (values_of self.old entry)) }
     {
-        let index = index as usize;
-        if index < self.integers.len() {
-            self.integers[index] = value;
+        if let Some(place) = place(self.entries, self.integers_each, entry, number) {
+            self.integers[place] = value;
         }
     }
 
-    /// Gives a string variable a value.
-    pub fn set_string(&mut self, index: u32, value: Text<'a>)
-        ensures { self.new ≡ string_set index value.entry self.old }
+    /// Gives a string variable of an entry a value, if there is such a variable.
+    #[tactic(auto, using(crate::proofs::EntryValueLemmas::string_put, crate::proofs::EntryValueLemmas::string_kept))]
+    pub fn set_string(&mut self, entry: usize, number: u32, value: Text<'a>)
+        ensures { self.new ≡ slice_set self.old entry (string_set number value.entry (values_of self.old entry)) }
     {
-        let index = index as usize;
-        if index < self.strings.len() {
-            self.strings[index] = value;
+        if let Some(place) = place(self.entries, self.strings_each, entry, number) {
+            self.strings[place] = value;
         }
     }
+}
+
+// Where variable `number` of an entry stands, of `count` entries that have `each` variables; nowhere if there is no such entry or no such variable.
+#[tactic(auto, using(crate::proofs::EntryValueLemmas::place_fits))]
+fn place(count: usize, each: usize, entry: usize, number: u32) -> Option<usize>
+    requires { count * each < 2 ^ 64 }
+    ensures there { IfSome result (λ place. (entry < count) × (number < each) × (place ≡ entry * each + number)) }
+    ensures nowhere { IfNone result ((count ≤ entry) ⊎ (each ≤ number)) }
+{
+    let number = number as usize;
+    if entry < count && number < each {
+        Some(entry * each + number)
+    } else {
+        None
+    }
+}
+
+// The number of values, if memory could hold them.
+fn product(entries: usize, each: usize) -> Result<usize, AllocError>
+    ensures { IfOk result (λ count. count ≡ entries * each) }
+{
+    entries.checked_mul(each).ok_or(AllocError)
+}
+
+// The empty string, so many times.
+#[tactic(auto, using(crate::proofs::Replicas::one_more))]
+fn empty_strings<'a>(alloc: Global, count: usize) -> Result<Vec<Text<'a>>, AllocError>
+    ensures { IfOk result (λ strings. strings.items ≡ replicate count []) }
+{
+    let mut strings = Vec::with_capacity(alloc, count)?;
+    for _string in 0..count {
+        strings.push(Text::empty())?;
+    }
+    Ok(strings)
 }

@@ -15,10 +15,11 @@ use Rattle.btx_strings.specs.declared.conversions.Conversion.{Conversion}
 use Rattle.btx_strings.specs.declared.conversions.Conversion.TheVariants.{Title, Lower, Upper}
 use Rattle.btx_strings.specs.declared.case_change.Place.{Place}
 use Rattle.btx_strings.specs.declared.case_change.Place.TheVariants.{First, Colon, ColonAndWhite, Inside}
-use Rattle.btx_strings.specs.language.Case.{case_of, is_title, is_white_text, cased_part, cased_special, cased}
+use Rattle.btx_strings.specs.language.Case.{case_of, is_title, is_white_text, cased_part}
 use Rattle.btx_strings.specs.refinement.CaseState.{is_case_plain, first_place, is_inside, is_beginning, piece_len, cased_piece, place_after}
 use Rattle.btx_strings.proofs.CaseLemmas.{cased_from, cased_from-anywhere, cased_from-first}
 use Rattle.btx_strings.proofs.CaseLemmas as elements
+use Rattle.btx_strings.specs.refinement.Case.{cased_special, cased}
 
 -- the elements of a text at a depth, after a place, in another case
 abbrev rest_at : Conversion → Place → ℕ → ℕ → ℕ → List ℕ → List ℕ

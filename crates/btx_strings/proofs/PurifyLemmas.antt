@@ -1,5 +1,5 @@
 -- What `purify$` leaves of a string, group by group.
-use Rattle.std.proofs.Common.{◌≡◌, ℕ, zero, suc, ◌+◌, ◌-◌, ◌<◌, Bool, true, false, cond, not, eqb, List, [], ◌∷◌, ◌++◌, length, take, drop, refl, ◌∙◌, ap, arith, append_assoc}
+use Rattle.std.proofs.Common.{◌≡◌, ℕ, zero, suc, ◌+◌, ◌-◌, ◌<◌, Bool, true, false, cond, eqb, List, [], ◌∷◌, ◌++◌, length, take, drop, refl, ◌∙◌, ap, arith, append_assoc}
 use Rattle.std.specs.Prelude.{nat_eq, ◌||◌}
 use Rattle.std.specs.List.{flat_map, prefix_len, starts_with}
 use Rattle.std.proofs.lemmas.List.{append-nil, length-drop}
@@ -15,8 +15,8 @@ use Rattle.btx_text.specs.language.Class.{class_of, is_alpha, is_sep, is_white}
 use Rattle.btx_text.specs.language.Elements.{Element, depth_after, kind_at, element_at, extent, group_len, elements_from, elements_of}
 use Rattle.btx_text.proofs.ElementLemmas.{group_len-le, elements_from-step, elements_from-nil}
 use Rattle.btx_strings.specs.language.Controls.{glyphs_of}
-use Rattle.btx_strings.specs.language.Purify.{purified_as, purified_byte, purified_class, purified_glyph, purify_of}
-use Rattle.btx_strings.specs.refinement.Purify.{stays, purified_group}
+use Rattle.btx_strings.specs.language.Purify.{purified_as, purified_class, purified_glyph, purify_of}
+use Rattle.btx_strings.specs.refinement.Purify.{stays, purified_group, purified_byte}
 use Rattle.btx_strings.proofs.PieceLemmas.{above_zero, deeper, kind_inside, less_deep, one_more}
 
 abbrev left_of : Element → List ℕ
@@ -207,5 +207,13 @@ less_is_left s some n_is after_is m_is others_is = rw (others_is, m_is, after_is
 pub nothing_left : (s text : List ℕ) {whole : List ℕ} → text ++ purify_of s ≡ whole → length s ≡ 0 → text ≡ whole
 unfolding elements_of
 nothing_left s text all none = rw (elements_from-nil Bytes 0 0 0 s none, append-nil) at all
+
+-- a run to the end
+pub nothing_behind : (s text : List ℕ) {n : ℕ} {run after before whole : List ℕ} →
+    text ++ purify_of s ≡ whole → n ≡ prefix_len stays s → run ≡ take n s → before ≡ text ++ run → after ≡ drop n s → length after ≡ 0 → before ≡ whole
+nothing_behind s text {n} {run} {after} {before} {whole} all n_is run_is before_is after_is none =
+    let n = prefix_len stays s in
+    let left : before ++ purify_of after ≡ whole = rw (before_is, run_is, after_is, n_is, append_assoc text (take n s)) (rw (before_other s) at all) in
+    nothing_left after before left none
 
 pub ruleset groups = (prefix_len-le-length, group_len-le)

@@ -5,13 +5,14 @@ use Rattle.btx_text.specs.declared.element_kind.TextMode.TheVariants.{Bytes, Utf
 use Rattle.btx_text.specs.language.Class.{class_of}
 use Rattle.btx_text.specs.language.Sequences.{sequence_size, second_fits, is_sequence, begins_sequence}
 use Rattle.btx_text.specs.language.Elements.{kind_at, group_len, elements_from, elements_of}
-use Rattle.btx_strings.specs.language.Answers.{no_complaints, wrong_conversion}
+use Rattle.btx_strings.specs.language.Answers.{no_complaints}
 use Rattle.btx_strings.specs.language.Controls.{control_name, glyphs_from, glyphs_of, letters_of, without_white}
 use Rattle.btx_strings.specs.language.Lengths.{take_characters, text_prefix_of, text_length_of}
 use Rattle.btx_strings.specs.language.Positions.{add_period_of, substring_of}
 use Rattle.btx_strings.specs.language.Purify.{purify_of}
 use Rattle.btx_strings.specs.language.Case.{cased_parts, cased_control, change_case_of, case_complaints}
 use Rattle.btx_strings.specs.language.Width.{control_width, width_of}
+use Rattle.btx_strings.specs.refinement.Answers.{wrong_conversion}
 
 -- ---- pieces
 

@@ -6,3 +6,5 @@ pub mod CaseState
 pub mod Lengths
 pub mod Purify
 pub mod Width
+pub mod Positions
+pub mod Case

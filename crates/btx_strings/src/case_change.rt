@@ -1,10 +1,11 @@
 //! Letters raised and lowered.
-ghost use Rattle.std.specs.Prelude.{◌≡◌, ◌++◌, map, OnOk};
+ghost use Rattle.std.specs.Prelude.{◌≡◌, ◌≤◌, ◌+◌, ◌++◌, length, map, OnOk, IsTrue};
 ghost use Rattle.std.specs.List.{prefix_len};
 ghost use Rattle.btx_strings.specs.language.Answers.{no_complaints};
 ghost use Rattle.btx_strings.specs.refinement.Answers.{Answers};
 ghost use Rattle.btx_strings.specs.language.Case as spec;
-ghost use Rattle.btx_strings.specs.refinement.CaseState.{cased_piece, first_place, is_beginning, is_case_plain, piece_len, place_after};
+ghost use Rattle.btx_strings.specs.refinement.Case as part;
+ghost use Rattle.btx_strings.specs.refinement.CaseState.{ArePlain, cased_piece, first_place, is_beginning, is_case_plain, piece_len, place_after};
 ghost use Rattle.btx_strings.specs.refinement.Glyphs.{glyph_of};
 
 use crate::answers::{Answer, Complaints};
@@ -13,6 +14,10 @@ use crate::conversions::Conversion;
 use btx_text::Fault;
 use btx_text::string_elements::group_len;
 use std::alloc::{AllocError, Global};
+use std::simd::prelude::*;
+
+// Bytes that neither begin a group nor are a colon are passed in blocks of this number of them.
+const BLOCK: usize = 8;
 
 // What stands before a piece.
 #[derive(Clone, Copy, Debug, PartialEq, Eq)]
@@ -46,7 +51,7 @@ pub fn change_case(alloc: Global, string: &[u8], conversion: &[u8]) -> Result<An
 
 // A string in another case.
 fn cased(alloc: Global, string: &[u8], conversion: Conversion) -> Result<Answer, Fault>
-    ensures { Answers result (spec.cased conversion string.now) no_complaints }
+    ensures { Answers result (part.cased conversion string.now) no_complaints }
 {
     let mut text = Vec::with_capacity(alloc, string.len())?;
     change_case_into(&mut text, string, conversion)?;
@@ -60,7 +65,7 @@ pub fn change_case_into(
     string: &[u8],
     conversion: Conversion,
 ) -> Result<(), AllocError>
-    ensures { OnOk result (text.new.items ≡ spec.cased conversion string.now) }
+    ensures { OnOk result (text.new.items ≡ part.cased conversion string.now) }
 {
     text.clear();
     let mut place = first_place(conversion);
@@ -99,8 +104,39 @@ fn piece_len(place: Place, rest: &[u8]) -> usize
     }
 }
 
-// How many bytes there are before a colon or a group.
+// Whether the block at a place has neither a colon nor the beginning of a group.
+#[inline(always)]
+fn is_plain_block(rest: &[u8], place: usize) -> bool
+    requires { place + 8 ≤ length rest.now }
+    ensures { IsTrue result → ArePlain rest.now place (place + 8) }
+{
+    let block = u8x8::from_slice(&rest[place..]);
+    let ends = block.simd_eq(u8x8::splat(b':')) | block.simd_eq(u8x8::splat(b'{'));
+    ends.to_bitmask() == 0
+}
+
+// How many bytes the blocks have that come before a colon or a group.
+fn blocks_len(rest: &[u8]) -> usize
+    ensures plain { ArePlain rest.now 0 result }
+    ensures bound { result ≤ length rest.now }
+{
+    let mut place = 0;
+    while rest.len() - place >= BLOCK && is_plain_block(rest, place) {
+        place += BLOCK;
+    }
+    place
+}
+
+// How many bytes there are before a colon or a group: block by block, and then one by one.
 fn run_len(rest: &[u8]) -> usize
+    ensures { result ≡ prefix_len is_case_plain rest.now }
+{
+    let blocks = blocks_len(rest);
+    blocks + run_len_one_by_one(&rest[blocks..])
+}
+
+// The same, one by one.
+fn run_len_one_by_one(rest: &[u8]) -> usize
     ensures { result ≡ prefix_len is_case_plain rest.now }
 {
     for (i, &byte) in rest.iter().enumerate() {
@@ -172,7 +208,7 @@ fn push_special(
     conversion: Conversion,
     special: &[u8],
 ) -> Result<(), AllocError>
-    ensures { OnOk result (text.new.items ≡ text.old.items ++ spec.cased_special conversion special.now) }
+    ensures { OnOk result (text.new.items ≡ text.old.items ++ part.cased_special conversion special.now) }
 {
     let mut gone = false;
     for glyph in Glyphs::of(special) {

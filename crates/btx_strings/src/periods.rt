@@ -3,6 +3,7 @@ ghost use Rattle.std.specs.Prelude.{◌≡◌, ◌++◌, [], ◌∷◌, if◌the
 ghost use Rattle.btx_strings.specs.language.Answers.{no_complaints};
 ghost use Rattle.btx_strings.specs.refinement.Answers.{Answers};
 ghost use Rattle.btx_strings.specs.language.Positions as spec;
+ghost use Rattle.btx_strings.specs.refinement.Positions as part;
 
 use crate::answers::{Answer, Complaints};
 use btx_text::Fault;
@@ -32,14 +33,14 @@ pub fn lacks_period(string: &[u8]) -> bool
 
 // Whether a string ends in a stop, closing braces aside.
 fn is_ended(string: &[u8]) -> bool
-    ensures { result ≡ spec.is_ended (spec.last_mark string.now) }
+    ensures { result ≡ spec.is_ended (part.last_mark string.now) }
 {
     matches!(last_mark(string), Some(b'.' | b'?' | b'!'))
 }
 
 // The last byte that is no closing brace.
 fn last_mark(string: &[u8]) -> Option<u8>
-    ensures { result ≡ spec.last_mark string.now }
+    ensures { result ≡ part.last_mark string.now }
 {
     string.iter().rev().find(|byte| **byte != b'}').copied()
 }

@@ -5,8 +5,8 @@ ghost use Rattle.btx_strings.specs.language.Answers.{no_complaints};
 ghost use Rattle.btx_strings.specs.refinement.Answers.{Answers};
 ghost use Rattle.btx_strings.specs.language.Controls.{glyphs_of};
 ghost use Rattle.btx_strings.specs.refinement.Glyphs.{glyph_of};
-ghost use Rattle.btx_strings.specs.language.Purify.{purified_byte, purified_glyph, purify_of};
-ghost use Rattle.btx_strings.specs.refinement.Purify.{stays, purified_group};
+ghost use Rattle.btx_strings.specs.language.Purify.{purified_glyph, purify_of};
+ghost use Rattle.btx_strings.specs.refinement.Purify.{stays, purified_group, purified_byte};
 
 use crate::answers::{Answer, Complaints};
 use crate::controls::{Glyph, Glyphs, letters};
@@ -48,6 +48,9 @@ pub fn purify_into(text: &mut Vec<u8>, string: &[u8]) -> Result<(), AllocError>
     while !rest.is_empty() {
         let (run, after) = rest.split_at(run_len(rest));
         text.extend_from_slice(run)?;
+        if after.is_empty() {
+            return Ok(());
+        }
         let (group, others) = after.split_at(group_len(after));
         push_group(text, group)?;
         rest = others;

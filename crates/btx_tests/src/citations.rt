@@ -21,12 +21,19 @@ struct Row {
 }
 
 // The worked rows.
-const ROWS: [Row; 13] = [
+const ROWS: [Row; 14] = [
     Row {
         lines: b"\\citation{k,K}",
         keys: b"k;",
         log: b"The top-level auxiliary file: job.aux\n!Error--Case mismatch error between cite keys k and K--line 1 of file job.aux\n",
         counts: (2, 1, 1, End::Whole),
+    },
+    // Keys with capital letters behind some without.
+    Row {
+        lines: b"\\citation{a,b,C,a,c,B,C,d}",
+        keys: b"a;b;C;d;",
+        log: b"The top-level auxiliary file: job.aux\n!Error--Case mismatch error between cite keys C and c--line 1 of file job.aux\n!Error--Case mismatch error between cite keys b and B--line 1 of file job.aux\n",
+        counts: (3, 2, 4, End::Whole),
     },
     Row {
         lines: b"\\citation{k, j}",

@@ -35,13 +35,9 @@ named_by file (Opens zero) = file ∷ []
 named_by file (Includes (Taken name)) = if has_ending (codes ".aux") name then name ∷ [] else []
 named_by file _ = []
 
--- the name of the file that an event mentions, as a list of one, or of none
-abbrev pub file_named : AuxEvent → List (List ℕ)
-file_named event = named_by event.file event.word
-
 -- the files that the events name, found or not
 abbrev pub files_named : List AuxEvent → List (List ℕ)
-files_named events = distinct (flat_map file_named events)
+files_named events = distinct (flat_map (λ (event : AuxEvent). named_by event.file event.word) events)
 
 -- the file that an event opens: that of an `\@input` line, if its name ends in `.aux` and isn't among `files`, the names met before
 abbrev pub asked_of : List (List ℕ) → EventKind → Option (List ℕ)

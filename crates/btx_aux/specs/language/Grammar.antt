@@ -42,10 +42,6 @@ abbrev pub first_piece : List Piece → Piece
 first_piece [] = Cut Unclosed
 first_piece (piece ∷ pieces) = piece
 
--- the one piece of an argument that is no list
-abbrev pub piece_of : List ℕ → Piece
-piece_of argument = first_piece (pieces_of false argument)
-
 -- which of the four commands a name is, if it is one
 unfoldable pub aux_command_named : List ℕ → Option Command
 aux_command_named name =
@@ -75,8 +71,8 @@ abbrev pub words_of_command : Option Command → List ℕ → List EventKind
 words_of_command None argument = []
 words_of_command (Some Citation) argument = map Cites (pieces_of true argument)
 words_of_command (Some Bibdata) argument = Databases (pieces_of true argument) ∷ []
-words_of_command (Some Bibstyle) argument = Styles (piece_of argument) ∷ []
-words_of_command (Some Input) argument = Includes (piece_of argument) ∷ []
+words_of_command (Some Bibstyle) argument = Styles (first_piece (pieces_of false argument)) ∷ []
+words_of_command (Some Input) argument = Includes (first_piece (pieces_of false argument)) ∷ []
 
 -- what a line says, given the place of its first `{`; a line without `{` says nothing
 abbrev pub words_at : Option ℕ → List ℕ → List EventKind

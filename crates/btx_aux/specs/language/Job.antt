@@ -10,8 +10,8 @@ use Rattle.btx_aux.specs.language.Files.{Files}
 use Rattle.btx_aux.specs.language.Names.{has_ending, with_ending, with_name_once, distinct, listed_as, with_key}
 use Rattle.btx_aux.specs.language.Grammar.{Piece, Taken, Cut, EventKind, Cites, Databases, Styles, Includes, Opens, Absent, end_by, is_whole}
 use Rattle.btx_aux.specs.language.Events.{AuxEvent, files_named, job_events}
-use Rattle.btx_text.specs.language.LogLines.{Line}
-use Rattle.btx_aux.specs.language.Notes.{AuxComplaint, Slipped, AnotherBibdata, AnotherBibstyle, CaseMismatch, SecondStar, WrongExtension, AlreadyMet, NotOpened, RepeatedDatabase, AuxNote, TopFile, LevelFile, Wrong, NoCitations, NoBibdata, NoBibstyle, aux_note_line}
+use Rattle.btx_text.specs.language.LogLines.{Line, message}
+use Rattle.btx_aux.specs.language.Notes.{AuxComplaint, Slipped, AnotherBibdata, AnotherBibstyle, CaseMismatch, SecondStar, WrongExtension, AlreadyMet, NotOpened, RepeatedDatabase, AuxNote, TopFile, LevelFile, Wrong, NoCitations, NoBibdata, NoBibstyle, aux_note_kind, aux_note_text}
 use Rattle.btx_text.specs.language.Lists.{only_if, is_among}
 
 -- ---- reading along the events
@@ -37,26 +37,18 @@ abbrev pub cited_by : EventKind → List (List ℕ)
 cited_by (Cites (Taken key)) = if is_star key then [] else key ∷ []
 cited_by _ = []
 
--- the key that an event cites, if it cites one
-abbrev pub cited : AuxEvent → List (List ℕ)
-cited event = cited_by event.word
-
 -- the keys: a key is listed if no earlier listed key equals it without case
 abbrev pub cited_keys : List AuxEvent → List (List ℕ)
-cited_keys events = fold with_key [] (flat_map cited events)
+cited_keys events = fold with_key [] (flat_map (λ (event : AuxEvent). cited_by event.word) events)
 
 -- if an event is a citation of `*`: the number `count` of keys listed before it, as a list of one; else none
 abbrev pub star_by : EventKind → ℕ → List ℕ
 star_by (Cites (Taken key)) count = if is_star key then count ∷ [] else []
 star_by _ count = []
 
--- if an event is a citation of `*`: how many keys the events before it list; else none
-abbrev pub star_at : List AuxEvent → AuxEvent → List ℕ
-star_at earlier event = star_by event.word (length (cited_keys earlier))
-
--- where `*` stands, if it is cited: how many keys are listed before the first `*`
+-- where `*` stands, if it is cited: how many keys the events before the first `*` list
 abbrev pub all_of : List AuxEvent → Option ℕ
-all_of events = first_of (gathered star_at [] events)
+all_of events = first_of (gathered (λ (earlier : List AuxEvent) (event : AuxEvent). star_by event.word (length (cited_keys earlier))) [] events)
 
 -- ---- databases and the style
 
@@ -79,10 +71,6 @@ abbrev pub databases_in : Option (List Piece) → List (List ℕ)
 databases_in None = []
 databases_in (Some pieces) = distinct (flat_map (taken_with (codes ".bib")) pieces)
 
--- the databases that the first `\bibdata` line names
-abbrev pub databases_of : List AuxEvent → List (List ℕ)
-databases_of events = databases_in (bibdata_of events)
-
 -- the piece of a `\bibstyle` line; nothing else has one
 abbrev pub bibstyle_by : EventKind → List Piece
 bibstyle_by (Styles piece) = piece ∷ []
@@ -96,10 +84,6 @@ bibstyle_of events = first_of (flat_map (λ (event : AuxEvent). bibstyle_by even
 abbrev pub style_name_in : Option Piece → Option (List ℕ)
 style_name_in None = None
 style_name_in (Some piece) = first_of (taken_with (codes ".bst") piece)
-
--- the style that the first `\bibstyle` line names, if its piece was taken
-abbrev pub style_name_of : List AuxEvent → Option (List ℕ)
-style_name_of events = style_name_in (bibstyle_of events)
 
 -- ---- the log
 
@@ -156,17 +140,12 @@ abbrev pub is_empty : List (List ℕ) → Bool
 is_empty [] = true
 is_empty (key ∷ keys) = false
 
--- what is missing in a whole reading: any key and `*`; a `\bibdata` line, unless `bibdata` is true; a `\bibstyle` line, unless `bibstyle` is true
-abbrev pub missing_notes : List (List ℕ) → Option ℕ → Bool → Bool → List AuxNote
-missing_notes keys all bibdata bibstyle =
-    only_if (is_empty keys && is_none all) NoCitations ++ only_if (not bibdata) NoBibdata ++ only_if (not bibstyle) NoBibstyle
-
--- the notes at the end: after a whole reading, what is missing; else none
+-- the notes at the end: after a whole reading, what is missing, which is any key and `*`; a `\bibdata` line, unless `bibdata` is true; and a
+-- `\bibstyle` line, unless `bibstyle` is true
 abbrev pub closing_notes : End → List (List ℕ) → Option ℕ → Bool → Bool → List AuxNote
-closing_notes end.Whole keys all bibdata bibstyle = missing_notes keys all bibdata bibstyle
-closing_notes end.TooManyOpen keys all bibdata bibstyle = []
-closing_notes end.TopMissing keys all bibdata bibstyle = []
-closing_notes end.FileLimit keys all bibdata bibstyle = []
+closing_notes end.Whole keys all bibdata bibstyle =
+    only_if (is_empty keys && is_none all) NoCitations ++ only_if (not bibdata) NoBibdata ++ only_if (not bibstyle) NoBibstyle
+closing_notes _ keys all bibdata bibstyle = []
 
 -- all notes: of each event in turn, and then at the end
 abbrev pub notes_of : List AuxEvent → List AuxNote
@@ -184,17 +163,13 @@ pub record AuxJob : Type 0 where
   pub log : List Line
   pub ending : End
 
--- the job that the events of its `.aux` files come to
-abbrev pub job_of : List AuxEvent → AuxJob
-job_of events = record {
-  keys = cited_keys events;
-  all = all_of events;
-  databases = databases_of events;
-  style = style_name_of events;
-  log = map aux_note_line (notes_of events);
-  ending = end_of events;
-}
-
 -- the job whose top file is `top`, read from `files`
 unfoldable pub job_of_files : Files → List ℕ → AuxJob
-job_of_files files top = job_of (job_events files top)
+job_of_files files top = let events = job_events files top in record {
+  keys = cited_keys events;
+  all = all_of events;
+  databases = databases_in (bibdata_of events);
+  style = style_name_in (bibstyle_of events);
+  log = map (λ (note : AuxNote). message (aux_note_kind note) (aux_note_text note)) (notes_of events);
+  ending = end_of events;
+}

@@ -3,7 +3,7 @@
 use Rattle.std.specs.Prelude.{ℕ, List, ◌++◌, codes, decimal}
 use Rattle.btx_text.specs.declared.log_line.LineKind.{LineKind}
 use Rattle.btx_text.specs.declared.log_line.LineKind.TheVariants.{Plain, Error}
-use Rattle.btx_text.specs.language.LogLines.{Line, message, place_text}
+use Rattle.btx_text.specs.language.LogLines.{place_text}
 use Rattle.btx_aux.specs.declared.command.Slip.{Slip}
 use Rattle.btx_aux.specs.declared.command.Slip.TheVariants.{WhiteSpace, Unclosed, StuffAfter}
 
@@ -19,15 +19,11 @@ pub data AuxComplaint : Type 0 where
   NotOpened : (name : List ℕ) → AuxComplaint
   RepeatedDatabase : (name : List ℕ) → AuxComplaint
 
--- the text of an error in the argument of a line
-abbrev pub aux_slip_text : Slip → List ℕ
-aux_slip_text WhiteSpace = codes "White space in argument"
-aux_slip_text Unclosed = codes "No \"}\""
-aux_slip_text StuffAfter = codes "Stuff after \"}\""
-
 -- the text of a complaint, without `Error--` before it and without its place
 unfoldable pub aux_complaint_text : AuxComplaint → List ℕ
-aux_complaint_text (Slipped slip) = aux_slip_text slip
+aux_complaint_text (Slipped WhiteSpace) = codes "White space in argument"
+aux_complaint_text (Slipped Unclosed) = codes "No \"}\""
+aux_complaint_text (Slipped StuffAfter) = codes "Stuff after \"}\""
 aux_complaint_text AnotherBibdata = codes "Illegal, another \\bibdata command"
 aux_complaint_text AnotherBibstyle = codes "Illegal, another \\bibstyle command"
 aux_complaint_text (CaseMismatch earlier key) = codes "Case mismatch error between cite keys " ++ earlier ++ codes " and " ++ key
@@ -60,7 +56,3 @@ unfoldable pub aux_note_kind : AuxNote → LineKind
 aux_note_kind (TopFile name) = Plain
 aux_note_kind (LevelFile level name) = Plain
 aux_note_kind _ = Error
-
--- the line of a note
-abbrev pub aux_note_line : AuxNote → Line
-aux_note_line note = message (aux_note_kind note) (aux_note_text note)

@@ -9,10 +9,10 @@ use Rattle.btx_aux.specs.language.Names.{with_name_once}
 use Rattle.btx_aux.specs.refinement.Answers.{EndInAux}
 use Rattle.btx_aux.specs.language.Grammar.{Opens, Absent, Full, TooLong, NoTop, is_whole}
 use Rattle.btx_aux.specs.language.Events.{AuxEvent, event_at, named_by, asked_of, said}
-use Rattle.btx_aux.specs.language.Notes.{aux_note_line}
 use Rattle.btx_aux.specs.language.Job.{AuxJob, closing_notes}
 use Rattle.btx_aux.specs.refinement.Drafts.{blank, learned}
 use Rattle.btx_text.specs.language.Limits.{is_too_long}
+use Rattle.btx_aux.specs.refinement.Notes.{aux_note_line}
 
 -- what is known after an event, which counts only where the reading hasn't ended
 abbrev pub after : Draft → AuxEvent → Draft

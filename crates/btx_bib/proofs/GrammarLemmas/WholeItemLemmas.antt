@@ -8,7 +8,7 @@ use Rattle.btx_bib.specs.declared.grammar.slip.Slip.TheVariants.{NoEquals, NoClo
 use Rattle.btx_bib.specs.language.Grammar.ByteSets.{past}
 use Rattle.btx_bib.specs.language.Grammar.Tokens.{Parsed, followed_by, name_at, open_at, sign_at, key_at, closing_delimiter}
 use Rattle.btx_bib.specs.language.Grammar.Values.{value_at}
-use Rattle.btx_bib.specs.language.Grammar.Fields.{Field, more_in, more_at}
+use Rattle.btx_bib.specs.language.Grammar.Fields.{Field, more_in}
 use Rattle.btx_bib.specs.language.Grammar.Items.{command_of}
 use Rattle.btx_bib.specs.laws.Grammar.Spelling.{Gives, Then, Spaced, NameHere, SignHere, ValueSpelling, Splits}
 use Rattle.btx_bib.specs.laws.Grammar.Reading.{OpenHere, KeyHere, MoreHere}
@@ -17,6 +17,7 @@ use Rattle.btx_bib.proofs.GrammarLemmas.ValueLemmas.{past-le}
 use Rattle.btx_bib.proofs.GrammarLemmas.LengthLemmas.{Shrinks, shrinks-more, more_in-shrinks}
 use Rattle.btx_bib.proofs.GrammarLemmas.SpellingLemmas.{Decides, Only, both-second, both-then, then-only, then-decides, gives-decides, spaced-decides, name-decides, sign-decides, value-decides}
 use Rattle.btx_bib.proofs.GrammarLemmas.ReadingLemmas.{spaced-open, spaced-key, more_in-decides}
+use Rattle.btx_bib.specs.laws.Grammar.Fields.{more_at}
 
 -- ---- the fields, one at a time
 

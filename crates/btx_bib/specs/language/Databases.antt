@@ -17,39 +17,24 @@ use Rattle.btx_bib.specs.language.Told.{Database, Reading, read_next}
 
 -- ---- before the first database
 
--- what is known before any macro or database is read: no strings, no entries and no preamble
-abbrev pub nothing : Known
-nothing = record { strings = []; stored = []; current = None; preamble = []; ending = end.Whole }
-
 -- a macro of the style, its name in lower case and its text, is a string whose text is the value
 abbrev pub with_macro : Known → List ℕ × List ℕ → Known
 with_macro known macro =
     if goes_on known.ending then (let text = squeezed macro.1 in if_fits text known (record known { strings = defined known.strings macro.0 text })) else known
 
--- what is known before the first database: each macro of the style is a string
-abbrev pub with_macros : List (List ℕ × List ℕ) → Known
-with_macros macros = fold with_macro nothing macros
-
 -- ---- one database
 
--- a database is read event by event; at its end the entry that is being read is at its end too
-abbrev pub read_whole : Request → Reading → Database → Reading
-read_whole wanted reading database =
-    let last = fold (read_next wanted database) reading (events_from (keeping wanted) reading.known Item database.text) in
-    record last { known = with_current_stored last.known }
-
--- reads a database, unless the reading has ended already; a file that is too long ends it
+-- reads a database event by event, unless the reading has ended already; a file that is too long ends it. At the end of the database the entry that is
+-- being read is at its end too
 abbrev pub read_one : Request → Reading → Database → Reading
 read_one wanted reading database =
     if goes_on reading.known.ending then
-    (if is_too_long database.text then record reading { known = record reading.known { ending = end.FileLimit } } else read_whole wanted reading database)
+    (if is_too_long database.text then record reading { known = record reading.known { ending = end.FileLimit } } else
+    (let last = fold (read_next wanted database) reading (events_from (keeping wanted) reading.known Item database.text) in
+    record last { known = with_current_stored last.known }))
     else reading
 
 -- ---- all databases
-
--- databases are read one after the other, from the style's macros on
-abbrev pub read_all : Request → List (List ℕ × List ℕ) → List Database → Reading
-read_all wanted macros databases = fold (read_one wanted) (record { known = with_macros macros; messages = [] }) databases
 
 -- the library made of what is known at the end: after a limit it has no entries and no preamble, and only the messages until then
 abbrev pub library_by : End → Request → Known → List Message → Library
@@ -62,7 +47,10 @@ library_by end.Whole wanted known messages = record {
 library_by end.FileLimit wanted known messages = record { entries = []; preamble = []; messages = messages; ending = end.FileLimit }
 library_by end.StringLimit wanted known messages = record { entries = []; preamble = []; messages = messages; ending = end.StringLimit }
 
--- what databases give to a job, where `macros` are those of its style
+-- what databases give to a job, where `macros` are those of its style: at the start no strings, no entries and no preamble are known, then each macro is
+-- a string, and the databases are read one after the other
 unfoldable pub library_of : Request → List (List ℕ × List ℕ) → List Database → Library
 library_of wanted macros databases =
-    let reading = read_all wanted macros databases in library_by reading.known.ending wanted reading.known reading.messages
+    let start : Known = record { strings = []; stored = []; current = None; preamble = []; ending = end.Whole } in
+    let reading = fold (read_one wanted) (record { known = fold with_macro start macros; messages = [] }) databases in
+    library_by reading.known.ending wanted reading.known reading.messages

@@ -17,10 +17,6 @@ pub record Given : Type 0 where
   pub key : List ℕ
   pub fields : List KeptField
 
--- the number of the declared field that a field is, if it is one
-abbrev pub field_number : Request → KeptField → Option ℕ
-field_number wanted field = wanted.field (folded field.name)
-
 -- a number is there, and it is `number`
 abbrev pub is_number : ℕ → Option ℕ → Bool
 is_number number None = false
@@ -28,7 +24,7 @@ is_number number (Some other) = nat_eq other number
 
 -- the value of an entry's first field whose number is `number`; nothing if it has none
 abbrev pub value_in : Request → List KeptField → ℕ → Option (List ℕ)
-value_in wanted fields number = option_map (λ (field : KeptField). field.value) (find (λ (field : KeptField). is_number number (field_number wanted field)) fields)
+value_in wanted fields number = option_map (λ (field : KeptField). field.value) (find (λ (field : KeptField). is_number number (wanted.field (folded field.name))) fields)
 
 -- the values of `count` fields, from field number `first` on
 abbrev pub values_from : Request → List KeptField → ℕ → ℕ → List (Option (List ℕ))
@@ -43,10 +39,6 @@ field_values wanted fields = values_from wanted fields 0 wanted.count
 abbrev pub parent_in : List (Option (List ℕ)) → Option (List ℕ)
 parent_in [] = None
 parent_in (value ∷ values) = value
-
--- the key of the parent of an entry, if it has one
-abbrev pub parent_of : Request → Given → Option (List ℕ)
-parent_of wanted given = parent_in (field_values wanted given.fields)
 
 -- an entry of a database as the list has it: the word of its type becomes the number of the style's function, and its fields become values, by the
 -- fields' numbers

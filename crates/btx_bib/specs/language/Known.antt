@@ -46,17 +46,15 @@ if_fits text known next = if nat_lt greatest_string (length text) then record kn
 abbrev pub has_value : Request → Given → List ℕ → Bool
 has_value wanted given name = is_some (value_by (wanted.field (folded name)) (field_values wanted given.fields))
 
--- an entry with one more field, its name and its text, behind the others
-abbrev pub with_field : Given → List ℕ → List ℕ → Given
-with_field given name text = record given { fields = given.fields ++ record { name = name; value = text } ∷ [] }
-
 -- what is known after a field: it is kept if its entry is stored, the style declares the field, and the entry has no value for it yet. Any other
 -- field changes nothing
 abbrev pub after_field : Request → Known → Option Given → Field → Known
 after_field wanted known None field = known
 after_field wanted known (Some given) field =
     if is_some (wanted.field (folded field.name)) && not (has_value wanted given field.name) then
-    (let text = value_text Trimmed (string_value known.strings) field.value in if_fits text known (record known { current = Some (with_field given field.name text) }))
+    (let text = value_text Trimmed (string_value known.strings) field.value in
+    let more = record given { fields = given.fields ++ record { name = field.name; value = text } ∷ [] } in
+    if_fits text known (record known { current = Some more }))
     else known
 
 -- what is known after an event: a `@preamble` is appended, and a `@string` defined. An entry's key first stores the entry that was being read, and a

@@ -1,12 +1,12 @@
 -- The list: the cited keys in order, and after them the parents that their entries name, each once. With `*` the keys cited before
 -- it, then all entries in the order of the databases, then the other cited keys (btxdoc, section 2, and its rules for `crossref`).
-use Rattle.std.specs.Prelude.{ℕ, nat_le, ◌||◌, Bool, List, [], ◌++◌, map, fold, take, drop, count_by, Option, None, Some, is_some}
+use Rattle.std.specs.Prelude.{ℕ, nat_le, ◌||◌, List, [], ◌++◌, map, fold, take, drop, count_by, Option, None, Some, is_some}
 use Rattle.std.specs.Option.{option_or, option_map, unwrap_or}
 use Rattle.btx_aux.specs.language.Names.{is_same_key, listed_as, with_key}
 use Rattle.btx_bib.specs.declared.slots.Slot.{Slot}
 use Rattle.btx_bib.specs.language.Wanted.{Request}
 use Rattle.btx_bib.specs.language.Entries.{Given, body_of}
-use Rattle.btx_bib.specs.language.Stored.{keys_in, entry_with_key, parents_in, references}
+use Rattle.btx_bib.specs.language.Stored.{entry_with_key, parents_in, references}
 
 -- the cited keys at the front of the list: with `*` those cited before it, else all
 abbrev pub first_cited : Option ℕ → List (List ℕ) → List (List ℕ)
@@ -21,32 +21,21 @@ last_cited (Some place) cited = drop place cited
 -- the keys that stored entries add to the list: with `*` their own keys, else their parents'
 abbrev pub added : Option ℕ → Request → List Given → List (List ℕ)
 added None wanted stored = parents_in wanted stored
-added (Some place) wanted stored = keys_in stored
+added (Some place) wanted stored = map (λ (given : Given). given.key) stored
 
--- the keys of the list, each once, but for those that were cited after `*`: without `*` the cited keys and then the parents; with `*` the keys cited
--- before it and then all entries
-abbrev pub first_keys : Request → List Given → List (List ℕ)
-first_keys wanted stored = fold with_key [] (first_cited wanted.all wanted.cited ++ added wanted.all wanted stored)
-
--- the keys of the list, each once, in the list's order: with `*` those that were cited after it stand at the end, if no database has an entry for
--- them
+-- the keys of the list, each once, in the list's order: without `*` the cited keys and then the parents; with `*` the keys cited before it, then all
+-- entries, and at the end those keys cited after it for which no database has an entry
 abbrev pub list_keys : Request → List Given → List (List ℕ)
-list_keys wanted stored = fold with_key (first_keys wanted stored) (last_cited wanted.all wanted.cited)
+list_keys wanted stored =
+    fold with_key (fold with_key [] (first_cited wanted.all wanted.cited ++ added wanted.all wanted stored)) (last_cited wanted.all wanted.cited)
 
--- the spelling of a key in the list: as it was cited; else as its entry has it; else as it is given
-abbrev pub spelled : Request → List Given → List ℕ → List ℕ
-spelled wanted stored key = unwrap_or (option_or (listed_as wanted.cited key) (option_map (λ (given : Given). given.key) (entry_with_key stored key))) key
-
--- a key stays in the list: it was cited, or at least `wanted.fewest` stored entries name it as their `crossref`. With `*` that number is 0, so every
--- key stays
-abbrev pub stays : Request → List Given → List ℕ → Bool
-stays wanted stored key = is_some (listed_as wanted.cited key) || nat_le wanted.fewest (count_by (is_same_key key) (references wanted stored))
-
--- the place of the list for a key: how it is spelled, whether its entry stays, and that entry if one is stored
+-- the place of the list for a key: how it is spelled, which is as it was cited, else as its entry has it, else as it is given; whether it stays, since it
+-- was cited, or at least `wanted.fewest` stored entries name it as their `crossref` (with `*` that number is 0, so every key stays); and its entry, if one
+-- is stored
 unfoldable pub slot_of : Request → List Given → List ℕ → Slot
 slot_of wanted stored key = record {
-  key = spelled wanted stored key;
-  stays = stays wanted stored key;
+  key = unwrap_or (option_or (listed_as wanted.cited key) (option_map (λ (given : Given). given.key) (entry_with_key stored key))) key;
+  stays = is_some (listed_as wanted.cited key) || nat_le wanted.fewest (count_by (is_same_key key) (references wanted stored));
   body = option_map (body_of wanted) (entry_with_key stored key);
 }
 

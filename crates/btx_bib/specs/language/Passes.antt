@@ -117,10 +117,6 @@ entry_by key stays (Some body) = if stays then record { key = key; kind = body.k
 abbrev pub entry_at : Slot → List Entry
 entry_at slot = entry_by slot.key slot.stays slot.body
 
--- the message of a place of the list, where its key has no entry
-abbrev pub absence_messages : Slot → List Message
-absence_messages slot = option_map_or (λ (body : Body). []) slot.body (NoEntry slot.key ∷ [])
-
 -- the list after the first pass: children have what they inherit
 abbrev pub after_first : List Slot → List Slot
 after_first slots = passed inherited [] slots
@@ -135,4 +131,6 @@ entries_of slots = flat_map entry_at (after_second (after_first slots))
 
 -- the messages of the passes: of parents, and then of keys that have no entry
 unfoldable pub reference_messages : List Slot → List Message
-reference_messages slots = pass_messages checked check_messages [] (after_first slots) ++ flat_map absence_messages (after_second (after_first slots))
+reference_messages slots =
+    pass_messages checked check_messages [] (after_first slots) ++
+    flat_map (λ (slot : Slot). option_map_or (λ (body : Body). []) slot.body (NoEntry slot.key ∷ [])) (after_second (after_first slots))

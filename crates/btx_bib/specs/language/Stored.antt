@@ -1,18 +1,10 @@
 -- Which entries of the databases are stored. An entry is stored if `*` or its key is cited, or if it is the parent of an entry stored
 -- before it, and no entry stored before it has its key. Keys are compared without case (btxdoc, section 3).
-use Rattle.std.specs.Prelude.{ℕ, ◌||◌, Bool, List, [], ◌++◌, map, Option, None, Some, is_some, option_to_list}
+use Rattle.std.specs.Prelude.{ℕ, ◌||◌, Bool, List, [], ◌++◌, Option, None, Some, is_some, option_to_list}
 use Rattle.std.specs.List.{find, list_any, flat_map}
 use Rattle.btx_aux.specs.language.Names.{is_same_key}
 use Rattle.btx_bib.specs.language.Wanted.{Request}
-use Rattle.btx_bib.specs.language.Entries.{Given, parent_of}
-
--- a key is one of some keys, where case is ignored
-abbrev pub is_any_key : List (List ℕ) → List ℕ → Bool
-is_any_key keys key = list_any (is_same_key key) keys
-
--- the keys of these entries, in order
-abbrev pub keys_in : List Given → List (List ℕ)
-keys_in entries = map (λ (given : Given). given.key) entries
+use Rattle.btx_bib.specs.language.Entries.{Given, parent_in, field_values}
 
 -- the first of some entries whose key equals `key` without case
 abbrev pub entry_with_key : List Given → List ℕ → Option Given
@@ -20,7 +12,7 @@ entry_with_key entries key = find (λ (given : Given). is_same_key key given.key
 
 -- the keys that these entries have as their `crossref`, one for each entry that has a parent
 abbrev pub parents_in : Request → List Given → List (List ℕ)
-parents_in wanted entries = flat_map (λ (given : Given). option_to_list (parent_of wanted given)) entries
+parents_in wanted entries = flat_map (λ (given : Given). option_to_list (parent_in (field_values wanted given.fields))) entries
 
 -- the references that count for the list: the parents of stored entries; none with `*`
 abbrev pub references_by : Option ℕ → Request → List Given → List (List ℕ)
@@ -33,4 +25,4 @@ references wanted entries = references_by wanted.all wanted entries
 
 -- an entry with the key `key` is to be stored: `*` was cited, or the key was, or one of the stored entries names it as its parent
 abbrev pub is_wanted : Request → List Given → List ℕ → Bool
-is_wanted wanted stored key = is_some wanted.all || is_any_key (wanted.cited ++ references wanted stored) key
+is_wanted wanted stored key = is_some wanted.all || list_any (is_same_key key) (wanted.cited ++ references wanted stored)

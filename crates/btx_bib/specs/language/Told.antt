@@ -1,7 +1,7 @@
 -- The messages of a database, each with its line: faults, names that stand for no string, types that the style doesn't have, and fields
 -- that an entry has already. They have names and keys as these are spelled there. An entry that isn't stored has no warning, only its faults. The
 -- reading goes from event to event: what is known, and the messages so far.
-use Rattle.std.specs.Prelude.{ℕ, Bool, false, List, [], ◌∷◌, ◌++◌, Option, None, Some, is_some, is_none, if◌then◌else◌}
+use Rattle.std.specs.Prelude.{ℕ, Bool, false, List, [], ◌∷◌, ◌++◌, Option, None, Some, is_some, is_none, if◌then◌else◌, suc, ◌-◌, length}
 use Rattle.std.specs.List.{flat_map}
 use Rattle.btx_text.specs.language.Keys.{folded}
 use Rattle.btx_aux.specs.language.Names.{is_same_key}
@@ -10,7 +10,7 @@ use Rattle.btx_bib.specs.declared.message.Message.TheVariants as message
 use Rattle.btx_bib.specs.declared.message.Spot.{Spot}
 use Rattle.btx_bib.specs.language.Grammar.Fields.{Field}
 use Rattle.btx_bib.specs.language.Grammar.Items.{Event, Comment, Preamble, Definition, Entry, FieldOf, End, Wrong, Placed}
-use Rattle.btx_bib.specs.language.Grammar.PlaceLines.{line_at, line_before}
+use Rattle.btx_bib.specs.language.Grammar.PlaceLines.{lines_begun}
 use Rattle.btx_bib.specs.language.Grammar.Values.{Part, Braced, Quoted, Digits, Named}
 use Rattle.btx_bib.specs.language.Wanted.{Request}
 use Rattle.btx_bib.specs.language.Strings.{Strings, string_value}
@@ -25,11 +25,11 @@ pub record Database : Type 0 where
 
 -- the place of a message: the file, and the line of the byte with which `rest` begins
 abbrev pub spot_at : Database → List ℕ → Spot
-spot_at database rest = record { file = database.file; line = line_at database.text rest }
+spot_at database rest = record { file = database.file; line = lines_begun (suc (length database.text - length rest)) database.text }
 
 -- the place of a message: the file, and the line of the last byte before `rest`
 abbrev pub spot_before : Database → List ℕ → Spot
-spot_before database rest = record { file = database.file; line = line_before database.text rest }
+spot_before database rest = record { file = database.file; line = lines_begun (length database.text - length rest) database.text }
 
 -- the name is that of the string that is being defined
 abbrev pub is_own : Option (List ℕ) → List ℕ → Bool

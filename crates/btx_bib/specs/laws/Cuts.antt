@@ -7,9 +7,9 @@ use Rattle.btx_bib.specs.language.Wanted.{Request}
 use Rattle.btx_bib.specs.language.Library.{Library}
 use Rattle.btx_bib.specs.language.Known.{Known}
 use Rattle.btx_bib.specs.language.Told.{Database}
-use Rattle.btx_bib.specs.language.Databases.{library_of, read_all}
+use Rattle.btx_bib.specs.language.Databases.{library_of}
 use Rattle.btx_text.specs.language.Limits.{is_too_long}
-use Rattle.btx_bib.specs.laws.Databases.{database_events}
+use Rattle.btx_bib.specs.laws.Databases.{database_events, read_all}
 
 -- the text doesn't begin with a byte that would make a name in front of it longer
 abbrev pub EndsName : List ℕ → Type 0

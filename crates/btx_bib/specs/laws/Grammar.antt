@@ -4,3 +4,4 @@ pub mod Reading
 pub mod WholeItems
 pub mod ItemEvents
 pub mod WorkedTexts
+pub mod Fields

@@ -8,12 +8,14 @@ use Rattle.btx_bib.specs.declared.end.End.TheVariants.{Whole}
 use Rattle.btx_bib.specs.declared.entry.Entry.{Entry}
 use Rattle.btx_bib.specs.language.Entries.{Given}
 use Rattle.btx_bib.specs.language.Stored.{entry_with_key, parents_in}
-use Rattle.btx_bib.specs.language.Listing.{list_keys, spelled, stays}
+use Rattle.btx_bib.specs.language.Listing.{list_keys}
 use Rattle.btx_bib.specs.language.Library.{Library}
 use Rattle.btx_bib.specs.language.Requests.{asked}
 use Rattle.btx_bib.specs.language.Wanted.{Request}
 use Rattle.btx_bib.specs.language.Told.{Database}
-use Rattle.btx_bib.specs.language.Databases.{library_of, read_all}
+use Rattle.btx_bib.specs.language.Databases.{library_of}
+use Rattle.btx_bib.specs.laws.Listing.{spelled, stays}
+use Rattle.btx_bib.specs.laws.Databases.{read_all}
 
 -- the keys of a library, in the order of the list
 abbrev pub list_of : Library → List (List ℕ)

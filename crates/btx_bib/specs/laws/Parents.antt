@@ -5,13 +5,15 @@ use Rattle.btx_bib.specs.declared.entry.Entry.{Entry}
 use Rattle.btx_bib.specs.declared.slots.Slot.{Slot}
 use Rattle.btx_bib.specs.language.Values.{field_value}
 use Rattle.btx_bib.specs.language.Entries.{parent_in}
-use Rattle.btx_bib.specs.language.Stored.{entry_with_key, is_any_key, parents_in}
+use Rattle.btx_bib.specs.language.Stored.{entry_with_key, parents_in}
 use Rattle.btx_bib.specs.language.Listing.{slots_of}
 use Rattle.btx_bib.specs.language.Passes.{body_values, slot_at, after_first}
 use Rattle.btx_bib.specs.language.Wanted.{Request}
 use Rattle.btx_bib.specs.language.Told.{Database}
-use Rattle.btx_bib.specs.language.Databases.{library_of, read_all}
+use Rattle.btx_bib.specs.language.Databases.{library_of}
 use Rattle.btx_bib.specs.laws.Laws.{list_of, stored_by}
+use Rattle.btx_bib.specs.laws.Databases.{read_all}
+use Rattle.btx_bib.specs.laws.Stored.{is_any_key}
 
 -- ---- what an entry refers to
 

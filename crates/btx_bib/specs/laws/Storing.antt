@@ -10,10 +10,11 @@ use Rattle.btx_bib.specs.language.Grammar.ValueTexts.{squeezed, value_text}
 use Rattle.btx_bib.specs.language.Wanted.{Request}
 use Rattle.btx_bib.specs.language.Strings.{string_value, other_value}
 use Rattle.btx_bib.specs.language.Entries.{Given}
-use Rattle.btx_bib.specs.language.Stored.{is_any_key, keys_in, parents_in}
+use Rattle.btx_bib.specs.language.Stored.{parents_in}
 use Rattle.btx_bib.specs.language.Known.{Known, goes_on, stored_in, known_after, keeping}
 use Rattle.btx_bib.specs.laws.Known.{after_all}
-use Rattle.btx_bib.specs.language.Databases.{with_macros}
+use Rattle.btx_bib.specs.laws.Databases.{with_macros}
+use Rattle.btx_bib.specs.laws.Stored.{is_any_key, keys_in}
 
 -- ---- strings
 

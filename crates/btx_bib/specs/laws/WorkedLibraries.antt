@@ -14,9 +14,10 @@ use Rattle.btx_bib.specs.declared.message.Spot.{Spot}
 use Rattle.btx_bib.specs.language.Wanted.{Request}
 use Rattle.btx_bib.specs.language.Library.{Library}
 use Rattle.btx_bib.specs.language.Told.{Database}
-use Rattle.btx_bib.specs.language.Databases.{library_of, with_macros}
+use Rattle.btx_bib.specs.language.Databases.{library_of}
 use Rattle.btx_bib.specs.language.MessageTexts.{message_line}
 use Rattle.btx_bib.specs.laws.Cuts.{IsCutBetweenItems}
+use Rattle.btx_bib.specs.laws.Databases.{with_macros}
 
 -- ---- what the jobs ask, and how a library is written down
 

@@ -1,10 +1,14 @@
 -- What becomes of a field and of a key, as proofs name it.
-use Rattle.std.specs.Prelude.{ℕ, not, ◌&&◌, Bool, List, is_some, [], Some, if◌then◌else◌}
+use Rattle.std.specs.Prelude.{ℕ, not, ◌&&◌, Bool, List, is_some, [], Some, if◌then◌else◌, ◌∷◌, ◌++◌}
 use Rattle.btx_text.specs.language.Keys.{folded}
 use Rattle.btx_bib.specs.language.Wanted.{Request}
 use Rattle.btx_bib.specs.language.Entries.{Given}
 use Rattle.btx_bib.specs.language.Known.{has_value, Known}
 use Rattle.btx_bib.specs.language.Stored.{is_wanted}
+
+-- an entry with one more field, its name and its text, behind the others
+abbrev pub with_field : Given → List ℕ → List ℕ → Given
+with_field given name text = record given { fields = given.fields ++ record { name = name; value = text } ∷ [] }
 
 -- an entry keeps a further field `name`: the style declares the field, and the entry has no value for it yet
 abbrev pub keeps_field : Request → Given → List ℕ → Bool

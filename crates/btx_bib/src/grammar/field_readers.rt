@@ -2,6 +2,7 @@
 ghost use Rattle.std.specs.Prelude.{◌≡◌};
 ghost use Rattle.btx_bib.specs.refinement.Grammar.FieldViews.{field_view, more_view};
 ghost use Rattle.btx_bib.specs.language.Grammar.Fields as spec;
+ghost use Rattle.btx_bib.specs.laws.Grammar.Fields as part;
 ghost use Rattle.btx_bib.specs.refinement.Grammar.Tokens.{seen};
 
 use crate::grammar::byte_sets::{ByteSet, Delimiter};
@@ -39,7 +40,7 @@ fn after_comma(delimiter: Delimiter, rest: &[u8]) -> Read<'_, Option<Field<'_>>>
 /// What follows the key or a field: one more field, or the end of the entry.
 #[tactic(auto, unfolding(crate::specs::language::Grammar::Fields::more_in))]
 pub fn read_more(delimiter: Delimiter, text: &[u8]) -> Read<'_, Option<Field<'_>>>
-    ensures { seen more_view result ≡ spec.more_at delimiter text.now }
+    ensures { seen more_view result ≡ part.more_at delimiter text.now }
 {
     let rest = past(ByteSet::Gap, text);
     match rest.split_first() {

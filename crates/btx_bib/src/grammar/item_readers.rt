@@ -8,7 +8,7 @@ ghost use Rattle.btx_bib.specs.language.Grammar.Items as spec;
 ghost use Rattle.btx_bib.specs.refinement.Grammar.Items as refined;
 ghost use Rattle.btx_bib.specs.language.Grammar.Tokens.{closing_delimiter, sign_at};
 ghost use Rattle.btx_bib.specs.refinement.Grammar.Tokens.{seen};
-ghost use Rattle.btx_bib.specs.language.Grammar.Fields.{more_at};
+ghost use Rattle.btx_bib.specs.laws.Grammar.Fields.{more_at};
 
 use crate::grammar::byte_sets::Delimiter;
 use crate::grammar::commands::{Command, Wanted};

@@ -103,7 +103,7 @@ impl<'a> LineCounter<'a> {
 
     /// The line of the byte with which this rest of the text begins.
     pub fn line_at(&mut self, rest: &[u8]) -> usize
-        ensures line { result ≡ spec.line_at self.old rest.now }
+        ensures line { result ≡ refined.line_at self.old rest.now }
         ensures same { self.new ≡ self.old }
     {
         self.lines_begun(self.text.len().saturating_sub(rest.len()) + 1)
@@ -111,7 +111,7 @@ impl<'a> LineCounter<'a> {
 
     /// The line of the last byte before this rest of the text.
     pub fn line_before(&mut self, rest: &[u8]) -> usize
-        ensures line { result ≡ spec.line_before self.old rest.now }
+        ensures line { result ≡ refined.line_before self.old rest.now }
         ensures same { self.new ≡ self.old }
     {
         self.lines_begun(self.text.len().saturating_sub(rest.len()))

@@ -11,11 +11,12 @@ use Rattle.btx_bst.specs.declared.command.Command.TheVariants as command
 use Rattle.btx_bst.specs.language.Places.{Place}
 use Rattle.btx_bst.specs.language.Complaints.{Complaint, Defined, Unknown, Another, BeforeRead, BeforeEntry, AfterRead}
 use Rattle.btx_bst.specs.language.Items.{Item, Entry, Function, Read, Execute, Iterate, Reverse, Sort, Integers, Strings, Macro}
-use Rattle.btx_bst.specs.language.Names.{named, macro_lower, with_function}
+use Rattle.btx_bst.specs.language.Names.{named, with_function}
 use Rattle.btx_bst.specs.language.Style.{Style}
-use Rattle.btx_bst.specs.language.BodyText.{Inside, BodyEnd, Whole, Broken, body_end}
+use Rattle.btx_bst.specs.language.BodyText.{BodyEnd, Whole, Broken, body_end}
 use Rattle.btx_bst.specs.language.Outcomes.{CommandOutcome, outcome, after_read, with_item}
 use Rattle.btx_bst.specs.language.Lists.{Listed, opening, closing, next_name, quoted_at, list_at}
+use Rattle.std.specs.Map.{lookup}
 
 -- which of the ten commands a word in lower case is, if it is one
 unfoldable pub command_named : List ℕ → Option Command
@@ -65,17 +66,20 @@ function_ended style lowered (Whole inside) =
       items = inside.items ++ Function (length inside.bodies) ∷ [];
     }) inside.place
 
--- the start of a body: nothing of it has been read
-abbrev pub inside_at : Style → Place → Inside
-inside_at style place = record { place = place; tokens = []; around = []; bodies = style.bodies; texts = style.texts; items = style.items }
-
 -- FUNCTION with the name `name`, given what has that already: an error if something does; else the `}` of the name and the body in braces follow
 abbrev pub function_of : Style → List ℕ → Place → Option Callee → CommandOutcome
 function_of style name place (Some other) = outcome (Some (Defined name)) style place
 function_of style name place None =
     after_read style (closing place) (λ _ place.
     after_read style (opening place) (λ _ place.
-    function_ended style (folded name) (body_end style.names (inside_at style place))))
+    function_ended style (folded name) (body_end style.names (record {
+      place = place;
+      tokens = [];
+      around = [];
+      bodies = style.bodies;
+      texts = style.texts;
+      items = style.items;
+    }))))
 
 -- FUNCTION gives a new name to a function: the name in braces, and its body in braces (btxhak, section 5.2)
 unfoldable pub function_command : Style → Place → CommandOutcome
@@ -147,7 +151,7 @@ macro_command style place =
     if has_read style then outcome (Some AfterRead) style place else
     after_read style (opening place) (λ _ place.
     after_read style (next_name place) (λ name place.
-    macro_of style name place (macro_lower style.macros (folded name))))
+    macro_of style name place (lookup (bytes_eq (folded name)) style.macros)))
 
 -- what a command makes of a style, read from the place behind the command's word on
 abbrev pub command_at : Command → Style → Place → CommandOutcome

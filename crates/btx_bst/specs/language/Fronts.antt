@@ -2,7 +2,7 @@
 use Rattle.std.specs.Prelude.{ℕ, suc, ◌==◌, ◌||◌, not, Bool, true, List, [], ◌∷◌, if◌then◌else◌}
 use Rattle.btx_text.specs.language.Bytes.{double_quote, percent, close_brace}
 use Rattle.btx_text.specs.language.Class.{is_white, is_name_byte}
-use Rattle.std.specs.Char.{is_ascii_digit, is_ascii_alphabetic}
+use Rattle.std.specs.Char.{is_ascii_digit}
 
 -- how many bytes stand before the first that passes a test, or all
 unfoldable pub len_till : (ℕ → Bool) → List ℕ → ℕ
@@ -16,10 +16,6 @@ ends_word b = is_white b || b == close_brace || b == percent
 -- how many digits a line begins with
 abbrev pub digits_len : List ℕ → ℕ
 digits_len = len_till (λ b. not (is_ascii_digit b))
-
--- how many letters a line begins with
-abbrev pub letters_len : List ℕ → ℕ
-letters_len = len_till (λ b. not (is_ascii_alphabetic b))
 
 -- how many bytes the name has that a line begins with, if it begins with one: a name doesn't begin with a digit
 abbrev pub name_len : List ℕ → ℕ

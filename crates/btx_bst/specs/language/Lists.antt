@@ -1,5 +1,5 @@
 -- Arguments of commands: braces, names and lists of names.
-use Rattle.std.specs.Prelude.{ℕ, zero, suc, ◌==◌, List, [], ◌∷◌, take, drop, Option, None, Some, if◌then◌else◌}
+use Rattle.std.specs.Prelude.{ℕ, zero, suc, ◌==◌, List, [], ◌∷◌, take, drop, Option, None, Some, if◌then◌else◌, not}
 use Rattle.btx_text.specs.language.Bytes.{double_quote, open_brace, close_brace}
 use Rattle.btx_text.specs.language.Keys.{folded}
 use Rattle.btx_bst.specs.declared.callee.Callee.{Callee}
@@ -7,9 +7,10 @@ use Rattle.btx_bst.specs.declared.callee.Kind.{Kind}
 use Rattle.btx_bst.specs.language.Places.{Place, ink, further, size}
 use Rattle.btx_bst.specs.language.Complaints.{Complaint, NoOpen, NoClose, NoName, NoCommand, NoQuote, Defined, EndOfFile}
 use Rattle.btx_bst.specs.language.Reads.{Read, Took, Slip}
-use Rattle.btx_bst.specs.language.Fronts.{name_len, letters_len, quote_len}
+use Rattle.btx_bst.specs.language.Fronts.{name_len, quote_len, len_till}
 use Rattle.btx_bst.specs.language.Names.{Names, named, with_name}
 use Rattle.btx_bst.specs.language.Turns.{Turn, Again, Ends, turns_within}
+use Rattle.std.specs.Char.{is_ascii_alphabetic}
 
 -- reads the byte `brace` at a place that isn't in whitespace or a comment, or says what is wrong: `complaint`, or that the file ends
 abbrev pub brace_in : ℕ → Complaint → Place → List ℕ → Read (Unit {0})
@@ -40,7 +41,7 @@ next_name place = name_in (ink place) (ink place).line
 
 -- the letters at a place that isn't in whitespace or a comment, as a command's word has them; or the complaint that there are none
 abbrev pub letters_at : Place → Read (List ℕ)
-letters_at place = front_of NoCommand place place.line (letters_len place.line)
+letters_at place = front_of NoCommand place place.line (len_till (λ b. not (is_ascii_alphabetic b)) place.line)
 
 -- the text of a quoted string, and the place after the quote that ends it; or the complaint that its line has no such quote
 abbrev pub quoted_text : Place → List ℕ → List ℕ → Read (List ℕ)
@@ -93,13 +94,10 @@ list_turn_in kind names (Slip complaint before) = name_turn kind names (next_nam
 unfoldable pub list_turn : Kind → Listing → Turn Listing Listed
 list_turn kind listing = list_turn_in kind listing.names (closing listing.place)
 
--- the result if the bound on turns is reached. It never is, since each turn reads a byte at least
-abbrev pub unlisted : Listing → Listed
-unlisted listing = listed (Some EndOfFile) listing.names listing.place
-
--- the names up to the `}` of a list
+-- the names up to the `}` of a list. The bound on turns is never reached, since each turn reads a byte at least
 unfoldable pub list_end : Kind → Listing → Listed
-list_end kind listing = turns_within (list_turn kind) unlisted (suc (size listing.place)) listing
+list_end kind listing =
+    turns_within (list_turn kind) (λ (so_far : Listing). listed (Some EndOfFile) so_far.names so_far.place) (suc (size listing.place)) listing
 
 -- a list of names in braces
 abbrev pub list_read : Kind → Names → Read (Unit {0}) → Listed

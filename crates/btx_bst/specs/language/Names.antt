@@ -2,7 +2,6 @@
 -- fields and variables share one set of names; those of each kind are numbered from 0, in the order in which they are declared.
 use Rattle.std.specs.Prelude.{ℕ, ◌-◌, Bool, false, List, [], ◌∷◌, ◌++◌, length, Option, None, Some, option_map, slice_index_or, position, replicate, codes}
 use Rattle.std.specs.Option.{option_or}
-use Rattle.std.specs.Map.{lookup}
 use Rattle.std.specs.Str.{bytes_eq}
 use Rattle.btx_text.specs.language.Keys.{folded}
 use Rattle.btx_bst.specs.declared.callee.Callee.{Callee}
@@ -74,7 +73,3 @@ with_function number name names =
 -- the macros: names in lower case, each with its text
 abbrev pub Macros : Type 0
 Macros = List (List ℕ × List ℕ)
-
--- the text of the macro of a name in lower case
-abbrev pub macro_lower : Macros → List ℕ → Option (List ℕ)
-macro_lower macros name = lookup (bytes_eq name) macros

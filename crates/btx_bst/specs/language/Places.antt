@@ -3,7 +3,6 @@
 use Rattle.std.specs.Prelude.{ℕ, suc, ◌+◌, ◌==◌, List, [], ◌∷◌, length, if◌then◌else◌}
 use Rattle.btx_text.specs.language.Bytes.{percent}
 use Rattle.btx_text.specs.language.Class.{is_white}
-use Rattle.btx_text.specs.language.Lines.{lines_of}
 
 -- a place in a style's text: the number of its line, what is left of that line, and the lines after it
 pub record Place : Type 0 where
@@ -14,10 +13,6 @@ pub record Place : Type 0 where
 -- a place, of its three parts
 abbrev pub place_at : ℕ → List ℕ → List (List ℕ) → Place
 place_at number line after = record { number = number; line = line; after = after }
-
--- the place before the first line of a text, with line number 0
-abbrev pub beginning : List ℕ → Place
-beginning text = place_at 0 [] (lines_of text)
 
 -- a line without the whitespace and the comment at its front; a comment goes from a `%` to the end of the line
 unfoldable pub behind_white : List ℕ → List ℕ

@@ -2,7 +2,7 @@
 use Rattle.std.specs.Prelude.{ℕ, suc, false, List, [], ◌∷◌, Option, None, Some}
 use Rattle.btx_text.specs.language.Keys.{folded}
 use Rattle.btx_bst.specs.declared.command.Command.{Command}
-use Rattle.btx_bst.specs.language.Places.{Place, ink, size, skipped, beginning}
+use Rattle.btx_bst.specs.language.Places.{Place, ink, size, skipped, place_at}
 use Rattle.btx_bst.specs.language.Complaints.{Complaint, NotCommand}
 use Rattle.btx_bst.specs.language.Lists.{letters_at}
 use Rattle.btx_bst.specs.language.Items.{Message}
@@ -11,6 +11,7 @@ use Rattle.btx_bst.specs.language.Predefined.{predefined}
 use Rattle.btx_bst.specs.language.Outcomes.{CommandOutcome, outcome, after_read, with_item}
 use Rattle.btx_bst.specs.language.Commands.{command_at, command_named}
 use Rattle.btx_bst.specs.language.Turns.{Turn, Again, Ends, turns_within}
+use Rattle.btx_text.specs.language.Lines.{lines_of}
 
 -- how far the reading of a style has come: the style so far, and the place where it goes on
 pub record StyleState : Type 0 where
@@ -27,10 +28,6 @@ abbrev pub resumed : Option Complaint → Style → Place → StyleState
 resumed None style place = style_state style place
 resumed (Some complaint) style place = style_state (with_item (Message complaint place.number) style) (skipped place)
 
--- goes on after a command: directly after it, or after a complaint at the next empty line
-abbrev pub resumed_after : CommandOutcome → StyleState
-resumed_after outcome = resumed outcome.complaint outcome.style outcome.place
-
 -- what a command comes to, given its word and which of the ten it is; an error if it is none of them
 abbrev pub word_outcome : Style → Place → List ℕ → Option Command → CommandOutcome
 word_outcome style place word None = outcome (Some (NotCommand word)) style place
@@ -43,7 +40,7 @@ command_outcome style place = after_read style (letters_at place) (λ word behin
 -- at a place that isn't in whitespace or a comment: reads a command; at the end of the text the style ends
 abbrev pub item_in : Style → Place → List ℕ → Turn StyleState Style
 item_in style place [] = Ends style
-item_in style place (b ∷ bs) = Again (resumed_after (command_outcome style place))
+item_in style place (b ∷ bs) = let after = command_outcome style place in Again (resumed after.complaint after.style after.place)
 
 -- the command that stands next is read, or the text ends and with it the style
 unfoldable pub item_turn : StyleState → Turn StyleState Style
@@ -53,10 +50,11 @@ item_turn state = item_in state.style (ink state.place) (ink state.place).line
 unfoldable pub style_from : StyleState → Style
 style_from state = turns_within item_turn (λ (state : StyleState). state.style) (suc (size state.place)) state
 
--- the style whose file has the name `file` and the bytes `text`; before anything of it is read it has the names that are known before each style
+-- the style whose file has the name `file` and the bytes `text`; before anything of it is read it has the names that are known before each style, and
+-- the place is before the first line, with number 0
 unfoldable pub style_of : List ℕ → List ℕ → Style
 style_of file text =
     style_from (
     style_state
     (record { file = file; items = []; names = predefined; macros = []; bodies = []; texts = []; has_entry = false; before_read = None })
-    (beginning text))
+    (place_at 0 [] (lines_of text)))

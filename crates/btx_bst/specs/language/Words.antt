@@ -27,16 +27,13 @@ pub record Front : Type 0 where
 abbrev pub front : BodyWord → List ℕ → Front
 front word rest = record { word = word; rest = rest }
 
--- a string, and the rest of the line after its closing quote: whitespace, `}`, `%` or the end of the line must follow, else everything up to one
--- of these is skipped and the string is an error
-abbrev pub string_before : List ℕ → List ℕ → Front
-string_before text rest = if is_word_end rest then front (String text) rest else front (Faulty TextAfter) (drop (word_len rest) rest)
-
 -- the string whose text is `text`, up to the next quote; what is left of the line then begins with that quote. Without a quote the string has no
--- end, and `line` is left.
+-- end, and `line` is left. Behind the quote whitespace, `}`, `%` or the end of the line must follow, else everything up to one of these is skipped and
+-- the string is an error
 abbrev pub string_ended : List ℕ → List ℕ → List ℕ → Front
 string_ended line text [] = front Unended line
-string_ended line text (quote ∷ rest) = string_before text rest
+string_ended line text (quote ∷ rest) =
+    if is_word_end rest then front (String text) rest else front (Faulty TextAfter) (drop (word_len rest) rest)
 
 -- the string that begins behind a quote
 abbrev pub string_at : List ℕ → Front

@@ -9,12 +9,12 @@ use Rattle.btx_bst.specs.declared.callee.Kind.{Kind}
 use Rattle.btx_bst.specs.declared.callee.Kind.TheVariants as kind
 use Rattle.btx_bst.specs.declared.command.Command.{Command}
 use Rattle.btx_bst.specs.declared.command.Command.TheVariants.{Entry, Function, Read, Execute, Iterate, Reverse, Sort, Integers, Strings, Macro}
-use Rattle.btx_bst.specs.language.Places.{Place, place_at, beginning}
+use Rattle.btx_bst.specs.language.Places.{Place, place_at}
 use Rattle.btx_bst.specs.language.Reads.{Took, Slip}
 use Rattle.btx_bst.specs.language.Complaints.{Complaint, NotCommand, NoOpen, NoClose, NoName, Defined, Unknown, Another, BeforeRead, BeforeEntry, AfterRead}
 use Rattle.btx_bst.specs.language.Items as item
 use Rattle.btx_bst.specs.language.Items.{Item}
-use Rattle.btx_bst.specs.language.Names.{Names, named, macro_lower}
+use Rattle.btx_bst.specs.language.Names.{Names, named}
 use Rattle.btx_bst.specs.language.Style.{Style}
 use Rattle.btx_bst.specs.language.CommandWords.{command_word_of}
 use Rattle.btx_bst.specs.language.Lists.{Listed, listed}
@@ -28,6 +28,8 @@ use Rattle.btx_bst.specs.laws.Written.{AreNew, declared, made_in, with_made_func
 use Rattle.btx_bst.specs.laws.TokenSpelling.{StyleGrammar, Gap, BehindGap, IsMissing, StyleSignHere, StyleNameHere, TextHere, LettersHere}
 use Rattle.btx_bst.specs.laws.WordSpelling.{AreParts, BreakOff}
 use Rattle.btx_bst.specs.laws.StyleText.{unread_style}
+use Rattle.btx_bst.specs.laws.Names.{macro_lower}
+use Rattle.btx_bst.specs.laws.Places.{beginning}
 
 -- how a command goes on: a relation between the style so far, the place, and the outcome of the command
 abbrev pub Rule : Type 1

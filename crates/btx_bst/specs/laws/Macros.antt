@@ -1,7 +1,7 @@
 -- No macro has two meanings.
 use Rattle.std.specs.Prelude.{◌≡◌, ℕ, List, Some, slice_get}
-use Rattle.btx_bst.specs.language.Names.{macro_lower}
 use Rattle.btx_bst.specs.language.StyleText.{style_of}
+use Rattle.btx_bst.specs.laws.Names.{macro_lower}
 
 -- the name of each macro of a style stands for its text
 abbrev pub MacroTextsLaw : Type 0

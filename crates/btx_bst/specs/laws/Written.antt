@@ -13,7 +13,7 @@ use Rattle.btx_bst.specs.language.Items as item
 use Rattle.btx_bst.specs.language.Items.{Item}
 use Rattle.btx_bst.specs.language.Words as words
 use Rattle.btx_bst.specs.language.Words.{BodyWord}
-use Rattle.btx_bst.specs.language.Names.{Names, named, macro_lower, with_name, with_function}
+use Rattle.btx_bst.specs.language.Names.{Names, named, with_name, with_function}
 use Rattle.btx_bst.specs.language.Style.{Style}
 use Rattle.btx_bst.specs.language.Lists.{opening, closing, next_name, quoted_at, letters_at}
 use Rattle.btx_bst.specs.language.Outcomes.{with_item}
@@ -21,6 +21,7 @@ use Rattle.btx_bst.specs.language.Commands.{command_named, function_in, has_read
 use Rattle.btx_bst.specs.language.StyleText.{StyleState, style_from}
 use Rattle.btx_bst.specs.laws.Spelling.{Parts, Nothing, Plain, Group, Spells, Made, made_by}
 use Rattle.btx_bst.specs.laws.ItemSpelling.{IsEnd}
+use Rattle.btx_bst.specs.laws.Names.{macro_lower}
 
 -- a command with its arguments; a body is its parts
 pub data Written : Type 0 where

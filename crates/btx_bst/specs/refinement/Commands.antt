@@ -1,5 +1,5 @@
 -- The arguments of commands, as proofs name them.
-use Rattle.std.specs.Prelude.{true, None}
+use Rattle.std.specs.Prelude.{true, None, []}
 use Rattle.btx_bst.specs.declared.callee.Kind.TheVariants as kind
 use Rattle.btx_bst.specs.language.Places.{Place}
 use Rattle.btx_bst.specs.language.Items.{Entry, Item}
@@ -8,8 +8,14 @@ use Rattle.btx_bst.specs.language.Outcomes.{CommandOutcome, outcome, with_item, 
 use Rattle.btx_bst.specs.language.Lists.{list_at, opening, next_name}
 use Rattle.btx_bst.specs.language.Commands.{after_list, function_in, run_of, macro_of}
 use Rattle.btx_bst.specs.declared.callee.Callee.{Callee}
-use Rattle.btx_bst.specs.language.Names.{named, macro_lower}
+use Rattle.btx_bst.specs.language.Names.{named}
 use Rattle.btx_text.specs.language.Keys.{folded}
+use Rattle.btx_bst.specs.language.BodyText.{Inside}
+use Rattle.btx_bst.specs.laws.Names.{macro_lower}
+
+-- the start of a body: nothing of it has been read
+abbrev pub inside_at : Style → Place → Inside
+inside_at style place = record { place = place; tokens = []; around = []; bodies = style.bodies; texts = style.texts; items = style.items }
 
 -- the three lists of an ENTRY
 abbrev pub entry_lists : Style → Place → CommandOutcome

@@ -4,10 +4,11 @@ use Rattle.btx_text.specs.declared.element_kind.TextMode.{TextMode}
 use Rattle.btx_strings.specs.declared.answers.Complaints.{Complaints}
 use Rattle.btx_strings.specs.language.Answers.{no_complaints}
 use Rattle.btx_names.specs.language.NameLists.{names_of}
-use Rattle.btx_names.specs.language.NameParts.{sections_of, ends_in_comma, has_third_comma, parts_of}
-use Rattle.btx_names.specs.language.Formats.{is_legal}
-use Rattle.btx_names.specs.language.FormattedNames.{formatted}
+use Rattle.btx_names.specs.language.NameParts.{sections_of, ends_in_comma, has_third_comma, parts_by}
+use Rattle.btx_names.specs.language.Formats.{is_legal, items_of}
+use Rattle.btx_names.specs.language.FormattedNames.{item_text}
 use Rattle.std.specs.Option.{option_map_or}
+use Rattle.std.specs.List.{flat_map}
 
 -- how many names stand before the one of a number: numbers count from 1
 unfoldable pub names_before : ℤ → Option ℕ
@@ -21,7 +22,7 @@ nth_name names number = option_and_then (slice_get (names_of names)) (names_befo
 
 -- a name in a format: nothing where the format is illegal
 unfoldable pub one_name_text : TextMode → List ℕ → List ℕ → List ℕ
-one_name_text mode name format = if is_legal format then formatted mode (parts_of name) format else []
+one_name_text mode name format = if is_legal format then flat_map (item_text mode (parts_by (sections_of name))) (items_of format) else []
 
 -- what `format.name$` finds wrong with a name and a format: a comma at the name's end, a third comma, an illegal format
 unfoldable pub one_name_complaints : List ℕ → List ℕ → Complaints

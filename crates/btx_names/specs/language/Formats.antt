@@ -48,17 +48,13 @@ abbrev pub behind_between : List ℕ → List ℕ
 behind_between rest =
     if slice_index rest 0 == open_brace then drop (run_len Closing 0 (drop 1 rest) + 1) (drop 1 rest) else rest
 
--- no letter stands in a text outside its braces
-abbrev pub has_no_letter : List ℕ → Bool
-has_no_letter text = run_len Letter 0 text == length text
-
 -- the item of a group whose first letter names a part (`part`), given the text before that letter, the letter, and what follows it. It is illegal if
 -- a further letter stands in it outside inner braces
 unfoldable pub piece_item : List ℕ → ℕ → List ℕ → PartName → FormatItem
 piece_item before letter rest part =
     let behind = if is_doubled letter rest then drop 1 rest else rest in
     let after = behind_between behind in
-    if has_no_letter after then
+    if run_len Letter 0 after == length after then
     Name (record { before = before; part = part; is_full = is_doubled letter rest; between = between_of behind; after = after })
     else Illegal
 

@@ -1,6 +1,5 @@
 -- A name in a format (btxhak, section 5.4, at `format.name$`).
 use Rattle.std.specs.Prelude.{ℕ, ◌-◌, ◌==◌, ◌||◌, ◌&&◌, Bool, List, [], ◌∷◌, ◌++◌, Option, Some, None, length, take, slice_index, nat_lt, if◌then◌else◌}
-use Rattle.std.specs.List.{flat_map}
 use Rattle.btx_text.specs.declared.element_kind.TextMode.{TextMode}
 use Rattle.btx_text.specs.language.Class.{is_alpha}
 use Rattle.btx_text.specs.language.Elements.{Element, elements_of, open_brace, backslash}
@@ -11,7 +10,7 @@ use Rattle.btx_names.specs.declared.format_items.PartName.{PartName}
 use Rattle.btx_names.specs.declared.format_items.PartName.TheVariants.{First, Von, Last, Jr}
 use Rattle.btx_names.specs.language.Tokens.{NameToken, tilde, hyphen}
 use Rattle.btx_names.specs.language.NameParts.{NameParts}
-use Rattle.btx_names.specs.language.Formats.{FormatItem, Literal, Plain, Name, Illegal, FormatPiece, items_of}
+use Rattle.btx_names.specs.language.Formats.{FormatItem, Literal, Plain, Name, Illegal, FormatPiece}
 
 -- ---- a token
 
@@ -115,7 +114,3 @@ item_text mode parts (Literal text) = text
 item_text mode parts (Plain inside) = finished mode inside
 item_text mode parts (Name piece) = piece_text mode piece (tokens_of_part piece.part parts)
 item_text mode parts Illegal = []
-
--- a name's parts in a format: the join of the format's literal bytes and its pieces
-abbrev pub formatted : TextMode → NameParts → List ℕ → List ℕ
-formatted mode parts format = flat_map (item_text mode parts) (items_of format)

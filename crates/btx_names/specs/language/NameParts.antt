@@ -13,16 +13,12 @@ use Rattle.btx_names.specs.language.VonTokens.{is_von}
 
 -- ---- commas
 
--- the text has no token: only whitespace, `~`, `-` and commas
-abbrev pub is_all_breaks : List ℕ → Bool
-is_all_breaks text = list_all is_break text
-
 -- the texts before and after the first comma at depth 0, if a token follows it: a comma that no token follows says nothing
 unfoldable pub split_at_comma : List ℕ → Option (List ℕ × List ℕ)
 split_at_comma text =
     let size = run_len Comma 0 text in
     let after = drop (size + 1) text in
-    if is_all_breaks after then None else Some (take size text, after)
+    if list_all is_break after then None else Some (take size text, after)
 
 -- a name, cut at its first two commas that a token follows; further commas count as whitespace
 pub data Sections : Type 0 where
@@ -77,26 +73,18 @@ abbrev pub is_hyphen : Joint → Bool
 is_hyphen Hyphen = true
 is_hyphen _ = false
 
--- a token of a name is von, by its text
-abbrev pub is_von_token : NameToken → Bool
-is_von_token token = is_von token.text
-
--- the token isn't joined to the next one by a `-`
-abbrev pub is_apart : NameToken → Bool
-is_apart token = not (is_hyphen token.joint)
-
 -- how many tokens there are up to the last von token before the final one: the final token is never von
 abbrev pub von_end : List NameToken → ℕ
-von_end tokens = up_to_last (is_von_token) (before_final tokens)
+von_end tokens = up_to_last (λ (token : NameToken). is_von token.text) (before_final tokens)
 
 -- the index of the first token of Last in a name without commas: the one after von; without von the final token, or the first of those that `-`
 -- joins to it
 abbrev pub last_start : List NameToken → ℕ
-last_start tokens = if nat_lt 0 (von_end tokens) then von_end tokens else up_to_last (is_apart) (before_final tokens)
+last_start tokens = if nat_lt 0 (von_end tokens) then von_end tokens else up_to_last (λ (token : NameToken). not (is_hyphen token.joint)) (before_final tokens)
 
 -- the index of the first token of von in a name without commas: the first von token; where there is no von, the first token of Last
 abbrev pub von_start : List NameToken → ℕ
-von_start tokens = if nat_lt 0 (von_end tokens) then before_first (is_von_token) tokens else last_start tokens
+von_start tokens = if nat_lt 0 (von_end tokens) then before_first (λ (token : NameToken). is_von token.text) tokens else last_start tokens
 
 -- ---- the parts
 
@@ -126,7 +114,3 @@ abbrev pub parts_by : Sections → NameParts
 parts_by (One name) = unsplit (tokens_of name)
 parts_by (Two surname first) = parted (tokens_of surname) [] (tokens_of first)
 parts_by (Three surname jr first) = parted (tokens_of surname) (tokens_of jr) (tokens_of first)
-
--- the parts of a name: First, von, Last and Jr, each as tokens
-abbrev pub parts_of : List ℕ → NameParts
-parts_of name = parts_by (sections_of name)

@@ -10,20 +10,13 @@ use Rattle.btx_text.specs.language.Elements.{Element, elements_of}
 use Rattle.btx_strings.specs.language.Controls.{letters_of}
 use Rattle.std.specs.Char.{is_ascii_alphabetic, is_ascii_lowercase}
 
--- a control sequence is a foreign letter, as `\oe` and `\L`: it stands for one or two letters when a string is purified
-abbrev pub is_foreign : List ℕ → Bool
-is_foreign name = nat_lt 0 (length (letters_of name))
-
--- a text's first letter is there and in lower case
-abbrev pub begins_lower : List ℕ → Bool
-begins_lower text = option_map_or is_ascii_lowercase (find is_ascii_alphabetic text) false
-
--- a special character counts as lower case: its first control sequence is a foreign letter in lower case, as in `{\oe}`; or that is no foreign
--- letter, and the first letter after it is lower case, as in `{\'e}`. Letters of later control sequences count too.
+-- a special character counts as lower case: its first control sequence is a foreign letter (which stands for letters when a string is purified) in
+-- lower case, as in `{\oe}`; or that is no foreign letter, and the first letter after it is lower case, as in `{\'e}`. Letters of later control sequences count too.
 unfoldable pub is_lower_special : List ℕ → Bool
 is_lower_special text =
     let name = take_while is_alpha (drop 2 text) in
-    if is_foreign name then is_ascii_lowercase (slice_index name 0) else begins_lower (drop (length name) (drop 2 text))
+    if nat_lt 0 (length (letters_of name)) then is_ascii_lowercase (slice_index name 0)
+    else option_map_or is_ascii_lowercase (find is_ascii_alphabetic (drop (length name) (drop 2 text))) false
 
 -- what an element says of its token: `Some true` for lower case, `Some false` for upper case, and nothing where it doesn't decide. Special
 -- characters and the letters at depth 0 decide.

@@ -1,7 +1,17 @@
 -- The parts of a name as a whole: in order, they are the tokens of the name.
-use Rattle.std.specs.Prelude.{◌≡◌, ◌++◌, slice_get, ℕ, ◌-◌, List, [], Option, length}
+use Rattle.std.specs.Prelude.{◌≡◌, ◌++◌, slice_get, ℕ, ◌-◌, List, [], Option, length, Bool}
 use Rattle.btx_names.specs.language.Tokens.{NameToken}
-use Rattle.btx_names.specs.language.NameParts.{Sections, One, Two, Three, NameParts}
+use Rattle.btx_names.specs.language.NameParts.{Sections, One, Two, Three, NameParts, sections_of, parts_by}
+use Rattle.std.specs.List.{list_all}
+use Rattle.btx_names.specs.language.Runs.{is_break}
+
+-- the text has no token: only whitespace, `~`, `-` and commas
+abbrev pub is_all_breaks : List ℕ → Bool
+is_all_breaks text = list_all is_break text
+
+-- the parts of a name: First, von, Last and Jr, each as tokens
+abbrev pub parts_of : List ℕ → NameParts
+parts_of name = parts_by (sections_of name)
 
 -- the parts in the order in which a name of a form has them
 abbrev pub parts_in_order : Sections → NameParts → List NameToken

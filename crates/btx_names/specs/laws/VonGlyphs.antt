@@ -2,8 +2,8 @@
 use Rattle.std.specs.Prelude.{Bool, false, List, [], ◌∷◌, slice_index, if◌then◌else◌}
 use Rattle.btx_strings.specs.language.Controls.{Glyph, Control, Plain}
 use Rattle.btx_strings.specs.laws.Controls.{glyphs_text}
-use Rattle.btx_names.specs.language.VonTokens.{is_foreign, begins_lower}
 use Rattle.std.specs.Char.{is_ascii_lowercase}
+use Rattle.btx_names.specs.laws.VonTokens.{is_foreign, begins_lower}
 
 -- the first control sequence among glyphs says lower case if it is a foreign letter in lower case, and else if the first letter behind it is
 unfoldable pub are_lower : List Glyph → Bool

@@ -1,6 +1,7 @@
 -- Parts of a piece of a format, as proofs name them.
 use Rattle.std.specs.Prelude.{ℕ, List, drop, if◌then◌else◌}
-use Rattle.btx_names.specs.language.Formats.{is_doubled, FormatPiece, FormatItem, has_no_letter, Name, Illegal}
+use Rattle.btx_names.specs.language.Formats.{is_doubled, FormatPiece, FormatItem, Name, Illegal}
+use Rattle.btx_names.specs.laws.Formats.{has_no_letter}
 
 -- the text after the letter or the two letters of a piece; `rest` follows the first letter
 abbrev pub behind_letters : ℕ → List ℕ → List ℕ

@@ -1,6 +1,17 @@
 -- The last byte of a name that isn't passed over, as proofs name it.
 use Rattle.std.specs.Prelude.{ℕ, ◌||◌, Bool, not, List, Option, find, reverse}
 use Rattle.btx_text.specs.language.Class.{is_white, is_sep}
+use Rattle.btx_names.specs.language.Tokens.{NameToken}
+use Rattle.btx_names.specs.language.VonTokens.{is_von}
+use Rattle.btx_names.specs.language.NameParts.{is_hyphen}
+
+-- a token of a name is von, by its text
+abbrev pub is_von_token : NameToken → Bool
+is_von_token token = is_von token.text
+
+-- the token isn't joined to the next one by a `-`
+abbrev pub is_apart : NameToken → Bool
+is_apart token = not (is_hyphen token.joint)
 
 -- a byte that is neither white nor `~` nor `-`
 abbrev pub is_ink : ℕ → Bool

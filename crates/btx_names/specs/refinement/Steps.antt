@@ -7,8 +7,8 @@ use Rattle.btx_names.specs.declared.token_counts.TokenTest.{TokenTest}
 use Rattle.btx_names.specs.declared.token_counts.TokenTest.TheVariants.{Von, Apart}
 use Rattle.btx_names.specs.language.NameLists.{is_separator}
 use Rattle.btx_names.specs.language.Tokens.{NameToken}
-use Rattle.btx_names.specs.language.NameParts.{is_von_token, is_apart}
 use Rattle.std.specs.Int.{is_in_range}
+use Rattle.btx_names.specs.refinement.NameParts.{is_von_token, is_apart}
 
 -- how long the first piece of a text is
 unfoldable pub first_name_len : ℕ → List ℕ → ℕ

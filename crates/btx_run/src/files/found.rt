@@ -114,7 +114,7 @@ pub enum FilesRead<'a> {
     Found(JobFiles<'a>),
 }
 
-/// Fetches the file of a name, if it is there.
+/// Fetches the file of a name, if it is there, into room of its size.
 pub fn fetch_file<'a, F: Finder>(
     alloc: Global,
     finder: &mut F,
@@ -127,6 +127,7 @@ pub fn fetch_file<'a, F: Finder>(
 {
     let mut bytes = Vec::new(alloc);
     if finder.fetch(alloc, name, &mut bytes)? {
+        bytes.shrink_to_fit();
         Ok(Some(FoundFile::new(name, bytes)))
     } else {
         Ok(None)

@@ -5,11 +5,10 @@ ghost use Rattle.btx_step.specs.refinement.Starts.{first_integers, first_values}
 
 use super::Store;
 use crate::job::Job;
-use crate::values::Values;
+use crate::values::EntryValues;
 use btx_bst::Style;
 use btx_names::NameFormatter;
 use btx_stack::{Literals, Variable};
-use btx_text::Text;
 use std::alloc::{AllocError, Global};
 
 impl<'a> Store<'a> {
@@ -57,18 +56,6 @@ fn zeros(alloc: Global, count: usize) -> Result<Vec<i32>, AllocError>
     vec![in alloc; 0; count]
 }
 
-// The empty string, so many times.
-#[tactic(auto, using(crate::proofs::Replicas::one_more))]
-fn empty_strings<'a>(alloc: Global, count: usize) -> Result<Vec<Text<'a>>, AllocError>
-    ensures { IfOk result (λ strings. strings.items ≡ replicate count []) }
-{
-    let mut strings = Vec::with_capacity(alloc, count)?;
-    for _string in 0..count {
-        strings.push(Text::empty())?;
-    }
-    Ok(strings)
-}
-
 // The variable without bytes, so many times.
 #[tactic(auto, using(crate::proofs::Replicas::one_more))]
 fn empty_variables<'a>(alloc: Global, count: usize) -> Result<Vec<Variable<'a>>, AllocError>
@@ -81,27 +68,13 @@ fn empty_variables<'a>(alloc: Global, count: usize) -> Result<Vec<Variable<'a>>,
     Ok(strings)
 }
 
-// The first values of an entry's variables, so many times.
-#[tactic(auto, using(crate::proofs::Replicas::one_more))]
+// The first values of the variables of all entries.
 fn first_entries<'a>(
     alloc: Global,
     style: &Style<'_>,
     count: usize,
-) -> Result<Vec<Values<'a>>, AllocError>
-    ensures { IfOk result (λ entries. entries.items ≡ replicate count (first_values style.now)) }
+) -> Result<EntryValues<'a>, AllocError>
+    ensures { IfOk result (λ entries. entries ≡ replicate count (first_values style.now)) }
 {
-    let mut entries = Vec::with_capacity(alloc, count)?;
-    for _entry in 0..count {
-        entries.push(first_values(alloc, style)?)?;
-    }
-    Ok(entries)
-}
-
-// The first values of an entry's variables.
-fn first_values<'a>(alloc: Global, style: &Style<'_>) -> Result<Values<'a>, AllocError>
-    ensures { IfOk result (λ values. values ≡ first_values style.now) }
-{
-    let integers = zeros(alloc, style.entry_integers())?;
-    let strings = empty_strings(alloc, style.entry_strings())?;
-    Ok(Values::new(integers, strings))
+    EntryValues::new(alloc, count, style.entry_integers(), style.entry_strings())
 }

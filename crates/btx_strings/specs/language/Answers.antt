@@ -1,11 +1,7 @@
 -- What a string function answers.
-use Rattle.std.specs.Prelude.{true, false}
+use Rattle.std.specs.Prelude.{false}
 use Rattle.btx_strings.specs.declared.answers.Complaints.{Complaints}
 
 -- nothing was wrong with the operands
 abbrev pub no_complaints : Complaints
 no_complaints = record { illegal_conversion = false; no_such_name = false; comma_at_end = false; too_many_commas = false; illegal_format = false }
-
--- the conversion of `change.case$` is none of the letters `t`, `l` and `u`
-abbrev pub wrong_conversion : Complaints
-wrong_conversion = record no_complaints { illegal_conversion = true }

@@ -8,7 +8,7 @@ use Rattle.btx_text.specs.declared.element_kind.Kind.{Kind}
 use Rattle.btx_text.specs.declared.element_kind.Kind.TheVariants.{Byte, Special}
 use Rattle.btx_text.specs.declared.element_kind.TextMode.TheVariants.{Bytes}
 use Rattle.btx_text.specs.language.Elements.{Element, elements_of, backslash}
-use Rattle.btx_strings.specs.language.Answers.{no_complaints, wrong_conversion}
+use Rattle.btx_strings.specs.language.Answers.{no_complaints}
 use Rattle.btx_strings.specs.language.Controls.{Glyph, Control, Plain, glyphs_of, without_white}
 use Rattle.btx_strings.specs.declared.answers.Complaints.{Complaints}
 use Rattle.btx_strings.specs.declared.conversions.Conversion.{Conversion}
@@ -57,10 +57,6 @@ abbrev pub becomes_letters : Conversion → List ℕ → Bool
 becomes_letters Upper name = is_among bare name
 becomes_letters _ name = false
 
--- a special character in the case of a conversion
-abbrev pub cased_special : Conversion → List ℕ → List ℕ
-cased_special conversion text = flat_map (cased_glyph conversion) (without_white (becomes_letters conversion) [] (glyphs_of text))
-
 -- ---- elements
 
 -- the text is one byte of whitespace
@@ -90,7 +86,7 @@ is_title _ = false
 -- an element in another case, given its kind, depth and text: bytes at depth 0 and special characters change, others stay
 abbrev pub cased_as : Conversion → Kind → ℕ → List ℕ → List ℕ
 cased_as conversion Byte depth text = if depth == 0 then map (case_of conversion) text else text
-cased_as conversion Special depth text = cased_special conversion text
+cased_as conversion Special depth text = flat_map (cased_glyph conversion) (without_white (becomes_letters conversion) [] (glyphs_of text))
 cased_as conversion _ depth text = text
 
 -- an element in another case; in a title it stays as it is if it begins the title or a part of it, which `begins` says
@@ -102,20 +98,16 @@ unfoldable pub cased_parts : Conversion → List Element → List Element → Li
 cased_parts conversion before [] = []
 cased_parts conversion before (part ∷ parts) = cased_part conversion (begins_title before) part ++ cased_parts conversion (part ∷ before) parts
 
--- a string in the case of a conversion. It is read as bytes in either mode: bytes from 128 up have no case
-abbrev pub cased : Conversion → List ℕ → List ℕ
-cased conversion string = cased_parts conversion [] (elements_of Bytes string)
-
 -- ---- `change.case$`
 
--- a string in the case of a conversion; without a conversion the string stays
+-- a string in the case of a conversion; without a conversion the string stays. It is read as bytes in either mode: bytes from 128 up have no case
 abbrev pub cased_by : Option Conversion → List ℕ → List ℕ
 cased_by None string = string
-cased_by (Some conversion) string = cased conversion string
+cased_by (Some conversion) string = cased_parts conversion [] (elements_of Bytes string)
 
 -- an error if the conversion isn't `t`, `l` or `u`
 abbrev pub complaints_by : Option Conversion → Complaints
-complaints_by None = wrong_conversion
+complaints_by None = record no_complaints { illegal_conversion = true }
 complaints_by (Some conversion) = no_complaints
 
 -- `change.case$`: the string in the case that the conversion names; unchanged if it is none

@@ -8,10 +8,6 @@ use Rattle.btx_text.specs.language.Elements.{close_brace}
 abbrev pub period : ℕ
 period = 46
 
--- the last byte of a string that is no `}`, if there is one
-abbrev pub last_mark : List ℕ → Option ℕ
-last_mark string = find (λ b. not (b == close_brace)) (reverse string)
-
 -- the byte is there, and is a period, a `?` or a `!`
 abbrev pub is_ended : Option ℕ → Bool
 is_ended None = false
@@ -20,7 +16,7 @@ is_ended (Some b) = b == period || b == 63 || b == 33
 -- `add.period$`: the string with a `.` behind it. It stays as it is if its last byte that is no `}` is `.`, `?` or `!`, and if it is empty.
 abbrev pub add_period_of : List ℕ → List ℕ
 add_period_of [] = []
-add_period_of (b ∷ bs) = if is_ended (last_mark (b ∷ bs)) then b ∷ bs else (b ∷ bs) ++ period ∷ []
+add_period_of (b ∷ bs) = if is_ended (find (λ b. not (b == close_brace)) (reverse (b ∷ bs))) then b ∷ bs else (b ∷ bs) ++ period ∷ []
 
 -- ---- `substring$`
 

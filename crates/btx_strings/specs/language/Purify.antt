@@ -19,10 +19,6 @@ purified_class Alpha b = b ∷ []
 purified_class Digit b = b ∷ []
 purified_class Other b = []
 
--- what `purify$` leaves of a byte outside special characters
-abbrev pub purified_byte : ℕ → List ℕ
-purified_byte b = purified_class (class_of b) b
-
 -- what `purify$` leaves of a byte of a special character, by its class: letters and digits stay, any other goes
 abbrev pub kept_class : Class → ℕ → List ℕ
 kept_class Alpha b = b ∷ []
@@ -36,7 +32,7 @@ purified_glyph (Plain b) = kept_class (class_of b) b
 
 -- what `purify$` leaves of an element, given its kind and its text; nothing of a brace
 abbrev pub purified_as : Kind → List ℕ → List ℕ
-purified_as Byte text = flat_map purified_byte text
+purified_as Byte text = flat_map (λ (b : ℕ). purified_class (class_of b) b) text
 purified_as Special text = flat_map purified_glyph (glyphs_of text)
 purified_as _ text = []
 

@@ -1,13 +1,14 @@
 -- What the code keeps of what stands before, and the pieces that it goes by.
-use Rattle.std.specs.Prelude.{ℕ, Bool, true, false, ◌==◌, ◌&&◌, not, nat_eq, slice_index, List, [], ◌∷◌, map, codes, if◌then◌else◌}
+use Rattle.std.specs.Prelude.{◌≡◌, ◌<◌, ◌≤◌, ℕ, Bool, true, false, ◌==◌, ◌&&◌, not, nat_eq, slice_index, List, [], ◌∷◌, map, codes, if◌then◌else◌}
 use Rattle.std.specs.List.{prefix_len, starts_with}
 use Rattle.std.specs.Str.{bytes_eq}
 use Rattle.btx_text.specs.language.Elements.{group_len, open_brace, backslash}
-use Rattle.btx_strings.specs.language.Case.{is_white_text, is_title, case_of, cased_special}
+use Rattle.btx_strings.specs.language.Case.{is_white_text, is_title, case_of}
 use Rattle.btx_strings.specs.declared.conversions.Conversion.{Conversion}
 use Rattle.btx_strings.specs.declared.conversions.Conversion.TheVariants.{Title}
 use Rattle.btx_strings.specs.declared.case_change.Place.{Place}
 use Rattle.btx_strings.specs.declared.case_change.Place.TheVariants.{First, Colon, ColonAndWhite, Inside}
+use Rattle.btx_strings.specs.refinement.Case.{cased_special}
 
 -- what is said to stand before a string: what begins there matters to a title alone
 abbrev pub first_place : Conversion → Place
@@ -36,6 +37,10 @@ is_inside _ = false
 -- a byte that a run may have: it begins no group, and it is no colon
 abbrev pub is_case_plain : ℕ → Bool
 is_case_plain b = not (b == 58) && not (b == open_brace)
+
+-- the bytes from a place up to another one are such
+abbrev pub ArePlain : List ℕ → ℕ → ℕ → Type 0
+ArePlain text from to = (place : ℕ) → from ≤ place → place < to → is_case_plain (slice_index text place) ≡ true
 
 -- how many bytes the piece has that a text begins with: a whole group; else, where nothing begins, a whole run; else one byte
 unfoldable pub piece_len : Place → List ℕ → ℕ

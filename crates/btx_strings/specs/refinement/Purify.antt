@@ -4,7 +4,12 @@ use Rattle.std.specs.List.{flat_map, starts_with}
 use Rattle.std.specs.Char.{is_ascii_digit, is_ascii_lowercase, is_ascii_uppercase}
 use Rattle.btx_text.specs.language.Elements.{open_brace, backslash}
 use Rattle.btx_strings.specs.language.Controls.{glyphs_of}
-use Rattle.btx_strings.specs.language.Purify.{purified_byte, purified_glyph}
+use Rattle.btx_strings.specs.language.Purify.{purified_glyph, purified_class}
+use Rattle.btx_text.specs.language.Class.{class_of}
+
+-- what `purify$` leaves of a byte outside special characters
+abbrev pub purified_byte : ℕ → List ℕ
+purified_byte b = purified_class (class_of b) b
 
 -- a byte that `purify$` leaves as it is outside special characters: a space, a letter or a digit
 abbrev pub stays : ℕ → Bool

@@ -1,7 +1,8 @@
 use Rattle.std.proofs.Common.{◌≡◌, ◌++◌}
 use Rattle.std.specs.List.{flat_map}
-use Rattle.btx_bib.specs.language.Passes.{absence_messages, entry_at}
+use Rattle.btx_bib.specs.language.Passes.{entry_at}
 use Rattle.btx_bib.proofs.passes.staying.Given as goal
+use Rattle.btx_bib.specs.refinement.Passes.{absence_messages}
 
 abbrev pub invariant-loop-slot : goal.invariant-loop-slot
 invariant-loop-slot l = record {

@@ -30,7 +30,3 @@ unfoldable pub more_in : Delimiter → List ℕ → Parsed (Option Field)
 more_in delimiter rest =
     if begins (λ b. b == closing_delimiter delimiter) rest then Ok (None, drop 1 rest)
     else if begins (λ b. b == comma) rest then after_comma delimiter (past Gap (drop 1 rest)) else wrong_at (NoComma delimiter) rest
-
--- what stands next in an entry, behind white: a field, or none and the entry is at its end
-abbrev pub more_at : Delimiter → List ℕ → Parsed (Option Field)
-more_at delimiter text = more_in delimiter (past Gap text)

@@ -13,7 +13,9 @@ use Rattle.btx_bib.specs.declared.grammar.slip.Slip.TheVariants.{NoEquals, NoClo
 use Rattle.btx_bib.specs.language.Grammar.Bytes.{at_sign, equals_sign}
 use Rattle.btx_bib.specs.language.Grammar.Tokens.{Parsed, followed_by, name_at, open_at, sign_at, key_at, closing_delimiter}
 use Rattle.btx_bib.specs.language.Grammar.Values.{Part, value_at}
-use Rattle.btx_bib.specs.language.Grammar.Fields.{Field, more_at}
+use Rattle.btx_bib.specs.language.Grammar.Fields.{Field, more_in}
+use Rattle.btx_bib.specs.declared.grammar.byte_sets.ByteSet.TheVariants.{Gap}
+use Rattle.btx_bib.specs.language.Grammar.ByteSets.{past}
 
 -- what is read: an `@comment`, a `@preamble`'s value, a `@string`'s name and value, an entry's type and key, a field, the end of
 -- the item, or what is wrong
@@ -79,7 +81,7 @@ unfoldable pub expected_step : Wanted → List ℕ → Option Step
 expected_step Item text = option_map (λ rest. step_by (head_at rest)) (behind_at text)
 expected_step (Closing delimiter) text =
     Some (step_by (followed_by (sign_at (closing_delimiter delimiter) (NoClosing delimiter) text) (λ _ rest. Ok ((End, Item), rest))))
-expected_step (Fields delimiter) text = Some (step_by (field_event delimiter (more_at delimiter text)))
+expected_step (Fields delimiter) text = Some (step_by (field_event delimiter (more_in delimiter (past Gap text))))
 
 -- an event, with its place: `rest` is the text from its end on
 pub record Placed : Type 0 where

@@ -8,10 +8,11 @@ use Rattle.btx_bib.specs.declared.grammar.slip.Slip.TheVariants.{NoEquals, NoClo
 use Rattle.btx_bib.specs.language.Grammar.Bytes.{equals_sign}
 use Rattle.btx_bib.specs.language.Grammar.Tokens.{Parsed, followed_by, name_at, open_at, sign_at, key_at, closing_delimiter}
 use Rattle.btx_bib.specs.language.Grammar.Values.{Part, value_at}
-use Rattle.btx_bib.specs.language.Grammar.Fields.{Field, more_at}
+use Rattle.btx_bib.specs.language.Grammar.Fields.{Field}
 use Rattle.btx_bib.specs.language.Grammar.Items.{command_of}
 use Rattle.btx_bib.specs.laws.Grammar.Spelling.{Grammar, Gives, Then, Spaced, NameHere, SignHere, ValueSpelling}
 use Rattle.btx_bib.specs.laws.Grammar.Reading.{OpenHere, KeyHere, MoreHere}
+use Rattle.btx_bib.specs.laws.Grammar.Fields.{more_at}
 
 -- what stands behind an `@`: an `@comment`, which ends with its own name; a `@preamble`; a `@string`; or an entry
 pub data WholeItem : Type 0 where

@@ -3,10 +3,10 @@ use Rattle.std.proofs.lemmas.Result.{err_from_is_err_and}
 use Rattle.btx_names.specs.language.NameParts.{sections_of}
 use Rattle.btx_names.specs.refinement.PartViews.{parts_view}
 use Rattle.btx_names.specs.language.Formats.{is_legal}
-use Rattle.btx_names.specs.language.FormattedNames.{formatted}
 use Rattle.btx_names.specs.refinement.KeptNames.{kept_bytes}
 use Rattle.btx_names.proofs.FormattedLemmas.{one_illegal, one_legal, answers_fault}
 use Rattle.btx_names.proofs.formatted.format_one.Goals as goal
+use Rattle.btx_names.specs.refinement.FormattedNames.{formatted}
 
 pub returns-then-branch : goal.returns-then-branch
 returns-then-branch c =

@@ -1,9 +1,10 @@
 use Rattle.std.proofs.Common.{◌≡◌, ◌++◌}
 use Rattle.std.specs.List.{flat_map, list_any}
-use Rattle.btx_names.specs.language.FormattedNames.{item_text, formatted}
+use Rattle.btx_names.specs.language.FormattedNames.{item_text}
 use Rattle.btx_names.specs.language.Formats.{is_illegal, items_of}
 use Rattle.btx_names.specs.refinement.PartViews.{parts_view}
 use Rattle.btx_names.proofs.formatted.write_until_illegal.Given as goal
+use Rattle.btx_names.specs.refinement.FormattedNames.{formatted}
 
 abbrev pub invariant-loop-item : goal.invariant-loop-item
 invariant-loop-item l =

@@ -1,9 +1,10 @@
 use Rattle.std.proofs.Common.{◌∙◌, ◌∷◌, ◌++◌, [], ap, sym, List, ℕ}
 use Rattle.std.proofs.lemmas.Result.{on_ok_weaker}
 use Rattle.btx_aux.specs.language.Names.{with_name_once}
-use Rattle.btx_aux.specs.language.Notes.{TopFile, aux_note_line}
+use Rattle.btx_aux.specs.language.Notes.{TopFile}
 use Rattle.btx_aux.proofs.DraftLemmas.{learned-Opens_top, learned-Opens_level}
 use Rattle.btx_aux.proofs.draft.Draft.open_file.Goals as goal
+use Rattle.btx_aux.specs.refinement.Notes.{aux_note_line}
 
 pub returns-then-level-eq0-clause-draft : goal.returns-then-level-eq0-clause-draft
 returns-then-level-eq0-clause-draft c =

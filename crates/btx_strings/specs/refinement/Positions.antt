@@ -1,0 +1,7 @@
+-- Names of parts of the definitions of positions.
+use Rattle.std.specs.Prelude.{ℕ, ◌==◌, not, List, find, reverse, Option}
+use Rattle.btx_text.specs.language.Elements.{close_brace}
+
+-- the last byte of a string that is no `}`, if there is one
+abbrev pub last_mark : List ℕ → Option ℕ
+last_mark string = find (λ b. not (b == close_brace)) (reverse string)
