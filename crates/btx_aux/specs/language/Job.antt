@@ -1,6 +1,6 @@
 -- What the events of a job come to: keys, the place of `*`, databases, the style, the log and the end. Each is a filter of the list
 -- of events, where an event is judged by those before it (of `*` btxdoc speaks in section 2, at `\nocite{*}`).
-use Rattle.std.specs.Prelude.{ℕ, zero, suc, not, ◌&&◌, Bool, true, false, List, [], ◌∷◌, ◌++◌, map, fold, length, Option, None, Some, is_some, is_none, if◌then◌else◌, codes}
+use Rattle.std.specs.Prelude.{ℕ, zero, suc, not, ◌&&◌, Bool, true, false, List, [], ◌∷◌, ◌++◌, map, fold, length, Option, None, Some, is_some, is_none, if◌then◌else◌, codes, option_and_then}
 use Rattle.std.specs.List.{flat_map}
 use Rattle.std.specs.Str.{bytes_eq}
 use Rattle.std.specs.Option.{option_map_or}
@@ -79,11 +79,6 @@ bibstyle_by _ = []
 -- the piece of the first `\bibstyle` line, faulty or not
 abbrev pub bibstyle_of : List AuxEvent → Option Piece
 bibstyle_of events = first_of (flat_map (λ (event : AuxEvent). bibstyle_by event.word) events)
-
--- the style that the piece of a `\bibstyle` line names, with `.bst`; none without such a line, or if its piece is faulty
-abbrev pub style_name_in : Option Piece → Option (List ℕ)
-style_name_in None = None
-style_name_in (Some piece) = first_of (taken_with (codes ".bst") piece)
 
 -- ---- the log
 
@@ -169,7 +164,7 @@ job_of_files files top = let events = job_events files top in record {
   keys = cited_keys events;
   all = all_of events;
   databases = databases_in (bibdata_of events);
-  style = style_name_in (bibstyle_of events);
+  style = option_and_then (λ (piece : Piece). first_of (taken_with (codes ".bst") piece)) (bibstyle_of events);
   log = map (λ (note : AuxNote). message (aux_note_kind note) (aux_note_text note)) (notes_of events);
   ending = end_of events;
 }

@@ -4,6 +4,7 @@ use Rattle.std.specs.Prelude.{ℕ, zero, suc, ◌+◌, ◌-◌, ◌==◌, Bool, 
 use Rattle.std.specs.List.{list_any}
 use Rattle.std.specs.Char.{to_ascii_lowercase}
 use Rattle.std.specs.Str.{byte}
+use Rattle.std.specs.Option.{option_map_or}
 use Rattle.btx_names.specs.declared.format_items.PartName.{PartName}
 use Rattle.btx_names.specs.declared.format_items.PartName.TheVariants.{First, Von, Last, Jr}
 use Rattle.btx_names.specs.declared.runs.Stop.TheVariants.{Letter, Closing, Brace}
@@ -58,17 +59,13 @@ piece_item before letter rest part =
     Name (record { before = before; part = part; is_full = is_doubled letter rest; between = between_of behind; after = after })
     else Illegal
 
--- the item of a group with a letter at its own level, `letter`, given the part that it names: a piece, or illegal if it names none
-abbrev pub lettered_item : List ℕ → ℕ → List ℕ → Option PartName → FormatItem
-lettered_item before letter rest None = Illegal
-lettered_item before letter rest (Some part) = piece_item before letter rest part
-
 -- ---- the items
 
--- the item of a group, given the text before the first letter at its own level and the rest from that letter on
+-- the item of a group, given the text before the first letter at its own level and the rest from that letter on: a piece, if the letter names a part, and
+-- else illegal
 abbrev pub split_item : List ℕ → List ℕ → FormatItem
 split_item before [] = Plain before
-split_item before (letter ∷ rest) = lettered_item before letter rest (part_named letter)
+split_item before (letter ∷ rest) = option_map_or (piece_item before letter rest) (part_named letter) Illegal
 
 -- the item of a group, given the text inside its braces
 unfoldable pub inside_item : List ℕ → FormatItem

@@ -1,5 +1,5 @@
 -- A name in a format (btxhak, section 5.4, at `format.name$`).
-use Rattle.std.specs.Prelude.{ℕ, ◌-◌, ◌==◌, ◌||◌, ◌&&◌, Bool, List, [], ◌∷◌, ◌++◌, Option, Some, None, length, take, slice_index, nat_lt, if◌then◌else◌}
+use Rattle.std.specs.Prelude.{ℕ, ◌-◌, ◌==◌, ◌||◌, ◌&&◌, Bool, List, [], ◌∷◌, ◌++◌, length, take, slice_index, nat_lt, if◌then◌else◌, unwrap_or}
 use Rattle.std.specs.Str.{byte}
 use Rattle.btx_text.specs.declared.element_kind.TextMode.{TextMode}
 use Rattle.btx_text.specs.language.Class.{is_alpha}
@@ -30,10 +30,6 @@ unfoldable pub initial_of : TextMode → List ℕ → List ℕ
 initial_of mode [] = []
 initial_of mode (b ∷ bs) = if begins_initial (b ∷ bs) then first_text (elements_of mode (b ∷ bs)) else initial_of mode bs
 
--- a token in full, or abbreviated
-abbrev pub shown : TextMode → Bool → List ℕ → List ℕ
-shown mode is_full token = if is_full then token else initial_of mode token
-
 -- ---- between tokens
 
 -- a text has fewer than three characters
@@ -51,21 +47,18 @@ tie_of mode so_far Space is_last = if is_last || is_short mode so_far then byte 
 abbrev pub period_of : Bool → List ℕ
 period_of is_full = if is_full then [] else byte "." ∷ []
 
--- the text between two tokens: the piece's own, if it has one; else a period after an abbreviation, and then a `~`, a `-` or a space
-abbrev pub joined_by : TextMode → Bool → Option (List ℕ) → List ℕ → Joint → Bool → List ℕ
-joined_by mode is_full (Some between) so_far joint is_last = between
-joined_by mode is_full None so_far joint is_last = period_of is_full ++ tie_of mode (so_far ++ period_of is_full) joint is_last ∷ []
-
--- the text after a token, if `left` tokens of the part follow it; nothing after the last one
+-- the text after a token, if `left` tokens of the part follow it. After the last one that is nothing; else it is the piece's own text between tokens, if
+-- it has one, and else a period after an abbreviation, and then a `~`, a `-` or a space
 unfoldable pub between_text : TextMode → FormatPiece → List ℕ → Joint → ℕ → List ℕ
 between_text mode piece so_far joint left =
-    if left == 0 then [] else joined_by mode piece.is_full piece.between so_far joint (left == 1)
+    if left == 0 then []
+    else unwrap_or piece.between (period_of piece.is_full ++ tie_of mode (so_far ++ period_of piece.is_full) joint (left == 1) ∷ [])
 
 -- the text of a piece, `so_far`, with further tokens appended
 unfoldable pub with_tokens : TextMode → FormatPiece → List ℕ → List NameToken → List ℕ
 with_tokens mode piece so_far [] = so_far
 with_tokens mode piece so_far (token ∷ tokens) =
-    let next = so_far ++ shown mode piece.is_full token.text in
+    let next = so_far ++ (if piece.is_full then token.text else initial_of mode token.text) in
     with_tokens mode piece (next ++ between_text mode piece next token.joint (length tokens)) tokens
 
 -- ---- a piece

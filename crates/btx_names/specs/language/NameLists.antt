@@ -9,15 +9,11 @@ use Rattle.std.specs.Str.{byte}
 
 -- ---- separators
 
--- byte `b` is the letter `lower`, in either case
-abbrev pub is_letter : ℕ → ℕ → Bool
-is_letter lower b = to_ascii_lowercase b == lower
-
 -- a text begins with a white byte, `and` in any case, and a white byte
 unfoldable pub is_separator : List ℕ → Bool
 is_separator text =
     nat_le 5 (length text) && is_white (slice_index text 0)
-    && is_letter (byte "a") (slice_index text 1) && is_letter (byte "n") (slice_index text 2) && is_letter (byte "d") (slice_index text 3)
+    && to_ascii_lowercase (slice_index text 1) == byte "a" && to_ascii_lowercase (slice_index text 2) == byte "n" && to_ascii_lowercase (slice_index text 3) == byte "d"
     && is_white (slice_index text 4)
 
 -- ---- names

@@ -85,10 +85,6 @@ von_end tokens = up_to_last (λ (token : NameToken). is_von token.text) (before_
 abbrev pub last_start : List NameToken → ℕ
 last_start tokens = if nat_lt 0 (von_end tokens) then von_end tokens else up_to_last (λ (token : NameToken). not (is_hyphen token.joint)) (before_final tokens)
 
--- the index of the first token of von in a name without commas: the first von token; where there is no von, the first token of Last
-abbrev pub von_start : List NameToken → ℕ
-von_start tokens = if nat_lt 0 (von_end tokens) then before_first (λ (token : NameToken). is_von token.text) tokens else last_start tokens
-
 -- ---- the parts
 
 -- the four parts of a name, each a range of its tokens
@@ -98,12 +94,13 @@ pub record NameParts : Type 0 where
   pub last : List NameToken
   pub jr : List NameToken
 
--- the parts of a name without commas, First von Last, given its tokens
+-- the parts of a name without commas, First von Last, given its tokens. von begins with the first von token; where there is none, Last begins there
 abbrev pub unsplit : List NameToken → NameParts
 unsplit tokens =
+    let start = if nat_lt 0 (von_end tokens) then before_first (λ (token : NameToken). is_von token.text) tokens else last_start tokens in
     record {
-      first = take (von_start tokens) tokens;
-      von = take (last_start tokens - von_start tokens) (drop (von_start tokens) tokens);
+      first = take start tokens;
+      von = take (last_start tokens - start) (drop start tokens);
       last = drop (last_start tokens) tokens;
       jr = [];
     }

@@ -3,6 +3,7 @@ use Rattle.std.specs.Prelude.{ℕ, ◌==◌, ◌&&◌, Bool, true, false, List, 
 use Rattle.std.specs.List.{flat_map}
 use Rattle.std.specs.Str.{bytes_eq, byte}
 use Rattle.std.specs.Char.{to_ascii_lowercase, to_ascii_uppercase}
+use Rattle.std.specs.Option.{option_map_or}
 use Rattle.btx_text.specs.language.Class.{is_white}
 use Rattle.btx_text.specs.declared.element_kind.Kind.{Kind}
 use Rattle.btx_text.specs.declared.element_kind.Kind.TheVariants.{Byte, Special}
@@ -64,14 +65,10 @@ abbrev pub is_white_text : List ℕ → Bool
 is_white_text (b ∷ []) = is_white b
 is_white_text _ = false
 
--- a colon at depth 0
-abbrev pub is_colon : Element → Bool
-is_colon part = part.depth == 0 && bytes_eq part.text (codes ":")
-
 -- the elements before, nearest first, are a depth-0 colon with nothing but white after it
 abbrev pub after_colon : List Element → Bool
 after_colon [] = false
-after_colon (part ∷ before) = if is_white_text part.text then after_colon before else is_colon part
+after_colon (part ∷ before) = if is_white_text part.text then after_colon before else part.depth == 0 && bytes_eq part.text (codes ":")
 
 -- an element begins a title, or a part of one: nothing stands before it, or white does, and before that white a colon outside all braces
 abbrev pub begins_title : List Element → Bool
@@ -100,20 +97,12 @@ cased_parts conversion before (part ∷ parts) = cased_part conversion (begins_t
 
 -- ---- `change.case$`
 
--- a string in the case of a conversion; without a conversion the string stays. It is read as bytes in either mode: bytes from 128 up have no case
-abbrev pub cased_by : Option Conversion → List ℕ → List ℕ
-cased_by None string = string
-cased_by (Some conversion) string = cased_parts conversion [] (elements_of Bytes string)
-
--- an error if the conversion isn't `t`, `l` or `u`
-abbrev pub complaints_by : Option Conversion → Complaints
-complaints_by None = record no_complaints { illegal_conversion = true }
-complaints_by (Some conversion) = no_complaints
-
 -- `change.case$`: the string in the case that the conversion names; unchanged if it is none
 abbrev pub change_case_of : List ℕ → List ℕ → List ℕ
-change_case_of string conversion = cased_by (conversion_of conversion) string
+change_case_of string conversion =
+    option_map_or (λ (to : Conversion). cased_parts to [] (elements_of Bytes string)) (conversion_of conversion) string
 
 -- the errors of `change.case$` with the string `conversion` on top: one, if that isn't `t`, `l` or `u`
 abbrev pub case_complaints : List ℕ → Complaints
-case_complaints conversion = complaints_by (conversion_of conversion)
+case_complaints conversion =
+    option_map_or (λ (to : Conversion). no_complaints) (conversion_of conversion) (record no_complaints { illegal_conversion = true })
