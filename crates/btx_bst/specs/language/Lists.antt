@@ -1,6 +1,5 @@
 -- Arguments of commands: braces, names and lists of names.
 use Rattle.std.specs.Prelude.{ℕ, zero, suc, ◌==◌, List, [], ◌∷◌, take, drop, Option, None, Some, if◌then◌else◌, not, is_some}
-use Rattle.btx_text.specs.language.Bytes.{double_quote, open_brace, close_brace}
 use Rattle.btx_text.specs.language.Keys.{folded}
 use Rattle.btx_bst.specs.declared.callee.Kind.{Kind}
 use Rattle.btx_bst.specs.language.Places.{Place, ink, further, size}
@@ -10,6 +9,7 @@ use Rattle.btx_bst.specs.language.Fronts.{name_len, quote_len, len_till}
 use Rattle.btx_bst.specs.language.Names.{Names, named, with_name}
 use Rattle.btx_bst.specs.language.Turns.{Turn, Again, Ends, turns_within}
 use Rattle.std.specs.Char.{is_ascii_alphabetic}
+use Rattle.std.specs.Str.{byte}
 
 -- reads the byte `brace` at a place that isn't in whitespace or a comment, or says what is wrong: `complaint`, or that the file ends
 abbrev pub brace_in : ℕ → Complaint → Place → List ℕ → Read (Unit {0})
@@ -18,11 +18,11 @@ brace_in brace complaint place (b ∷ bs) = if b == brace then Took tt (further 
 
 -- the `{` that stands next, behind white and comments, or the complaint that it is missing
 abbrev pub opening : Place → Read (Unit {0})
-opening place = brace_in open_brace NoOpen (ink place) (ink place).line
+opening place = brace_in (byte "{") NoOpen (ink place) (ink place).line
 
 -- the `}` that stands next, behind white and comments, or the complaint that it is missing
 abbrev pub closing : Place → Read (Unit {0})
-closing place = brace_in close_brace NoClose (ink place) (ink place).line
+closing place = brace_in (byte "}") NoClose (ink place) (ink place).line
 
 -- the first `n` bytes of a line, and the place after them; the complaint if `n` is 0
 abbrev pub front_of : Complaint → Place → List ℕ → ℕ → Read (List ℕ)
@@ -50,7 +50,7 @@ quoted_text place text (quote ∷ rest) = Took text (further place rest)
 -- the text in quotes at a place that isn't in whitespace or a comment; or the complaint that a quote is missing
 abbrev pub quoted_in : Place → List ℕ → Read (List ℕ)
 quoted_in place [] = Slip EndOfFile place
-quoted_in place (b ∷ bs) = if b == double_quote then quoted_text place (take (quote_len bs) bs) (drop (quote_len bs) bs) else Slip NoQuote place
+quoted_in place (b ∷ bs) = if b == byte "\"" then quoted_text place (take (quote_len bs) bs) (drop (quote_len bs) bs) else Slip NoQuote place
 
 -- the text in quotes that stands next, behind white and comments, or the complaint that a quote is missing
 abbrev pub quoted_at : Place → Read (List ℕ)

@@ -5,6 +5,7 @@ use Rattle.std.specs.Char.{to_ascii_lowercase}
 use Rattle.btx_text.specs.language.Class.{is_white}
 use Rattle.btx_text.specs.language.Elements.{depth_after}
 use Rattle.std.specs.List.{onto_first}
+use Rattle.std.specs.Str.{byte}
 
 -- ---- separators
 
@@ -16,7 +17,7 @@ is_letter lower b = to_ascii_lowercase b == lower
 unfoldable pub is_separator : List ℕ → Bool
 is_separator text =
     nat_le 5 (length text) && is_white (slice_index text 0)
-    && is_letter 97 (slice_index text 1) && is_letter 110 (slice_index text 2) && is_letter 100 (slice_index text 3)
+    && is_letter (byte "a") (slice_index text 1) && is_letter (byte "n") (slice_index text 2) && is_letter (byte "d") (slice_index text 3)
     && is_white (slice_index text 4)
 
 -- ---- names

@@ -1,13 +1,13 @@
 -- A string in another case (btxhak, section 5.3, at `change.case$`). Only `A-Z` and `a-z` have a case (this project's own rule).
 use Rattle.std.specs.Prelude.{ℕ, ◌==◌, ◌&&◌, Bool, true, false, List, [], ◌∷◌, ◌++◌, map, codes, Option, Some, None, if◌then◌else◌}
 use Rattle.std.specs.List.{flat_map}
-use Rattle.std.specs.Str.{bytes_eq}
+use Rattle.std.specs.Str.{bytes_eq, byte}
 use Rattle.std.specs.Char.{to_ascii_lowercase, to_ascii_uppercase}
 use Rattle.btx_text.specs.language.Class.{is_white}
 use Rattle.btx_text.specs.declared.element_kind.Kind.{Kind}
 use Rattle.btx_text.specs.declared.element_kind.Kind.TheVariants.{Byte, Special}
 use Rattle.btx_text.specs.declared.element_kind.TextMode.TheVariants.{Bytes}
-use Rattle.btx_text.specs.language.Elements.{Element, elements_of, backslash}
+use Rattle.btx_text.specs.language.Elements.{Element, elements_of}
 use Rattle.btx_strings.specs.language.Answers.{no_complaints}
 use Rattle.btx_strings.specs.language.Controls.{Glyph, Control, Plain, glyphs_of, without_white}
 use Rattle.btx_strings.specs.declared.answers.Complaints.{Complaints}
@@ -22,7 +22,7 @@ abbrev pub conversion_of : List ℕ → Option Conversion
 conversion_of [] = None
 conversion_of (letter ∷ []) =
     let lower = to_ascii_lowercase letter in
-    if lower == 116 then Some Title else if lower == 108 then Some Lower else if lower == 117 then Some Upper else None
+    if lower == byte "t" then Some Title else if lower == byte "l" then Some Lower else if lower == byte "u" then Some Upper else None
 conversion_of (letter ∷ more ∷ letters) = None
 
 -- ---- a special character
@@ -41,11 +41,11 @@ bare = codes "i" ∷ codes "j" ∷ codes "ss" ∷ []
 unfoldable pub cased_control : Conversion → List ℕ → List ℕ
 cased_control Upper name =
     if is_among bare name then map to_ascii_uppercase name
-    else if is_among (codes "o" ∷ codes "oe" ∷ codes "ae" ∷ codes "aa" ∷ codes "l" ∷ []) name then backslash ∷ map to_ascii_uppercase name
-    else backslash ∷ name
+    else if is_among (codes "o" ∷ codes "oe" ∷ codes "ae" ∷ codes "aa" ∷ codes "l" ∷ []) name then byte "\\" ∷ map to_ascii_uppercase name
+    else byte "\\" ∷ name
 cased_control _ name =
-    if is_among (codes "O" ∷ codes "OE" ∷ codes "AE" ∷ codes "AA" ∷ codes "L" ∷ []) name then backslash ∷ map to_ascii_lowercase name
-    else backslash ∷ name
+    if is_among (codes "O" ∷ codes "OE" ∷ codes "AE" ∷ codes "AA" ∷ codes "L" ∷ []) name then byte "\\" ∷ map to_ascii_lowercase name
+    else byte "\\" ∷ name
 
 -- a glyph of a special character in the case of a conversion
 abbrev pub cased_glyph : Conversion → Glyph → List ℕ

@@ -3,22 +3,18 @@
 -- Here the list is computed; what a division is, without saying how it is found, is stated in `laws/Elements.antt`.
 use Rattle.std.specs.Prelude.{ℕ, zero, suc, ◌+◌, ◌-◌, Bool, true, false, ◌&&◌, ◌==◌, nat_eq, List, [], ◌∷◌, length, take, fold, if◌then◌else◌, slice_index}
 use Rattle.std.specs.List.{flat_map, starts_with}
-pub use Rattle.btx_text.specs.language.Bytes.{open_brace, close_brace}
+use Rattle.std.specs.Str.{byte}
 use Rattle.btx_text.specs.declared.element_kind.Kind.{Kind}
 use Rattle.btx_text.specs.declared.element_kind.Kind.TheVariants.{Byte, Open, Close, Special, Wide}
 use Rattle.btx_text.specs.declared.element_kind.TextMode.{TextMode}
 use Rattle.btx_text.specs.declared.element_kind.TextMode.TheVariants.{Bytes, Utf8}
 use Rattle.btx_text.specs.language.Sequences.{sequence_size, begins_sequence}
 
--- the backslash
-abbrev pub backslash : ℕ
-backslash = 92
-
 -- ---- depth
 
 -- the brace depth after a byte: one more after `{`, one less after `}`, but never below 0 (this project's own rule)
 abbrev pub depth_after : ℕ → ℕ → ℕ
-depth_after depth b = if b == open_brace then depth + 1 else if b == close_brace then depth - 1 else depth
+depth_after depth b = if b == byte "{" then depth + 1 else if b == byte "}" then depth - 1 else depth
 
 -- the brace depth after a text
 abbrev pub depth_of : List ℕ → ℕ
@@ -39,7 +35,7 @@ text_of parts = flat_map (λ part. part.text) parts
 
 -- a special character begins here: at depth 0, with a `{` directly before a backslash
 abbrev pub begins_special : ℕ → List ℕ → Bool
-begins_special depth rest = depth == 0 && starts_with nat_eq rest (open_brace ∷ backslash ∷ [])
+begins_special depth rest = depth == 0 && starts_with nat_eq rest (byte "{" ∷ byte "\\" ∷ [])
 
 -- the text is read as UTF-8, as the option `--text utf8` asks: only then can a character have more than one byte
 abbrev pub is_utf8 : TextMode → Bool
@@ -48,7 +44,7 @@ is_utf8 Utf8 = true
 
 -- the kind of an element that is one byte: a brace or a plain byte
 abbrev pub kind_of : ℕ → Kind
-kind_of b = if b == open_brace then Open else if b == close_brace then Close else Byte
+kind_of b = if b == byte "{" then Open else if b == byte "}" then Close else Byte
 
 -- the kind of the element with which `rest`, which has a byte, begins at brace depth `depth`
 unfoldable pub kind_at : TextMode → ℕ → List ℕ → Kind

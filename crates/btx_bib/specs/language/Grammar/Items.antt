@@ -1,6 +1,6 @@
 -- Items as they are read: what follows an `@`, then the fields of an entry one by one, and the end.
 use Rattle.std.specs.Prelude.{ℕ, Bool, false, zero, suc, ◌+◌, ◌*◌, ◌==◌, List, [], ◌∷◌, length, Option, None, Some, Ok, Err, if◌then◌else◌, codes}
-use Rattle.std.specs.Str.{bytes_eq}
+use Rattle.std.specs.Str.{bytes_eq, byte}
 use Rattle.std.specs.Option.{option_map}
 use Rattle.btx_text.specs.language.Keys.{folded}
 use Rattle.btx_bib.specs.declared.grammar.byte_sets.Delimiter.{Delimiter}
@@ -10,7 +10,6 @@ use Rattle.btx_bib.specs.declared.grammar.commands.Wanted.{Wanted}
 use Rattle.btx_bib.specs.declared.grammar.commands.Wanted.TheVariants.{Item, Closing, Fields}
 use Rattle.btx_bib.specs.declared.grammar.slip.Slip.{Slip}
 use Rattle.btx_bib.specs.declared.grammar.slip.Slip.TheVariants.{NoEquals, NoClosing, Repeated}
-use Rattle.btx_bib.specs.language.Grammar.Bytes.{at_sign, equals_sign}
 use Rattle.btx_bib.specs.language.Grammar.Tokens.{Parsed, followed_by, name_at, open_at, sign_at, key_at, closing_delimiter}
 use Rattle.btx_bib.specs.language.Grammar.Values.{Part, value_at}
 use Rattle.btx_bib.specs.language.Grammar.Fields.{Field, more_in}
@@ -44,7 +43,7 @@ head_of command.Preamble name text =
 head_of command.Definition name text =
     followed_by (open_at text) (λ delimiter behind_open.
     followed_by (name_at behind_open) (λ string behind_name.
-    followed_by (sign_at equals_sign NoEquals behind_name) (λ sign behind_sign.
+    followed_by (sign_at (byte "=") NoEquals behind_name) (λ sign behind_sign.
     followed_by (value_at behind_sign) (λ value rest. Ok ((Definition string value, Closing delimiter), rest)))))
 head_of command.Entry name text =
     followed_by (open_at text) (λ delimiter behind_open.
@@ -74,7 +73,7 @@ step_by (Err wrong) = record { event = Wrong wrong.0; wanted = Item; rest = wron
 -- the text behind the first `@`
 unfoldable pub behind_at : List ℕ → Option (List ℕ)
 behind_at [] = None
-behind_at (b ∷ bs) = if b == at_sign then Some bs else behind_at bs
+behind_at (b ∷ bs) = if b == byte "@" then Some bs else behind_at bs
 
 -- the next event of a text, given what is expected there; none if an item is expected and no `@` is left
 unfoldable pub expected_step : Wanted → List ℕ → Option Step
