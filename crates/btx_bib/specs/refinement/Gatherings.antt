@@ -23,7 +23,8 @@ use Rattle.btx_bib.specs.language.Values.{field_value}
 use Rattle.btx_bib.specs.language.Wanted.{Request}
 use Rattle.btx_bib.specs.language.Strings.{Strings, defined, other_value, string_value}
 use Rattle.btx_bib.specs.language.Known.{goes_on}
-use Rattle.btx_bib.specs.language.Told.{Database, type_messages, value_messages, spot_at, spot_before}
+use Rattle.btx_bib.specs.language.Told.{Database, value_messages, spot_at, spot_before}
+use Rattle.btx_bib.specs.refinement.Told.{type_messages}
 
 -- an entry with the value of a field
 abbrev pub with_field_text : Pending → ℕ → List ℕ → Pending
