@@ -15,7 +15,6 @@ use Rattle.btx_bst.specs.language.Complaints.{Complaint, NoCommand, NoOpen, NoCl
 use Rattle.btx_bst.specs.language.Reads.{Read, Took, Slip}
 use Rattle.btx_bst.specs.language.Items as item
 use Rattle.btx_bst.specs.language.Items.{Item}
-use Rattle.btx_bst.specs.language.Bodies.{FunctionBody}
 use Rattle.btx_bst.specs.language.Fronts.{name_len, quote_len, word_len, digits_len, is_word_end}
 use Rattle.btx_bst.specs.language.Words.{BodyWord, Open, Close, String, Integer, Quoted, Name, Faulty, Unended, Ended, front, word_front, integer_at, integer_front, integer_before, string_at, string_ended, met_at, met_in}
 use Rattle.btx_bst.specs.language.Names.{Names, named}
@@ -33,6 +32,7 @@ use Rattle.btx_bst.specs.refinement.Lists.{unlisted, with_new}
 use Rattle.btx_bst.specs.refinement.Fronts.{letters_len}
 use Rattle.btx_bst.specs.laws.Names.{macro_lower}
 use Rattle.btx_bst.specs.refinement.StyleText.{word_outcome}
+use Rattle.btx_bst.specs.refinement.Bodies.{FunctionBody}
 
 -- ---- passages
 

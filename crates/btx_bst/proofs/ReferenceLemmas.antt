@@ -19,7 +19,6 @@ use Rattle.btx_bst.specs.language.Complaints.{Complaint, EndOfFile}
 use Rattle.btx_bst.specs.language.Reads.{Read, Took, Slip}
 use Rattle.btx_bst.specs.language.Items.{Item}
 use Rattle.btx_bst.specs.language.Items as item
-use Rattle.btx_bst.specs.language.Bodies.{FunctionBody}
 use Rattle.btx_bst.specs.language.BuiltIns.{built_in_of}
 use Rattle.btx_bst.specs.language.Names.{Names, named, named_lower, with_name, with_function}
 use Rattle.btx_bst.specs.language.Style.{Style, as_type}
@@ -38,6 +37,7 @@ use Rattle.btx_bst.specs.refinement.Names.{number_in, padded, has_name}
 use Rattle.btx_bst.specs.laws.StyleText.{unread_style}
 use Rattle.btx_bst.specs.refinement.Lists.{unlisted, with_new}
 use Rattle.btx_bst.specs.refinement.Commands.{inside_at}
+use Rattle.btx_bst.specs.refinement.Bodies.{FunctionBody}
 
 -- ---- more of each kind
 

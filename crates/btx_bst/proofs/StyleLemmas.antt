@@ -13,7 +13,6 @@ use Rattle.btx_bst.specs.declared.command.Command.TheVariants as command
 use Rattle.btx_bst.specs.language.Places.{Place, ink, size, further}
 use Rattle.btx_bst.specs.language.Complaints.{Complaint, Defined, Unknown, EndOfFile, NoCommand, Another, BeforeEntry, BeforeRead, AfterRead}
 use Rattle.btx_bst.specs.language.Reads.{Read, Took, Slip}
-use Rattle.btx_bst.specs.language.Bodies.{FunctionBody}
 use Rattle.btx_bst.specs.language.Items.{Item, Read as ReadItem, Sort as SortItem}
 use Rattle.btx_bst.specs.language.Words.{BodyWord, Open, Close, String, Integer, Quoted, Name, Faulty, Unended, Ended, met_at}
 use Rattle.btx_bst.specs.language.Names.{Names, named}
@@ -35,6 +34,7 @@ use Rattle.btx_bst.specs.refinement.StyleText.{style_so_far, resumed_after, resu
 use Rattle.btx_bst.specs.refinement.Lists.{unlisted}
 use Rattle.btx_bst.specs.refinement.Fronts.{letters_len}
 use Rattle.btx_bst.specs.laws.Names.{macro_lower}
+use Rattle.btx_bst.specs.refinement.Bodies.{FunctionBody}
 
 -- ---- what is left after a list, and after a body
 

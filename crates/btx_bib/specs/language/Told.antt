@@ -13,7 +13,7 @@ use Rattle.btx_bib.specs.language.Grammar.Items.{Event, Comment, Preamble, Defin
 use Rattle.btx_bib.specs.language.Grammar.PlaceLines.{lines_begun}
 use Rattle.btx_bib.specs.language.Grammar.Values.{Part, Braced, Quoted, Digits, Named}
 use Rattle.btx_bib.specs.language.Wanted.{Request}
-use Rattle.btx_bib.specs.language.Strings.{Strings, string_value}
+use Rattle.btx_bib.specs.language.Strings.{string_value}
 use Rattle.btx_bib.specs.language.Entries.{Given}
 use Rattle.btx_bib.specs.language.Stored.{is_wanted}
 use Rattle.btx_bib.specs.language.Known.{Known, goes_on, stored_in, has_value, known_after}
@@ -34,7 +34,7 @@ spot_before database rest = record { file = database.file; line = lines_begun (l
 
 -- the message for a part of a value: a warning if it is a name to which no `@string` and no macro gives a text, or the very name that is being
 -- defined (`own`)
-abbrev pub name_messages : Database → Strings → Option (List ℕ) → Part → List Message
+abbrev pub name_messages : Database → List (List ℕ × List ℕ) → Option (List ℕ) → Part → List Message
 name_messages database strings own (Braced text) = []
 name_messages database strings own (Quoted text) = []
 name_messages database strings own (Digits text) = []
@@ -43,12 +43,12 @@ name_messages database strings own (Named string) =
     else if is_none (string_value strings string.name) then message.UndefinedString string.name (spot_at database string.rest) ∷ [] else []
 
 -- the messages of a value's names that stand for no string
-abbrev pub value_messages : Database → Strings → Option (List ℕ) → List Part → List Message
+abbrev pub value_messages : Database → List (List ℕ × List ℕ) → Option (List ℕ) → List Part → List Message
 value_messages database strings own value = flat_map (name_messages database strings own) value
 
 -- the messages for a field: that the entry has a value for it already, or one for each name of its value without a string; none if the entry
 -- isn't stored or the style doesn't declare the field
-abbrev pub field_messages : Request → Database → Strings → Option Given → Field → List ℕ → List Message
+abbrev pub field_messages : Request → Database → List (List ℕ × List ℕ) → Option Given → Field → List ℕ → List Message
 field_messages wanted database strings None field rest = []
 field_messages wanted database strings (Some given) field rest =
     if has_value wanted given field.name then message.ExtraField given.key field.name (spot_before database rest) ∷ []

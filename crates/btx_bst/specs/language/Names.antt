@@ -59,7 +59,3 @@ with_name kind.GlobalString name names = record names { global_strings = names.g
 abbrev pub with_function : ℕ → List ℕ → Names → Names
 with_function number name names =
     record names { functions = (names.functions ++ replicate (number - length names.functions) None) ++ Some name ∷ [] }
-
--- the macros: names in lower case, each with its text
-abbrev pub Macros : Type 0
-Macros = List (List ℕ × List ℕ)

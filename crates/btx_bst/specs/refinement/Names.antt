@@ -8,6 +8,10 @@ use Rattle.btx_bst.specs.language.Names.{Names}
 use Rattle.std.specs.Str.{bytes_eq}
 use Rattle.std.specs.Option.{option_map_or}
 
+-- the macros: names in lower case, each with its text
+abbrev pub Macros : Type 0
+Macros = List (List ℕ × List ℕ)
+
 -- a function, given its name, if it has one, is called `name`
 abbrev pub has_name : List ℕ → Option (List ℕ) → Bool
 has_name name other = option_map_or (bytes_eq name) other false
