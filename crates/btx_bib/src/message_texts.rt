@@ -1,7 +1,8 @@
 //! The lines of the log that tell messages.
 ghost use Rattle.std.specs.Prelude.{◌≡◌, ◌++◌, OnOk, IfOk, option_copied};
-ghost use Rattle.btx_bib.specs.language.MessageTexts.{message_kind, message_line, slip_text, spot_of, spot_text, message_text};
+ghost use Rattle.btx_bib.specs.language.MessageTexts.{message_kind, message_line, slip_text, spot_of, message_text};
 ghost use Rattle.btx_bib.specs.refinement.Wordings.{wording_text};
+ghost use Rattle.btx_bib.specs.refinement.MessageTexts.{spot_text};
 
 use crate::grammar::byte_sets::Delimiter;
 use crate::grammar::slip::Slip;

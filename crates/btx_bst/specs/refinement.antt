@@ -14,3 +14,4 @@ pub mod StyleText
 pub mod Words
 pub mod Lists
 pub mod Fronts
+pub mod Bodies
