@@ -3,6 +3,7 @@ ghost use Rattle.std.specs.Prelude.{◌≡◌, ◌++◌, IfOk, OnOk, codes, deci
 ghost use Rattle.std.specs.Option.{option_copied};
 ghost use Rattle.std.specs.Fmt.{signed_decimal};
 ghost use Rattle.btx_step.specs.language.Notes as spec;
+ghost use Rattle.btx_step.specs.refinement.Notes as kept_spec;
 
 use crate::literal::{Literal, Wanted};
 use crate::said::Note;
@@ -58,7 +59,7 @@ fn push_place_if(
     executed: &[u8],
     key: Option<&[u8]>,
 ) -> Result<(), AllocError>
-    ensures { OnOk result (text.new.items ≡ text.old.items ++ spec.place_if follows executed.now (option_copied key.entry)) }
+    ensures { OnOk result (text.new.items ≡ text.old.items ++ kept_spec.place_if follows executed.now (option_copied key.entry)) }
 {
     if follows {
         push_place(text, executed, key)
@@ -127,9 +128,8 @@ fn push_integer_before(text: &mut Vec<u8>, number: i32, after: &[u8]) -> Result<
 }
 
 // Appends that an integer is no code.
-#[tactic(auto, unfolding(crate::specs::language::Notes::not_ascii_text))]
 fn push_not_ascii(text: &mut Vec<u8>, number: i32) -> Result<(), AllocError>
-    ensures { OnOk result (text.new.items ≡ text.old.items ++ spec.not_ascii_text number) }
+    ensures { OnOk result (text.new.items ≡ text.old.items ++ (signed_decimal number ++ codes " isn't an ASCII code")) }
 {
     push_integer_before(text, number, b" isn't an ASCII code")
 }

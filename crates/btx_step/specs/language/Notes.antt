@@ -1,6 +1,6 @@
 -- The lines of the log that a style's execution gives. Their texts are this project's own, but for `Warning--`, which is the original's (btxhak,
 -- section 5.3, at `warning$`).
-use Rattle.std.specs.Prelude.{ℕ, ℤ, Bool, true, false, List, [], ◌++◌, Option, None, Some, codes, decimal}
+use Rattle.std.specs.Prelude.{ℕ, Bool, true, false, List, [], ◌++◌, Option, None, Some, codes, decimal, if◌then◌else◌}
 use Rattle.std.specs.Fmt.{signed_decimal}
 use Rattle.btx_text.specs.declared.log_line.LineKind.{LineKind}
 use Rattle.btx_text.specs.declared.log_line.LineKind.TheVariants.{Plain, Warning, Error}
@@ -30,10 +30,6 @@ kind_text wanted.Text = codes " is not a string"
 kind_text wanted.Function = codes " is not a function"
 kind_text wanted.TextOrMissing = codes " is not a string or missing field"
 
--- the text for an integer that `int.to.chr$` can't make a character of
-unfoldable pub not_ascii_text : ℤ → List ℕ
-not_ascii_text n = signed_decimal n ++ codes " isn't an ASCII code"
-
 -- where a message is met: the name of what is executed, and the key of the current entry if there is one
 unfoldable pub place_of : List ℕ → Option (List ℕ) → List ℕ
 place_of executed None = codes " while executing " ++ executed
@@ -49,7 +45,7 @@ note_text style note.Incomparable = codes "= needs two integers or two strings"
 note_text style note.Overflow = codes "Integer overflow"
 note_text style (note.NotAssignable f) = codes "You can't assign to " ++ name_of style.names f
 note_text style note.NoEntry = codes "You can't mess with entries here"
-note_text style (note.NotAscii n) = not_ascii_text n
+note_text style (note.NotAscii n) = signed_decimal n ++ codes " isn't an ASCII code"
 note_text style (note.NotOneCharacter text) = codes "\"" ++ text ++ codes "\" isn't a single character"
 note_text style (note.NoConversion text) = codes "\"" ++ text ++ codes "\" is an illegal case-conversion string"
 note_text style (note.NoSuchName n names) = codes "There is no name number " ++ signed_decimal n ++ codes " in \"" ++ names ++ codes "\""
@@ -74,11 +70,6 @@ has_place (note.Warning text) = false
 has_place (note.Shown v) = false
 has_place _ = true
 
--- the end of a message: the function that is executed and the key of the entry, if the message has a place
-abbrev pub place_if : Bool → List ℕ → Option (List ℕ) → List ℕ
-place_if true executed key = place_of executed key
-place_if false executed key = []
-
 -- a line of the log, met while a function is executed, in an entry of this key if there is one
 unfoldable pub note_line : Style → List ℕ → Option (List ℕ) → Note → Line
-note_line style executed key note = message (note_kind note) (note_text style note ++ place_if (has_place note) executed key)
+note_line style executed key note = message (note_kind note) (note_text style note ++ (if has_place note then place_of executed key else []))
