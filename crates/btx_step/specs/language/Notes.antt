@@ -9,7 +9,6 @@ use Rattle.btx_bst.specs.language.Names.{name_of}
 use Rattle.btx_bst.specs.language.Style.{Style}
 use Rattle.btx_stack.specs.declared.literal.Literal.{Literal}
 use Rattle.btx_stack.specs.declared.literal.Literal.TheVariants as literal
-use Rattle.btx_step.specs.declared.literal.Wanted.{Wanted}
 use Rattle.btx_step.specs.declared.literal.Wanted.TheVariants as wanted
 use Rattle.btx_step.specs.declared.said.Note.{Note}
 use Rattle.btx_step.specs.declared.said.Note.TheVariants as note
@@ -23,13 +22,6 @@ form_of style (literal.Text text) = codes "\"" ++ text ++ codes "\""
 form_of style (literal.Function f) = codes "'" ++ name_of style.names f
 form_of style literal.Missing = codes "missing field"
 
--- the text behind a literal that isn't of the kind that a function wanted
-abbrev pub kind_text : Wanted → List ℕ
-kind_text wanted.Integer = codes " is not an integer"
-kind_text wanted.Text = codes " is not a string"
-kind_text wanted.Function = codes " is not a function"
-kind_text wanted.TextOrMissing = codes " is not a string or missing field"
-
 -- where a message is met: the name of what is executed, and the key of the current entry if there is one
 unfoldable pub place_of : List ℕ → Option (List ℕ) → List ℕ
 place_of executed None = codes " while executing " ++ executed
@@ -40,7 +32,10 @@ place_of executed (Some key) = codes " while executing " ++ executed ++ codes " 
 -- the text of a log line, without `Warning--` or `Error--` before it and without its place
 unfoldable pub note_text : Style → Note → List ℕ
 note_text style note.EmptyStack = codes "You can't pop an empty literal stack"
-note_text style (note.WrongKind v wanted) = form_of style v ++ kind_text wanted
+note_text style (note.WrongKind v wanted.Integer) = form_of style v ++ codes " is not an integer"
+note_text style (note.WrongKind v wanted.Text) = form_of style v ++ codes " is not a string"
+note_text style (note.WrongKind v wanted.Function) = form_of style v ++ codes " is not a function"
+note_text style (note.WrongKind v wanted.TextOrMissing) = form_of style v ++ codes " is not a string or missing field"
 note_text style note.Incomparable = codes "= needs two integers or two strings"
 note_text style note.Overflow = codes "Integer overflow"
 note_text style (note.NotAssignable f) = codes "You can't assign to " ++ name_of style.names f
