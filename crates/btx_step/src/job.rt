@@ -1,7 +1,8 @@
 //! What a step reads and never changes.
 ghost use Rattle.std.specs.Prelude.{◌≡◌};
 ghost use Rattle.btx_bib.specs.language.Library.{key_of, entry_type};
-ghost use Rattle.btx_step.specs.language.Entries.{entry_of, runner_of, type_name};
+ghost use Rattle.btx_step.specs.language.Entries.{entry_of};
+ghost use Rattle.btx_step.specs.refinement.Entries.{type_name, runner_of};
 
 use crate::kept_bytes::KeptBytes;
 use btx_bib::Library;

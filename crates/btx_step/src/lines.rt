@@ -3,6 +3,7 @@ ghost use Rattle.std.specs.Prelude.{◌≡◌, ◌++◌, IfOk, OnOk, codes, deci
 ghost use Rattle.std.specs.Option.{option_copied};
 ghost use Rattle.std.specs.Fmt.{signed_decimal};
 ghost use Rattle.btx_step.specs.language.Notes as spec;
+ghost use Rattle.btx_step.specs.refinement.Notes as kept_spec;
 
 use crate::literal::{Literal, Wanted};
 use crate::said::Note;
@@ -58,7 +59,7 @@ fn push_place_if(
     executed: &[u8],
     key: Option<&[u8]>,
 ) -> Result<(), AllocError>
-    ensures { OnOk result (text.new.items ≡ text.old.items ++ spec.place_if follows executed.now (option_copied key.entry)) }
+    ensures { OnOk result (text.new.items ≡ text.old.items ++ kept_spec.place_if follows executed.now (option_copied key.entry)) }
 {
     if follows {
         push_place(text, executed, key)
@@ -127,9 +128,8 @@ fn push_integer_before(text: &mut Vec<u8>, number: i32, after: &[u8]) -> Result<
 }
 
 // Appends that an integer is no code.
-#[tactic(auto, unfolding(crate::specs::language::Notes::not_ascii_text))]
 fn push_not_ascii(text: &mut Vec<u8>, number: i32) -> Result<(), AllocError>
-    ensures { OnOk result (text.new.items ≡ text.old.items ++ spec.not_ascii_text number) }
+    ensures { OnOk result (text.new.items ≡ text.old.items ++ (signed_decimal number ++ codes " isn't an ASCII code")) }
 {
     push_integer_before(text, number, b" isn't an ASCII code")
 }
@@ -176,18 +176,6 @@ fn push_form(text: &mut Vec<u8>, style: &Style<'_>, value: &Literal<'_>) -> Resu
     }
 }
 
-// The kind of literal that was wanted.
-fn kind_text(wanted: Wanted) -> &'static [u8]
-    ensures { result.now ≡ spec.kind_text wanted }
-{
-    match wanted {
-        Wanted::Integer => b" is not an integer",
-        Wanted::Text => b" is not a string",
-        Wanted::Function => b" is not a function",
-        Wanted::TextOrMissing => b" is not a string or missing field",
-    }
-}
-
 // Appends the text of a line, without its place.
 #[tactic(auto, unfolding(crate::specs::language::Notes::note_text))]
 fn push_note(text: &mut Vec<u8>, style: &Style<'_>, note: &Note<'_>) -> Result<(), AllocError>
@@ -195,7 +183,18 @@ fn push_note(text: &mut Vec<u8>, style: &Style<'_>, note: &Note<'_>) -> Result<(
 {
     match note {
         Note::EmptyStack => text.extend_from_slice(b"You can't pop an empty literal stack"),
-        Note::WrongKind(value, wanted) => push_form_before(text, style, value, kind_text(*wanted)),
+        Note::WrongKind(value, Wanted::Integer) => {
+            push_form_before(text, style, value, b" is not an integer")
+        }
+        Note::WrongKind(value, Wanted::Text) => {
+            push_form_before(text, style, value, b" is not a string")
+        }
+        Note::WrongKind(value, Wanted::Function) => {
+            push_form_before(text, style, value, b" is not a function")
+        }
+        Note::WrongKind(value, Wanted::TextOrMissing) => {
+            push_form_before(text, style, value, b" is not a string or missing field")
+        }
         Note::Incomparable => text.extend_from_slice(b"= needs two integers or two strings"),
         Note::Overflow => text.extend_from_slice(b"Integer overflow"),
         Note::NotAssignable(function) => push_two(
