@@ -19,11 +19,10 @@ use Rattle.btx_bib.specs.language.Requests.{asked}
 use Rattle.btx_step.specs.language.Jobs.{Job}
 use Rattle.btx_machine.specs.refinement.Faults.{CountsOfLog, CountsOfOutputs}
 use Rattle.btx_machine.specs.language.KeepingStep.{AtFault, BothBegin, BothExtend, Completes}
-use Rattle.btx_machine.specs.language.Product.{Product, product_of, executed, style_product}
-use Rattle.btx_machine.specs.language.Reports.{last_line, log_counts}
+use Rattle.btx_machine.specs.language.Product.{Product, product_of, style_product}
+use Rattle.btx_machine.specs.language.Reports.{last_line}
 use Rattle.btx_machine.specs.language.Saying.{ended_line}
 use Rattle.btx_machine.specs.language.States.{Outcome, Done, Stopped, Limit}
-use Rattle.btx_machine.specs.language.Written.{Received}
 use Rattle.btx_machine.specs.declared.report.End.TheVariants.{NoTopFile}
 use Rattle.btx_machine.specs.declared.report.Report.{Report}
 use Rattle.btx_machine.specs.declared.report.LogCounts.{LogCounts}
@@ -42,8 +41,10 @@ use Rattle.btx_run.specs.language.Product.{product, product_of_files, product_of
 use Rattle.btx_run.specs.refinement.Product.{work_of}
 use Rattle.btx_machine.specs.refinement.KeepingStep.{LastLineBehindList, KeepsStep}
 use Rattle.btx_machine.specs.refinement.Outputs.{Journal}
-use Rattle.btx_machine.specs.refinement.Product.{product_early}
+use Rattle.btx_machine.specs.refinement.Product.{product_early, executed}
 use Rattle.btx_run.specs.refinement.Files.Counts.{counts_at}
+use Rattle.btx_machine.specs.refinement.Written.{Received}
+use Rattle.btx_machine.specs.laws.Reports.{log_counts}
 
 -- ---- what the style works on
 

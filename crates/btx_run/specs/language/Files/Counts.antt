@@ -2,7 +2,7 @@
 use Rattle.std.specs.Prelude.{ℕ, ◌-◌, ◌^◌, min, count_by, List}
 use Rattle.btx_text.specs.language.LogLines.{Line, is_error, is_warning}
 use Rattle.btx_machine.specs.declared.report.LogCounts.{LogCounts}
-use Rattle.btx_machine.specs.language.Reports.{log_counts}
+use Rattle.btx_machine.specs.laws.Reports.{log_counts}
 
 -- a number, or the greatest of 64 bits
 abbrev pub at_most_greatest : ℕ → ℕ

@@ -1,7 +1,7 @@
 -- The counts of a log that is being written.
 use Rattle.btx_machine.specs.refinement.Outputs.{Journal}
 use Rattle.btx_machine.specs.declared.report.LogCounts.{LogCounts}
-use Rattle.btx_machine.specs.language.Reports.{log_counts}
+use Rattle.btx_machine.specs.laws.Reports.{log_counts}
 
 -- how many of its lines so far are warnings, and how many errors
 abbrev pub counts_at : Journal → LogCounts
