@@ -34,17 +34,17 @@ use Rattle.btx_run.specs.declared.options.Options.{Options}
 use Rattle.btx_run.specs.language.Files.Counts.{counts_of}
 use Rattle.btx_run.specs.language.Files.Readings.{Logged, job_named}
 use Rattle.btx_run.specs.refinement.Files.Readings.{IsRead, files_read}
-use Rattle.btx_run.specs.language.Files.Telling.{bytes_of_lines}
-use Rattle.btx_run.specs.refinement.Files.Telling.{Tells}
-use Rattle.btx_run.specs.language.Contents.{database_of, style_in}
-use Rattle.btx_run.specs.language.Product.{product, product_of_files, product_of_reading, product_with, logged_before, work_in}
-use Rattle.btx_run.specs.refinement.Product.{work_of}
+use Rattle.btx_run.specs.refinement.Files.Telling.{Tells, bytes_of_lines}
+use Rattle.btx_run.specs.language.Contents.{style_in}
+use Rattle.btx_run.specs.language.Product.{product, product_of_files, product_with}
+use Rattle.btx_run.specs.refinement.Product.{work_of, work_in, logged_before, product_of_reading}
 use Rattle.btx_machine.specs.refinement.KeepingStep.{LastLineBehindList, KeepsStep}
 use Rattle.btx_machine.specs.refinement.Outputs.{Journal}
 use Rattle.btx_machine.specs.refinement.Product.{product_early, executed}
 use Rattle.btx_run.specs.refinement.Files.Counts.{counts_at}
 use Rattle.btx_machine.specs.refinement.Written.{Received}
 use Rattle.btx_machine.specs.laws.Reports.{log_counts}
+use Rattle.btx_run.specs.refinement.Contents.{database_of}
 
 -- ---- what the style works on
 
