@@ -4,8 +4,9 @@ ghost use Rattle.std.specs.Io.KnownBytes.{Appends};
 ghost use Rattle.btx_out.specs.language.Pieces.{AppendsBeginning};
 ghost use Rattle.btx_machine.specs.refinement.Closing.{Closes, ClosesPart, FinishedAt, FinishedPart};
 ghost use Rattle.btx_machine.specs.refinement.Faults.{CountsOfBoth, CountsOfLog, Writes};
-ghost use Rattle.btx_machine.specs.language.Reports.{end_as, last_line, report_of, log_counts};
+ghost use Rattle.btx_machine.specs.language.Reports.{end_as, last_line, report_of};
 ghost use Rattle.btx_machine.specs.language.Saying.{ended_line};
+ghost use Rattle.btx_machine.specs.laws.Reports.{log_counts};
 
 use crate::ending::Ending;
 use crate::outputs::Outputs;

@@ -6,8 +6,8 @@ ghost use Rattle.btx_bib.specs.language.MessageTexts.{message_line};
 ghost use Rattle.btx_step.specs.refinement.Answers.{silence};
 ghost use Rattle.btx_machine.specs.declared.ending.Ending.TheVariants.{Finished};
 ghost use Rattle.btx_machine.specs.language.Reports.{last_line};
-ghost use Rattle.btx_machine.specs.language.Saying.{ended_line, line_logged, note_lines, lines_logged, said_on};
-ghost use Rattle.btx_machine.specs.refinement.Saying.{current_key, wrote, pending_ended};
+ghost use Rattle.btx_machine.specs.language.Saying.{ended_line, lines_logged, said_on};
+ghost use Rattle.btx_machine.specs.refinement.Saying.{current_key, wrote, pending_ended, line_logged, note_lines};
 
 use crate::journal::Journal;
 use crate::report::{LogCounts, Report};

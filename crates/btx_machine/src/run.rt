@@ -7,8 +7,8 @@ ghost use Rattle.btx_step.specs.language.Starts.{first_store};
 ghost use Rattle.btx_machine.specs.refinement.Faults.{CountsOfBoth, CountsOfOutputs};
 ghost use Rattle.btx_machine.specs.language.KeepingStep.{AtFault, Completes};
 ghost use Rattle.btx_machine.specs.language.Product.{style_product};
-ghost use Rattle.btx_machine.specs.language.Reports.{log_counts};
 ghost use Rattle.btx_machine.specs.refinement.Written.{received};
+ghost use Rattle.btx_machine.specs.laws.Reports.{log_counts};
 
 use crate::items::do_items;
 use crate::journal::Journal;

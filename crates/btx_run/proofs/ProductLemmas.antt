@@ -19,11 +19,10 @@ use Rattle.btx_bib.specs.language.Requests.{asked}
 use Rattle.btx_step.specs.language.Jobs.{Job}
 use Rattle.btx_machine.specs.refinement.Faults.{CountsOfLog, CountsOfOutputs}
 use Rattle.btx_machine.specs.language.KeepingStep.{AtFault, BothBegin, BothExtend, Completes}
-use Rattle.btx_machine.specs.language.Product.{Product, product_of, executed, style_product}
-use Rattle.btx_machine.specs.language.Reports.{last_line, log_counts}
+use Rattle.btx_machine.specs.language.Product.{Product, product_of, style_product}
+use Rattle.btx_machine.specs.language.Reports.{last_line}
 use Rattle.btx_machine.specs.language.Saying.{ended_line}
 use Rattle.btx_machine.specs.language.States.{Outcome, Done, Stopped, Limit}
-use Rattle.btx_machine.specs.language.Written.{Received}
 use Rattle.btx_machine.specs.declared.report.End.TheVariants.{NoTopFile}
 use Rattle.btx_machine.specs.declared.report.Report.{Report}
 use Rattle.btx_machine.specs.declared.report.LogCounts.{LogCounts}
@@ -35,15 +34,17 @@ use Rattle.btx_run.specs.declared.options.Options.{Options}
 use Rattle.btx_run.specs.language.Files.Counts.{counts_of}
 use Rattle.btx_run.specs.language.Files.Readings.{Logged, job_named}
 use Rattle.btx_run.specs.refinement.Files.Readings.{IsRead, files_read}
-use Rattle.btx_run.specs.language.Files.Telling.{bytes_of_lines}
-use Rattle.btx_run.specs.refinement.Files.Telling.{Tells}
-use Rattle.btx_run.specs.language.Contents.{database_of, style_in}
-use Rattle.btx_run.specs.language.Product.{product, product_of_files, product_of_reading, product_with, logged_before, work_in}
-use Rattle.btx_run.specs.refinement.Product.{work_of}
+use Rattle.btx_run.specs.refinement.Files.Telling.{Tells, bytes_of_lines}
+use Rattle.btx_run.specs.language.Contents.{style_in}
+use Rattle.btx_run.specs.language.Product.{product, product_of_files, product_with}
+use Rattle.btx_run.specs.refinement.Product.{work_of, work_in, logged_before, product_of_reading}
 use Rattle.btx_machine.specs.refinement.KeepingStep.{LastLineBehindList, KeepsStep}
 use Rattle.btx_machine.specs.refinement.Outputs.{Journal}
-use Rattle.btx_machine.specs.refinement.Product.{product_early}
+use Rattle.btx_machine.specs.refinement.Product.{product_early, executed}
 use Rattle.btx_run.specs.refinement.Files.Counts.{counts_at}
+use Rattle.btx_machine.specs.refinement.Written.{Received}
+use Rattle.btx_machine.specs.laws.Reports.{log_counts}
+use Rattle.btx_run.specs.refinement.Contents.{database_of}
 
 -- ---- what the style works on
 

@@ -20,11 +20,10 @@ use Rattle.btx_run.specs.declared.files.found.FilesRead.{FilesRead}
 use Rattle.btx_run.specs.declared.files.found.FilesRead.TheVariants.{Ends, Found}
 use Rattle.btx_machine.specs.declared.ending.Limit.TheVariants as kind
 use Rattle.btx_machine.specs.declared.report.End.TheVariants as ended
-use Rattle.btx_run.specs.language.Files.Telling.{bytes_of_lines}
-use Rattle.btx_run.specs.refinement.Files.Telling.{LogReceived, Counted, Tells}
+use Rattle.btx_run.specs.refinement.Files.Telling.{LogReceived, Counted, Tells, bytes_of_lines}
 use Rattle.btx_run.specs.language.Files.Lines.{no_style_line, style_line}
-use Rattle.btx_run.specs.language.Files.Readings.{Logged, after_job, behind, database_logged, databases_read, databases_logged, files_found, logged, style_named, style_read}
-use Rattle.btx_run.specs.refinement.Files.Readings.{AddsAs, IsAdded, IsRead, ReadsAs, after_style, database_read}
+use Rattle.btx_run.specs.language.Files.Readings.{Logged, after_job, behind, databases_logged, files_found, logged, style_named, style_read}
+use Rattle.btx_run.specs.refinement.Files.Readings.{AddsAs, IsAdded, IsRead, ReadsAs, after_style, database_read, database_logged, databases_read}
 use Rattle.btx_run.proofs.TellingLemmas.{part_begins, rest_begins, tells_both, tells_nothing}
 use Rattle.std.specs.Prelude.{option_to_list}
 use Rattle.btx_run.specs.refinement.Files.Found.{named_file}

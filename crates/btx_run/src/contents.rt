@@ -3,7 +3,7 @@ ghost use Rattle.std.specs.Prelude.{◌≡◌, IfErr, IfOk, map};
 ghost use Rattle.btx_bib.specs.language.Databases.{library_of};
 ghost use Rattle.btx_bib.specs.language.Requests.{asked};
 ghost use Rattle.btx_bib.specs.refinement.Sources.{source_databases};
-ghost use Rattle.btx_run.specs.language.Contents.{database_of};
+ghost use Rattle.btx_run.specs.refinement.Contents.{database_of};
 
 use crate::files::found::FoundFiles;
 use btx_aux::AuxJob;

@@ -4,11 +4,11 @@ use Rattle.btx_machine.specs.refinement.Faults.{CountsOfOutputs}
 use Rattle.btx_machine.specs.language.KeepingStep.{AtFault, Completes}
 use Rattle.btx_machine.specs.refinement.Outputs.{Journal}
 use Rattle.btx_machine.specs.language.Product.{style_product}
-use Rattle.btx_machine.specs.language.Reports.{log_counts}
 use Rattle.btx_machine.proofs.ComesLemmas.{on_err}
 use Rattle.btx_machine.proofs.EdgeLemmas.{ends_as, of_equals, pair_is}
 use Rattle.btx_machine.proofs.RunLemmas.{nothing_written}
 use Rattle.btx_machine.proofs.run.execute_style.Goals as goal
+use Rattle.btx_machine.specs.laws.Reports.{log_counts}
 
 pub returns-in_err-store-clause-err : goal.returns-in_err-store-clause-err
 returns-in_err-store-clause-err g c = on_err c.from_residual.result (nothing_written (g.W.Sink.received c.args.bbl.now, g.L.Sink.received c.args.log.now) (style_product c.args.job.now c.args.counts c.args.line) c.args.budget)

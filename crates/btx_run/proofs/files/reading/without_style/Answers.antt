@@ -1,10 +1,10 @@
 use Rattle.std.proofs.Common.{rules, ◌∷◌, [], subst}
 use Rattle.btx_out.specs.language.Pieces.{AppendsBeginning}
 use Rattle.btx_run.specs.language.Files.Lines.{no_style_line}
-use Rattle.btx_run.specs.language.Files.Telling.{bytes_of_lines}
 use Rattle.btx_run.proofs.ReadingLemmas.{reads_is, reads_part, style_is_missed, style_missed}
 use Rattle.btx_run.proofs.TellingLemmas.{line_begun, tells_line}
 use Rattle.btx_run.proofs.files.reading.without_style.Goals as goal
+use Rattle.btx_run.specs.refinement.Files.Telling.{bytes_of_lines}
 
 pub returns-in_err-tell-clause-reads : goal.returns-in_err-tell-clause-reads
 returns-in_err-tell-clause-reads g c = λ files job.
