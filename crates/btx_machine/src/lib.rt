@@ -18,7 +18,7 @@ pub mod visits;
 pub mod work;
 
 pub use command::Command;
-pub use ending::{Ending, Limit};
+pub use ending::Ending;
 pub use journal::Journal;
 pub use last::tell_end;
 pub use law::{

@@ -27,14 +27,14 @@ mod variables;
 use crate::calculation::Calculation;
 use crate::job::Job;
 use crate::literal::{Literal, Wanted};
-use crate::next::{Limit, Next};
+use crate::next::Next;
 use crate::said::{Note, Notes, Said};
 use crate::stand_in::StandIn;
 use crate::values::EntryValues;
 use btx_bst::{BuiltIn, Callee, Token};
 use btx_names::NameFormatter;
 use btx_stack::{Literals, Variable};
-use btx_text::GREATEST_STRING;
+use btx_text::{GREATEST_STRING, Limit};
 use std::alloc::{AllocError, Global};
 use std::marker::Model;
 

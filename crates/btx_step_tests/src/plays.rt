@@ -3,8 +3,8 @@ use btx_aux::{AuxJob, MemoryFinder, read_aux};
 use btx_bib::{Library, Source, read_databases};
 use btx_bst::{Style, Token, read_style};
 use btx_step::lines::line_of;
-use btx_step::{Job, KeptBytes, Limit, Next, Note, Said, Store};
-use btx_text::{Fault, TextMode};
+use btx_step::{Job, KeptBytes, Next, Note, Said, Store};
+use btx_text::{Fault, Limit, TextMode};
 use std::alloc::{AllocError, Global};
 
 /// Two entries are cited, the second of a type that the style doesn't know.

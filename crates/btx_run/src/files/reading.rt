@@ -18,9 +18,9 @@ use crate::files::lines::{no_style_line, style_line};
 use crate::files::names::{is_too_long, top_name};
 use crate::files::telling::tell_all;
 use btx_aux::{AuxJob, End as AuxEnd, Finder, read_aux};
-use btx_machine::{End, Journal, Limit};
+use btx_machine::{End, Journal};
 use btx_out::Sink;
-use btx_text::Fault;
+use btx_text::{Fault, Limit};
 use std::alloc::Global;
 
 /// Reads the `.aux` files of the job of this name, which may end in `.aux`.
