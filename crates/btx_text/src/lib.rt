@@ -24,7 +24,7 @@ pub use depths::depth_at;
 pub use element_kind::{Kind, TextMode};
 pub use fault::Fault;
 pub use keys::{fold_key, same_key};
-pub use limits::{GREATEST_FILE, GREATEST_STRING, Limit};
+pub use limits::{GREATEST_FILE, GREATEST_STRING, Limit, MOST_LITERALS};
 pub use log_line::{LineKind, LogLine, LogLines};
 pub use log_texts::Place;
 pub use string_elements::{Element, Elements};

@@ -17,6 +17,9 @@ pub enum Limit {
     Files,
 }
 
+/// The greatest number of literals on the stack.
+pub const MOST_LITERALS: usize = 1_000;
+
 /// The greatest length of a string, in bytes.
 pub const GREATEST_STRING: usize = 1_000_000;
 

@@ -3,6 +3,7 @@
 -- the finder's content has it and fewer than 20 files are open; the events of an opened file follow at once.
 use Rattle.std.specs.Prelude.{ℕ, zero, suc, ◌+◌, ◌-◌, not, ◌&&◌, Bool, true, false, List, [], ◌∷◌, ◌++◌, map, Option, None, Some, if◌then◌else◌, codes}
 use Rattle.std.specs.List.{flat_map}
+use Rattle.btx_aux.specs.declared.reading.TheConstants.{MOST_OPEN}
 use Rattle.btx_text.specs.language.Limits.{is_too_long}
 use Rattle.btx_text.specs.language.Lines.{lines_of}
 use Rattle.btx_aux.specs.language.Files.{Files}
@@ -84,7 +85,7 @@ opened files (suc room) earlier name text =
 -- the events of the top file and of the files that it opens, given its text; without a text, that it is missing
 abbrev pub from_top : Files → List ℕ → Option (List ℕ) → List AuxEvent
 from_top files top None = event_at top 0 NoTop ∷ []
-from_top files top (Some text) = opened files 20 [] top text
+from_top files top (Some text) = opened files MOST_OPEN [] top text
 
 -- the events up to the first that ends the reading
 abbrev pub until_end : List AuxEvent → List AuxEvent
