@@ -35,8 +35,8 @@ use Rattle.btx_run.specs.declared.options.Options.{Options}
 use Rattle.btx_run.specs.language.Files.Counts.{counts_of}
 use Rattle.btx_run.specs.language.Files.Readings.{Logged, job_named}
 use Rattle.btx_run.specs.refinement.Files.Readings.{IsRead, files_read}
-use Rattle.btx_run.specs.language.Files.Telling.{bytes_of_lines}
-use Rattle.btx_run.specs.refinement.Files.Telling.{Tells}
+use Rattle.btx_run.specs.language.Files.Logging.{bytes_of_lines}
+use Rattle.btx_run.specs.refinement.Files.Logging.{Logs}
 use Rattle.btx_run.specs.language.Contents.{database_of, style_in}
 use Rattle.btx_run.specs.language.Product.{product, product_of_files, product_of_reading, product_with, logged_before, work_in}
 use Rattle.btx_run.specs.refinement.Product.{work_of}
@@ -160,7 +160,7 @@ fails_in_lines lines b l m make budget part = record { beginnings = begins budge
 
 -- what was logged, by the counts of its lines
 pub counts_of_lines : (warnings errors : ℕ) (first counts : LogCounts) (log : Received) (lines : List Line)
-    → warnings ≡ counts.warnings → errors ≡ counts.errors → first ≡ counts_of [] → Tells (first, counts) log lines → log_counts warnings errors ≡ counts_of lines
+    → warnings ≡ counts.warnings → errors ≡ counts.errors → first ≡ counts_of [] → Logs (first, counts) log lines → log_counts warnings errors ≡ counts_of lines
 counts_of_lines warnings errors first counts log lines is_warnings is_errors new tells =
     ap (λ warnings. log_counts warnings errors) is_warnings
     ∙ ap (log_counts counts.warnings) is_errors

@@ -6,7 +6,7 @@ use Rattle.btx_bst.specs.language.StyleText.{style_of}
 use Rattle.btx_bib.specs.language.Databases.{library_of}
 use Rattle.btx_bib.specs.language.Library.{Library}
 use Rattle.btx_bib.specs.language.Requests.{asked}
-use Rattle.btx_bib.specs.language.Told.{Database}
+use Rattle.btx_bib.specs.language.Messages.{Database}
 use Rattle.btx_run.specs.declared.files.found.JobFiles.{JobFiles}
 use Rattle.btx_run.specs.language.Files.Found.{NamedFile}
 

@@ -15,7 +15,7 @@ use Rattle.btx_run.specs.declared.options.Options.{Options}
 use Rattle.btx_run.specs.language.Files.Counts.{counts_of}
 use Rattle.btx_run.specs.language.Files.Readings.{Logged, job_named, reading_of}
 use Rattle.btx_run.specs.language.Contents.{library_in, style_in}
-use Rattle.btx_run.specs.language.Files.Telling.{bytes_of_lines}
+use Rattle.btx_run.specs.language.Files.Logging.{bytes_of_lines}
 
 -- what the machine works on: the style and the library of the files that were found, and what was asked
 abbrev pub work_in : AuxJob → JobFiles → Options → Job
