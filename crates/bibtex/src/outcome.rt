@@ -65,7 +65,7 @@ mod tests {
     use btx_run::{End, Limit};
 
     #[test]
-    fn tells_each_status(rt: HostRuntime) {
+    fn gives_each_status(rt: HostRuntime) {
         for (end, errors, status) in [
             (End::Finished, 0, 0),
             (End::Finished, 1, 2),

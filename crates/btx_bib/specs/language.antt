@@ -9,6 +9,6 @@ pub mod Passes
 pub mod Requests
 pub mod Strings
 pub mod Known
-pub mod Told
+pub mod Messages
 pub mod Databases
 pub mod MessageTexts

@@ -15,7 +15,7 @@ pub mod Readings
 pub mod Steps
 pub mod Wordings
 pub mod Passes
-pub mod Told
+pub mod Messages
 pub mod Known
 pub mod Databases
 pub mod Entries

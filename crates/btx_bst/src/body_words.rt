@@ -12,7 +12,7 @@ use crate::callee::Callee;
 use crate::complaint::Complaint;
 use crate::cursor::Cursor;
 use crate::item::Item;
-use crate::message::told;
+use crate::message::logged;
 use crate::name::Name;
 use crate::names::Names;
 use crate::open::Open;
@@ -88,7 +88,7 @@ fn turn<'a>(
                 Ok(Turn::Again)
             }
             None => {
-                items.push(told(Complaint::Unknown(name), cursor.number()))?;
+                items.push(logged(Complaint::Unknown(name), cursor.number()))?;
                 Ok(Turn::Again)
             }
         },
@@ -98,12 +98,12 @@ fn turn<'a>(
                 Ok(Turn::Again)
             }
             None => {
-                items.push(told(Complaint::Unknown(name), cursor.number()))?;
+                items.push(logged(Complaint::Unknown(name), cursor.number()))?;
                 Ok(Turn::Again)
             }
         },
         Word::Faulty(complaint) => {
-            items.push(told(complaint, cursor.number()))?;
+            items.push(logged(complaint, cursor.number()))?;
             Ok(Turn::Again)
         }
         Word::Unended => Ok(Turn::Broken(Complaint::NoQuoteEnd)),

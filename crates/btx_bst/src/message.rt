@@ -40,7 +40,7 @@ impl<'a> Message<'a> {
 }
 
 /// The item for a message.
-pub fn told(complaint: Complaint<'_>, line: usize) -> Item<'_>
+pub fn logged(complaint: Complaint<'_>, line: usize) -> Item<'_>
     ensures { item_view result ≡ spec.Message (complaint_view complaint.entry) line }
 {
     Item::Message(Message { complaint, line })

@@ -13,7 +13,7 @@ use crate::command::Command;
 use crate::complaint::Complaint;
 use crate::cursor::Cursor;
 use crate::draft::Draft;
-use crate::message::told;
+use crate::message::logged;
 use crate::name::Name;
 use std::alloc::{AllocError, Global};
 
@@ -46,7 +46,7 @@ fn item<'a>(
         return Ok(false);
     }
     if let Some(complaint) = command(alloc, cursor, draft)? {
-        draft.items.push(told(complaint, cursor.number()))?;
+        draft.items.push(logged(complaint, cursor.number()))?;
         cursor.skip();
     }
     Ok(true)

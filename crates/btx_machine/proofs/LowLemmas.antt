@@ -21,7 +21,7 @@ use Rattle.btx_stack.specs.declared.literal.Literal.{Literal}
 use Rattle.btx_stack.specs.declared.literal.Literal.TheVariants as literal
 use Rattle.btx_step.specs.declared.literal.Wanted.{Wanted}
 use Rattle.btx_step.specs.declared.literal.Wanted.TheVariants as wanted
-use Rattle.btx_step.specs.declared.next.Limit.TheVariants as limit
+use Rattle.btx_text.specs.declared.limits.Limit.TheVariants as limit
 use Rattle.btx_step.specs.declared.next.Next.{Next}
 use Rattle.btx_step.specs.declared.next.Next.TheVariants as next
 use Rattle.btx_step.specs.declared.said.Note.{Note}

@@ -7,7 +7,7 @@ ghost use Rattle.btx_machine.specs.refinement.Faults.{CountsOfLog};
 ghost use Rattle.btx_machine.specs.language.Reports.{last_line};
 ghost use Rattle.btx_machine.specs.language.Saying.{counted_if, ended_line};
 
-use crate::last::tell_end;
+use crate::last::log_end;
 use crate::report::{LogCounts, Report};
 use btx_out::{Log, Sink};
 use btx_text::{Fault, LineKind, LogLine};
@@ -62,7 +62,7 @@ impl<'s, L: Sink> Journal<'s, L> {
     }
 
     /// Writes a line, and counts it. The only fault is the device's; the log then received a prefix of the line.
-    pub fn tell(&mut self, line: &LogLine) -> Result<(), Fault>
+    pub fn log_one(&mut self, line: &LogLine) -> Result<(), Fault>
         ensures ok { OnOk result (Appends self.old.sink.received self.new.sink.received (ended_line line.now.text)) }
         ensures err { OnErr result (AppendsBeginning self.old.sink.received self.new.sink.received (ended_line line.now.text)) }
         ensures fault { IfErr result (λ fault. fault ≡ Fault.Device) }
@@ -96,7 +96,7 @@ impl<'s, L: Sink> Journal<'s, L> {
         ensures sink { self.new.sink.name ≡ self.old.sink.name }
         ensures counts { CountsOfLog result (self.old.sink.failures, self.new.sink.failures) }
     {
-        tell_end(alloc, report, self.sink)
+        log_end(alloc, report, self.sink)
     }
 
     /// Gives the sink back.

@@ -35,7 +35,7 @@ fn last_line(alloc: Global, report: &Report) -> Result<Vec<u8>, AllocError>
 }
 
 /// Writes the last line of the log, and answers the report that it gives: the whole end of a run whose style isn't executed.
-pub fn tell_end<L: Sink>(alloc: Global, report: Report, log: &mut L) -> Result<Report, Fault>
+pub fn log_end<L: Sink>(alloc: Global, report: Report, log: &mut L) -> Result<Report, Fault>
     ensures report { IfOk result (λ answer. answer ≡ report) }
     ensures ok { OnOk result (Appends (L.received log.old) (L.received log.new) (ended_line (last_line report))) }
     ensures err { OnErr result (AppendsBeginning (L.received log.old) (L.received log.new) (ended_line (last_line report))) }

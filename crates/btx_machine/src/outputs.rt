@@ -130,7 +130,7 @@ impl<'s, W: Sink, L: Sink> Outputs<'s, W, L> {
         self.breaker.newline(self.bbl)
     }
 
-    // Tells what is noted while a function of this name is executed.
+    // Logs what is noted while a function of this name is executed.
     fn note_all(
         &mut self,
         alloc: Global,
@@ -147,13 +147,13 @@ impl<'s, W: Sink, L: Sink> Outputs<'s, W, L> {
         let key = key_at(job, current);
         for note in notes {
             let line = line_of(alloc, job.style(), executed, key, note)?;
-            self.tell(&line)?;
+            self.log_one(&line)?;
         }
         Ok(())
     }
 
-    /// Tells messages of the databases, one after another; no more than one's line is held at a time.
-    pub fn tell_messages(&mut self, alloc: Global, messages: &[Message<'_>]) -> Result<(), Fault>
+    /// Logs messages of the databases, one after another; no more than one's line is held at a time.
+    pub fn log_messages(&mut self, alloc: Global, messages: &[Message<'_>]) -> Result<(), Fault>
         ensures ok { OnOk result (Becomes self.old self.new (λ out. lines_logged (map message_line messages.now) out)) }
         ensures err { OnErr result (Stops self.old self.new (λ out. lines_logged (map message_line messages.now) out)) }
         ensures breaker { self.new.breaker ≡ self.old.breaker }
@@ -161,19 +161,19 @@ impl<'s, W: Sink, L: Sink> Outputs<'s, W, L> {
     {
         for message in messages {
             let line = message.log_line(alloc)?;
-            self.tell(&line)?;
+            self.log_one(&line)?;
         }
         Ok(())
     }
 
-    /// Tells a line of the log.
-    pub fn tell(&mut self, line: &LogLine) -> Result<(), Fault>
+    /// Logs a line of the log.
+    pub fn log_one(&mut self, line: &LogLine) -> Result<(), Fault>
         ensures ok { OnOk result (Becomes self.old self.new (λ out. line_logged line.now out)) }
         ensures err { OnErr result (Stops self.old self.new (λ out. line_logged line.now out)) }
         ensures breaker { self.new.breaker ≡ self.old.breaker }
         ensures counts { CountsOfBoth result self.old self.new }
     {
-        self.log.tell(line)
+        self.log.log_one(line)
     }
 
     /// Ends the pending line of a run that finished, if there is anything in it.

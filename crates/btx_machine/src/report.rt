@@ -2,7 +2,8 @@
 ghost use Rattle.std.specs.Prelude.{◌≡◌};
 ghost use Rattle.btx_machine.specs.language.Reports.{end_as, report_of, status_of, end_word};
 
-use crate::ending::{Ending, Limit};
+use crate::ending::Ending;
+use btx_text::Limit;
 
 /// How a run ends.
 #[derive(Clone, Copy, Debug, PartialEq, Eq)]

@@ -16,7 +16,7 @@ use Rattle.btx_bib.specs.language.Library.{entry_type}
 use Rattle.btx_bib.specs.language.Listing.{slot_of, slots_of, list_keys}
 use Rattle.btx_bib.specs.language.Passes.{passed, slot_at, parent_at, inherited_from, inherited, is_parent, without_crossref, checked, entry_at, after_first, after_second, entries_of}
 use Rattle.btx_bib.specs.language.Stored.{entry_with_key}
-use Rattle.btx_bib.specs.language.Told.{Database}
+use Rattle.btx_bib.specs.language.Messages.{Database}
 use Rattle.btx_bib.specs.language.Wanted.{Request}
 use Rattle.btx_bib.specs.laws.Databases.{read_all}
 use Rattle.btx_bib.specs.refinement.Passes.{checked_by, parent_slot, entry_by, with_field_values}

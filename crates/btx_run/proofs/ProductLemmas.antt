@@ -34,10 +34,12 @@ use Rattle.btx_run.specs.declared.options.Options.{Options}
 use Rattle.btx_run.specs.language.Files.Counts.{counts_of}
 use Rattle.btx_run.specs.language.Files.Readings.{Logged, job_named}
 use Rattle.btx_run.specs.refinement.Files.Readings.{IsRead, files_read}
-use Rattle.btx_run.specs.refinement.Files.Telling.{Tells, bytes_of_lines}
 use Rattle.btx_run.specs.language.Contents.{style_in}
+use Rattle.btx_run.specs.language.Files.Logging.{bytes_of_lines}
 use Rattle.btx_run.specs.language.Product.{product, product_of_files, product_with}
-use Rattle.btx_run.specs.refinement.Product.{work_of, work_in, logged_before, product_of_reading}
+use Rattle.btx_run.specs.refinement.Files.Logging.{Logs}
+use Rattle.btx_run.specs.refinement.Files.Telling.{bytes_of_lines}
+use Rattle.btx_run.specs.refinement.Product.{logged_before, product_of_reading, work_in, work_of}
 use Rattle.btx_machine.specs.refinement.KeepingStep.{LastLineBehindList, KeepsStep}
 use Rattle.btx_machine.specs.refinement.Outputs.{Journal}
 use Rattle.btx_machine.specs.refinement.Product.{product_early, executed}
@@ -161,7 +163,7 @@ fails_in_lines lines b l m make budget part = record { beginnings = begins budge
 
 -- what was logged, by the counts of its lines
 pub counts_of_lines : (warnings errors : ℕ) (first counts : LogCounts) (log : Received) (lines : List Line)
-    → warnings ≡ counts.warnings → errors ≡ counts.errors → first ≡ counts_of [] → Tells (first, counts) log lines → log_counts warnings errors ≡ counts_of lines
+    → warnings ≡ counts.warnings → errors ≡ counts.errors → first ≡ counts_of [] → Logs (first, counts) log lines → log_counts warnings errors ≡ counts_of lines
 counts_of_lines warnings errors first counts log lines is_warnings is_errors new tells =
     ap (λ warnings. log_counts warnings errors) is_warnings
     ∙ ap (log_counts counts.warnings) is_errors

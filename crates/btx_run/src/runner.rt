@@ -26,7 +26,7 @@ use btx_aux::{AuxJob, Finder};
 use btx_bib::Library;
 use btx_bst::{Style, read_style};
 use btx_machine::report::report_of;
-use btx_machine::{Journal, LogCounts, Report, execute_style, tell_end};
+use btx_machine::{Journal, LogCounts, Report, execute_style, log_end};
 use btx_out::Sink;
 use btx_step::Job;
 use btx_text::Fault;
@@ -103,7 +103,7 @@ fn after_files<'a, W: Sink, L: Sink>(
     ensures counts { CountsOfOutputs result (W.failures bbl.old, W.failures bbl.new) (L.failures log.old, L.failures log.new) }
 {
     match read {
-        FilesRead::Ends(end) => tell_end(alloc, report_of(end, 0, 0, counts), log),
+        FilesRead::Ends(end) => log_end(alloc, report_of(end, 0, 0, counts), log),
         FilesRead::Found(found) => execute_found(alloc, job, &found, options, counts, bbl, log),
     }
 }

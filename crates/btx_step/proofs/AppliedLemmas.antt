@@ -79,10 +79,10 @@ record Fails (operands : List Operand) (does : Does operands) (xs : List Literal
   is : applied operands does xs ≡ None
 
 -- where the first one fits, what is told is told of the others
-told_later : (operand : Operand) (more : List Operand) (x : Literal) (xs : List Literal) (value : Value operand) → seen_as operand x ≡ Some value
+logged_later : (operand : Operand) (more : List Operand) (x : Literal) (xs : List Literal) (value : Value operand) → seen_as operand x ≡ Some value
     → complaints (operand ∷ more) (x ∷ xs) ≡ complaints more xs
-told_later Any more x xs value e = refl
-told_later (Of kind) more x xs value e = ap (λ o. or_else (absent more xs) (misfit_notes o (note.WrongKind x kind) (wrong more xs))) e
+logged_later Any more x xs value e = refl
+logged_later (Of kind) more x xs value e = ap (λ o. or_else (absent more xs) (misfit_notes o (note.WrongKind x kind) (wrong more xs))) e
 
 module _ (operand : Operand) (more : List Operand) (does : Does (operand ∷ more)) (x : Literal) (xs : List Literal) (value : Value operand) (same : x ≡ operand_literal operand value) (seen : seen_as operand x ≡ Some value) where
   go_on : applied (operand ∷ more) does (x ∷ xs) ≡ applied more (does value) xs
@@ -99,7 +99,7 @@ module _ (operand : Operand) (more : List Operand) (does : Does (operand ∷ mor
 
   why_later : AreMissing more xs (complaints more xs) ⊎ IsWrong more xs (complaints more xs)
       → AreMissing (operand ∷ more) (x ∷ xs) (complaints (operand ∷ more) (x ∷ xs)) ⊎ IsWrong (operand ∷ more) (x ∷ xs) (complaints (operand ∷ more) (x ∷ xs))
-  why_later (inl h) = let others = h.others in inl (record { missing = h.missing; some = h.some; others = omega (arith, others); logged = told_later operand more x xs value seen ∙ h.logged })
+  why_later (inl h) = let others = h.others in inl (record { missing = h.missing; some = h.some; others = omega (arith, others); logged = logged_later operand more x xs value seen ∙ h.logged })
   why_later (inr h) = let there = h.there in inr (record {
     place = suc h.place;
     kind = h.kind;
@@ -110,7 +110,7 @@ module _ (operand : Operand) (more : List Operand) (does : Does (operand ∷ mor
     misfits = h.misfits;
     above = (value, h.above);
     fit = ap (λ y. y ∷ take h.place xs) same ∙ ap (λ ys. operand_literal operand value ∷ ys) h.fit;
-    logged = told_later operand more x xs value seen ∙ h.logged;
+    logged = logged_later operand more x xs value seen ∙ h.logged;
   })
 
   later : Fits more (does value) xs ⊎ Fails more (does value) xs → Fits (operand ∷ more) does (x ∷ xs) ⊎ Fails (operand ∷ more) does (x ∷ xs)
@@ -119,8 +119,8 @@ module _ (operand : Operand) (more : List Operand) (does : Does (operand ∷ mor
 
 module _ (kind : Wanted) (more : List Operand) (x : Literal) (xs : List Literal) (none : seen_as (Of kind) x ≡ None) where
   -- it is told, unless another one isn't there
-  told_here : (notes : List Note) → absent more xs ≡ notes → complaints (Of kind ∷ more) (x ∷ xs) ≡ or_else notes (note.WrongKind x kind ∷ [])
-  told_here notes e = ap (λ o. or_else (absent more xs) (misfit_notes o (note.WrongKind x kind) (wrong more xs))) none ∙ ap (λ l. or_else l (note.WrongKind x kind ∷ [])) e
+  logged_here : (notes : List Note) → absent more xs ≡ notes → complaints (Of kind ∷ more) (x ∷ xs) ≡ or_else notes (note.WrongKind x kind ∷ [])
+  logged_here notes e = ap (λ o. or_else (absent more xs) (misfit_notes o (note.WrongKind x kind) (wrong more xs))) none ∙ ap (λ l. or_else l (note.WrongKind x kind ∷ [])) e
 
   why_here : Enough more xs ⊎ Few more xs
       → AreMissing (Of kind ∷ more) (x ∷ xs) (complaints (Of kind ∷ more) (x ∷ xs)) ⊎ IsWrong (Of kind ∷ more) (x ∷ xs) (complaints (Of kind ∷ more) (x ∷ xs))
@@ -134,9 +134,9 @@ module _ (kind : Wanted) (more : List Operand) (x : Literal) (xs : List Literal)
     misfits = misfit kind x none;
     above = tt;
     fit = refl;
-    logged = told_here [] e.1;
+    logged = logged_here [] e.1;
   })
-  why_here (inr e) = let others = e.1 in inl (record { missing = suc e.0; some = omega arith; others = omega (arith, others); logged = told_here _ e.2 })
+  why_here (inr e) = let others = e.1 in inl (record { missing = suc e.0; some = omega arith; others = omega (arith, others); logged = logged_here _ e.2 })
 
 abbrev Verdict : (operands : List Operand) → Does operands → List Literal → Type 0
 Verdict operands does xs = Fits operands does xs ⊎ Fails operands does xs

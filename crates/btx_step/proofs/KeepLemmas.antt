@@ -8,7 +8,7 @@ use Rattle.btx_stack.specs.declared.literal.Literal.{Literal}
 use Rattle.btx_stack.specs.declared.literal.Literal.TheVariants.{Integer, Text}
 use Rattle.btx_step.specs.declared.next.Next.{Next}
 use Rattle.btx_step.specs.declared.next.Next.TheVariants as next
-use Rattle.btx_step.specs.declared.next.Limit.TheVariants as limit
+use Rattle.btx_text.specs.declared.limits.Limit.TheVariants as limit
 use Rattle.btx_step.specs.declared.said.Note.{Note}
 use Rattle.btx_step.specs.declared.said.Note.TheVariants as note
 use Rattle.btx_step.specs.declared.said.Said.{Said}

@@ -6,7 +6,7 @@ use Rattle.btx_bst.specs.declared.built_in.BuiltIn.TheVariants as built_in
 use Rattle.btx_bst.specs.declared.callee.Callee.TheVariants as callee
 use Rattle.btx_stack.specs.declared.literal.Literal.{Literal}
 use Rattle.btx_stack.specs.declared.literal.Literal.TheVariants.{Integer, Text}
-use Rattle.btx_step.specs.declared.next.Limit.TheVariants as limit
+use Rattle.btx_text.specs.declared.limits.Limit.TheVariants as limit
 use Rattle.btx_step.specs.declared.next.Next.TheVariants as next
 use Rattle.btx_step.specs.declared.said.Said.TheVariants as said
 use Rattle.btx_step.specs.language.Jobs.{Job}

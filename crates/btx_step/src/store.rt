@@ -27,14 +27,14 @@ mod variables;
 use crate::calculation::Calculation;
 use crate::job::Job;
 use crate::literal::{Literal, Wanted};
-use crate::next::{Limit, Next};
+use crate::next::Next;
 use crate::said::{Note, Notes, Said};
 use crate::stand_in::StandIn;
 use crate::values::EntryValues;
 use btx_bst::{BuiltIn, Callee, Token};
 use btx_names::NameFormatter;
 use btx_stack::{Literals, Variable};
-use btx_text::GREATEST_STRING;
+use btx_text::{GREATEST_STRING, Limit};
 use std::alloc::{AllocError, Global};
 use std::marker::Model;
 
@@ -282,7 +282,7 @@ impl<'a> Store<'a> {
 
     // A line of the log, and what stands in for a result.
     #[cold]
-    fn tell(
+    fn log_note(
         &mut self,
         note: Note<'a>,
         instead: StandIn,
@@ -296,7 +296,7 @@ impl<'a> Store<'a> {
 
     // The stack was empty, so many times.
     #[cold]
-    fn tell_lack(
+    fn log_lack(
         &mut self,
         missing: usize,
         instead: StandIn,
@@ -311,7 +311,7 @@ impl<'a> Store<'a> {
 
     // A literal of another kind was wanted.
     #[cold]
-    fn tell_refusal(
+    fn log_refusal(
         &mut self,
         value: Literal<'a>,
         wanted: Wanted,
@@ -320,7 +320,7 @@ impl<'a> Store<'a> {
     ) -> Result<Next, AllocError>
         ensures { IfOk result (λ next. answer next said.new self.new ≡ refuses value.entry wanted instead self.old) }
     {
-        self.tell(Note::WrongKind(value, wanted), instead, said)
+        self.log_note(Note::WrongKind(value, wanted), instead, said)
     }
 
     // What a function says where something is wrong. Each of these calls takes the answer of the one behind it apart: so the answer of a function
@@ -336,7 +336,7 @@ impl<'a> Store<'a> {
     ) -> Result<Next, AllocError>
         ensures { IfOk result (λ next. answer next said.new self.new ≡ complains note.entry instead self.old) }
     {
-        let next = self.tell(note, instead, said)?;
+        let next = self.log_note(note, instead, said)?;
         Ok(next)
     }
 
@@ -351,7 +351,7 @@ impl<'a> Store<'a> {
         requires { self.old.literals ≡ [] }
         ensures { IfOk result (λ next. answer next said.new self.new ≡ lacks missing instead self.old) }
     {
-        let next = self.tell_lack(missing, instead, said)?;
+        let next = self.log_lack(missing, instead, said)?;
         Ok(next)
     }
 
@@ -366,7 +366,7 @@ impl<'a> Store<'a> {
     ) -> Result<Next, AllocError>
         ensures { IfOk result (λ next. answer next said.new self.new ≡ refuses value.entry wanted instead self.old) }
     {
-        let next = self.tell_refusal(value, wanted, instead, said)?;
+        let next = self.log_refusal(value, wanted, instead, said)?;
         Ok(next)
     }
 

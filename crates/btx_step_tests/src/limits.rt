@@ -107,7 +107,7 @@ fn the_longest_string_and_one_byte_more(rt: HostRuntime) -> Result<(), Fail> {
 }
 
 #[test]
-fn what_ends_a_run_tells_nothing_else(rt: HostRuntime) -> Result<(), Fail> {
+fn what_ends_a_run_logs_nothing_else(rt: HostRuntime) -> Result<(), Fail> {
     let comma = [
         ("\"", 1),
         ("x", 600_000),

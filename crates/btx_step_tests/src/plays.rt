@@ -3,8 +3,8 @@ use btx_aux::{AuxJob, MemoryFinder, read_aux};
 use btx_bib::{Library, Source, read_databases};
 use btx_bst::{Style, Token, read_style};
 use btx_step::lines::line_of;
-use btx_step::{Job, KeptBytes, Limit, Next, Note, Said, Store};
-use btx_text::{Fault, TextMode};
+use btx_step::{Job, KeptBytes, Next, Note, Said, Store};
+use btx_text::{Fault, Limit, TextMode};
 use std::alloc::{AllocError, Global};
 
 /// Two entries are cited, the second of a type that the style doesn't know.
@@ -105,7 +105,7 @@ fn play_read<'a>(
             break;
         }
     }
-    tell_literals(alloc, &job, &mut store, &mut told)?;
+    write_literals(alloc, &job, &mut store, &mut told)?;
     Ok(told)
 }
 
@@ -128,12 +128,12 @@ fn play_token<'a>(
 ) -> Result<bool, AllocError> {
     let mut said = Said::Nothing;
     let next = store.step(job, token, &mut said)?;
-    tell_said(alloc, job, store.current(), token, said, told)?;
-    tell_next(job, next, told)?;
+    write_said(alloc, job, store.current(), token, said, told)?;
+    write_next(job, next, told)?;
     Ok(!matches!(next, Next::End(_)))
 }
 
-fn tell_said(
+fn write_said(
     alloc: Global,
     job: &Job<'_>,
     entry: Option<usize>,
@@ -143,18 +143,18 @@ fn tell_said(
 ) -> Result<(), AllocError> {
     match said {
         Said::Nothing => Ok(()),
-        Said::Wrote(text) => tell_written(told, text.as_bytes()),
-        Said::EndedLine => tell(told, &[b"newline"]),
-        Said::Noted(notes) => tell_notes(alloc, job, entry, token, notes.as_slice(), told),
+        Said::Wrote(text) => write_written(told, text.as_bytes()),
+        Said::EndedLine => write_line(told, &[b"newline"]),
+        Said::Noted(notes) => write_notes(alloc, job, entry, token, notes.as_slice(), told),
     }
 }
 
-fn tell_written(told: &mut Vec<u8>, text: &[u8]) -> Result<(), AllocError> {
-    tell(told, &[b"write ", text])
+fn write_written(told: &mut Vec<u8>, text: &[u8]) -> Result<(), AllocError> {
+    write_line(told, &[b"write ", text])
 }
 
 /// Puts an item behind the others.
-fn tell(told: &mut Vec<u8>, pieces: &[&[u8]]) -> Result<(), AllocError> {
+fn write_line(told: &mut Vec<u8>, pieces: &[&[u8]]) -> Result<(), AllocError> {
     if !told.is_empty() {
         told.extend_from_slice(b" | ")?;
     }
@@ -164,7 +164,7 @@ fn tell(told: &mut Vec<u8>, pieces: &[&[u8]]) -> Result<(), AllocError> {
     Ok(())
 }
 
-fn tell_notes(
+fn write_notes(
     alloc: Global,
     job: &Job<'_>,
     entry: Option<usize>,
@@ -175,12 +175,12 @@ fn tell_notes(
     let executed = executed_name(job.style(), token);
     let key = entry.map(|entry| job.key(entry));
     for note in notes {
-        tell_note(alloc, job, executed, key, note, told)?;
+        write_note(alloc, job, executed, key, note, told)?;
     }
     Ok(())
 }
 
-fn tell_note(
+fn write_note(
     alloc: Global,
     job: &Job<'_>,
     executed: &[u8],
@@ -189,7 +189,7 @@ fn tell_note(
     told: &mut Vec<u8>,
 ) -> Result<(), AllocError> {
     let line = line_of(alloc, job.style(), executed, key, note)?;
-    tell(told, &[line.text()])
+    write_line(told, &[line.text()])
 }
 
 /// The name of what a token executes.
@@ -200,38 +200,41 @@ fn executed_name<'a>(style: &'a Style<'_>, token: Token) -> &'a [u8] {
     }
 }
 
-fn tell_next(job: &Job<'_>, next: Next, told: &mut Vec<u8>) -> Result<(), AllocError> {
+fn write_next(job: &Job<'_>, next: Next, told: &mut Vec<u8>) -> Result<(), AllocError> {
     let style = job.style();
     match next {
         Next::Nothing => Ok(()),
-        Next::End(Limit::Literals) => tell(told, &[b"limit literals"]),
-        Next::End(_) => tell(told, &[b"limit string"]),
-        Next::Run(function) => tell(told, &[b"run ", style.name(function)]),
-        Next::Open(_) => tell(told, &[b"open"]),
-        Next::Loop(test, body) => tell(told, &[b"loop ", style.name(test), b" ", style.name(body)]),
+        Next::End(Limit::Literals) => write_line(told, &[b"limit literals"]),
+        Next::End(_) => write_line(told, &[b"limit string"]),
+        Next::Run(function) => write_line(told, &[b"run ", style.name(function)]),
+        Next::Open(_) => write_line(told, &[b"open"]),
+        Next::Loop(test, body) => write_line(
+            told,
+            &[b"loop ", style.name(test), b" ", style.name(body)],
+        ),
     }
 }
 
-fn tell_literals(
+fn write_literals(
     alloc: Global,
     job: &Job<'_>,
     store: &mut Store<'_>,
     told: &mut Vec<u8>,
 ) -> Result<(), AllocError> {
     for _ in 0..store.depth() {
-        tell_top(alloc, job, store, told)?;
+        write_top(alloc, job, store, told)?;
     }
     Ok(())
 }
 
-fn tell_top(
+fn write_top(
     alloc: Global,
     job: &Job<'_>,
     store: &mut Store<'_>,
     told: &mut Vec<u8>,
 ) -> Result<(), AllocError> {
     match store.pop()? {
-        Some(value) => tell_note(alloc, job, b"", None, &Note::Shown(value), told),
+        Some(value) => write_note(alloc, job, b"", None, &Note::Shown(value), told),
         None => Ok(()),
     }
 }

@@ -3,6 +3,7 @@
 -- the finder's content has it and fewer than 20 files are open; the events of an opened file follow at once.
 use Rattle.std.specs.Prelude.{ℕ, zero, suc, ◌+◌, ◌-◌, not, ◌&&◌, List, [], ◌∷◌, ◌++◌, map, Option, None, Some, if◌then◌else◌, codes}
 use Rattle.std.specs.List.{flat_map}
+use Rattle.btx_aux.specs.declared.reading.TheConstants.{MOST_OPEN}
 use Rattle.std.specs.Option.{option_map_or}
 use Rattle.btx_text.specs.language.Limits.{is_too_long}
 use Rattle.btx_text.specs.language.Lines.{lines_of}

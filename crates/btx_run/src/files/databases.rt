@@ -45,7 +45,7 @@ fn find_database<'a, F: Finder, L: Sink>(
 {
     let found = fetch_file(alloc, finder, name)?;
     let line = line_of(alloc, number, name, &found)?;
-    journal.tell(&line)?;
+    journal.log_one(&line)?;
     Ok(found)
 }
 

@@ -11,11 +11,11 @@ ghost use Rattle.btx_text.specs.language.Lists.{only_if};
 use super::Store;
 use crate::job::Job;
 use crate::literal::{Literal, Wanted};
-use crate::next::{Limit, Next};
+use crate::next::Next;
 use crate::said::{Note, Notes, Said};
 use crate::stand_in::StandIn;
 use btx_strings::Complaints;
-use btx_text::{Fault, Text};
+use btx_text::{Fault, Limit, Text};
 use std::alloc::{AllocError, Global};
 
 impl<'a> Store<'a> {

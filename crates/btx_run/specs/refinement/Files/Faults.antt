@@ -24,8 +24,8 @@ CountsOfThree (Err FileLimit) a b c = ⊥
 CountsOfThree (Err StringLimit) a b c = ⊥
 
 -- a call that writes to the log: it goes where it went, and what the answer says of its count is so
-abbrev pub CountsOfTelling : {T : Type 0} → Result T Fault → Journal → Journal → Type 0
-CountsOfTelling result old new = (new.sink.name ≡ old.sink.name) × CountsOfLog result (old.sink.failures, new.sink.failures)
+abbrev pub CountsOfLogging : {T : Type 0} → Result T Fault → Journal → Journal → Type 0
+CountsOfLogging result old new = (new.sink.name ≡ old.sink.name) × CountsOfLog result (old.sink.failures, new.sink.failures)
 
 -- the same of a call that asks the finder too
 abbrev pub CountsOfReading : {T : Type 0} → Result T Fault → Change → Journal → Journal → Type 0
