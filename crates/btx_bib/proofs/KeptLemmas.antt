@@ -31,7 +31,7 @@ use Rattle.btx_bib.proofs.SlotLemmas.{entry_of-new}
 use Rattle.btx_bib.proofs.StoringLemmas.{draft, Covered, Covered-stored, none-of, standing-draft, standing_of, stored_at-draft}
 use Rattle.btx_bib.specs.refinement.Known.{keeps_field, after_key, with_field}
 use Rattle.btx_bib.specs.refinement.Filling.{value_by}
-use Rattle.btx_bib.specs.refinement.Told.{type_messages}
+use Rattle.btx_bib.specs.refinement.Messages.{type_messages}
 use Rattle.btx_bib.specs.refinement.Strings.{Strings}
 
 module _ (wanted : Request) where

@@ -3,7 +3,7 @@ ghost use Rattle.std.specs.Prelude.{◌≡◌, ◌++◌, OnOk, option_copied};
 ghost use Rattle.btx_bib.specs.refinement.Grammar.PartViews.{part_view};
 ghost use Rattle.btx_bib.specs.refinement.Sites.{site_database};
 ghost use Rattle.btx_bib.specs.language.Messages as spec;
-ghost use Rattle.btx_bib.specs.refinement.Told.{is_own, type_messages};
+ghost use Rattle.btx_bib.specs.refinement.Messages.{is_own, type_messages};
 
 use crate::grammar::line_counter::LineCounter;
 use crate::grammar::parts::Part;

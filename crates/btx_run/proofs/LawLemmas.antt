@@ -15,7 +15,7 @@ use Rattle.btx_run.specs.laws.Laws.{BudgetLaw}
 use Rattle.btx_run.specs.language.Files.Counts.{counts_of}
 use Rattle.btx_run.specs.language.Files.Logging.{bytes_of_lines}
 use Rattle.btx_run.specs.language.Product.{product_of_files}
-use Rattle.btx_run.specs.refinement.Files.Telling.{bytes_of_lines}
+use Rattle.btx_run.specs.refinement.Files.Logging.{bytes_of_lines}
 use Rattle.btx_run.specs.refinement.Product.{logged_before, work_in}
 
 -- the same lines before both

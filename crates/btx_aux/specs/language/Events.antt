@@ -79,4 +79,4 @@ until_end (event ∷ events) = if is_whole (end_by event.word) then event ∷ un
 
 -- the events of a job whose top file is `top`: those of that file and of the files that it opens, or that it is missing
 unfoldable pub job_events : Files → List ℕ → List AuxEvent
-job_events files top = until_end (option_map_or (opened files 20 [] top) (files top) (event_at top 0 NoTop ∷ []))
+job_events files top = until_end (option_map_or (opened files MOST_OPEN [] top) (files top) (event_at top 0 NoTop ∷ []))

@@ -5,7 +5,7 @@ ghost use Rattle.btx_run.specs.language.Files.Logging.{bytes_of_lines};
 ghost use Rattle.btx_run.specs.refinement.Files.Counts.{counts_at};
 ghost use Rattle.btx_run.specs.refinement.Files.Faults.{CountsOfLogging};
 ghost use Rattle.btx_run.specs.refinement.Files.Logging.{Logs};
-ghost use Rattle.btx_run.specs.refinement.Files.Telling.{bytes_of_lines};
+ghost use Rattle.btx_run.specs.refinement.Files.Logging.{bytes_of_lines};
 
 use btx_machine::Journal;
 use btx_out::Sink;

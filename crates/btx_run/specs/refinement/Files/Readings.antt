@@ -10,12 +10,12 @@ use Rattle.btx_run.specs.declared.files.found.FilesRead.{FilesRead}
 use Rattle.btx_run.specs.declared.files.found.FilesRead.TheVariants.{Ends, Found}
 use Rattle.btx_run.specs.language.Files.Logging.{bytes_of_lines}
 use Rattle.btx_run.specs.refinement.Files.Logging.{Counted, LogReceived, Logs}
-use Rattle.btx_run.specs.refinement.Files.Telling.{bytes_of_lines}
+use Rattle.btx_run.specs.refinement.Files.Logging.{bytes_of_lines}
 use Rattle.btx_run.specs.language.Files.Found.{NamedFile, file_at}
 use Rattle.btx_run.specs.language.Files.Readings.{Logged, logged, behind, after_job, files_found, databases_logged}
 use Rattle.btx_text.specs.language.LogLines.{Line}
 use Rattle.btx_run.specs.language.Files.Lines.{database_line, no_database_line}
-use Rattle.btx_machine.specs.declared.ending.Limit.TheVariants as kind
+use Rattle.btx_text.specs.declared.limits.Limit.TheVariants as kind
 use Rattle.btx_machine.specs.declared.report.End.TheVariants as ended
 
 -- the log line of a database, which has this number if it is found
