@@ -27,8 +27,30 @@ const ROWS: [(&[u8], &[u8]); 17] = [
     (b"ms8y=", b"made -8 made "),
 ];
 
-// The call of a letter.
+// Makes the call that a letter stands for.
 fn called<'a>(alloc: Global, stack: &mut Literals<'a>, letter: u8) -> Result<(), AllocError> {
+    match letter {
+        b'*' => {
+            stack.join(alloc)?;
+        }
+        b'~' => {
+            stack.swap(alloc)?;
+        }
+        b'2' => {
+            stack.duplicate(alloc)?;
+        }
+        b'8' | b'=' | b'.' => {
+            changed(alloc, stack, letter)?;
+        }
+        _ => {
+            pushed(alloc, stack, letter)?;
+        }
+    }
+    Ok(())
+}
+
+// Pushes the literal that a letter stands for.
+fn pushed<'a>(alloc: Global, stack: &mut Literals<'a>, letter: u8) -> Result<(), AllocError> {
     match letter {
         b'1' => {
             stack.push_integer(-7);
@@ -54,26 +76,14 @@ fn called<'a>(alloc: Global, stack: &mut Literals<'a>, letter: u8) -> Result<(),
         b'y' => {
             stack.push_text(Text::owned(vec![in alloc; b'y'; 3000]?))?;
         }
-        b'F' => {
-            stack.push(Literal::Function(Callee::User(5)))?;
-        }
-        b'*' => {
-            stack.join(alloc)?;
-        }
-        b'~' => {
-            stack.swap(alloc)?;
-        }
-        b'2' => {
-            stack.duplicate(alloc)?;
-        }
         _ => {
-            changed(alloc, stack, letter)?;
+            stack.push(Literal::Function(Callee::User(5)))?;
         }
     }
     Ok(())
 }
 
-// The call of a letter that wants a literal on top.
+// Makes the call of a letter that wants a literal on top, if there is one.
 fn changed<'a>(alloc: Global, stack: &mut Literals<'a>, letter: u8) -> Result<(), AllocError> {
     if stack.len() == 0 {
         return Ok(());

@@ -39,6 +39,22 @@ fn begins(
     Ok(())
 }
 
+/// Whether the answers of a body that pushes 1,000 literals and goes on with `more` begin with `wanted`.
+fn begins_when_full(
+    rt: &impl Abort,
+    alloc: Global,
+    more: &'static str,
+    wanted: &str,
+) -> Result<(), Fail> {
+    begins(
+        rt,
+        alloc,
+        &usual(Some(0)),
+        &[("#7 ", 1_000), (more, 1)],
+        wanted,
+    )
+}
+
 #[test]
 fn the_thousandth_literal_and_one_more(rt: HostRuntime) -> Result<(), Fail> {
     for more in [
@@ -57,14 +73,7 @@ fn the_thousandth_literal_and_one_more(rt: HostRuntime) -> Result<(), Fail> {
         "quote$",
         "duplicate$",
     ] {
-        let full = [("#7 ", 1_000), (more, 1)];
-        begins(
-            &rt,
-            rt.alloc(),
-            &usual(Some(0)),
-            &full,
-            "limit literals | 7 | 7 | 7",
-        )?;
+        begins_when_full(&rt, rt.alloc(), more, "limit literals | 7 | 7 | 7")?;
     }
     for (more, wanted) in [
         ("+", "14 | 7 | 7"),
@@ -72,13 +81,7 @@ fn the_thousandth_literal_and_one_more(rt: HostRuntime) -> Result<(), Fail> {
         ("swap$ skip$ newline$", "newline | 7 | 7"),
         ("int.to.str$", "\"7\" | 7 | 7"),
     ] {
-        begins(
-            &rt,
-            rt.alloc(),
-            &usual(Some(0)),
-            &[("#7 ", 1_000), (more, 1)],
-            wanted,
-        )?;
+        begins_when_full(&rt, rt.alloc(), more, wanted)?;
     }
     Ok(())
 }
