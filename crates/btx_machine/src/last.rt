@@ -3,7 +3,8 @@ ghost use Rattle.std.specs.Prelude.{◌≡◌, ◌++◌, ◌∷◌, [], IfOk, On
 ghost use Rattle.std.specs.Io.KnownBytes.{Appends};
 ghost use Rattle.btx_out.specs.language.Pieces.{AppendsBeginning};
 ghost use Rattle.btx_machine.specs.refinement.Closing.{Closes, ClosesPart, FinishedAt, FinishedPart};
-ghost use Rattle.btx_machine.specs.refinement.Faults.{CountsOfBoth, CountsOfLog, Writes};
+ghost use Rattle.btx_aux.specs.refinement.Faults.{CountsOfOne};
+ghost use Rattle.btx_machine.specs.refinement.Faults.{CountsOfBoth, Writes};
 ghost use Rattle.btx_machine.specs.language.Reports.{end_as, last_line, report_of, log_counts};
 ghost use Rattle.btx_machine.specs.language.Saying.{ended_line};
 
@@ -38,7 +39,7 @@ pub fn tell_end<L: Sink>(alloc: Global, report: Report, log: &mut L) -> Result<R
     ensures report { IfOk result (λ answer. answer ≡ report) }
     ensures ok { OnOk result (Appends (L.received log.old) (L.received log.new) (ended_line (last_line report))) }
     ensures err { OnErr result (AppendsBeginning (L.received log.old) (L.received log.new) (ended_line (last_line report))) }
-    ensures counts { CountsOfLog result (L.failures log.old, L.failures log.new) }
+    ensures counts { CountsOfOne result (L.failures log.old, L.failures log.new) }
 {
     let line = last_line(alloc, &report)?;
     Log::new().line(line.as_slice(), log)?;
