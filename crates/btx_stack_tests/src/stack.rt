@@ -27,28 +27,6 @@ const ROWS: [(&[u8], &[u8]); 17] = [
     (b"ms8y=", b"made -8 made "),
 ];
 
-// Makes the call that a letter stands for.
-fn called<'a>(alloc: Global, stack: &mut Literals<'a>, letter: u8) -> Result<(), AllocError> {
-    match letter {
-        b'*' => {
-            stack.join(alloc)?;
-        }
-        b'~' => {
-            stack.swap(alloc)?;
-        }
-        b'2' => {
-            stack.duplicate(alloc)?;
-        }
-        b'8' | b'=' | b'.' => {
-            changed(alloc, stack, letter)?;
-        }
-        _ => {
-            pushed(alloc, stack, letter)?;
-        }
-    }
-    Ok(())
-}
-
 // Pushes the literal that a letter stands for.
 fn pushed<'a>(alloc: Global, stack: &mut Literals<'a>, letter: u8) -> Result<(), AllocError> {
     match letter {
@@ -92,6 +70,28 @@ fn changed<'a>(alloc: Global, stack: &mut Literals<'a>, letter: u8) -> Result<()
         b'8' => stack.replace_integer(-8),
         b'=' => stack.replace_made(alloc, b"made")?,
         _ => stack.drop_top(),
+    }
+    Ok(())
+}
+
+// Makes the call that a letter stands for.
+fn called<'a>(alloc: Global, stack: &mut Literals<'a>, letter: u8) -> Result<(), AllocError> {
+    match letter {
+        b'*' => {
+            stack.join(alloc)?;
+        }
+        b'~' => {
+            stack.swap(alloc)?;
+        }
+        b'2' => {
+            stack.duplicate(alloc)?;
+        }
+        b'8' | b'=' | b'.' => {
+            changed(alloc, stack, letter)?;
+        }
+        _ => {
+            pushed(alloc, stack, letter)?;
+        }
     }
     Ok(())
 }
