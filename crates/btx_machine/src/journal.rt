@@ -35,7 +35,7 @@ impl<'s, L: Sink> Model for Journal<'s, L> {
 }
 
 impl<'s, L: Sink> Journal<'s, L> {
-    /// A log that goes on in a sink, after lines with these counts.
+    /// Makes a log that goes on in `sink`, after lines of which `counts` were warnings and errors.
     pub fn new(sink: &'s mut L, counts: LogCounts) -> Self
         ensures name { result.sink.name ≡ sink.entry.ghost_name }
         ensures received { result.sink.received ≡ L.received sink.old }
@@ -50,7 +50,7 @@ impl<'s, L: Sink> Journal<'s, L> {
         }
     }
 
-    /// How many warnings and errors the log has.
+    /// Answers how many warnings and errors the log has.
     pub fn counts(&self) -> LogCounts
         ensures warnings { result.warnings ≡ self.now.warnings }
         ensures errors { result.errors ≡ self.now.errors }

@@ -60,7 +60,8 @@ fn finish<W: Sink, L: Sink>(outputs: &mut Outputs<'_, W, L>, end: Ending) -> Res
     }
 }
 
-/// Writes what a run writes last, and answers its report.
+/// Ends a run that ended as `end` says, after `steps` steps: writes the pending line of the list, if the run finished, and the last line of the log.
+/// Answers the report.
 pub fn conclude<W: Sink, L: Sink>(
     work: &mut Work<'_, '_, W, L>,
     end: Ending,

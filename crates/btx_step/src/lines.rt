@@ -12,7 +12,7 @@ use btx_text::{LineKind, LogLine, Text};
 use itoa::Buffer;
 use std::alloc::{AllocError, Global};
 
-/// A line of the log, met while a function of this name is executed, in an entry of this key if there is one.
+/// Makes the log line of `note`, which was met while the function named `executed` ran, in the entry of key `key` if there is a current entry.
 #[tactic(auto, using(btx_text::proofs::JoinLemmas::joins), unfolding(crate::specs::language::Notes::note_line))]
 pub fn line_of(
     alloc: Global,
