@@ -11,7 +11,7 @@ use btx_machine::Journal;
 use btx_out::Sink;
 use btx_text::{Fault, LogLine};
 
-/// Logs these lines. The only fault is the device's; the log then received a prefix of them.
+/// Logs `lines`, in order. The only fault is the device's; the log then received a prefix of them.
 pub fn log_all<L: Sink>(lines: &[LogLine], journal: &mut Journal<'_, L>) -> Result<(), Fault>
     ensures ok { OnOk result (Logs (counts_at journal.old, counts_at journal.new) (journal.old.sink.received, journal.new.sink.received) lines.now) }
     ensures err { OnErr result (AppendsBeginning journal.old.sink.received journal.new.sink.received (bytes_of_lines lines.now)) }

@@ -61,7 +61,7 @@ style_named files job (Some name) = style_read files job name (file_at files nam
 
 -- ---- the job
 
--- what follows the `.aux` files of a job, by how their reading ended: its style and its databases, only if all of them was read
+-- what follows the `.aux` files of a job, by how their reading ended: its style and its databases, only if these files were read to their end
 unfoldable pub after_job : Files → AuxJob → AuxEnd → Logged FilesRead
 after_job files job aux.Whole = style_named files job job.style
 after_job files job aux.TooManyOpen = logged [] (Ends (ended.Limit kind.Files))
