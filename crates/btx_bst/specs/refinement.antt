@@ -15,3 +15,4 @@ pub mod Words
 pub mod Lists
 pub mod Fronts
 pub mod Bodies
+pub mod MessageTexts
