@@ -2,6 +2,7 @@ pub mod ControlLemmas
 pub mod CaseLemmas
 pub mod PieceLemmas
 pub mod BlockLemmas
+pub mod PeriodLemmas
 pub mod PurifyLemmas
 pub mod WidthLemmas
 pub mod LengthLemmas
