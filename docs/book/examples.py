@@ -59,6 +59,7 @@ def code_of(text):
 
 WORDS = {
     "zero": 0, "true": True, "false": False, "None": NONE, "tt": TT,
+    "MOST_LITERALS": 1000, "MOST_BODIES": 4096, "MOST_LOOPS": 4096, "MOST_OPEN": 20, "GREATEST_STRING": 1000000, "GREATEST_FILE": 2147483647,
     **{name: curried(function) for name, function in {
         "pos": lambda n: n, "negsuc": lambda n: -n - 1, "neg_ℤ": lambda n: -n, "suc": lambda n: n + 1, "min": lambda a, b: min(a, b), "max": lambda a, b: max(a, b),
         "length": lambda xs: len(xs), "take": lambda n, xs: xs[:n], "drop": lambda n, xs: xs[n:], "take_while": taken_while, "reverse": lambda xs: xs[::-1],
@@ -74,7 +75,7 @@ WORDS = {
         "lookup": lambda t, pairs: one_of([value for key, value in pairs if t(key)]), "insert_entry": with_entry,
         "Contains": lambda xs, x: x in xs, "IsDistinct": lambda eq, xs: not any(eq(x)(y) for place, x in enumerate(xs) for y in xs[:place]),
         "All": lambda P, xs: all(P(x) for x in xs), "not": lambda b: not b, "nat_eq": lambda a, b: a == b, "nat_lt": lambda a, b: a < b, "nat_le": lambda a, b: a <= b,
-        "int_eq": lambda a, b: a == b, "int_lt": lambda a, b: a < b, "bytes_eq": lambda xs, ys: xs == ys, "codes": lambda text: text,
+        "int_eq": lambda a, b: a == b, "int_lt": lambda a, b: a < b, "bytes_eq": lambda xs, ys: xs == ys, "codes": lambda text: text, "byte": lambda text: text[0],
         "to_ascii_lowercase": lambda b: b + 32 * (65 <= b <= 90), "to_ascii_uppercase": lambda b: b - 32 * (97 <= b <= 122),
         "is_in_range": lambda a, b, n: a <= n <= b,
         "is_ascii_uppercase": lambda b: 65 <= b <= 90, "is_ascii_lowercase": lambda b: 97 <= b <= 122, "is_ascii_digit": lambda b: 48 <= b <= 57,

@@ -2,7 +2,7 @@
 use Rattle.std.specs.Prelude.{ℕ, ◌==◌, ◌++◌, List, if◌then◌else◌, codes, decimal}
 use Rattle.btx_machine.specs.declared.ending.Ending.{Ending}
 use Rattle.btx_machine.specs.declared.ending.Ending.TheVariants as ending
-use Rattle.btx_machine.specs.declared.ending.Limit.TheVariants.{Literals, Calls, Loops, String, File, Files}
+use Rattle.btx_text.specs.declared.limits.Limit.TheVariants.{Literals, Calls, Loops, String, File, Files}
 use Rattle.btx_machine.specs.declared.report.End.{End}
 use Rattle.btx_machine.specs.declared.report.End.TheVariants as ended
 use Rattle.btx_machine.specs.declared.report.Report.{Report}

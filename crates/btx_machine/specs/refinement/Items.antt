@@ -5,7 +5,7 @@ use Rattle.std.specs.Option.{option_map_or}
 use Rattle.btx_text.specs.language.LogLines.{Line}
 use Rattle.btx_bib.specs.language.MessageTexts.{message_line}
 use Rattle.btx_step.specs.language.Jobs.{Job}
-use Rattle.btx_machine.specs.declared.ending.Limit.{Limit as Kind}
+use Rattle.btx_text.specs.declared.limits.Limit.{Limit as Kind}
 use Rattle.btx_machine.specs.language.States.{State, Outcome, Done, Limit}
 
 -- the numbers of `n` entries, one after another, of which the first is `i`

@@ -1,5 +1,5 @@
 -- What the databases that were found hold, as the code's clauses have it.
-use Rattle.btx_bib.specs.language.Told.{Database}
+use Rattle.btx_bib.specs.language.Messages.{Database}
 use Rattle.btx_run.specs.language.Files.Found.{NamedFile}
 use Rattle.std.specs.Prelude.{ℕ, map}
 use Rattle.btx_aux.specs.language.Job.{AuxJob}

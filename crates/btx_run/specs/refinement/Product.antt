@@ -10,7 +10,7 @@ use Rattle.btx_run.specs.refinement.Contents.{library_in}
 use Rattle.std.specs.Prelude.{List, ◌++◌, ℕ}
 use Rattle.btx_text.specs.language.LogLines.{Line}
 use Rattle.btx_machine.specs.language.Product.{Product}
-use Rattle.btx_run.specs.refinement.Files.Telling.{bytes_of_lines}
+use Rattle.btx_run.specs.refinement.Files.Logging.{bytes_of_lines}
 use Rattle.btx_run.specs.language.Product.{product_of_files}
 use Rattle.btx_run.specs.declared.files.found.FilesRead.{FilesRead}
 use Rattle.btx_run.specs.language.Files.Counts.{counts_of}

@@ -45,7 +45,7 @@ fn find_database<'a, F: Finder, L: Sink>(
 {
     let found = fetch_file(alloc, finder, name)?;
     let line = line_of(alloc, number, name, &found)?;
-    journal.tell(&line)?;
+    journal.log_one(&line)?;
     Ok(found)
 }
 
@@ -69,7 +69,7 @@ fn add_database<'a, F: Finder, L: Sink>(
     }
 }
 
-/// Looks for the databases of these names, each in turn.
+/// Fetches the databases of `names`, each in turn, and logs for each whether it was found. Answers those that were found.
 pub fn find_databases<'a, F: Finder, L: Sink>(
     alloc: Global,
     finder: &mut F,

@@ -1,6 +1,6 @@
 use Rattle.std.proofs.Common.{rules, ap, ◌∙◌, IfOk, OnErr}
 use Rattle.btx_out.specs.refinement.Breakers.{Held}
-use Rattle.btx_machine.specs.refinement.Faults.{CountsOfOutputs}
+use Rattle.btx_machine.specs.refinement.Faults.{CountsOfTwo}
 use Rattle.btx_machine.specs.language.KeepingStep.{AtFault, Completes}
 use Rattle.btx_machine.specs.refinement.Outputs.{Journal}
 use Rattle.btx_machine.specs.language.Product.{style_product}
@@ -31,7 +31,7 @@ returns-clause-err g c =
 
 pub returns-clause-counts : goal.returns-clause-counts
 returns-clause-counts g c =
-    of_equals (λ list list' log log'. CountsOfOutputs c.do_all-result.result (list, list') (log, log')) _ _ _ _ _ _ _ _
+    of_equals (λ list list' log log'. CountsOfTwo c.do_all-result.result (list, list') (log, log')) _ _ _ _ _ _ _ _
     c.new-outputs.ensures.failures
     (ends_as g.W.Sink.failures _ c.into_sinks-list.result.0 _ c.do_all-result.new.work.outputs.bbl.failures (c.into_sinks-list.ensures.bbl_name ∙ c.do_all-result.ensures.counts.0.0 ∙ c.new-outputs.ensures.name) c.into_sinks-list.ensures.bbl_failures (search rules))
     (ap (λ (log : Journal). log.sink.failures) c.new-outputs.ensures.log ∙ c.new-2.ensures.failures)

@@ -10,7 +10,7 @@ use Rattle.btx_aux.specs.declared.end.End.TheVariants as aux
 use Rattle.btx_text.specs.language.LogLines.{Line}
 use Rattle.btx_run.specs.declared.files.found.FilesRead.{FilesRead}
 use Rattle.btx_run.specs.declared.files.found.FilesRead.TheVariants.{Ends, Found}
-use Rattle.btx_machine.specs.declared.ending.Limit.TheVariants as kind
+use Rattle.btx_text.specs.declared.limits.Limit.TheVariants as kind
 use Rattle.btx_machine.specs.declared.report.End.TheVariants as ended
 use Rattle.btx_run.specs.language.Files.Lines.{database_line, no_style_line, style_line, no_database_line}
 use Rattle.btx_run.specs.language.Files.Found.{NamedFile, file_at}
@@ -61,7 +61,7 @@ style_named files job (Some name) = style_read files job name (file_at files nam
 
 -- ---- the job
 
--- what follows the `.aux` files of a job, by how their reading ended: its style and its databases, only if all of them was read
+-- what follows the `.aux` files of a job, by how their reading ended: its style and its databases, only if these files were read to their end
 unfoldable pub after_job : Files → AuxJob → AuxEnd → Logged FilesRead
 after_job files job aux.Whole = style_named files job job.style
 after_job files job aux.TooManyOpen = logged [] (Ends (ended.Limit kind.Files))
