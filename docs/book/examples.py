@@ -75,7 +75,7 @@ WORDS = {
         "lookup": lambda t, pairs: one_of([value for key, value in pairs if t(key)]), "insert_entry": with_entry,
         "Contains": lambda xs, x: x in xs, "IsDistinct": lambda eq, xs: not any(eq(x)(y) for place, x in enumerate(xs) for y in xs[:place]),
         "All": lambda P, xs: all(P(x) for x in xs), "not": lambda b: not b, "nat_eq": lambda a, b: a == b, "nat_lt": lambda a, b: a < b, "nat_le": lambda a, b: a <= b,
-        "int_eq": lambda a, b: a == b, "int_lt": lambda a, b: a < b, "bytes_eq": lambda xs, ys: xs == ys, "codes": lambda text: text,
+        "int_eq": lambda a, b: a == b, "int_lt": lambda a, b: a < b, "bytes_eq": lambda xs, ys: xs == ys, "codes": lambda text: text, "byte": lambda text: text[0],
         "to_ascii_lowercase": lambda b: b + 32 * (65 <= b <= 90), "to_ascii_uppercase": lambda b: b - 32 * (97 <= b <= 122),
         "is_in_range": lambda a, b, n: a <= n <= b,
         "is_ascii_uppercase": lambda b: 65 <= b <= 90, "is_ascii_lowercase": lambda b: 97 <= b <= 122, "is_ascii_digit": lambda b: 48 <= b <= 57,

@@ -60,7 +60,7 @@ impl<R> Drop for SystemOutputs<'_, R> {
 }
 
 impl<'a, R: Files + Print + Eprint> SystemOutputs<'a, R> {
-    /// Those that are reached so.
+    /// Makes the outputs of the real system, over the runtime `rt`.
     pub fn new(rt: &'a R) -> Self {
         SystemOutputs { rt }
     }

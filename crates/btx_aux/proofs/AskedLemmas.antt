@@ -11,14 +11,14 @@ use Rattle.btx_aux.specs.declared.command.Command.{Command}
 use Rattle.btx_aux.specs.declared.command.Command.TheVariants.{Citation, Bibdata, Bibstyle, Input}
 use Rattle.btx_aux.specs.refinement.Answers.{AsksTop}
 use Rattle.btx_aux.specs.language.Names.{has_ending, with_name_once}
-use Rattle.btx_aux.specs.language.Grammar.{Piece, Taken, Cut, Cites, Includes, Opens, Absent, words_of, words_of_command, words_at, pieces_of}
+use Rattle.btx_aux.specs.language.Grammar.{Piece, Taken, Cut, Cites, Includes, Opens, Absent, words_of, words_of_command, pieces_of}
 use Rattle.btx_aux.specs.language.Events.{event_at, named_by, asked_of}
 use Rattle.btx_aux.specs.refinement.Drafts.{blank, learned, learned_words, asked_in}
 use Rattle.btx_aux.specs.refinement.Reads.{AddsNames, AsksFirst, names_opened}
 use Rattle.btx_aux.proofs.AnswerLemmas.{all-both}
 use Rattle.btx_aux.proofs.DraftLemmas.{asked_in-Cites}
 use Rattle.btx_text.specs.language.Lists.{is_among}
-use Rattle.btx_aux.specs.refinement.Grammar.{piece_of}
+use Rattle.btx_aux.specs.refinement.Grammar.{piece_of, words_at}
 
 abbrev Names : Type 0
 Names = List (List ℕ)

@@ -9,17 +9,17 @@ use Rattle.btx_aux.specs.declared.end.End.TheVariants as end
 use Rattle.btx_aux.specs.language.Files.{Files}
 use Rattle.btx_aux.specs.language.Names.{with_name_once, with_key}
 use Rattle.btx_aux.specs.language.Grammar.{Piece, Opens, Absent, Full, TooLong, end_by, is_whole}
-use Rattle.btx_aux.specs.language.Events.{AuxEvent, event_at, files_named, asked_of, FileEvents, input_events, followed, expanded, inside, opened, from_top, until_end, job_events, said}
+use Rattle.btx_aux.specs.language.Events.{AuxEvent, event_at, files_named, asked_of, FileEvents, followed, expanded, opened, until_end, job_events, said}
 use Rattle.btx_text.specs.language.LogLines.{Line}
 use Rattle.btx_aux.specs.language.Notes.{AuxNote}
-use Rattle.btx_aux.specs.language.Job.{gathered, first_of, cited_keys, star_by, all_of, bibdata_by, bibdata_of, databases_in, bibstyle_by, bibstyle_of, style_name_in, notes_at, closing_notes, end_of, job_of_files}
+use Rattle.btx_aux.specs.language.Job.{gathered, first_of, cited_keys, star_by, all_of, bibdata_by, bibdata_of, databases_in, bibstyle_by, bibstyle_of, notes_at, closing_notes, end_of, job_of_files}
 use Rattle.btx_aux.specs.refinement.Drafts.{blank, with_notes, first_or, databases_after, style_after, ending_after, learned}
 use Rattle.btx_aux.specs.refinement.Reads.{after, Opening, included, asked_for, run, within, opened_by, topped, closed}
 use Rattle.btx_aux.proofs.DraftLemmas.{lines_more}
 use Rattle.btx_aux.proofs.ReadLemmas.{run-still, opened_by-ended}
 use Rattle.btx_text.specs.language.Limits.{is_too_long}
-use Rattle.btx_aux.specs.refinement.Events.{file_named}
-use Rattle.btx_aux.specs.refinement.Job.{cited, star_at, databases_of, style_name_of, job_of}
+use Rattle.btx_aux.specs.refinement.Events.{file_named, input_events, inside, from_top}
+use Rattle.btx_aux.specs.refinement.Job.{cited, star_at, databases_of, style_name_of, job_of, style_name_in}
 use Rattle.btx_aux.specs.refinement.Notes.{aux_note_line}
 
 -- ---- one more event

@@ -11,9 +11,10 @@ use Rattle.btx_aux.specs.language.Files.{Files}
 use Rattle.btx_aux.specs.language.Names.{has_ending, with_ending, with_name_once}
 use Rattle.btx_aux.specs.language.Grammar.{Piece, Taken, Cut}
 use Rattle.btx_aux.specs.language.Events.{job_events}
-use Rattle.btx_aux.specs.language.Job.{bibdata_of, bibstyle_of, databases_in, job_of_files, style_name_in, taken_with}
+use Rattle.btx_aux.specs.language.Job.{bibdata_of, bibstyle_of, databases_in, job_of_files, taken_with}
 use Rattle.btx_aux.proofs.AnswerLemmas.{all-both}
 use Rattle.btx_text.specs.language.Lists.{is_among}
+use Rattle.btx_aux.specs.refinement.Job.{style_name_in}
 
 -- ---- endings
 

@@ -20,15 +20,16 @@ use Rattle.btx_aux.specs.declared.command.Command.{Command}
 use Rattle.btx_aux.specs.declared.command.Command.TheVariants.{Citation, Bibdata, Bibstyle, Input}
 use Rattle.btx_aux.specs.language.Files.{Files}
 use Rattle.btx_aux.specs.language.Names.{has_ending, is_same_key, with_name_once, with_key}
-use Rattle.btx_aux.specs.language.Grammar.{Piece, Taken, Cut, EventKind, Cites, Databases, Styles, Includes, Opens, Absent, Full, TooLong, NoTop, aux_command_named, end_by, is_whole, pieces_of, words_at, words_of, words_of_command}
-use Rattle.btx_aux.specs.language.Events.{AuxEvent, FileEvents, asked_of, event_at, job_events, expanded, files_named, followed, input_events, from_top, inside, named_by, opened, said, said_from, until_end}
+use Rattle.btx_aux.specs.language.Grammar.{Piece, Taken, Cut, EventKind, Cites, Databases, Styles, Includes, Opens, Absent, Full, TooLong, NoTop, aux_command_named, end_by, is_whole, pieces_of, words_of, words_of_command}
+use Rattle.btx_aux.specs.language.Events.{AuxEvent, FileEvents, asked_of, event_at, job_events, expanded, files_named, followed, named_by, opened, said, said_from, until_end}
 use Rattle.btx_aux.specs.language.Job.{job_of_files}
 use Rattle.btx_aux.proofs.AnswerLemmas.{all-front}
 use Rattle.btx_aux.specs.laws.Openings.{NoFileTwice, NoKeyTwice, OpensByConditions, TopOpensFirst, files_opened, includes, levels_by, files_open_at, opened_first, opening_of, openings, opens}
 use Rattle.btx_text.specs.language.Limits.{is_too_long}
 use Rattle.btx_text.specs.language.Lists.{is_among}
-use Rattle.btx_aux.specs.refinement.Events.{file_named}
+use Rattle.btx_aux.specs.refinement.Events.{file_named, input_events, inside, from_top}
 use Rattle.btx_aux.specs.refinement.Job.{cited}
+use Rattle.btx_aux.specs.refinement.Grammar.{words_at}
 
 -- ---- keys
 

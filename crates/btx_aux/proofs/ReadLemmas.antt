@@ -6,7 +6,7 @@ use Rattle.btx_aux.specs.declared.command.Command.{Command}
 use Rattle.btx_aux.specs.declared.command.Command.TheVariants.{Citation, Bibdata, Bibstyle, Input}
 use Rattle.btx_aux.specs.declared.end.End.TheVariants as end
 use Rattle.btx_aux.specs.language.Files.{Files, file_of}
-use Rattle.btx_aux.specs.language.Grammar.{Piece, Cites, Databases, Styles, Includes, Opens, Absent, words_of, words_of_command, words_at, is_whole, pieces_of}
+use Rattle.btx_aux.specs.language.Grammar.{Piece, Cites, Databases, Styles, Includes, Opens, Absent, words_of, words_of_command, is_whole, pieces_of}
 use Rattle.btx_aux.specs.language.Events.{AuxEvent, event_at, said, said_from, asked_of}
 use Rattle.btx_aux.specs.refinement.Drafts.{learned, learned_words, asked_in}
 use Rattle.btx_aux.specs.refinement.Reads.{after, Opening, included, asked_for, run, within, opened_by}
@@ -14,7 +14,7 @@ use Rattle.btx_aux.proofs.DraftLemmas.{asked_in-Cites}
 use Rattle.btx_text.specs.language.Lines.{line_pieces, trimmed, lines_of}
 use Rattle.std.specs.List.{onto_first}
 use Rattle.btx_text.specs.language.Limits.{is_too_long}
-use Rattle.btx_aux.specs.refinement.Grammar.{piece_of}
+use Rattle.btx_aux.specs.refinement.Grammar.{piece_of, words_at}
 
 module _ (files : Files) (opening : Opening) where
   pub run-append : (draft : Draft) (xs ys : List AuxEvent) → run files opening draft (xs ++ ys) ≡ run files opening (run files opening draft xs) ys

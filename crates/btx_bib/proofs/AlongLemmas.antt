@@ -8,7 +8,7 @@ use Rattle.btx_bib.specs.declared.grammar.commands.Wanted.{Wanted as Next}
 use Rattle.btx_bib.specs.declared.grammar.commands.Wanted.TheVariants.{Item}
 use Rattle.btx_bib.specs.declared.grammar.slip.Slip.TheVariants.{Repeated}
 use Rattle.btx_bib.specs.declared.message.Message.{Message}
-use Rattle.btx_bib.specs.language.Grammar.Items.{Event, Comment, Preamble, Definition, Entry, FieldOf, End, Wrong, Placed, Step, events_from, is_repeated, known_step, next_step, expected_step}
+use Rattle.btx_bib.specs.language.Grammar.Items.{Event, Comment, Preamble, Definition, Entry, FieldOf, End, Wrong, Placed, Step, events_from, is_repeated, next_step, expected_step}
 use Rattle.btx_bib.specs.language.Known.{Known, known_after, after_event, with_current_stored, goes_on, keeping, stored_in}
 use Rattle.btx_bib.specs.laws.Known.{after_all}
 use Rattle.btx_bib.specs.language.Stored.{entry_with_key}
@@ -22,6 +22,7 @@ use Rattle.btx_bib.proofs.GrammarLemmas.LengthLemmas.{events-none, events-some, 
 use Rattle.btx_bib.proofs.GatheringLemmas.{ended-along, ended-told, none-along, none-told, turn-along, turn-told}
 use Rattle.btx_bib.proofs.KeptLemmas.{IsFresh, Sound, closed-kept, closed-sound, event-kept, event-said, event-sound, kept_of, stored-kept}
 use Rattle.btx_text.specs.language.Limits.{is_too_long}
+use Rattle.btx_bib.specs.refinement.Grammar.Items.{known_step}
 
 -- ---- one source, and the others
 

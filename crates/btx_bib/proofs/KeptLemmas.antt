@@ -17,13 +17,12 @@ use Rattle.btx_bib.specs.language.Grammar.Fields.{Field}
 use Rattle.btx_bib.specs.language.Grammar.Items.{Event, Comment, Preamble, Definition, Entry, FieldOf, End, Wrong, is_repeated}
 use Rattle.btx_bib.specs.language.Grammar.ValueTexts.{value_text}
 use Rattle.btx_bib.specs.language.Known.{Known, with_current_stored, after_event, after_field, if_fits, stored_in}
-use Rattle.btx_bib.specs.language.Messages.{Database, event_messages, field_messages, type_messages, value_messages, spot_at, spot_before}
+use Rattle.btx_bib.specs.language.Messages.{Database, event_messages, field_messages, spot_at, spot_before, type_messages, value_messages}
 use Rattle.btx_bib.specs.language.Wanted.{Request}
 use Rattle.btx_bib.specs.language.Entries.{Given, body_of, field_values}
-use Rattle.btx_bib.specs.language.Filling.{value_by}
 use Rattle.btx_bib.specs.refinement.Finding.{changed_at}
 use Rattle.btx_bib.specs.language.Stored.{entry_with_key, is_wanted}
-use Rattle.btx_bib.specs.language.Strings.{Strings, defined, other_value, string_value}
+use Rattle.btx_bib.specs.language.Strings.{defined, other_value, string_value}
 use Rattle.btx_bib.specs.language.Values.{field_value}
 use Rattle.btx_bib.specs.refinement.Drafts.{has_body, has_entry, new_standing, place_in, standing_at}
 use Rattle.btx_bib.specs.refinement.Gatherings.{begun, begun_by, closed, closed_by, ended_if, entered, fielded_by, is_kept, is_pending, kept_after, taken_at, messages_of, messages_of_current, messages_of_entry, messages_of_number, messages_of_standing, with_field_text}
@@ -31,6 +30,9 @@ use Rattle.btx_bib.proofs.FillingLemmas.{values_from-none, values_from-push, wit
 use Rattle.btx_bib.proofs.SlotLemmas.{entry_of-new}
 use Rattle.btx_bib.proofs.StoringLemmas.{draft, Covered, Covered-stored, none-of, standing-draft, standing_of, stored_at-draft}
 use Rattle.btx_bib.specs.refinement.Known.{keeps_field, after_key, with_field}
+use Rattle.btx_bib.specs.refinement.Filling.{value_by}
+use Rattle.btx_bib.specs.refinement.Messages.{type_messages}
+use Rattle.btx_bib.specs.refinement.Strings.{Strings}
 
 module _ (wanted : Request) where
   -- the entry that is being read, as it is kept

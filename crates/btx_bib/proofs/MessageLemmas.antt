@@ -8,8 +8,9 @@ use Rattle.btx_bib.specs.refinement.Grammar.PlainFields.{HasString}
 use Rattle.btx_bib.specs.language.Grammar.Values.{Part, Braced, Quoted, Digits, Named}
 use Rattle.btx_bib.specs.refinement.Gatherings.{messages_of_number}
 use Rattle.btx_bib.specs.language.Values.{field_value}
-use Rattle.btx_bib.specs.language.Strings.{Strings, string_value}
 use Rattle.btx_bib.specs.language.Messages.{Database, name_messages, value_messages}
+use Rattle.btx_bib.specs.language.Strings.{string_value}
+use Rattle.btx_bib.specs.refinement.Strings.{Strings}
 
 -- what is told of a value of one part
 pub names-one : (database : Database) (strings : Strings) (own : Option (List ℕ)) (part : Part) → value_messages database strings own (part ∷ []) ≡ name_messages database strings own part

@@ -8,9 +8,9 @@ use Rattle.btx_aux.specs.language.Names.{is_same_key}
 use Rattle.btx_bib.specs.declared.message.Message.{Message}
 use Rattle.btx_bib.specs.declared.slots.Slot.{Slot}
 use Rattle.btx_bib.specs.refinement.Finding.{first_place, changed_at}
-use Rattle.btx_bib.specs.language.Passes.{body_values, inherited_values, with_field_values, passed, pass_messages, parent_at, parent_slot, slot_at, inherited, inherited_from, checked, checked_by, is_parent, without_crossref, check_messages, check_messages_by, parent_messages}
-use Rattle.btx_bib.specs.refinement.Steps.{lower_keys, slot_by, messages_by}
-use Rattle.btx_bib.specs.refinement.Passes.{with_body}
+use Rattle.btx_bib.specs.language.Passes.{body_values, check_messages, checked, inherited, inherited_from, inherited_values, is_parent, parent_at, parent_messages, pass_messages, passed, slot_at, without_crossref}
+use Rattle.btx_bib.specs.refinement.Passes.{check_messages_by, checked_by, parent_slot, with_body, with_field_values}
+use Rattle.btx_bib.specs.refinement.Steps.{lower_keys, messages_by, slot_by}
 use Rattle.btx_bib.specs.declared.slots.Body.{Body}
 use Rattle.btx_bib.proofs.ValueLemmas.{inherited-same}
 use Rattle.std.proofs.lemmas.Bool.Decides.{nat_tests}

@@ -2,7 +2,6 @@ pub mod Grammar
 pub mod Values
 pub mod Library
 pub mod Wanted
-pub mod Filling
 pub mod Entries
 pub mod Stored
 pub mod Listing

@@ -20,3 +20,5 @@ pub mod Known
 pub mod Databases
 pub mod Entries
 pub mod Listing
+pub mod Stored
+pub mod MessageTexts

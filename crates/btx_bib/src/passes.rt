@@ -71,15 +71,15 @@ fn report_parent<'a>(
     ensures { OnOk result (messages.new ≡ messages.old ++ parent_messages child.now key.now (option_copied parent.entry)) }
 {
     let Some(slot) = parent else {
-        let key = Spelling::of_value(key.copy(alloc)?);
+        let key = Spelling::of_value(key.copy(alloc)?, alloc)?;
         return messages.push(Message::BadReference(child.copy(alloc)?, key));
     };
     if slot.body.is_none() {
-        let key = Spelling::of_value(key.copy(alloc)?);
+        let key = Spelling::of_value(key.copy(alloc)?, alloc)?;
         return messages.push(Message::BadReference(child.copy(alloc)?, key));
     }
     if slot.has_parent() {
-        let key = Spelling::of_value(key.copy(alloc)?);
+        let key = Spelling::of_value(key.copy(alloc)?, alloc)?;
         return messages.push(Message::NestedReference(child.copy(alloc)?, key));
     }
     Ok(())

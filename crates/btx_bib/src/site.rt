@@ -3,6 +3,7 @@ ghost use Rattle.std.specs.Prelude.{◌≡◌, ◌++◌, OnOk, option_copied};
 ghost use Rattle.btx_bib.specs.refinement.Grammar.PartViews.{part_view};
 ghost use Rattle.btx_bib.specs.refinement.Sites.{site_database};
 ghost use Rattle.btx_bib.specs.language.Messages as spec;
+ghost use Rattle.btx_bib.specs.refinement.Messages.{is_own, type_messages};
 
 use crate::grammar::line_counter::LineCounter;
 use crate::grammar::parts::Part;
@@ -53,7 +54,7 @@ impl<'a> Site<'a> {
 
 // Whether a name is that of the string that is being defined.
 fn is_own(own: Option<&[u8]>, name: &[u8]) -> bool
-    ensures { result ≡ spec.is_own (option_copied own.entry) name.now }
+    ensures { result ≡ is_own (option_copied own.entry) name.now }
 {
     match own {
         Some(own) => same_key(own, name),
@@ -137,7 +138,7 @@ pub fn report_kind<'a>(
     site: &mut Site<'a>,
     messages: &mut Messages<'a>,
 ) -> Result<(), AllocError>
-    ensures told { OnOk result (messages.new ≡ messages.old ++ spec.type_messages key.entry.now kind (spec.spot_at (site_database site.old) rest.now)) }
+    ensures told { OnOk result (messages.new ≡ messages.old ++ type_messages key.entry.now kind (spec.spot_at (site_database site.old) rest.now)) }
     ensures same { OnOk result (site.new ≡ site.old) }
 {
     match kind {

@@ -10,10 +10,12 @@ use Rattle.btx_machine.specs.refinement.Written.{Start, StandsFor}
 use Rattle.btx_machine.specs.language.Saying.{ended_line}
 use Rattle.btx_machine.specs.declared.report.Report.{Report}
 use Rattle.btx_machine.specs.declared.report.LogCounts.{LogCounts}
-use Rattle.btx_machine.specs.language.Reports.{end_as, log_counts, report_of, last_line}
-use Rattle.btx_machine.specs.language.Product.{bbl_at, report_at}
+use Rattle.btx_machine.specs.language.Reports.{end_as, report_of, last_line}
+use Rattle.btx_machine.specs.language.Product.{bbl_at}
 use Rattle.btx_machine.specs.refinement.Closing.{FinishedAt, FinishedPart, Closes, ClosesPart}
 use Rattle.btx_machine.proofs.CloseLemmas.{closing_bbl, closing_log}
+use Rattle.btx_machine.specs.refinement.Product.{report_at}
+use Rattle.btx_machine.specs.laws.Reports.{log_counts}
 
 -- the pending line could not be ended
 pub unfinished_part : (work : Work) (end : Ending) (steps : ℕ) (new : Outputs) → new.log ≡ work.outputs.log → FinishedPart work.outputs end new → ClosesPart work end steps new

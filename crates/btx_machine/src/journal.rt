@@ -3,7 +3,7 @@ ghost use Rattle.std.specs.Prelude.{◌≡◌, IfErr, IfOk, OnErr, OnOk};
 ghost use Rattle.std.specs.Io.KnownBytes.{Appends};
 ghost use Rattle.btx_out.specs.language.Pieces.{AppendsBeginning};
 ghost use Rattle.btx_text.specs.language.LogLines.{is_error, is_warning};
-ghost use Rattle.btx_machine.specs.refinement.Faults.{CountsOfLog};
+ghost use Rattle.btx_aux.specs.refinement.Faults.{CountsOfOne};
 ghost use Rattle.btx_machine.specs.language.Reports.{last_line};
 ghost use Rattle.btx_machine.specs.language.Saying.{counted_if, ended_line};
 
@@ -35,7 +35,7 @@ impl<'s, L: Sink> Model for Journal<'s, L> {
 }
 
 impl<'s, L: Sink> Journal<'s, L> {
-    /// A log that goes on in a sink, after lines with these counts.
+    /// Makes a log that goes on in `sink`, after lines of which `counts` were warnings and errors.
     pub fn new(sink: &'s mut L, counts: LogCounts) -> Self
         ensures name { result.sink.name ≡ sink.entry.ghost_name }
         ensures received { result.sink.received ≡ L.received sink.old }
@@ -50,7 +50,7 @@ impl<'s, L: Sink> Journal<'s, L> {
         }
     }
 
-    /// How many warnings and errors the log has.
+    /// Answers how many warnings and errors the log has.
     pub fn counts(&self) -> LogCounts
         ensures warnings { result.warnings ≡ self.now.warnings }
         ensures errors { result.errors ≡ self.now.errors }
@@ -69,7 +69,7 @@ impl<'s, L: Sink> Journal<'s, L> {
         ensures warnings { self.new.warnings ≡ counted_if (is_warning line.now.kind) self.old.warnings }
         ensures errors { self.new.errors ≡ counted_if (is_error line.now.kind) self.old.errors }
         ensures sink { self.new.sink.name ≡ self.old.sink.name }
-        ensures counts { CountsOfLog result (self.old.sink.failures, self.new.sink.failures) }
+        ensures counts { CountsOfOne result (self.old.sink.failures, self.new.sink.failures) }
     {
         self.count(line.kind());
         Log::new().line(line.text(), self.sink)
@@ -94,7 +94,7 @@ impl<'s, L: Sink> Journal<'s, L> {
         ensures ok { OnOk result (Appends self.old.sink.received self.new.sink.received (ended_line (last_line report))) }
         ensures err { OnErr result (AppendsBeginning self.old.sink.received self.new.sink.received (ended_line (last_line report))) }
         ensures sink { self.new.sink.name ≡ self.old.sink.name }
-        ensures counts { CountsOfLog result (self.old.sink.failures, self.new.sink.failures) }
+        ensures counts { CountsOfOne result (self.old.sink.failures, self.new.sink.failures) }
     {
         log_end(alloc, report, self.sink)
     }

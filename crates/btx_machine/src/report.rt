@@ -50,7 +50,7 @@ pub struct Report {
 }
 
 impl End {
-    /// The end of a run whose style was executed.
+    /// Answers the end of a run whose style was executed, from how that ended.
     pub fn of(ending: Ending) -> End
         ensures { result ≡ end_as ending }
     {
@@ -61,7 +61,7 @@ impl End {
         }
     }
 
-    /// The word of the log for this end.
+    /// Answers the word for this end in the log's last line.
     #[tactic(auto, unfolding(crate::specs::language::Reports::end_word))]
     pub fn word(self) -> &'static str
         ensures { result.now ≡ end_word self }
@@ -79,7 +79,7 @@ impl End {
         }
     }
 
-    /// The status of a run that ended so, with this number of error messages.
+    /// Answers the exit status of a run that ended so, with `errors` error messages.
     pub fn status(self, errors: u64) -> u8
         ensures { result ≡ status_of self errors }
     {
@@ -92,7 +92,7 @@ impl End {
     }
 }
 
-/// The report of a run that ended so.
+/// Makes the report of a run that ended so: its status, steps, greatest depth, warnings and errors.
 pub fn report_of(end: End, steps: u64, deepest: usize, counts: LogCounts) -> Report
     ensures { result ≡ report_of end steps deepest counts }
 {

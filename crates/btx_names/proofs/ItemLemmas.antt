@@ -12,12 +12,12 @@ use Rattle.btx_names.specs.declared.format_items.PartName.TheVariants.{First, Vo
 use Rattle.btx_names.specs.declared.runs.Stop.{Stop}
 use Rattle.btx_names.specs.declared.runs.Stop.TheVariants.{Letter, Closing, Brace}
 use Rattle.btx_names.specs.language.Runs.{stops, run_len}
-use Rattle.btx_names.specs.language.Formats.{FormatPiece, FormatItem, Literal, Name, Illegal, part_named, is_doubled, between_of, behind_between, piece_item, lettered_item, split_item, inside_item, group_item, item_at, item_rest, items_from, items_of, is_illegal, is_legal}
+use Rattle.btx_names.specs.language.Formats.{FormatPiece, FormatItem, Literal, Name, Illegal, part_named, is_doubled, between_of, behind_between, piece_item, split_item, inside_item, group_item, item_at, item_rest, items_from, items_of, is_illegal, is_legal}
 use Rattle.btx_names.specs.laws.FormatTexts.{in_braces, letter_of, letters_of_part, text_of_between, text_of_piece, text_of_item, text_of_items, in_lower_case, literal_bytes, literals_bytes, is_brace, copies_at, copied_of}
 use Rattle.btx_names.proofs.RunLemmas.{run_len-le}
 use Rattle.btx_names.proofs.SeparatorLemmas.{depth_push}
 use Rattle.btx_names.proofs.SplitLemmas.{never}
-use Rattle.btx_names.specs.refinement.Formats.{behind_letters}
+use Rattle.btx_names.specs.refinement.Formats.{behind_letters, lettered_item}
 use Rattle.btx_names.specs.laws.Formats.{has_no_letter}
 
 -- ---- where a run ends

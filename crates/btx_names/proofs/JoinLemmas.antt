@@ -6,8 +6,10 @@ use Rattle.std.specs.List.{join_by}
 use Rattle.btx_text.specs.declared.element_kind.TextMode.{TextMode}
 use Rattle.btx_names.specs.language.Tokens.{NameToken}
 use Rattle.btx_names.specs.language.Formats.{FormatPiece}
-use Rattle.btx_names.specs.language.FormattedNames.{shown, piece_text, finished, with_tokens, between_text, joined_by, period_of, tie_of}
+use Rattle.btx_names.specs.language.FormattedNames.{piece_text, finished, with_tokens, between_text, period_of, tie_of}
 use Rattle.btx_names.proofs.PieceLemmas.{joined, with_tokens_cons}
+use Rattle.btx_names.specs.refinement.FormattedNames.{joined_by}
+use Rattle.btx_names.specs.laws.FormattedNames.{shown}
 
 pub tokens_joined : (mode : TextMode) (piece : FormatPiece) (between : List ℕ) (token : NameToken) (tokens : List NameToken) → piece.between ≡ Some between →
     piece_text mode piece (token ∷ tokens)

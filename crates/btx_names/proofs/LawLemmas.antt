@@ -8,10 +8,11 @@ use Rattle.btx_names.specs.refinement.Steps.{passes}
 use Rattle.btx_names.specs.declared.token_counts.TokenTest.TheVariants.{Von, Apart}
 use Rattle.btx_names.specs.language.Runs.{run_len}
 use Rattle.btx_names.specs.language.Tokens.{NameToken, tokens_of}
-use Rattle.btx_names.specs.language.NameParts.{Sections, One, Two, Three, split_at_comma, cut_first, cut_again, sections_of, unsplit, parts_by, von_end, von_start, last_start, up_to_last, before_final}
+use Rattle.btx_names.specs.language.NameParts.{Sections, One, Two, Three, split_at_comma, cut_first, cut_again, sections_of, unsplit, parts_by, von_end, last_start, up_to_last, before_final}
 use Rattle.btx_names.specs.laws.NameParts.{parts_in_order, HasJrByForm, surname_of, before_last, final_of, is_all_breaks, parts_of}
 use Rattle.btx_names.proofs.SplitLemmas.{tokens_of-comma}
 use Rattle.btx_names.proofs.RangeLemmas.{up_to_last-lt, von_start-le}
+use Rattle.btx_names.specs.refinement.NameParts.{von_start}
 
 -- ---- commas
 

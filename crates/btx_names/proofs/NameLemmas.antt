@@ -7,10 +7,11 @@ use Rattle.std.proofs.Math.Bool.{and-false}
 use Rattle.std.specs.Prelude.{nat_le, slice_index}
 use Rattle.btx_text.specs.language.Class.{is_white}
 use Rattle.btx_text.specs.language.Elements.{depth_after}
-use Rattle.btx_names.specs.language.NameLists.{is_letter, is_separator, pieces_from, names_of}
+use Rattle.btx_names.specs.language.NameLists.{is_separator, pieces_from, names_of}
 use Rattle.btx_names.specs.refinement.Steps.{first_name_len}
 use Rattle.std.specs.List.{onto_first}
 use Rattle.std.specs.Int.{is_in_range}
+use Rattle.btx_names.specs.refinement.NameLists.{is_letter}
 
 -- ---- the length of the first name
 

@@ -7,7 +7,7 @@ use Rattle.std.specs.List.{All, flat_map}
 use Rattle.btx_text.specs.declared.element_kind.TextMode.{TextMode}
 use Rattle.btx_names.specs.language.FormattedNames.{initial_of}
 use Rattle.btx_names.specs.language.Tokens.{NameToken as Token, tokens_of}
-use Rattle.btx_names.specs.language.NameParts.{NameParts, Sections, One, Two, Three, parts_by, von_end, von_start, last_start}
+use Rattle.btx_names.specs.language.NameParts.{NameParts, Sections, One, Two, Three, parts_by, von_end, last_start}
 use Rattle.btx_names.specs.laws.NameParts.{surname_of}
 use Rattle.btx_names.specs.refinement.NameTokens.{Hold, token_of, tokens_in, lettered_in, lettered_of_bare}
 use Rattle.btx_names.specs.refinement.Places.{bytes_at}
@@ -19,6 +19,7 @@ use Rattle.btx_names.specs.declared.name_tokens.Joint.TheVariants.{Space}
 use Rattle.btx_names.specs.declared.token_list.TokenList.{TokenList}
 use Rattle.btx_names.proofs.InitialLemmas.{elements_of_nothing, initial_from}
 use Rattle.btx_names.proofs.RangeLemmas.{tokens_of_nothing}
+use Rattle.btx_names.specs.refinement.NameParts.{von_start}
 
 -- ---- tokens that are said to have no abbreviation
 

@@ -11,7 +11,9 @@ use Rattle.btx_names.specs.refinement.Becomes.{Becomes}
 use Rattle.btx_names.specs.language.Tokens.{NameToken}
 use Rattle.btx_names.specs.language.Formats.{FormatPiece}
 use Rattle.std.specs.List.{flat_map, join_by}
-use Rattle.btx_names.specs.language.FormattedNames.{initial_of, shown, between_text, joined_by, with_tokens, piece_text, finished, ends_in_tie, without_last_byte, is_short}
+use Rattle.btx_names.specs.language.FormattedNames.{initial_of, between_text, with_tokens, piece_text, finished, ends_in_tie, without_last_byte, is_short}
+use Rattle.btx_names.specs.refinement.FormattedNames.{joined_by}
+use Rattle.btx_names.specs.laws.FormattedNames.{shown}
 
 pub with_tokens_cons : (mode : TextMode) (piece : FormatPiece) (so_far : List ℕ) (token : NameToken) (tokens : List NameToken) →
     with_tokens mode piece so_far (token ∷ tokens)

@@ -8,7 +8,8 @@ use Rattle.btx_names.specs.declared.token_counts.TokenTest.TheVariants.{Von, Apa
 use Rattle.btx_names.specs.refinement.TokenLists.{AreRangesOf, surname_in}
 use Rattle.btx_names.specs.declared.name_ranges.Ranges.{Ranges}
 use Rattle.btx_names.specs.declared.token_list.TokenList.{TokenList}
-use Rattle.btx_names.specs.language.NameParts.{before_final, up_to_last, before_first, von_end, last_start, von_start}
+use Rattle.btx_names.specs.language.NameParts.{before_final, up_to_last, before_first, von_end, last_start}
+use Rattle.btx_names.specs.refinement.NameParts.{von_start}
 
 -- up to the last before the final token: fewer than all
 pub up_to_last-lt : (test : TokenTest) (token : NameToken) (tokens : List NameToken) → up_to_last (passes test) (before_final (token ∷ tokens)) < length (token ∷ tokens)

@@ -7,9 +7,10 @@ use Rattle.std.specs.Prelude.{filter}
 use Rattle.std.specs.List.{range_with_len, onto_first}
 use Rattle.btx_text.specs.language.Class.{is_white}
 use Rattle.btx_text.specs.language.Elements.{depth_after, depth_of}
-use Rattle.btx_names.specs.language.NameLists.{is_letter, is_separator, pieces_from, names_of}
+use Rattle.btx_names.specs.language.NameLists.{is_separator, pieces_from, names_of}
 use Rattle.btx_names.specs.laws.NameLists.{separates_at, separators_of}
 use Rattle.btx_names.proofs.SplitLemmas.{never}
+use Rattle.btx_names.specs.refinement.NameLists.{is_letter}
 
 -- ---- the bytes of a separator
 

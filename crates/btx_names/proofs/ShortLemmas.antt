@@ -9,10 +9,11 @@ use Rattle.btx_text.specs.declared.element_kind.Kind.{Kind}
 use Rattle.btx_text.specs.declared.element_kind.Kind.TheVariants.{Byte, Open, Close, Special, Wide}
 use Rattle.btx_text.specs.declared.element_kind.TextMode.{TextMode}
 use Rattle.btx_text.specs.language.Sequences.{is_further, sequence_size, second_fits, is_sequence, begins_sequence}
-use Rattle.btx_text.specs.language.Elements.{Element, depth_after, begins_special, is_utf8, kind_at, kind_of, extent, element_at, group_len, elements_from, elements_of, is_character}
+use Rattle.btx_text.specs.language.Elements.{Element, depth_after, is_utf8, kind_at, extent, group_len, elements_from, elements_of, is_character}
 use Rattle.btx_names.specs.declared.name_tokens.Joint.{Joint}
 use Rattle.btx_names.specs.declared.name_tokens.Joint.TheVariants.{Space, Tie, Hyphen}
 use Rattle.btx_names.specs.language.FormattedNames.{is_short, tie_of}
+use Rattle.btx_text.specs.refinement.Elements.{begins_special, kind_of, element_at}
 
 -- ---- a sequence of UTF-8
 

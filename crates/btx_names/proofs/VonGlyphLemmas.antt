@@ -8,7 +8,7 @@ use Rattle.btx_text.specs.language.Class.{is_alpha}
 use Rattle.btx_text.specs.declared.element_kind.Kind.TheVariants.{Byte, Open, Close, Special, Wide}
 use Rattle.btx_text.specs.declared.element_kind.TextMode.{TextMode}
 use Rattle.btx_text.specs.declared.element_kind.TextMode.TheVariants.{Bytes}
-use Rattle.btx_text.specs.language.Elements.{Element, begins_special, is_utf8, kind_at, group_len, extent, element_at, elements_from, elements_of, depth_after}
+use Rattle.btx_text.specs.language.Elements.{Element, is_utf8, kind_at, group_len, extent, elements_from, elements_of, depth_after}
 use Rattle.btx_text.specs.language.Sequences.{begins_sequence}
 use Rattle.btx_strings.specs.language.Controls.{control_name, lone, is_brace, glyphs_from, glyphs_of, letters_of}
 use Rattle.btx_strings.specs.laws.Controls.{glyphs_text}
@@ -19,6 +19,7 @@ use Rattle.btx_names.specs.laws.VonGlyphs.{are_lower}
 use Rattle.btx_names.proofs.SplitLemmas.{never}
 use Rattle.btx_names.specs.laws.VonTokens.{casing, is_foreign, begins_lower}
 use Rattle.std.specs.Char.{is_ascii_alphabetic, is_ascii_lowercase}
+use Rattle.btx_text.specs.refinement.Elements.{begins_special, element_at}
 
 -- ---- the text of a special character
 

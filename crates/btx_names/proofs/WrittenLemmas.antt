@@ -13,13 +13,13 @@ use Rattle.btx_names.specs.declared.format_items.PartName.TheVariants.{First, Vo
 use Rattle.btx_names.specs.declared.runs.Stop.{Stop}
 use Rattle.btx_names.specs.declared.runs.Stop.TheVariants.{Letter, Closing, Brace}
 use Rattle.btx_names.specs.language.Runs.{stops, run_len}
-use Rattle.btx_names.specs.language.Formats.{FormatPiece, FormatItem, Literal, Plain, Name, Illegal, part_named, is_doubled, between_of, behind_between, piece_item, lettered_item, split_item, inside_item, items_of, is_illegal, is_legal}
+use Rattle.btx_names.specs.language.Formats.{FormatPiece, FormatItem, Literal, Plain, Name, Illegal, part_named, is_doubled, between_of, behind_between, piece_item, split_item, inside_item, items_of, is_illegal, is_legal}
 use Rattle.btx_names.specs.laws.FormatTexts.{in_braces, is_brace, letter_of, letters_of_part, text_of_between, in_lower_case}
 use Rattle.btx_names.specs.laws.WrittenFormats.{is_balanced, is_outer, can_be_between, is_piece, is_item, begin_literal, are_items, IsTextOf, IsFormatOf}
 use Rattle.btx_names.proofs.FormatLemmas.{items_of-nil, items_of-literal, items_of-group}
 use Rattle.btx_names.proofs.ItemLemmas.{deeper}
 use Rattle.btx_names.proofs.SplitLemmas.{never}
-use Rattle.btx_names.specs.refinement.Formats.{behind_letters, legal_piece}
+use Rattle.btx_names.specs.refinement.Formats.{behind_letters, legal_piece, lettered_item}
 use Rattle.btx_names.specs.laws.Formats.{has_no_letter}
 
 -- ---- runs

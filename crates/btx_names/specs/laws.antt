@@ -8,3 +8,4 @@ pub mod WrittenFormats
 pub mod Gaps
 pub mod VonTokens
 pub mod Formats
+pub mod FormattedNames

@@ -17,3 +17,4 @@ pub mod Formats
 pub mod Tokens
 pub mod NameParts
 pub mod FormattedNames
+pub mod NameLists

@@ -15,12 +15,13 @@ ghost use Rattle.btx_names.specs.language.NameParts.{ends_in_comma, has_third_co
 ghost use Rattle.btx_names.specs.laws.NameParts.{HasJrByForm, before_last, final_of, parts_in_order, surname_of, parts_of};
 ghost use Rattle.btx_names.specs.laws.Gaps.{and_gap, byte_gap, pieces_between};
 ghost use Rattle.btx_names.specs.language.Formats.{FormatItem, FormatPiece, is_legal, items_of};
-ghost use Rattle.btx_names.specs.language.FormattedNames.{finished, period_of, piece_text, shown, tie_of, with_tokens};
+ghost use Rattle.btx_names.specs.language.FormattedNames.{finished, period_of, piece_text, tie_of, with_tokens};
 ghost use Rattle.btx_names.specs.laws.WrittenFormats.{IsFormatOf, are_items};
 ghost use Rattle.btx_names.specs.laws.FormatTexts.{copied_of, in_lower_case, literals_bytes, text_of_items};
 ghost use Rattle.btx_names.specs.language.Tokens.{NameToken, tokens_of};
 ghost use Rattle.btx_names.specs.laws.Tokens.{breaks_of, is_some_text};
 ghost use Rattle.btx_names.specs.laws.VonTokens.{casing};
+ghost use Rattle.btx_names.specs.laws.FormattedNames.{shown};
 
 /// A string that isn't empty has one more name than separators.
 #[tactic(auto, using(crate::proofs::SeparatorLemmas::counted))]

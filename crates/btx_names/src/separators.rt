@@ -1,6 +1,7 @@
 //! What stands between two names.
 ghost use Rattle.std.specs.Prelude.{◌≡◌, ◌≤◌, ◌==◌, ◌&&◌, length, slice_index};
 ghost use Rattle.btx_names.specs.language.NameLists as spec;
+ghost use Rattle.btx_names.specs.refinement.NameLists as part;
 ghost use Rattle.btx_names.specs.refinement.Steps as steps;
 ghost use Rattle.std.specs.Int.{is_in_range};
 
@@ -10,7 +11,7 @@ use btx_text::depths::depth_after;
 // Whether `and` in any case stands behind the first byte of a text.
 fn has_and(text: &[u8]) -> bool
     requires { 4 ≤ length text.now }
-    ensures { result ≡ (spec.is_letter 97 (slice_index text.now 1) && spec.is_letter 110 (slice_index text.now 2) && spec.is_letter 100 (slice_index text.now 3)) }
+    ensures { result ≡ (part.is_letter 97 (slice_index text.now 1) && part.is_letter 110 (slice_index text.now 2) && part.is_letter 100 (slice_index text.now 3)) }
 {
     matches!(text[1], b'a' | b'A')
         && matches!(text[2], b'n' | b'N')

@@ -21,11 +21,12 @@ use Rattle.btx_run.specs.declared.files.found.FilesRead.TheVariants.{Ends, Found
 use Rattle.btx_text.specs.declared.limits.Limit.TheVariants as kind
 use Rattle.btx_machine.specs.declared.report.End.TheVariants as ended
 use Rattle.btx_run.specs.language.Files.Logging.{bytes_of_lines}
-use Rattle.btx_run.specs.refinement.Files.Logging.{LogReceived, Counted, Logs}
+use Rattle.btx_run.specs.refinement.Files.Logging.{Counted, LogReceived, Logs}
+use Rattle.btx_run.specs.refinement.Files.Logging.{bytes_of_lines}
 use Rattle.btx_run.specs.language.Files.Lines.{no_style_line, style_line}
-use Rattle.btx_run.specs.language.Files.Readings.{Logged, after_job, behind, database_logged, databases_read, databases_logged, files_found, logged, style_named, style_read}
-use Rattle.btx_run.specs.refinement.Files.Readings.{AddsAs, IsAdded, IsRead, ReadsAs, after_style, database_read}
-use Rattle.btx_run.proofs.LoggingLemmas.{part_begins, rest_begins, logs_both, logs_nothing}
+use Rattle.btx_run.proofs.LoggingLemmas.{logs_both, logs_nothing, part_begins, rest_begins}
+use Rattle.btx_run.specs.language.Files.Readings.{Logged, after_job, behind, databases_logged, files_found, logged, style_named, style_read}
+use Rattle.btx_run.specs.refinement.Files.Readings.{AddsAs, IsAdded, IsRead, ReadsAs, after_style, database_logged, database_read, databases_read}
 use Rattle.std.specs.Prelude.{option_to_list}
 use Rattle.btx_run.specs.refinement.Files.Found.{named_file}
 

@@ -12,10 +12,11 @@ use Rattle.btx_step.specs.declared.said.Note.TheVariants as note
 use Rattle.btx_step.specs.language.Jobs.{Job}
 use Rattle.btx_step.specs.language.Stores.{Store}
 use Rattle.btx_step.specs.language.Answers.{Answer, with_literals}
-use Rattle.btx_step.specs.language.Operands.{Operand, Any, Of, Value, Does, seen_as, applied, absent, wrong, misfit_notes, or_else, complaints, or_default}
+use Rattle.btx_step.specs.language.Operands.{Operand, Any, Of, Value, Does, Default, Push, Back, seen_as, applied, absent, wrong, or_else, or_default}
 use Rattle.btx_step.specs.language.Table.{row, runs, runs_missing}
 use Rattle.btx_step.specs.language.Steps.{built_in_run}
-use Rattle.btx_step.specs.laws.Applied.{operand_literal, OperandValues, operand_literals, done_on, IsApplied, AreMissing, IsWrong, IsReported, FollowsRule, AppliedOrReported}
+use Rattle.btx_step.specs.laws.Applied.{operand_literal, OperandValues, operand_literals, done_on, IsApplied, AreMissing, IsWrong, by_default, IsReported, FollowsRule, AppliedOrReported}
+use Rattle.btx_step.specs.refinement.Operands.{misfit_notes, complaints}
 
 -- ---- one operand
 
@@ -157,6 +158,10 @@ verdict (Of kind ∷ more) does (x ∷ xs) = of_kind kind more does x xs (λ val
 
 -- ---- the law
 
+defaulted : (default : Default) (notes : List Note) (seen below : List Literal) (s : Store) → or_default None default notes seen below s ≡ by_default default notes seen below s
+defaulted (Push instead) notes seen below s = refl
+defaulted Back notes seen below s = refl
+
 by_table : (job : Job) (f : BuiltIn) (s : Store) → built_in_run job f s ≡ runs f ((row f).does job) s → IsApplied job f s ⊎ IsReported job f s
 by_table job f s e = decided (verdict (row f).operands ((row f).does job) s.literals)
   where
@@ -170,7 +175,11 @@ by_table job f s e = decided (verdict (row f).operands ((row f).does job) s.lite
       taken = h.taken;
       is = e ∙ ap answered h.is ∙ ap (λ below. done_on (row f).operands ((row f).does job) h.values (with_literals below s)) h.left;
     })
-    decided (inr h) = inr (record { notes = complaints (row f).operands s.literals; why = h.why; is = e ∙ ap answered h.is })
+    decided (inr h) = inr (record {
+      notes = complaints (row f).operands s.literals;
+      why = h.why;
+      is = e ∙ ap answered h.is ∙ defaulted (row f).default _ s.literals (drop (length (row f).operands) s.literals) s;
+    })
 
 missing_by_table : (job : Job) (s : Store) (current : Option ℕ) → s.current ≡ current → FollowsRule built_in.Missing current → IsApplied job built_in.Missing s ⊎ IsReported job built_in.Missing s
 unfolding built_in_run

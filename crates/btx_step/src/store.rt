@@ -70,7 +70,7 @@ impl<'a> Model for Store<'a> {
 }
 
 impl<'a> Store<'a> {
-    /// What a token does. What it says goes into `said`, which says nothing before.
+    /// Executes a token, and answers what follows. What is to be written or logged goes into `said`, which is empty before.
     #[tactic(auto, unfolding(crate::specs::language::Steps::step_of))]
     pub fn step(
         &mut self,
@@ -89,7 +89,7 @@ impl<'a> Store<'a> {
         }
     }
 
-    /// What a function does.
+    /// Executes a function, a field or a variable, and answers what follows. `said` is as for `step`.
     #[tactic(auto, unfolding(crate::specs::language::Steps::function_run))]
     pub fn run(
         &mut self,
@@ -162,7 +162,7 @@ impl<'a> Store<'a> {
         }
     }
 
-    /// The current entry, if there is one.
+    /// Answers the number of the current entry, if there is one.
     pub fn current(&self) -> Option<usize>
         ensures { result ≡ self.now.current }
     {
@@ -176,21 +176,21 @@ impl<'a> Store<'a> {
         self.current = entry;
     }
 
-    /// The greatest number of bodies that were open at once.
+    /// Answers the greatest number of bodies that were open at once.
     pub fn deepest(&self) -> usize
         ensures { result ≡ self.now.deepest }
     {
         self.deepest
     }
 
-    /// Notes how many bodies are open.
+    /// Notes that `bodies` bodies are open, for the greatest number.
     pub fn open(&mut self, bodies: usize)
         ensures { self.new ≡ with_depth bodies self.old }
     {
         self.deepest = self.deepest.max(bodies);
     }
 
-    /// How many literals are on the stack.
+    /// Answers how many literals are on the stack.
     pub fn depth(&self) -> usize
         ensures length { result ≡ length self.now.literals }
         ensures within { length self.now.literals ≤ 1000 }
@@ -198,14 +198,14 @@ impl<'a> Store<'a> {
         self.literals.len()
     }
 
-    /// Whether no literal is on the stack.
+    /// Answers whether the stack is empty.
     pub fn is_empty(&self) -> bool
         ensures { result ≡ (length self.now.literals == 0) }
     {
         self.literals.len() == 0
     }
 
-    /// Takes the top literal off.
+    /// Pops the top literal, if there is one.
     pub fn pop(&mut self) -> Result<Option<Literal<'a>>, AllocError>
         ensures some { IfOk result (λ top. IfSome top (λ value. self.old.literals ≡ value ∷ self.new.literals)) }
         ensures none { IfOk result (λ top. IfNone top (self.old.literals ≡ [])) }

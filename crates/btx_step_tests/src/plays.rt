@@ -27,7 +27,7 @@ pub struct Setting {
     pub global_max: KeptBytes,
 }
 
-/// A setting as it usually is, in an entry or in none.
+/// Makes the usual setting, in the entry `entry` or in none.
 pub fn usual(entry: Option<usize>) -> Setting {
     Setting {
         entry,
@@ -37,13 +37,13 @@ pub fn usual(entry: Option<usize>) -> Setting {
     }
 }
 
-/// What the tokens of a body answer, and the literals that they leave, top first: items with ` | ` between them.
+/// Executes the tokens of a body. Answers what they write and log and the literals that they leave, top first, with ` | ` between the items.
 pub fn play(alloc: Global, setting: &Setting, body: &[u8]) -> Result<Vec<u8>, Fault> {
     let text = body_text(alloc, body)?;
     play_style(alloc, setting, &text)
 }
 
-/// A style whose last function has this body.
+/// Makes the text of a style whose last function has the body `body`.
 fn body_text(alloc: Global, body: &[u8]) -> Result<Vec<u8>, AllocError> {
     let mut text = Vec::from_slice(alloc, DECLARATIONS)?;
     text.extend_from_slice(b"FUNCTION {body} {")?;
@@ -52,7 +52,7 @@ fn body_text(alloc: Global, body: &[u8]) -> Result<Vec<u8>, AllocError> {
     Ok(text)
 }
 
-/// The same of the last function of a style.
+/// Does the same for the last function of the style `text`.
 fn play_style(alloc: Global, setting: &Setting, text: &[u8]) -> Result<Vec<u8>, Fault> {
     let mut finder = MemoryFinder::new(alloc, &[(b"job.aux", CITATIONS)])?;
     let citations = read_aux(alloc, &mut finder, b"job.aux")?;
@@ -70,7 +70,7 @@ fn play_cited<'a>(
     Ok(play_read(alloc, setting, &style, &library)?)
 }
 
-/// What one database gives to a job.
+/// Reads the library that one database gives to a job.
 pub fn library_of<'a>(
     alloc: Global,
     style: &Style<'a>,
@@ -109,7 +109,7 @@ fn play_read<'a>(
     Ok(told)
 }
 
-/// The tokens of the last function, which are none where there is no function.
+/// Answers the tokens of the last function, or none if there is no function.
 pub fn last_body<'a>(style: &'a Style<'_>) -> &'a [Token] {
     let functions = style.functions();
     if functions == 0 {
@@ -118,7 +118,7 @@ pub fn last_body<'a>(style: &'a Style<'_>) -> &'a [Token] {
     style.body(functions - 1)
 }
 
-/// Takes a token, and tells what it answers; whether more may follow.
+/// Executes a token, and adds what it answers to `told`. Answers whether another may follow.
 fn play_token<'a>(
     alloc: Global,
     job: &Job<'a>,
@@ -153,7 +153,7 @@ fn write_written(told: &mut Vec<u8>, text: &[u8]) -> Result<(), AllocError> {
     write_line(told, &[b"write ", text])
 }
 
-/// Puts an item behind the others.
+/// Adds an item, in pieces, behind the others in `told`.
 fn write_line(told: &mut Vec<u8>, pieces: &[&[u8]]) -> Result<(), AllocError> {
     if !told.is_empty() {
         told.extend_from_slice(b" | ")?;
@@ -192,7 +192,7 @@ fn write_note(
     write_line(told, &[line.text()])
 }
 
-/// The name of what a token executes.
+/// Answers the name of what a token executes.
 fn executed_name<'a>(style: &'a Style<'_>, token: Token) -> &'a [u8] {
     match token {
         Token::Run(function) => style.name(function),

@@ -4,8 +4,9 @@ use Rattle.btx_text.specs.language.Elements.{Element}
 use Rattle.btx_strings.specs.declared.conversions.Conversion.{Conversion}
 use Rattle.btx_strings.specs.declared.case_change.Place.{Place}
 use Rattle.btx_strings.specs.declared.case_change.Place.TheVariants.{First, Colon, ColonAndWhite, Inside}
-use Rattle.btx_strings.specs.language.Case.{is_white_text, is_colon, after_colon, begins_title, cased_as, cased_part, cased_parts, is_title}
+use Rattle.btx_strings.specs.language.Case.{is_white_text, after_colon, begins_title, cased_as, cased_part, cased_parts, is_title}
 use Rattle.btx_strings.specs.refinement.CaseState.{is_after_colon, is_beginning}
+use Rattle.btx_strings.specs.refinement.Case.{is_colon}
 
 -- the place after one more element
 abbrev pub place_after : Place → Element → Place

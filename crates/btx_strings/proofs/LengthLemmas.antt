@@ -2,8 +2,9 @@
 use Rattle.std.proofs.Common.{◌≡◌, ℕ, zero, suc, ◌+◌, ◌-◌, ◌<◌, cond, List, [], ◌∷◌, ◌++◌, length, take, drop, refl, sym, ◌∙◌, ap, arith, append_assoc, length-append}
 use Rattle.std.proofs.lemmas.List.{take_at, drop_at, drop-drop, append-nil, take_all}
 use Rattle.std.proofs.Math.Seq.{take-add}
-use Rattle.btx_text.specs.language.Elements.{Element, is_character, text_of}
+use Rattle.btx_text.specs.language.Elements.{Element, is_character}
 use Rattle.btx_strings.specs.language.Lengths.{take_characters}
+use Rattle.btx_text.specs.laws.Elements.{text_of}
 
 -- one element more, where characters are wanted
 take_characters-cons : (n : ℕ) (part : Element) (parts : List Element) → 0 < n → take_characters n (part ∷ parts) ≡ part ∷ take_characters (cond (is_character part.kind) (n - 1) n) parts

@@ -9,7 +9,7 @@ use Rattle.btx_text.specs.language.Class.{is_white}
 use Rattle.btx_text.specs.declared.element_kind.Kind.{Kind}
 use Rattle.btx_text.specs.declared.element_kind.Kind.TheVariants.{Byte, Open, Close, Special}
 use Rattle.btx_text.specs.declared.element_kind.TextMode.TheVariants.{Bytes}
-use Rattle.btx_text.specs.language.Elements.{Element, depth_after, kind_at, element_at, extent, group_len, elements_from, elements_of}
+use Rattle.btx_text.specs.language.Elements.{Element, depth_after, kind_at, extent, group_len, elements_from, elements_of}
 use Rattle.btx_text.proofs.ElementLemmas.{group_len-le, elements_from-step, elements_from-nil}
 use Rattle.btx_strings.specs.declared.conversions.Conversion.{Conversion}
 use Rattle.btx_strings.specs.declared.conversions.Conversion.TheVariants.{Title, Lower, Upper}
@@ -20,6 +20,7 @@ use Rattle.btx_strings.specs.refinement.CaseState.{is_case_plain, first_place, i
 use Rattle.btx_strings.proofs.CaseLemmas.{cased_from, cased_from-anywhere, cased_from-first}
 use Rattle.btx_strings.proofs.CaseLemmas as elements
 use Rattle.btx_strings.specs.refinement.Case.{cased_special, cased}
+use Rattle.btx_text.specs.refinement.Elements.{element_at}
 
 -- the elements of a text at a depth, after a place, in another case
 abbrev rest_at : Conversion → Place → ℕ → ℕ → ℕ → List ℕ → List ℕ

@@ -12,12 +12,13 @@ use Rattle.btx_text.specs.declared.element_kind.TextMode.TheVariants.{Bytes}
 use Rattle.std.specs.Char.{is_ascii_digit}
 use Rattle.btx_text.specs.declared.byte_class.Class.TheVariants.{Alpha, Digit, Sep, Other}
 use Rattle.btx_text.specs.language.Class.{class_of, is_alpha, is_sep, is_white}
-use Rattle.btx_text.specs.language.Elements.{Element, depth_after, kind_at, element_at, extent, group_len, elements_from, elements_of}
+use Rattle.btx_text.specs.language.Elements.{Element, depth_after, kind_at, extent, group_len, elements_from, elements_of}
 use Rattle.btx_text.proofs.ElementLemmas.{group_len-le, elements_from-step, elements_from-nil}
 use Rattle.btx_strings.specs.language.Controls.{glyphs_of}
 use Rattle.btx_strings.specs.language.Purify.{purified_as, purified_class, purified_glyph, purify_of}
 use Rattle.btx_strings.specs.refinement.Purify.{stays, purified_group, purified_byte}
 use Rattle.btx_strings.proofs.PieceLemmas.{above_zero, deeper, kind_inside, less_deep, one_more}
+use Rattle.btx_text.specs.refinement.Elements.{element_at}
 
 abbrev left_of : Element → List ℕ
 left_of part = purified_as part.kind part.text

@@ -6,8 +6,9 @@ use Rattle.std.proofs.lemmas.Bool.Decides.{nat_tests}
 use Rattle.std.specs.List.{list_all}
 use Rattle.std.proofs.lemmas.Bool.{false≢true, and_parts, and_from}
 use Rattle.btx_text.specs.language.Elements.{Element}
-use Rattle.btx_strings.specs.language.Case.{is_white_text, is_colon, after_colon, begins_title}
+use Rattle.btx_strings.specs.language.Case.{is_white_text, after_colon, begins_title}
 use Rattle.btx_strings.specs.laws.Case.{EndInColonAndWhite}
+use Rattle.btx_strings.specs.refinement.Case.{is_colon}
 
 abbrev is_white_part : Element → Bool
 is_white_part part = is_white_text part.text

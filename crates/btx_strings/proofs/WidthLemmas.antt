@@ -8,10 +8,11 @@ use Rattle.std.proofs.lemmas.List.{get_or_past}
 use Rattle.std.proofs.lemmas.List.Sums.{sum_by-cons}
 use Rattle.btx_text.specs.declared.element_kind.Kind.{Kind}
 use Rattle.btx_text.specs.declared.element_kind.Kind.TheVariants.{Special}
-use Rattle.btx_text.specs.language.Elements.{Element, text_of}
+use Rattle.btx_text.specs.language.Elements.{Element}
 use Rattle.btx_strings.specs.language.Controls.{Glyph, Control, Plain, control_name, glyphs_from, glyphs_of, is_brace, follows, is_white_glyph, without_white, letters_of}
 use Rattle.btx_strings.specs.language.Width.{widths, byte_width, first_width, control_width, glyph_width, width_as}
 use Rattle.btx_strings.specs.refinement.Width.{special_width, part_width}
+use Rattle.btx_text.specs.laws.Elements.{text_of}
 
 -- ---- no byte is wider than 1,028
 

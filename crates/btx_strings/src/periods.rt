@@ -23,7 +23,7 @@ pub fn add_period(alloc: Global, string: &[u8]) -> Result<Answer, Fault>
 
 /// Whether a string gets a period by [`add_period`].
 pub fn lacks_period(string: &[u8]) -> bool
-    ensures { spec.add_period_of string.now ≡ (if result then string.now ++ spec.period ∷ [] else string.now) }
+    ensures { spec.add_period_of string.now ≡ (if result then string.now ++ part.period ∷ [] else string.now) }
 {
     if string.is_empty() {
         return false;

@@ -1,10 +1,11 @@
 //! The beginning of a string, in characters of text.
 ghost use Rattle.std.specs.Prelude.{◌≡◌};
-ghost use Rattle.btx_text.specs.language.Elements.{elements_of, text_of};
+ghost use Rattle.btx_text.specs.language.Elements.{elements_of};
 ghost use Rattle.btx_strings.specs.language.Answers.{no_complaints};
 ghost use Rattle.btx_strings.specs.refinement.Answers.{Answers};
 ghost use Rattle.btx_strings.specs.language.Lengths.{take_characters, text_prefix_of, wanted_length};
 ghost use Rattle.btx_strings.specs.refinement.Lengths.{with_braces_closed};
+ghost use Rattle.btx_text.specs.laws.Elements.{text_of};
 
 use crate::answers::Answer;
 use btx_text::{Elements, Fault, TextMode, depth_at};

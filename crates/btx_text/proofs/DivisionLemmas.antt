@@ -8,9 +8,10 @@ use Rattle.btx_text.specs.declared.element_kind.Kind.TheVariants.{Special, Wide}
 use Rattle.btx_text.specs.declared.element_kind.TextMode.{TextMode}
 use Rattle.btx_text.specs.language.Sequences.{sequence_size}
 use Rattle.btx_text.proofs.SequenceLemmas.{is_sequence-size, begins_sequence-front}
-use Rattle.btx_text.specs.language.Elements.{depth_after, depth_of, Element, text_of, kind_at, extent, element_at, group_len, elements_from, elements_of}
-use Rattle.btx_text.specs.laws.Elements.{IsSpecial, Reaches, IsElement, IsDivision}
+use Rattle.btx_text.specs.language.Elements.{depth_after, depth_of, Element, kind_at, extent, group_len, elements_from, elements_of}
+use Rattle.btx_text.specs.laws.Elements.{IsSpecial, Reaches, IsElement, IsDivision, text_of}
 use Rattle.btx_text.proofs.ElementLemmas.{Stands, stands_at, group_closes, length_take_extent, elements_from-cons, elements_from-nil}
+use Rattle.btx_text.specs.refinement.Elements.{element_at}
 
 -- the parts are the elements that follow a text
 abbrev Divides : TextMode → List ℕ → List Element → Type 0

@@ -8,9 +8,9 @@ use Rattle.btx_text.specs.declared.element_kind.TextMode.{TextMode}
 use Rattle.btx_text.specs.declared.element_kind.TextMode.TheVariants.{Bytes, Utf8}
 use Rattle.btx_text.specs.language.Sequences.{sequence_size, begins_sequence}
 use Rattle.btx_text.proofs.SequenceLemmas.{begins_sequence-front, begins_sequence-size, begins_sequence-low, fold-sequence}
-use Rattle.btx_text.specs.language.Elements.{depth_after, Element, begins_special, is_utf8, kind_at, kind_of, extent, element_at, group_len, elements_from, elements_of}
+use Rattle.btx_text.specs.language.Elements.{depth_after, Element, is_utf8, kind_at, extent, group_len, elements_from, elements_of}
 use Rattle.btx_text.specs.laws.Elements.{is_wide}
-use Rattle.btx_text.specs.refinement.Elements.{depth_past}
+use Rattle.btx_text.specs.refinement.Elements.{depth_past, begins_special, kind_of, element_at}
 use Rattle.std.specs.List.{All, list_any}
 
 -- ---- `group_len`

@@ -1,8 +1,9 @@
 //! The elements of a string, one at a time.
 ghost use Rattle.std.specs.Prelude.{◌≡◌, ◌≤◌, ◌<◌, ◌+◌, ◌^◌, length, slice_index};
 ghost use Rattle.btx_text.specs.declared.element_kind.TextMode.TheVariants.{Bytes};
-ghost use Rattle.btx_text.specs.language.Elements.{elements_of, extent, group_len, is_character, kind_at, text_of};
+ghost use Rattle.btx_text.specs.language.Elements.{elements_of, extent, group_len, is_character, kind_at};
 ghost use Rattle.btx_text.specs.refinement.Elements.{depth_past};
+ghost use Rattle.btx_text.specs.laws.Elements.{text_of};
 
 use crate::depths::depth_after;
 use crate::element_kind::{Kind, TextMode};

@@ -1,9 +1,10 @@
 -- The events of a job: all that its `.aux` files say and all that becomes of them, in reading order. An `\@input` line is followed
 -- at once by what becomes of its file: the file is opened exactly if its name ends in `.aux`, nothing earlier names that file,
 -- the finder's content has it and fewer than 20 files are open; the events of an opened file follow at once.
-use Rattle.std.specs.Prelude.{ℕ, zero, suc, ◌+◌, ◌-◌, not, ◌&&◌, Bool, true, false, List, [], ◌∷◌, ◌++◌, map, Option, None, Some, if◌then◌else◌, codes}
+use Rattle.std.specs.Prelude.{ℕ, zero, suc, ◌+◌, ◌-◌, not, ◌&&◌, List, [], ◌∷◌, ◌++◌, map, Option, None, Some, if◌then◌else◌, codes}
 use Rattle.std.specs.List.{flat_map}
 use Rattle.btx_aux.specs.declared.reading.TheConstants.{MOST_OPEN}
+use Rattle.std.specs.Option.{option_map_or}
 use Rattle.btx_text.specs.language.Limits.{is_too_long}
 use Rattle.btx_text.specs.language.Lines.{lines_of}
 use Rattle.btx_aux.specs.language.Files.{Files}
@@ -49,17 +50,11 @@ asked_of files _ = None
 abbrev pub FileEvents : Type 0
 FileEvents = List AuxEvent → List ℕ → List ℕ → List AuxEvent
 
--- what follows an `\@input` of the file `name`, given the bytes that the finder has for that: the events of the file, which `reading` gives, or
--- that it is missing
-abbrev pub input_events : FileEvents → List AuxEvent → AuxEvent → List ℕ → Option (List ℕ) → List AuxEvent
-input_events reading earlier event name None = record event { word = Absent name } ∷ []
-input_events reading earlier event name (Some text) = reading earlier name text
-
 -- the events that come between this event and the next one of its file: those of the file that it asks for, or that this is missing; none if it
 -- asks for none
 abbrev pub followed : Files → FileEvents → List AuxEvent → AuxEvent → Option (List ℕ) → List AuxEvent
 followed files reading earlier event None = []
-followed files reading earlier event (Some name) = input_events reading earlier event name (files name)
+followed files reading earlier event (Some name) = option_map_or (reading earlier name) (files name) (record event { word = Absent name } ∷ [])
 
 -- the events of a file, each followed at once by those of the file that it opens; `earlier` are all events before these
 abbrev pub expanded : Files → FileEvents → List AuxEvent → List AuxEvent → List AuxEvent
@@ -69,29 +64,19 @@ expanded files reading earlier (event ∷ events) =
     let more = followed files reading with_event event (asked_of (files_named earlier) event.word) in
     (event ∷ more) ++ expanded files reading (with_event ++ more) events
 
--- the events of an opened file after its opening, given whether it is too long: then just that, and else those of its lines
-abbrev pub inside : Bool → Files → FileEvents → List AuxEvent → List ℕ → List ℕ → List AuxEvent
-inside true files reading earlier name text = event_at name 0 TooLong ∷ []
-inside false files reading earlier name text = expanded files reading earlier (said name text)
-
 -- the events of a file from its opening on, given how many of the 20 files that may be open at once aren't open yet; if there are none, that too
--- many are open
+-- many are open. A file that is too long says just that
 abbrev pub opened : Files → ℕ → FileEvents
 opened files zero earlier name text = event_at name 0 Full ∷ []
 opened files (suc room) earlier name text =
     let opening = event_at name 0 (Opens (19 - room)) in
-    opening ∷ inside (is_too_long text) files (opened files room) (earlier ++ opening ∷ []) name text
-
--- the events of the top file and of the files that it opens, given its text; without a text, that it is missing
-abbrev pub from_top : Files → List ℕ → Option (List ℕ) → List AuxEvent
-from_top files top None = event_at top 0 NoTop ∷ []
-from_top files top (Some text) = opened files MOST_OPEN [] top text
+    opening ∷ (if is_too_long text then event_at name 0 TooLong ∷ [] else expanded files (opened files room) (earlier ++ opening ∷ []) (said name text))
 
 -- the events up to the first that ends the reading
 abbrev pub until_end : List AuxEvent → List AuxEvent
 until_end [] = []
 until_end (event ∷ events) = if is_whole (end_by event.word) then event ∷ until_end events else event ∷ []
 
--- the events of a job whose top file is `top`
+-- the events of a job whose top file is `top`: those of that file and of the files that it opens, or that it is missing
 unfoldable pub job_events : Files → List ℕ → List AuxEvent
-job_events files top = until_end (from_top files top (files top))
+job_events files top = until_end (option_map_or (opened files MOST_OPEN [] top) (files top) (event_at top 0 NoTop ∷ []))

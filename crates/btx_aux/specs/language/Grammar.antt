@@ -2,7 +2,8 @@
 -- its text up to its first `{` is exactly a command. What follows is the argument: for `\citation` and `\bibdata` a list of pieces cut
 -- at commas, for the other two one piece.
 use Rattle.std.specs.Prelude.{ℕ, ◌+◌, ◌==◌, ◌&&◌, Bool, true, false, List, [], ◌∷◌, map, take, drop, position, Option, None, Some, if◌then◌else◌, codes}
-use Rattle.std.specs.Str.{bytes_eq}
+use Rattle.std.specs.Str.{bytes_eq, byte}
+use Rattle.std.specs.Option.{option_map_or}
 use Rattle.btx_text.specs.language.Class.{is_white}
 use Rattle.btx_aux.specs.declared.end.End.{End}
 use Rattle.btx_aux.specs.declared.end.End.TheVariants as end
@@ -33,8 +34,8 @@ unfoldable pub pieces_of : Bool → List ℕ → List Piece
 pieces_of is_list [] = Cut Unclosed ∷ []
 pieces_of is_list (b ∷ bs) =
     if is_white b then Cut WhiteSpace ∷ []
-    else (if b == 125 then closed_before bs
-    else (if is_list && b == 44 then Taken [] ∷ pieces_of is_list bs
+    else (if b == byte "}" then closed_before bs
+    else (if is_list && b == byte "," then Taken [] ∷ pieces_of is_list bs
     else in_first_piece b (pieces_of is_list bs)))
 
 -- the first piece of an argument. `pieces_of` always gives one, so the case without any is never met
@@ -74,14 +75,11 @@ words_of_command (Some Bibdata) argument = Databases (pieces_of true argument) �
 words_of_command (Some Bibstyle) argument = Styles (first_piece (pieces_of false argument)) ∷ []
 words_of_command (Some Input) argument = Includes (first_piece (pieces_of false argument)) ∷ []
 
--- what a line says, given the place of its first `{`; a line without `{` says nothing
-abbrev pub words_at : Option ℕ → List ℕ → List EventKind
-words_at None line = []
-words_at (Some brace) line = words_of_command (aux_command_named (take brace line)) (drop (brace + 1) line)
-
 -- what a line of an `.aux` file says, in order: nothing, unless the text before its first `{` is one of the four commands
 unfoldable pub words_of : List ℕ → List EventKind
-words_of line = words_at (position (λ b. b == 123) line) line
+words_of line =
+    let brace = byte "{" in
+    option_map_or (λ (place : ℕ). words_of_command (aux_command_named (take place line)) (drop (place + 1) line)) (position (λ b. b == brace) line) []
 
 -- how the reading ends at a word, if that ends it: 20 files are open, a file is too long, or there is no top file; after any other word the reading
 -- goes on, which is `Whole`

@@ -9,10 +9,10 @@ use Rattle.btx_aux.specs.language.Grammar.{Piece, Taken, Cut, EventKind, end_by}
 use Rattle.btx_aux.specs.language.Events.{AuxEvent, event_at, asked_of}
 use Rattle.btx_text.specs.language.LogLines.{Line}
 use Rattle.btx_aux.specs.language.Notes.{AuxComplaint, Slipped, RepeatedDatabase, Wrong, AuxNote}
-use Rattle.btx_aux.specs.language.Job.{first_of, star_by, bibdata_by, bibstyle_by, databases_in, style_name_in, notes_by}
+use Rattle.btx_aux.specs.language.Job.{first_of, star_by, bibdata_by, bibstyle_by, databases_in, notes_by}
 use Rattle.btx_text.specs.language.Lists.{only_if, is_among}
 use Rattle.btx_aux.specs.refinement.Events.{file_named}
-use Rattle.btx_aux.specs.refinement.Job.{cited}
+use Rattle.btx_aux.specs.refinement.Job.{cited, style_name_in}
 use Rattle.btx_aux.specs.refinement.Notes.{aux_note_line}
 
 -- nothing is known

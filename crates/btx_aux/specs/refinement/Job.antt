@@ -1,10 +1,15 @@
 -- Names of parts of a job's definition.
-use Rattle.std.specs.Prelude.{ℕ, List, length, Option, not, ◌&&◌, Bool, ◌++◌, is_none, if◌then◌else◌, map}
+use Rattle.std.specs.Prelude.{ℕ, List, length, Option, not, ◌&&◌, Bool, ◌++◌, is_none, if◌then◌else◌, map, None, Some, codes, option_and_then}
 use Rattle.btx_aux.specs.language.Events.{AuxEvent}
-use Rattle.btx_aux.specs.language.Job.{cited_by, cited_keys, star_by, bibdata_of, databases_in, bibstyle_of, style_name_in, is_empty, all_of, end_of, notes_of, AuxJob}
+use Rattle.btx_aux.specs.language.Job.{cited_by, cited_keys, star_by, bibdata_of, databases_in, bibstyle_of, is_empty, all_of, end_of, notes_of, AuxJob, first_of, taken_with}
 use Rattle.btx_aux.specs.language.Notes.{AuxNote, NoCitations, NoBibdata, NoBibstyle, aux_note_kind, aux_note_text}
 use Rattle.btx_text.specs.language.Lists.{only_if}
 use Rattle.btx_text.specs.language.LogLines.{message}
+use Rattle.btx_aux.specs.language.Grammar.{Piece}
+
+-- the style that the piece of a `\bibstyle` line names, with `.bst`; none without such a line, or if its piece is faulty
+abbrev pub style_name_in : Option Piece → Option (List ℕ)
+style_name_in piece = option_and_then (λ (piece : Piece). first_of (taken_with (codes ".bst") piece)) piece
 
 -- the key that an event cites, if it cites one
 abbrev pub cited : AuxEvent → List (List ℕ)

@@ -1,4 +1,3 @@
-pub mod Bytes
 pub mod ByteSets
 pub mod Tokens
 pub mod Values

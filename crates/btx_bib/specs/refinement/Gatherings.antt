@@ -21,9 +21,11 @@ use Rattle.btx_bib.specs.refinement.Filling.{blanks}
 use Rattle.btx_bib.specs.refinement.Finding.{changed_at}
 use Rattle.btx_bib.specs.language.Values.{field_value}
 use Rattle.btx_bib.specs.language.Wanted.{Request}
-use Rattle.btx_bib.specs.language.Strings.{Strings, defined, other_value, string_value}
+use Rattle.btx_bib.specs.language.Strings.{defined, other_value, string_value}
 use Rattle.btx_bib.specs.language.Known.{goes_on}
-use Rattle.btx_bib.specs.language.Messages.{Database, type_messages, value_messages, spot_at, spot_before}
+use Rattle.btx_bib.specs.language.Messages.{Database, spot_at, spot_before, type_messages, value_messages}
+use Rattle.btx_bib.specs.refinement.Strings.{Strings}
+use Rattle.btx_bib.specs.refinement.Messages.{type_messages}
 
 -- an entry with the value of a field
 abbrev pub with_field_text : Pending → ℕ → List ℕ → Pending

@@ -1,8 +1,8 @@
 -- Fronts of a line: runs of bytes that pass a test.
 use Rattle.std.specs.Prelude.{ℕ, suc, ◌==◌, ◌||◌, not, Bool, true, List, [], ◌∷◌, if◌then◌else◌}
-use Rattle.btx_text.specs.language.Bytes.{double_quote, percent, close_brace}
 use Rattle.btx_text.specs.language.Class.{is_white, is_name_byte}
 use Rattle.std.specs.Char.{is_ascii_digit}
+use Rattle.std.specs.Str.{byte}
 
 -- how many bytes stand before the first that passes a test, or all
 unfoldable pub len_till : (ℕ → Bool) → List ℕ → ℕ
@@ -11,7 +11,7 @@ len_till test (b ∷ bs) = if test b then 0 else suc (len_till test bs)
 
 -- white, `}` or `%`: what ends a name, a string or an integer in a body
 abbrev pub ends_word : ℕ → Bool
-ends_word b = is_white b || b == close_brace || b == percent
+ends_word b = is_white b || b == byte "}" || b == byte "%"
 
 -- how many digits a line begins with
 abbrev pub digits_len : List ℕ → ℕ
@@ -33,4 +33,4 @@ is_word_end (b ∷ bs) = ends_word b
 
 -- how many bytes stand before the next quote of the line
 abbrev pub quote_len : List ℕ → ℕ
-quote_len = len_till (λ b. b == double_quote)
+quote_len = let quote = byte "\"" in len_till (λ b. b == quote)

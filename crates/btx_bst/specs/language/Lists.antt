@@ -1,8 +1,6 @@
 -- Arguments of commands: braces, names and lists of names.
-use Rattle.std.specs.Prelude.{ℕ, zero, suc, ◌==◌, List, [], ◌∷◌, take, drop, Option, None, Some, if◌then◌else◌, not}
-use Rattle.btx_text.specs.language.Bytes.{double_quote, open_brace, close_brace}
+use Rattle.std.specs.Prelude.{ℕ, zero, suc, ◌==◌, List, [], ◌∷◌, take, drop, Option, None, Some, if◌then◌else◌, not, is_some}
 use Rattle.btx_text.specs.language.Keys.{folded}
-use Rattle.btx_bst.specs.declared.callee.Callee.{Callee}
 use Rattle.btx_bst.specs.declared.callee.Kind.{Kind}
 use Rattle.btx_bst.specs.language.Places.{Place, ink, further, size}
 use Rattle.btx_bst.specs.language.Complaints.{Complaint, NoOpen, NoClose, NoName, NoCommand, NoQuote, Defined, EndOfFile}
@@ -11,6 +9,7 @@ use Rattle.btx_bst.specs.language.Fronts.{name_len, quote_len, len_till}
 use Rattle.btx_bst.specs.language.Names.{Names, named, with_name}
 use Rattle.btx_bst.specs.language.Turns.{Turn, Again, Ends, turns_within}
 use Rattle.std.specs.Char.{is_ascii_alphabetic}
+use Rattle.std.specs.Str.{byte}
 
 -- reads the byte `brace` at a place that isn't in whitespace or a comment, or says what is wrong: `complaint`, or that the file ends
 abbrev pub brace_in : ℕ → Complaint → Place → List ℕ → Read (Unit {0})
@@ -19,11 +18,11 @@ brace_in brace complaint place (b ∷ bs) = if b == brace then Took tt (further 
 
 -- the `{` that stands next, behind white and comments, or the complaint that it is missing
 abbrev pub opening : Place → Read (Unit {0})
-opening place = brace_in open_brace NoOpen (ink place) (ink place).line
+opening place = brace_in (byte "{") NoOpen (ink place) (ink place).line
 
 -- the `}` that stands next, behind white and comments, or the complaint that it is missing
 abbrev pub closing : Place → Read (Unit {0})
-closing place = brace_in close_brace NoClose (ink place) (ink place).line
+closing place = brace_in (byte "}") NoClose (ink place) (ink place).line
 
 -- the first `n` bytes of a line, and the place after them; the complaint if `n` is 0
 abbrev pub front_of : Complaint → Place → List ℕ → ℕ → Read (List ℕ)
@@ -51,7 +50,7 @@ quoted_text place text (quote ∷ rest) = Took text (further place rest)
 -- the text in quotes at a place that isn't in whitespace or a comment; or the complaint that a quote is missing
 abbrev pub quoted_in : Place → List ℕ → Read (List ℕ)
 quoted_in place [] = Slip EndOfFile place
-quoted_in place (b ∷ bs) = if b == double_quote then quoted_text place (take (quote_len bs) bs) (drop (quote_len bs) bs) else Slip NoQuote place
+quoted_in place (b ∷ bs) = if b == byte "\"" then quoted_text place (take (quote_len bs) bs) (drop (quote_len bs) bs) else Slip NoQuote place
 
 -- the text in quotes that stands next, behind white and comments, or the complaint that a quote is missing
 abbrev pub quoted_at : Place → Read (List ℕ)
@@ -75,15 +74,11 @@ pub record Listed : Type 0 where
 abbrev pub listed : Option Complaint → Names → Place → Listed
 listed complaint names place = record { complaint = complaint; listing = listing names place }
 
--- declares a name of a list; if it names something already, that is an error and ends the list
-abbrev pub with_new : Kind → Names → List ℕ → Place → Option Callee → Turn Listing Listed
-with_new kind names name place None = Again (listing (with_name kind (folded name) names) place)
-with_new kind names name place (Some other) = Ends (listed (Some (Defined name)) names place)
-
--- declares the next name of a list, or ends the list with what is wrong
+-- declares the next name of a list, or ends the list with what is wrong: there is no name, or it names something already
 abbrev pub name_turn : Kind → Names → Read (List ℕ) → Turn Listing Listed
 name_turn kind names (Slip complaint place) = Ends (listed (Some complaint) names place)
-name_turn kind names (Took name place) = with_new kind names name place (named names name)
+name_turn kind names (Took name place) =
+    if is_some (named names name) then Ends (listed (Some (Defined name)) names place) else Again (listing (with_name kind (folded name) names) place)
 
 -- given whether a `}` stands next, which ends the list; else the next name is read, and if there is none its own complaint is logged
 abbrev pub list_turn_in : Kind → Names → Read (Unit {0}) → Turn Listing Listed

@@ -1,7 +1,7 @@
 -- Places of a style's text. A text is read line by line: a place has the number of its line, what is left of that line, and the lines
 -- after it.
 use Rattle.std.specs.Prelude.{ℕ, suc, ◌+◌, ◌==◌, List, [], ◌∷◌, length, if◌then◌else◌}
-use Rattle.btx_text.specs.language.Bytes.{percent}
+use Rattle.std.specs.Str.{byte}
 use Rattle.btx_text.specs.language.Class.{is_white}
 
 -- a place in a style's text: the number of its line, what is left of that line, and the lines after it
@@ -17,7 +17,7 @@ place_at number line after = record { number = number; line = line; after = afte
 -- a line without the whitespace and the comment at its front; a comment goes from a `%` to the end of the line
 unfoldable pub behind_white : List ℕ → List ℕ
 behind_white [] = []
-behind_white (b ∷ bs) = if is_white b then behind_white bs else if b == percent then [] else b ∷ bs
+behind_white (b ∷ bs) = if is_white b then behind_white bs else if b == byte "%" then [] else b ∷ bs
 
 -- a place on line `number`, if anything is left of that line; else the place `later`
 abbrev pub line_or : ℕ → List ℕ → List (List ℕ) → Place → Place

@@ -1,6 +1,6 @@
 -- The words of a body.
 use Rattle.std.specs.Prelude.{ℕ, zero, suc, ◌+◌, ◌-◌, ◌*◌, ◌^◌, ◌==◌, ℤ, pos, negsuc, nat_lt, fold, Option, None, Some, Bool, true, false, List, [], ◌∷◌, take, drop, if◌then◌else◌}
-use Rattle.btx_text.specs.language.Bytes.{double_quote, hash, single_quote, open_brace, close_brace}
+use Rattle.std.specs.Str.{byte}
 use Rattle.btx_bst.specs.language.Places.{Place, ink, further}
 use Rattle.btx_bst.specs.language.Fronts.{word_len, quote_len, digits_len, is_word_end}
 use Rattle.btx_bst.specs.language.Complaints.{Complaint, BadInteger, TextAfter}
@@ -49,10 +49,6 @@ signed false n = if nat_lt n (2 ^ 31) then Some (pos n) else None
 signed true zero = Some (pos 0)
 signed true (suc n) = if nat_lt n (2 ^ 31) then Some (negsuc n) else None
 
--- `-`
-abbrev pub minus_sign : ℕ
-minus_sign = 45
-
 -- an integer and the rest of the line after its digits; it is an error if it isn't one of 32 bits or if text follows directly
 abbrev pub integer_before : List ℕ → List ℕ → Option ℤ → Front
 integer_before line rest None = front (Faulty BadInteger) (drop (word_len line) line)
@@ -67,17 +63,17 @@ integer_front line minus rest (suc n) = integer_before line (drop (suc n) rest) 
 -- the integer that begins behind a `#`: a minus may stand before its digits
 unfoldable pub integer_at : List ℕ → Front
 integer_at [] = front (Faulty BadInteger) []
-integer_at (b ∷ bs) = if b == minus_sign then integer_front (b ∷ bs) true bs (digits_len bs) else integer_front (b ∷ bs) false (b ∷ bs) (digits_len (b ∷ bs))
+integer_at (b ∷ bs) = if b == byte "-" then integer_front (b ∷ bs) true bs (digits_len bs) else integer_front (b ∷ bs) false (b ∷ bs) (digits_len (b ∷ bs))
 
 -- the word at the front of a line whose first byte `b` is no whitespace and no `%`. A name or a quoted name goes up to white, a `}`, a `%` or the
 -- line's end, whatever its bytes: `a{b` is one name
 unfoldable pub word_front : ℕ → List ℕ → Front
 word_front b bs =
-    if b == open_brace then front Open bs
-    else if b == close_brace then front Close bs
-    else if b == double_quote then string_at bs
-    else if b == hash then integer_at bs
-    else if b == single_quote then front (Quoted (take (word_len bs) bs)) (drop (word_len bs) bs)
+    if b == byte "{" then front Open bs
+    else if b == byte "}" then front Close bs
+    else if b == byte "\"" then string_at bs
+    else if b == byte "#" then integer_at bs
+    else if b == byte "'" then front (Quoted (take (word_len bs) bs)) (drop (word_len bs) bs)
     else front (Name (b ∷ take (word_len bs) bs)) (drop (word_len bs) bs)
 
 -- a word and the place behind it

@@ -1,7 +1,6 @@
 -- How the commands of a style are spelled, with their faults: a relation between what is known at a place and what a command comes to from there.
 -- A command is its word and its arguments; the first thing that is wrong ends it, and then all is skipped up to the next empty line.
 use Rattle.std.specs.Prelude.{ℕ, ◌+◌, ◌≡◌, ◌⊎◌, ◌||◌, ◌==◌, Bool, true, false, List, [], ◌∷◌, ◌++◌, length, Option, None, Some}
-use Rattle.btx_text.specs.language.Bytes.{open_brace, close_brace}
 use Rattle.btx_text.specs.language.Class.{begins_name}
 use Rattle.btx_text.specs.language.Keys.{folded}
 use Rattle.btx_bst.specs.declared.callee.Callee.{Callee}
@@ -30,6 +29,7 @@ use Rattle.btx_bst.specs.laws.WordSpelling.{AreParts, BreakOff}
 use Rattle.btx_bst.specs.laws.StyleText.{unread_style}
 use Rattle.btx_bst.specs.laws.Names.{macro_lower}
 use Rattle.btx_bst.specs.laws.Places.{beginning}
+use Rattle.btx_text.specs.laws.Bytes.{open_brace, close_brace}
 
 -- how a command goes on: a relation between the style so far, the place, and the outcome of the command
 abbrev pub Rule : Type 1

@@ -1,12 +1,12 @@
 -- How the words of a style are spelled: relations between a place `from` and what is read there. `Took x to` holds where an x stands at `from` and
 -- the text goes on at the place `to`; `Slip complaint to` holds where the complaint is met, at the place `to`.
 use Rattle.std.specs.Prelude.{ℕ, ◌+◌, ◌≡◌, ◌==◌, ◌||◌, ◌⊎◌, Bool, true, false, not, List, [], ◌∷◌, ◌++◌}
-use Rattle.btx_text.specs.language.Bytes.{double_quote, percent}
 use Rattle.btx_text.specs.language.Class.{is_white, begins_name}
 use Rattle.btx_bst.specs.language.Places.{Place, place_at, further}
 use Rattle.btx_bst.specs.language.Complaints.{Complaint, NoCommand, NoName, NoQuote, EndOfFile}
 use Rattle.btx_bst.specs.language.Reads.{Read, Took, Slip}
 use Rattle.btx_bst.specs.laws.Fronts.{is_no_letter, ends_name, is_quote}
+use Rattle.btx_text.specs.laws.Bytes.{double_quote, percent}
 
 -- how something is spelled: a relation between the place where it begins and what is read from there on, which is a value and the place behind it,
 -- or a complaint and its place

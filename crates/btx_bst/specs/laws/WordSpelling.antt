@@ -1,13 +1,17 @@
 -- How the words of a body are spelled, and bodies of them.
 use Rattle.std.specs.Prelude.{ℕ, zero, suc, ◌^◌, ◌<◌, ◌≤◌, ◌≡◌, ◌==◌, ◌||◌, ◌⊎◌, ℤ, pos, negsuc, if◌then◌else◌, Bool, true, false, not, List, [], ◌∷◌, ◌++◌, Some}
-use Rattle.btx_text.specs.language.Bytes.{double_quote, hash, single_quote, open_brace, close_brace}
 use Rattle.btx_bst.specs.language.Places.{Place, further}
 use Rattle.btx_bst.specs.language.Complaints.{BadInteger, TextAfter}
 use Rattle.btx_bst.specs.language.Fronts.{ends_word}
-use Rattle.btx_bst.specs.language.Words.{BodyWord, Open, Close, String, Integer, Quoted, Name, Faulty, Unended, Ended, minus_sign, digits_value, met, met_at}
+use Rattle.btx_bst.specs.language.Words.{BodyWord, Open, Close, String, Integer, Quoted, Name, Faulty, Unended, Ended, digits_value, met, met_at}
 use Rattle.btx_bst.specs.laws.Spelling.{Parts, Nothing, Plain, Group, IsPlain, Fragment, Here, After, AfterGroup, Inner, breaks}
 use Rattle.btx_bst.specs.laws.TokenSpelling.{NoneIn, Begins, IsUpTo, Gap}
 use Rattle.btx_bst.specs.laws.Fronts.{is_no_digit, is_quote}
+use Rattle.btx_text.specs.laws.Bytes.{double_quote, hash, single_quote, open_brace, close_brace}
+
+-- `-`
+abbrev pub minus_sign : ℕ
+minus_sign = 45
 
 -- a word goes up to white, `}`, `%` or the end of its line
 abbrev pub IsBodyWord : List ℕ → List ℕ → List ℕ → Type 0

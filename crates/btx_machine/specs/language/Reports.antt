@@ -33,10 +33,6 @@ status_of ended.Stopped errors = 4
 status_of (ended.Limit kind) errors = 3
 status_of ended.NoTopFile errors = 3
 
--- the counts of a log that has this number of warnings and this number of errors
-abbrev pub log_counts : ℕ → ℕ → LogCounts
-log_counts warnings errors = record { warnings = warnings; errors = errors }
-
 -- the report of a run: its status, its end, its steps, the most bodies that were open at once, and the counts of its log
 abbrev pub report_of : End → ℕ → ℕ → LogCounts → Report
 report_of end steps deepest counts = record {

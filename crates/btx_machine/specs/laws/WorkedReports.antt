@@ -4,7 +4,8 @@ use Rattle.btx_text.specs.declared.limits.Limit.TheVariants.{Calls, File, Files,
 use Rattle.btx_machine.specs.declared.report.End.{End}
 use Rattle.btx_machine.specs.declared.report.End.TheVariants as ended
 use Rattle.btx_machine.specs.declared.report.Report.{Report}
-use Rattle.btx_machine.specs.language.Reports.{last_line, report_of, log_counts}
+use Rattle.btx_machine.specs.language.Reports.{last_line, report_of}
+use Rattle.btx_machine.specs.laws.Reports.{log_counts}
 
 -- how a run ended, its warnings, error messages and steps; and the last line of its log, and its status
 pub record WorkedReport : Type 0 where

@@ -3,7 +3,8 @@
 use Rattle.std.specs.Prelude.{ℕ, zero, suc, ◌+◌, ◌-◌, ◌==◌, Bool, true, false, not, List, [], ◌∷◌, Option, Some, None, length, take, drop, slice_index, if◌then◌else◌}
 use Rattle.std.specs.List.{list_any}
 use Rattle.std.specs.Char.{to_ascii_lowercase}
-use Rattle.btx_text.specs.language.Elements.{open_brace, close_brace}
+use Rattle.std.specs.Str.{byte}
+use Rattle.std.specs.Option.{option_map_or}
 use Rattle.btx_names.specs.declared.format_items.PartName.{PartName}
 use Rattle.btx_names.specs.declared.format_items.PartName.TheVariants.{First, Von, Last, Jr}
 use Rattle.btx_names.specs.declared.runs.Stop.TheVariants.{Letter, Closing, Brace}
@@ -29,7 +30,7 @@ pub data FormatItem : Type 0 where
 unfoldable pub part_named : ℕ → Option PartName
 part_named letter =
     let lower = to_ascii_lowercase letter in
-    if lower == 102 then Some First else if lower == 118 then Some Von else if lower == 108 then Some Last else if lower == 106 then Some Jr else None
+    if lower == byte "f" then Some First else if lower == byte "v" then Some Von else if lower == byte "l" then Some Last else if lower == byte "j" then Some Jr else None
 
 -- ---- a piece with a part, of what follows its letter
 
@@ -41,12 +42,12 @@ is_doubled letter (second ∷ rest) = to_ascii_lowercase second == to_ascii_lowe
 -- the braced string directly behind the letters, without its braces
 abbrev pub between_of : List ℕ → Option (List ℕ)
 between_of rest =
-    if slice_index rest 0 == open_brace then Some (take (run_len Closing 0 (drop 1 rest)) (drop 1 rest)) else None
+    if slice_index rest 0 == byte "{" then Some (take (run_len Closing 0 (drop 1 rest)) (drop 1 rest)) else None
 
 -- what follows the letters of a piece, without the braced string directly behind them, if there is one
 abbrev pub behind_between : List ℕ → List ℕ
 behind_between rest =
-    if slice_index rest 0 == open_brace then drop (run_len Closing 0 (drop 1 rest) + 1) (drop 1 rest) else rest
+    if slice_index rest 0 == byte "{" then drop (run_len Closing 0 (drop 1 rest) + 1) (drop 1 rest) else rest
 
 -- the item of a group whose first letter names a part (`part`), given the text before that letter, the letter, and what follows it. It is illegal if
 -- a further letter stands in it outside inner braces
@@ -58,17 +59,13 @@ piece_item before letter rest part =
     Name (record { before = before; part = part; is_full = is_doubled letter rest; between = between_of behind; after = after })
     else Illegal
 
--- the item of a group with a letter at its own level, `letter`, given the part that it names: a piece, or illegal if it names none
-abbrev pub lettered_item : List ℕ → ℕ → List ℕ → Option PartName → FormatItem
-lettered_item before letter rest None = Illegal
-lettered_item before letter rest (Some part) = piece_item before letter rest part
-
 -- ---- the items
 
--- the item of a group, given the text before the first letter at its own level and the rest from that letter on
+-- the item of a group, given the text before the first letter at its own level and the rest from that letter on: a piece, if the letter names a part, and
+-- else illegal
 abbrev pub split_item : List ℕ → List ℕ → FormatItem
 split_item before [] = Plain before
-split_item before (letter ∷ rest) = lettered_item before letter rest (part_named letter)
+split_item before (letter ∷ rest) = option_map_or (piece_item before letter rest) (part_named letter) Illegal
 
 -- the item of a group, given the text inside its braces
 unfoldable pub inside_item : List ℕ → FormatItem
@@ -81,15 +78,15 @@ group_item rest = let size = run_len Closing 0 rest in if size == length rest th
 -- the item that begins with byte `b` and goes on in `bs`; a `}` is illegal
 abbrev pub item_at : ℕ → List ℕ → FormatItem
 item_at b bs =
-    if b == open_brace then group_item bs
-    else if b == close_brace then Illegal
+    if b == byte "{" then group_item bs
+    else if b == byte "}" then Illegal
     else Literal (take (run_len Brace 0 (b ∷ bs)) (b ∷ bs))
 
 -- the number of bytes of `bs` that belong to the item that begins with byte `b`
 abbrev pub item_rest : ℕ → List ℕ → ℕ
 item_rest b bs =
-    if b == open_brace then suc (run_len Closing 0 bs)
-    else if b == close_brace then 0
+    if b == byte "{" then suc (run_len Closing 0 bs)
+    else if b == byte "}" then 0
     else run_len Brace 0 (b ∷ bs) - 1
 
 -- the items that begin in a format, whose first `skip` bytes belong to one before

@@ -1,14 +1,15 @@
 -- A name in a format (btxhak, section 5.4, at `format.name$`).
-use Rattle.std.specs.Prelude.{ℕ, ◌-◌, ◌==◌, ◌||◌, ◌&&◌, Bool, List, [], ◌∷◌, ◌++◌, Option, Some, None, length, take, slice_index, nat_lt, if◌then◌else◌}
+use Rattle.std.specs.Prelude.{ℕ, ◌-◌, ◌==◌, ◌||◌, ◌&&◌, Bool, List, [], ◌∷◌, ◌++◌, length, take, slice_index, nat_lt, if◌then◌else◌, unwrap_or}
+use Rattle.std.specs.Str.{byte}
 use Rattle.btx_text.specs.declared.element_kind.TextMode.{TextMode}
 use Rattle.btx_text.specs.language.Class.{is_alpha}
-use Rattle.btx_text.specs.language.Elements.{Element, elements_of, open_brace, backslash}
+use Rattle.btx_text.specs.language.Elements.{Element, elements_of}
 use Rattle.btx_strings.specs.language.Lengths.{text_length_of}
 use Rattle.btx_names.specs.declared.name_tokens.Joint.{Joint}
 use Rattle.btx_names.specs.declared.name_tokens.Joint.TheVariants.{Space, Tie, Hyphen}
 use Rattle.btx_names.specs.declared.format_items.PartName.{PartName}
 use Rattle.btx_names.specs.declared.format_items.PartName.TheVariants.{First, Von, Last, Jr}
-use Rattle.btx_names.specs.language.Tokens.{NameToken, tilde, hyphen}
+use Rattle.btx_names.specs.language.Tokens.{NameToken}
 use Rattle.btx_names.specs.language.NameParts.{NameParts}
 use Rattle.btx_names.specs.language.Formats.{FormatItem, Literal, Plain, Name, Illegal, FormatPiece}
 
@@ -16,7 +17,7 @@ use Rattle.btx_names.specs.language.Formats.{FormatItem, Literal, Plain, Name, I
 
 -- an abbreviation begins here: with a letter or a byte from 128 up, or with a `{` directly before a backslash, at any depth
 abbrev pub begins_initial : List ℕ → Bool
-begins_initial text = is_alpha (slice_index text 0) || (slice_index text 0 == open_brace && slice_index text 1 == backslash)
+begins_initial text = is_alpha (slice_index text 0) || (slice_index text 0 == byte "{" && slice_index text 1 == byte "\\")
 
 -- the text of the first of some elements
 abbrev pub first_text : List Element → List ℕ
@@ -29,50 +30,35 @@ unfoldable pub initial_of : TextMode → List ℕ → List ℕ
 initial_of mode [] = []
 initial_of mode (b ∷ bs) = if begins_initial (b ∷ bs) then first_text (elements_of mode (b ∷ bs)) else initial_of mode bs
 
--- a token in full, or abbreviated
-abbrev pub shown : TextMode → Bool → List ℕ → List ℕ
-shown mode is_full token = if is_full then token else initial_of mode token
-
 -- ---- between tokens
 
 -- a text has fewer than three characters
 abbrev pub is_short : TextMode → List ℕ → Bool
 is_short mode text = nat_lt (text_length_of mode text) 3
 
--- a space
-abbrev pub space : ℕ
-space = 32
-
--- `.`
-abbrev pub period : ℕ
-period = 46
-
 -- the byte between two tokens: the `~` or `-` of the name; else a `~` before the last token of the part, and while the piece's text is shorter
 -- than three characters; else a space
 abbrev pub tie_of : TextMode → List ℕ → Joint → Bool → ℕ
-tie_of mode so_far Tie is_last = tilde
-tie_of mode so_far Hyphen is_last = hyphen
-tie_of mode so_far Space is_last = if is_last || is_short mode so_far then tilde else space
+tie_of mode so_far Tie is_last = byte "~"
+tie_of mode so_far Hyphen is_last = byte "-"
+tie_of mode so_far Space is_last = if is_last || is_short mode so_far then byte "~" else byte " "
 
 -- the period after an abbreviated token; nothing after one in full
 abbrev pub period_of : Bool → List ℕ
-period_of is_full = if is_full then [] else period ∷ []
+period_of is_full = if is_full then [] else byte "." ∷ []
 
--- the text between two tokens: the piece's own, if it has one; else a period after an abbreviation, and then a `~`, a `-` or a space
-abbrev pub joined_by : TextMode → Bool → Option (List ℕ) → List ℕ → Joint → Bool → List ℕ
-joined_by mode is_full (Some between) so_far joint is_last = between
-joined_by mode is_full None so_far joint is_last = period_of is_full ++ tie_of mode (so_far ++ period_of is_full) joint is_last ∷ []
-
--- the text after a token, if `left` tokens of the part follow it; nothing after the last one
+-- the text after a token, if `left` tokens of the part follow it. After the last one that is nothing; else it is the piece's own text between tokens, if
+-- it has one, and else a period after an abbreviation, and then a `~`, a `-` or a space
 unfoldable pub between_text : TextMode → FormatPiece → List ℕ → Joint → ℕ → List ℕ
 between_text mode piece so_far joint left =
-    if left == 0 then [] else joined_by mode piece.is_full piece.between so_far joint (left == 1)
+    if left == 0 then []
+    else unwrap_or piece.between (period_of piece.is_full ++ tie_of mode (so_far ++ period_of piece.is_full) joint (left == 1) ∷ [])
 
 -- the text of a piece, `so_far`, with further tokens appended
 unfoldable pub with_tokens : TextMode → FormatPiece → List ℕ → List NameToken → List ℕ
 with_tokens mode piece so_far [] = so_far
 with_tokens mode piece so_far (token ∷ tokens) =
-    let next = so_far ++ shown mode piece.is_full token.text in
+    let next = so_far ++ (if piece.is_full then token.text else initial_of mode token.text) in
     with_tokens mode piece (next ++ between_text mode piece next token.joint (length tokens)) tokens
 
 -- ---- a piece
@@ -83,7 +69,7 @@ without_last_byte text = take (length text - 1) text
 
 -- a text ends in `~`
 abbrev pub ends_in_tie : List ℕ → Bool
-ends_in_tie text = slice_index text (length text - 1) == tilde
+ends_in_tie text = slice_index text (length text - 1) == byte "~"
 
 -- the text of a piece, finished: of a final `~~` one `~` is removed; a single final `~` becomes a space, unless fewer than three characters stand
 -- before it
@@ -91,7 +77,7 @@ unfoldable pub finished : TextMode → List ℕ → List ℕ
 finished mode text =
     if ends_in_tie text then
     (if ends_in_tie (without_last_byte text) then without_last_byte text
-    else if is_short mode (without_last_byte text) then text else without_last_byte text ++ space ∷ [])
+    else if is_short mode (without_last_byte text) then text else without_last_byte text ++ byte " " ∷ [])
     else text
 
 -- the tokens of a part

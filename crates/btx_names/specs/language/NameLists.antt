@@ -5,18 +5,15 @@ use Rattle.std.specs.Char.{to_ascii_lowercase}
 use Rattle.btx_text.specs.language.Class.{is_white}
 use Rattle.btx_text.specs.language.Elements.{depth_after}
 use Rattle.std.specs.List.{onto_first}
+use Rattle.std.specs.Str.{byte}
 
 -- ---- separators
-
--- byte `b` is the letter `lower`, in either case
-abbrev pub is_letter : ℕ → ℕ → Bool
-is_letter lower b = to_ascii_lowercase b == lower
 
 -- a text begins with a white byte, `and` in any case, and a white byte
 unfoldable pub is_separator : List ℕ → Bool
 is_separator text =
     nat_le 5 (length text) && is_white (slice_index text 0)
-    && is_letter 97 (slice_index text 1) && is_letter 110 (slice_index text 2) && is_letter 100 (slice_index text 3)
+    && to_ascii_lowercase (slice_index text 1) == byte "a" && to_ascii_lowercase (slice_index text 2) == byte "n" && to_ascii_lowercase (slice_index text 3) == byte "d"
     && is_white (slice_index text 4)
 
 -- ---- names

@@ -2,12 +2,13 @@
 use Rattle.std.specs.Prelude.{ℕ, suc, ◌+◌, ◌-◌, ◌==◌, ◌&&◌, ◌||◌, Bool, true, false, not, List, [], ◌∷◌, Option, Some, None, take, drop, find, reverse, nat_lt, if◌then◌else◌}
 use Rattle.std.specs.List.{list_all}
 use Rattle.std.specs.Option.{option_map_or, is_some}
+use Rattle.std.specs.Str.{byte}
 use Rattle.btx_text.specs.language.Class.{is_white, is_sep}
 use Rattle.btx_text.specs.language.Elements.{depth_of}
 use Rattle.btx_names.specs.declared.name_tokens.Joint.{Joint}
 use Rattle.btx_names.specs.declared.name_tokens.Joint.TheVariants.{Hyphen}
 use Rattle.btx_names.specs.declared.runs.Stop.TheVariants.{Comma}
-use Rattle.btx_names.specs.language.Runs.{is_break, comma, run_len}
+use Rattle.btx_names.specs.language.Runs.{is_break, run_len}
 use Rattle.btx_names.specs.language.Tokens.{NameToken, tokens_of}
 use Rattle.btx_names.specs.language.VonTokens.{is_von}
 
@@ -42,7 +43,9 @@ sections_of name = cut_first name (split_at_comma name)
 
 -- the name's last byte that is neither whitespace nor `~` nor `-` is a comma, at depth 0
 unfoldable pub ends_in_comma : List ℕ → Bool
-ends_in_comma name = option_map_or (λ b. b == comma) (find (λ b. not (is_white b || is_sep b)) (reverse name)) false && depth_of name == 0
+ends_in_comma name =
+    let comma = byte "," in
+    option_map_or (λ b. b == comma) (find (λ b. not (is_white b || is_sep b)) (reverse name)) false && depth_of name == 0
 
 -- a name has a third comma that a token follows
 abbrev pub has_third_comma : Sections → Bool
@@ -82,10 +85,6 @@ von_end tokens = up_to_last (λ (token : NameToken). is_von token.text) (before_
 abbrev pub last_start : List NameToken → ℕ
 last_start tokens = if nat_lt 0 (von_end tokens) then von_end tokens else up_to_last (λ (token : NameToken). not (is_hyphen token.joint)) (before_final tokens)
 
--- the index of the first token of von in a name without commas: the first von token; where there is no von, the first token of Last
-abbrev pub von_start : List NameToken → ℕ
-von_start tokens = if nat_lt 0 (von_end tokens) then before_first (λ (token : NameToken). is_von token.text) tokens else last_start tokens
-
 -- ---- the parts
 
 -- the four parts of a name, each a range of its tokens
@@ -95,12 +94,13 @@ pub record NameParts : Type 0 where
   pub last : List NameToken
   pub jr : List NameToken
 
--- the parts of a name without commas, First von Last, given its tokens
+-- the parts of a name without commas, First von Last, given its tokens. von begins with the first von token; where there is none, Last begins there
 abbrev pub unsplit : List NameToken → NameParts
 unsplit tokens =
+    let start = if nat_lt 0 (von_end tokens) then before_first (λ (token : NameToken). is_von token.text) tokens else last_start tokens in
     record {
-      first = take (von_start tokens) tokens;
-      von = take (last_start tokens - von_start tokens) (drop (von_start tokens) tokens);
+      first = take start tokens;
+      von = take (last_start tokens - start) (drop start tokens);
       last = drop (last_start tokens) tokens;
       jr = [];
     }

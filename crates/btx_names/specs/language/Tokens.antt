@@ -1,17 +1,10 @@
 -- The tokens of a name (btxhak, section 5.4): its longest runs without white, `~`, `-` and commas at depth 0.
 use Rattle.std.specs.Prelude.{ℕ, zero, suc, ◌-◌, ◌==◌, List, [], ◌∷◌, take, drop, slice_index, if◌then◌else◌}
+use Rattle.std.specs.Str.{byte}
 use Rattle.btx_names.specs.declared.name_tokens.Joint.{Joint}
 use Rattle.btx_names.specs.declared.name_tokens.Joint.TheVariants.{Space, Tie, Hyphen}
 use Rattle.btx_names.specs.declared.runs.Stop.TheVariants.{Break}
 use Rattle.btx_names.specs.language.Runs.{is_break, run_len}
-
--- `~`
-abbrev pub tilde : ℕ
-tilde = 126
-
--- `-`
-abbrev pub hyphen : ℕ
-hyphen = 45
 
 -- a token, and how it is joined to the next: by the byte directly after it
 pub record NameToken : Type 0 where
@@ -20,7 +13,7 @@ pub record NameToken : Type 0 where
 
 -- what joins a token to the next one, if `after` is the text directly after the token
 abbrev pub joint_of : List ℕ → Joint
-joint_of after = if slice_index after 0 == tilde then Tie else if slice_index after 0 == hyphen then Hyphen else Space
+joint_of after = if slice_index after 0 == byte "~" then Tie else if slice_index after 0 == byte "-" then Hyphen else Space
 
 -- the tokens that begin in a text, whose first `skip` bytes belong to one before
 unfoldable pub tokens_from : ℕ → List ℕ → List NameToken

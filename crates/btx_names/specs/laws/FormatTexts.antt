@@ -2,10 +2,11 @@
 use Rattle.std.specs.Prelude.{ℕ, ◌==◌, ◌&&◌, ◌||◌, Bool, not, List, [], ◌∷◌, ◌++◌, Option, Some, None, length, take, slice_index, filter, map, if◌then◌else◌}
 use Rattle.std.specs.List.{flat_map, range_with_len}
 use Rattle.std.specs.Char.{to_ascii_lowercase}
-use Rattle.btx_text.specs.language.Elements.{open_brace, close_brace, depth_of}
+use Rattle.btx_text.specs.language.Elements.{depth_of}
 use Rattle.btx_names.specs.declared.format_items.PartName.{PartName}
 use Rattle.btx_names.specs.declared.format_items.PartName.TheVariants.{First, Von, Last, Jr}
 use Rattle.btx_names.specs.language.Formats.{FormatPiece, FormatItem, Literal, Plain, Name, Illegal}
+use Rattle.btx_text.specs.laws.Bytes.{open_brace, close_brace}
 
 -- a text in braces
 abbrev pub in_braces : List ℕ → List ℕ

@@ -1,12 +1,13 @@
 -- How a format is written (btxhak, section 5.4): which items it can be made of, and their texts, with a part's letter in either case.
 use Rattle.std.specs.Prelude.{◌≡◌, ℕ, ◌==◌, ◌&&◌, Bool, true, false, not, List, [], ◌∷◌, ◌++◌, Option, Some, None, length, nat_lt, slice_index}
 use Rattle.std.specs.List.{list_all}
-use Rattle.btx_text.specs.language.Elements.{open_brace, depth_of}
+use Rattle.btx_text.specs.language.Elements.{depth_of}
 use Rattle.btx_names.specs.declared.runs.Stop.TheVariants.{Closing}
 use Rattle.btx_names.specs.language.Runs.{run_len}
 use Rattle.btx_names.specs.language.Formats.{FormatPiece, FormatItem, Literal, Plain, Name, Illegal}
 use Rattle.btx_names.specs.laws.FormatTexts.{in_braces, is_brace, in_lower_case, letters_of_part, text_of_between}
 use Rattle.btx_names.specs.laws.Formats.{has_no_letter}
+use Rattle.btx_text.specs.laws.Bytes.{open_brace}
 
 -- ---- the items
 

@@ -1,7 +1,13 @@
 -- Parts of a piece of a format, as proofs name them.
-use Rattle.std.specs.Prelude.{ℕ, List, drop, if◌then◌else◌}
-use Rattle.btx_names.specs.language.Formats.{is_doubled, FormatPiece, FormatItem, Name, Illegal}
+use Rattle.std.specs.Prelude.{ℕ, List, drop, if◌then◌else◌, Option, Some, None}
+use Rattle.std.specs.Option.{option_map_or}
+use Rattle.btx_names.specs.language.Formats.{is_doubled, FormatPiece, FormatItem, Name, Illegal, piece_item}
 use Rattle.btx_names.specs.laws.Formats.{has_no_letter}
+use Rattle.btx_names.specs.declared.format_items.PartName.{PartName}
+
+-- the item of a group with a letter at its own level, `letter`, given the part that it names: a piece, or illegal if it names none
+abbrev pub lettered_item : List ℕ → ℕ → List ℕ → Option PartName → FormatItem
+lettered_item before letter rest part = option_map_or (piece_item before letter rest) part Illegal
 
 -- the text after the letter or the two letters of a piece; `rest` follows the first letter
 abbrev pub behind_letters : ℕ → List ℕ → List ℕ

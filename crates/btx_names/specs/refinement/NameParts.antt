@@ -1,9 +1,13 @@
 -- The last byte of a name that isn't passed over, as proofs name it.
-use Rattle.std.specs.Prelude.{ℕ, ◌||◌, Bool, not, List, Option, find, reverse}
+use Rattle.std.specs.Prelude.{ℕ, ◌||◌, Bool, not, List, Option, find, reverse, nat_lt, if◌then◌else◌}
 use Rattle.btx_text.specs.language.Class.{is_white, is_sep}
 use Rattle.btx_names.specs.language.Tokens.{NameToken}
 use Rattle.btx_names.specs.language.VonTokens.{is_von}
-use Rattle.btx_names.specs.language.NameParts.{is_hyphen}
+use Rattle.btx_names.specs.language.NameParts.{is_hyphen, before_first, von_end, last_start}
+
+-- the index of the first token of von in a name without commas: the first von token; where there is no von, the first token of Last
+abbrev pub von_start : List NameToken → ℕ
+von_start tokens = if nat_lt 0 (von_end tokens) then before_first (λ (token : NameToken). is_von token.text) tokens else last_start tokens
 
 -- a token of a name is von, by its text
 abbrev pub is_von_token : NameToken → Bool

@@ -1,12 +1,13 @@
 -- What clauses see of the list of a name's tokens in the code.
 use Rattle.std.specs.Prelude.{◌≡◌, ◌++◌, ℕ, List, length, take, if◌then◌else◌}
 use Rattle.btx_names.specs.language.Tokens.{NameToken, tokens_of}
-use Rattle.btx_names.specs.language.NameParts.{Sections, von_end, von_start, last_start}
+use Rattle.btx_names.specs.language.NameParts.{Sections, von_end, last_start}
 use Rattle.btx_names.specs.laws.NameParts.{surname_of}
 use Rattle.btx_names.specs.refinement.SectionViews.{has_commas, jr_of, first_section}
 use Rattle.btx_names.specs.refinement.NameTokens.{tokens_in}
 use Rattle.btx_names.specs.declared.name_ranges.Ranges.{Ranges}
 use Rattle.btx_names.specs.declared.token_list.TokenList.{TokenList}
+use Rattle.btx_names.specs.refinement.NameParts.{von_start}
 
 -- a list has the tokens of a name's sections, one after another, by the bytes of the list of names; how many the first two have; and whether
 -- commas part the name

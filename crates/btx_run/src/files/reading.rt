@@ -23,7 +23,7 @@ use btx_out::Sink;
 use btx_text::{Fault, Limit};
 use std::alloc::Global;
 
-/// Reads the `.aux` files of the job of this name, which may end in `.aux`.
+/// Reads the `.aux` files of the job `name`, which may end in `.aux`.
 pub fn read_job<F: Finder>(alloc: Global, finder: &mut F, name: &[u8]) -> Result<AuxJob, Fault>
     ensures job { IfOk result (λ job. IfSome (F.content finder.old) (λ files. job ≡ job_named files name.now)) }
     ensures answered { IfOk result (λ job. ByAnswers (F.content finder.old) (AsksTop (top_name name.now)) (λ files. job ≡ job_named files name.now)) }

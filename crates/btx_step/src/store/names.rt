@@ -106,7 +106,7 @@ fn name_said<'a>(
     number: i32,
     format: Text<'a>,
 ) -> Result<Said<'a>, AllocError>
-    ensures { IfOk result (λ said. said ≡ spec.name_said complaints names.entry number format.entry) }
+    ensures { IfOk result (λ said. said ≡ kept_spec.name_said complaints names.entry number format.entry) }
 {
     if !(complaints.no_such_name
         || complaints.comma_at_end

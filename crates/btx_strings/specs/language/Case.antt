@@ -1,13 +1,14 @@
 -- A string in another case (btxhak, section 5.3, at `change.case$`). Only `A-Z` and `a-z` have a case (this project's own rule).
 use Rattle.std.specs.Prelude.{ℕ, ◌==◌, ◌&&◌, Bool, true, false, List, [], ◌∷◌, ◌++◌, map, codes, Option, Some, None, if◌then◌else◌}
 use Rattle.std.specs.List.{flat_map}
-use Rattle.std.specs.Str.{bytes_eq}
+use Rattle.std.specs.Str.{bytes_eq, byte}
 use Rattle.std.specs.Char.{to_ascii_lowercase, to_ascii_uppercase}
+use Rattle.std.specs.Option.{option_map_or}
 use Rattle.btx_text.specs.language.Class.{is_white}
 use Rattle.btx_text.specs.declared.element_kind.Kind.{Kind}
 use Rattle.btx_text.specs.declared.element_kind.Kind.TheVariants.{Byte, Special}
 use Rattle.btx_text.specs.declared.element_kind.TextMode.TheVariants.{Bytes}
-use Rattle.btx_text.specs.language.Elements.{Element, elements_of, backslash}
+use Rattle.btx_text.specs.language.Elements.{Element, elements_of}
 use Rattle.btx_strings.specs.language.Answers.{no_complaints}
 use Rattle.btx_strings.specs.language.Controls.{Glyph, Control, Plain, glyphs_of, without_white}
 use Rattle.btx_strings.specs.declared.answers.Complaints.{Complaints}
@@ -22,7 +23,7 @@ abbrev pub conversion_of : List ℕ → Option Conversion
 conversion_of [] = None
 conversion_of (letter ∷ []) =
     let lower = to_ascii_lowercase letter in
-    if lower == 116 then Some Title else if lower == 108 then Some Lower else if lower == 117 then Some Upper else None
+    if lower == byte "t" then Some Title else if lower == byte "l" then Some Lower else if lower == byte "u" then Some Upper else None
 conversion_of (letter ∷ more ∷ letters) = None
 
 -- ---- a special character
@@ -41,11 +42,11 @@ bare = codes "i" ∷ codes "j" ∷ codes "ss" ∷ []
 unfoldable pub cased_control : Conversion → List ℕ → List ℕ
 cased_control Upper name =
     if is_among bare name then map to_ascii_uppercase name
-    else if is_among (codes "o" ∷ codes "oe" ∷ codes "ae" ∷ codes "aa" ∷ codes "l" ∷ []) name then backslash ∷ map to_ascii_uppercase name
-    else backslash ∷ name
+    else if is_among (codes "o" ∷ codes "oe" ∷ codes "ae" ∷ codes "aa" ∷ codes "l" ∷ []) name then byte "\\" ∷ map to_ascii_uppercase name
+    else byte "\\" ∷ name
 cased_control _ name =
-    if is_among (codes "O" ∷ codes "OE" ∷ codes "AE" ∷ codes "AA" ∷ codes "L" ∷ []) name then backslash ∷ map to_ascii_lowercase name
-    else backslash ∷ name
+    if is_among (codes "O" ∷ codes "OE" ∷ codes "AE" ∷ codes "AA" ∷ codes "L" ∷ []) name then byte "\\" ∷ map to_ascii_lowercase name
+    else byte "\\" ∷ name
 
 -- a glyph of a special character in the case of a conversion
 abbrev pub cased_glyph : Conversion → Glyph → List ℕ
@@ -64,14 +65,10 @@ abbrev pub is_white_text : List ℕ → Bool
 is_white_text (b ∷ []) = is_white b
 is_white_text _ = false
 
--- a colon at depth 0
-abbrev pub is_colon : Element → Bool
-is_colon part = part.depth == 0 && bytes_eq part.text (codes ":")
-
 -- the elements before, nearest first, are a depth-0 colon with nothing but white after it
 abbrev pub after_colon : List Element → Bool
 after_colon [] = false
-after_colon (part ∷ before) = if is_white_text part.text then after_colon before else is_colon part
+after_colon (part ∷ before) = if is_white_text part.text then after_colon before else part.depth == 0 && bytes_eq part.text (codes ":")
 
 -- an element begins a title, or a part of one: nothing stands before it, or white does, and before that white a colon outside all braces
 abbrev pub begins_title : List Element → Bool
@@ -100,20 +97,12 @@ cased_parts conversion before (part ∷ parts) = cased_part conversion (begins_t
 
 -- ---- `change.case$`
 
--- a string in the case of a conversion; without a conversion the string stays. It is read as bytes in either mode: bytes from 128 up have no case
-abbrev pub cased_by : Option Conversion → List ℕ → List ℕ
-cased_by None string = string
-cased_by (Some conversion) string = cased_parts conversion [] (elements_of Bytes string)
-
--- an error if the conversion isn't `t`, `l` or `u`
-abbrev pub complaints_by : Option Conversion → Complaints
-complaints_by None = record no_complaints { illegal_conversion = true }
-complaints_by (Some conversion) = no_complaints
-
 -- `change.case$`: the string in the case that the conversion names; unchanged if it is none
 abbrev pub change_case_of : List ℕ → List ℕ → List ℕ
-change_case_of string conversion = cased_by (conversion_of conversion) string
+change_case_of string conversion =
+    option_map_or (λ (to : Conversion). cased_parts to [] (elements_of Bytes string)) (conversion_of conversion) string
 
 -- the errors of `change.case$` with the string `conversion` on top: one, if that isn't `t`, `l` or `u`
 abbrev pub case_complaints : List ℕ → Complaints
-case_complaints conversion = complaints_by (conversion_of conversion)
+case_complaints conversion =
+    option_map_or (λ (to : Conversion). no_complaints) (conversion_of conversion) (record no_complaints { illegal_conversion = true })

@@ -1,8 +1,8 @@
 -- The control sequences of special characters (btxhak, section 5.3, at `purify$`, and btxdoc, section 4, at accented and foreign
 -- characters). A glyph of a special character is a control sequence, or any other byte.
 use Rattle.std.specs.Prelude.{ℕ, zero, suc, ◌==◌, ◌||◌, ◌&&◌, Bool, false, List, [], ◌∷◌, length, take, codes, take_while, if◌then◌else◌}
+use Rattle.std.specs.Str.{byte}
 use Rattle.btx_text.specs.language.Class.{is_alpha, is_white}
-use Rattle.btx_text.specs.language.Elements.{open_brace, close_brace, backslash}
 use Rattle.btx_text.specs.language.Lists.{is_among}
 
 -- a control sequence, by what stands after its backslash, or a byte by itself
@@ -12,7 +12,7 @@ pub data Glyph : Type 0 where
 
 -- `{` or `}`
 abbrev pub is_brace : ℕ → Bool
-is_brace b = b == open_brace || b == close_brace
+is_brace b = b == byte "{" || b == byte "}"
 
 -- the name of a control sequence without letters: the one byte after the backslash, but no brace (this project's own rule)
 abbrev pub lone : List ℕ → List ℕ
@@ -28,7 +28,7 @@ unfoldable pub glyphs_from : ℕ → List ℕ → List Glyph
 glyphs_from skip [] = []
 glyphs_from (suc skip) (b ∷ bs) = glyphs_from skip bs
 glyphs_from zero (b ∷ bs) =
-    if b == backslash then Control (control_name bs) ∷ glyphs_from (length (control_name bs)) bs
+    if b == byte "\\" then Control (control_name bs) ∷ glyphs_from (length (control_name bs)) bs
     else Plain b ∷ glyphs_from zero bs
 
 -- the glyphs of a special character, its braces among them

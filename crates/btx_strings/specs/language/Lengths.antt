@@ -1,7 +1,9 @@
 -- The length of a string in characters of text, and its beginnings (btxhak, section 5.3, at `text.length$` and `text.prefix$`).
 use Rattle.std.specs.Prelude.{ℕ, zero, suc, ℤ, pos, negsuc, List, [], ◌∷◌, ◌++◌, count_by, replicate, if◌then◌else◌}
+use Rattle.std.specs.Str.{byte}
+use Rattle.std.specs.List.{flat_map}
 use Rattle.btx_text.specs.declared.element_kind.TextMode.{TextMode}
-use Rattle.btx_text.specs.language.Elements.{Element, is_character, elements_of, text_of, depth_of, close_brace}
+use Rattle.btx_text.specs.language.Elements.{Element, is_character, elements_of, depth_of}
 
 -- `text.length$`: how many characters of text a string has, at any depth; a special character is one, a brace by itself none
 abbrev pub text_length_of : TextMode → List ℕ → ℕ
@@ -21,5 +23,5 @@ wanted_length (negsuc n) = 0
 -- `text.prefix$`: the shortest prefix of whole elements that has `count` characters of text, with a `}` for each brace that it leaves open
 abbrev pub text_prefix_of : TextMode → List ℕ → ℤ → List ℕ
 text_prefix_of mode string count =
-    let front = text_of (take_characters (wanted_length count) (elements_of mode string)) in
-    front ++ replicate (depth_of front) close_brace
+    let front = flat_map (λ (part : Element). part.text) (take_characters (wanted_length count) (elements_of mode string)) in
+    front ++ replicate (depth_of front) (byte "}")

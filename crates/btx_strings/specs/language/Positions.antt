@@ -1,22 +1,20 @@
 -- The functions on positions of bytes (btxhak, section 5.3, at `add.period$` and `substring$`).
 use Rattle.std.specs.Prelude.{ℕ, zero, suc, ◌-◌, ◌==◌, ◌||◌, Bool, false, not, ℤ, pos, negsuc, List, [], ◌∷◌, ◌++◌, length, take, drop, find, reverse, Option, Some, None, if◌then◌else◌}
-use Rattle.btx_text.specs.language.Elements.{close_brace}
+use Rattle.std.specs.Str.{byte}
 
 -- ---- `add.period$`
-
--- `.`
-abbrev pub period : ℕ
-period = 46
 
 -- the byte is there, and is a period, a `?` or a `!`
 abbrev pub is_ended : Option ℕ → Bool
 is_ended None = false
-is_ended (Some b) = b == period || b == 63 || b == 33
+is_ended (Some b) = b == byte "." || b == byte "?" || b == byte "!"
 
 -- `add.period$`: the string with a `.` behind it. It stays as it is if its last byte that is no `}` is `.`, `?` or `!`, and if it is empty.
 abbrev pub add_period_of : List ℕ → List ℕ
 add_period_of [] = []
-add_period_of (b ∷ bs) = if is_ended (find (λ b. not (b == close_brace)) (reverse (b ∷ bs))) then b ∷ bs else (b ∷ bs) ++ period ∷ []
+add_period_of (b ∷ bs) =
+    let brace = byte "}" in
+    if is_ended (find (λ b. not (b == brace)) (reverse (b ∷ bs))) then b ∷ bs else (b ∷ bs) ++ byte "." ∷ []
 
 -- ---- `substring$`
 

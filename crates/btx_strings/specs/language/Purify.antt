@@ -1,6 +1,7 @@
 -- The purified form of a string (btxhak, section 5.3, at `purify$`).
 use Rattle.std.specs.Prelude.{ℕ, List, [], ◌∷◌}
 use Rattle.std.specs.List.{flat_map}
+use Rattle.std.specs.Str.{byte}
 use Rattle.btx_text.specs.declared.byte_class.Class.{Class}
 use Rattle.btx_text.specs.declared.byte_class.Class.TheVariants.{White, Alpha, Digit, Sep, Other}
 use Rattle.btx_text.specs.declared.element_kind.Kind.{Kind}
@@ -13,8 +14,8 @@ use Rattle.btx_strings.specs.language.Controls.{Glyph, Control, Plain, glyphs_of
 -- what `purify$` leaves of byte `b` outside special characters, by its class: whitespace and separators become a space, letters and digits stay,
 -- others are removed
 abbrev pub purified_class : Class → ℕ → List ℕ
-purified_class White b = 32 ∷ []
-purified_class Sep b = 32 ∷ []
+purified_class White b = byte " " ∷ []
+purified_class Sep b = byte " " ∷ []
 purified_class Alpha b = b ∷ []
 purified_class Digit b = b ∷ []
 purified_class Other b = []

@@ -1,8 +1,9 @@
 -- Where a title keeps the case of an element: behind a colon and white.
-use Rattle.std.specs.Prelude.{◌≡◌, ◌<◌, List, ◌∷◌, ◌++◌, length, IsTrue}
+use Rattle.std.specs.Prelude.{◌≡◌, ◌<◌, List, ◌∷◌, ◌++◌, length, IsTrue, ◌==◌, ◌&&◌, Bool, codes}
 use Rattle.std.specs.List.{list_all}
 use Rattle.btx_text.specs.language.Elements.{Element}
-use Rattle.btx_strings.specs.language.Case.{is_white_text, is_colon}
+use Rattle.btx_strings.specs.language.Case.{is_white_text}
+use Rattle.std.specs.Str.{bytes_eq}
 
 -- what `begins_title` asks of the elements before, nearest first, stated without computing: they are whitespace, at least one byte of it, then a
 -- colon at depth 0, then any others
@@ -13,4 +14,4 @@ pub record EndInColonAndWhite (before : List Element) : Type 0 where
   pub parts : before ≡ white ++ colon ∷ others
   pub some : 0 < length white
   pub all_white : IsTrue (list_all (λ part. is_white_text part.text) white)
-  pub is_colon : IsTrue (is_colon colon)
+  pub is_colon : IsTrue (colon.depth == 0 && bytes_eq colon.text (codes ":"))

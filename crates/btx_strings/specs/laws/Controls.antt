@@ -2,8 +2,8 @@
 use Rattle.std.specs.Prelude.{◌≡◌, ℕ, ◌==◌, ◌&&◌, Bool, false, not, List, [], ◌∷◌, ◌++◌, length, IsTrue, if◌then◌else◌}
 use Rattle.std.specs.List.{flat_map, list_all}
 use Rattle.btx_text.specs.language.Class.{is_alpha}
-use Rattle.btx_text.specs.language.Elements.{backslash}
 use Rattle.btx_strings.specs.language.Controls.{Glyph, Control, Plain, is_brace}
+use Rattle.btx_text.specs.laws.Bytes.{backslash}
 
 -- the bytes of a glyph
 abbrev pub glyph_text : Glyph → List ℕ

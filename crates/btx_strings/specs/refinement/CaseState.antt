@@ -2,13 +2,14 @@
 use Rattle.std.specs.Prelude.{◌≡◌, ◌<◌, ◌≤◌, ℕ, Bool, true, false, ◌==◌, ◌&&◌, not, nat_eq, slice_index, List, [], ◌∷◌, map, codes, if◌then◌else◌}
 use Rattle.std.specs.List.{prefix_len, starts_with}
 use Rattle.std.specs.Str.{bytes_eq}
-use Rattle.btx_text.specs.language.Elements.{group_len, open_brace, backslash}
+use Rattle.btx_text.specs.language.Elements.{group_len}
 use Rattle.btx_strings.specs.language.Case.{is_white_text, is_title, case_of}
 use Rattle.btx_strings.specs.declared.conversions.Conversion.{Conversion}
 use Rattle.btx_strings.specs.declared.conversions.Conversion.TheVariants.{Title}
 use Rattle.btx_strings.specs.declared.case_change.Place.{Place}
 use Rattle.btx_strings.specs.declared.case_change.Place.TheVariants.{First, Colon, ColonAndWhite, Inside}
 use Rattle.btx_strings.specs.refinement.Case.{cased_special}
+use Rattle.btx_text.specs.laws.Bytes.{open_brace, backslash}
 
 -- what is said to stand before a string: what begins there matters to a title alone
 abbrev pub first_place : Conversion → Place

@@ -2,10 +2,10 @@
 use Rattle.std.specs.Prelude.{ℕ, Bool, ◌==◌, ◌||◌, nat_eq, nat_le, List, [], ◌∷◌, if◌then◌else◌}
 use Rattle.std.specs.List.{flat_map, starts_with}
 use Rattle.std.specs.Char.{is_ascii_digit, is_ascii_lowercase, is_ascii_uppercase}
-use Rattle.btx_text.specs.language.Elements.{open_brace, backslash}
 use Rattle.btx_strings.specs.language.Controls.{glyphs_of}
 use Rattle.btx_strings.specs.language.Purify.{purified_glyph, purified_class}
 use Rattle.btx_text.specs.language.Class.{class_of}
+use Rattle.btx_text.specs.laws.Bytes.{open_brace, backslash}
 
 -- what `purify$` leaves of a byte outside special characters
 abbrev pub purified_byte : ℕ → List ℕ

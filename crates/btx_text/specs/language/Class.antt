@@ -4,10 +4,11 @@ use Rattle.std.specs.Prelude.{ℕ, ◌==◌, ◌||◌, ◌&&◌, nat_le, Bool, n
 use Rattle.btx_text.specs.declared.byte_class.Class.{Class}
 use Rattle.btx_text.specs.declared.byte_class.Class.TheVariants.{White, Alpha, Digit, Sep, Other}
 use Rattle.std.specs.Char.{is_ascii_uppercase, is_ascii_lowercase, is_ascii_digit}
+use Rattle.std.specs.Str.{byte}
 
 -- space, tab and carriage return
 abbrev pub is_white : ℕ → Bool
-is_white b = b == 32 || b == 9 || b == 13
+is_white b = b == byte " " || b == byte "\t" || b == byte "\r"
 
 -- a letter `A-Z` or `a-z`, or a byte from 128 up
 abbrev pub is_alpha : ℕ → Bool
@@ -15,13 +16,13 @@ is_alpha b = is_ascii_uppercase b || is_ascii_lowercase b || nat_le 128 b
 
 -- `~` and `-`
 abbrev pub is_sep : ℕ → Bool
-is_sep b = b == 126 || b == 45
+is_sep b = b == byte "~" || b == byte "-"
 
 -- a byte that can stand in a name, in styles and in databases: from 33 up, and none of `" # % ' ( ) , = { }`
 abbrev pub is_name_byte : ℕ → Bool
 is_name_byte b =
     nat_le 33 b
-    && not (b == 34 || b == 35 || b == 37 || b == 39 || b == 40 || b == 41 || b == 44 || b == 61 || b == 123 || b == 125)
+    && not (b == byte "\"" || b == byte "#" || b == byte "%" || b == byte "'" || b == byte "(" || b == byte ")" || b == byte "," || b == byte "=" || b == byte "{" || b == byte "}")
 
 -- a byte that a name begins with, in styles and in databases: no digit
 abbrev pub begins_name : ℕ → Bool

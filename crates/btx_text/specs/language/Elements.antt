@@ -1,24 +1,20 @@
 -- The division of a string into elements (btxhak, section 5.3, at the functions on strings, and 5.4; btxdoc, section 4, at special
 -- characters): braces, special characters, characters of more than one byte where the text is UTF-8, and all other bytes, each by itself.
 -- Here the list is computed; what a division is, without saying how it is found, is stated in `laws/Elements.antt`.
-use Rattle.std.specs.Prelude.{ℕ, zero, suc, ◌+◌, ◌-◌, Bool, true, false, ◌&&◌, ◌==◌, nat_eq, List, [], ◌∷◌, length, take, fold, if◌then◌else◌, slice_index}
-use Rattle.std.specs.List.{flat_map, starts_with}
-pub use Rattle.btx_text.specs.language.Bytes.{open_brace, close_brace}
+use Rattle.std.specs.Prelude.{ℕ, zero, suc, ◌+◌, ◌-◌, Bool, true, false, ◌&&◌, ◌==◌, nat_eq, List, [], ◌∷◌, length, take, fold, if◌then◌else◌, slice_index, codes}
+use Rattle.std.specs.List.{starts_with}
+use Rattle.std.specs.Str.{byte}
 use Rattle.btx_text.specs.declared.element_kind.Kind.{Kind}
 use Rattle.btx_text.specs.declared.element_kind.Kind.TheVariants.{Byte, Open, Close, Special, Wide}
 use Rattle.btx_text.specs.declared.element_kind.TextMode.{TextMode}
 use Rattle.btx_text.specs.declared.element_kind.TextMode.TheVariants.{Bytes, Utf8}
 use Rattle.btx_text.specs.language.Sequences.{sequence_size, begins_sequence}
 
--- the backslash
-abbrev pub backslash : ℕ
-backslash = 92
-
 -- ---- depth
 
 -- the brace depth after a byte: one more after `{`, one less after `}`, but never below 0 (this project's own rule)
 abbrev pub depth_after : ℕ → ℕ → ℕ
-depth_after depth b = if b == open_brace then depth + 1 else if b == close_brace then depth - 1 else depth
+depth_after depth b = if b == byte "{" then depth + 1 else if b == byte "}" then depth - 1 else depth
 
 -- the brace depth after a text
 abbrev pub depth_of : List ℕ → ℕ
@@ -33,28 +29,19 @@ pub record Element : Type 0 where
   pub start : ℕ
   pub depth : ℕ
 
--- the texts of elements, joined
-abbrev pub text_of : List Element → List ℕ
-text_of parts = flat_map (λ part. part.text) parts
-
--- a special character begins here: at depth 0, with a `{` directly before a backslash
-abbrev pub begins_special : ℕ → List ℕ → Bool
-begins_special depth rest = depth == 0 && starts_with nat_eq rest (open_brace ∷ backslash ∷ [])
-
 -- the text is read as UTF-8, as the option `--text utf8` asks: only then can a character have more than one byte
 abbrev pub is_utf8 : TextMode → Bool
 is_utf8 Bytes = false
 is_utf8 Utf8 = true
 
--- the kind of an element that is one byte: a brace or a plain byte
-abbrev pub kind_of : ℕ → Kind
-kind_of b = if b == open_brace then Open else if b == close_brace then Close else Byte
-
--- the kind of the element with which `rest`, which has a byte, begins at brace depth `depth`
+-- the kind of the element with which `rest`, which has a byte, begins at brace depth `depth`. A special character begins at depth 0, with a `{` directly
+-- before a backslash
 unfoldable pub kind_at : TextMode → ℕ → List ℕ → Kind
 kind_at mode depth rest =
-    if begins_special depth rest then Special
-    else if is_utf8 mode && begins_sequence rest then Wide else kind_of (slice_index rest 0)
+    if depth == 0 && starts_with nat_eq rest (codes "{\\") then Special
+    else if is_utf8 mode && begins_sequence rest then Wide
+    else if slice_index rest 0 == byte "{" then Open
+    else if slice_index rest 0 == byte "}" then Close else Byte
 
 -- ---- the same list, computed
 
@@ -69,20 +56,15 @@ extent Special rest = group_len 0 rest
 extent Wide rest = sequence_size (slice_index rest 0)
 extent _ rest = 1
 
--- the element with which `rest` begins, at index `start` and brace depth `depth` of the string
-abbrev pub element_at : TextMode → ℕ → ℕ → List ℕ → Element
-element_at mode start depth rest =
-    let kind = kind_at mode depth rest in
-    record { kind = kind; text = take (extent kind rest) rest; start = start; depth = depth }
-
 -- the elements that begin in `rest`, whose first byte has index `start` and brace depth `depth`. Its first `skip` bytes belong to the element
 -- before and are passed over one by one
 unfoldable pub elements_from : TextMode → ℕ → ℕ → ℕ → List ℕ → List Element
 elements_from mode skip start depth [] = []
 elements_from mode (suc skip) start depth (b ∷ bs) = elements_from mode skip (start + 1) (depth_after depth b) bs
 elements_from mode zero start depth (b ∷ bs) =
-    let part = element_at mode start depth (b ∷ bs) in
-    part ∷ elements_from mode (length part.text - 1) (start + 1) (depth_after depth b) bs
+    let kind = kind_at mode depth (b ∷ bs) in
+    let text = take (extent kind (b ∷ bs)) (b ∷ bs) in
+    record { kind = kind; text = text; start = start; depth = depth } ∷ elements_from mode (length text - 1) (start + 1) (depth_after depth b) bs
 
 -- the elements of a string, from left to right: the one way to divide it
 unfoldable pub elements_of : TextMode → List ℕ → List Element

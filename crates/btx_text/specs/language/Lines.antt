@@ -3,11 +3,12 @@
 use Rattle.std.specs.Prelude.{ℕ, ◌==◌, List, [], ◌∷◌, map, if◌then◌else◌}
 use Rattle.btx_text.specs.language.Class.{is_white}
 use Rattle.std.specs.List.{onto_first}
+use Rattle.std.specs.Str.{byte}
 
 -- the text cut at its line feeds; the part after the last line feed counts only if it has a byte
 unfoldable pub line_pieces : List ℕ → List (List ℕ)
 line_pieces [] = []
-line_pieces (b ∷ bs) = if b == 10 then [] ∷ line_pieces bs else onto_first b (line_pieces bs)
+line_pieces (b ∷ bs) = if b == byte "\n" then [] ∷ line_pieces bs else onto_first b (line_pieces bs)
 
 -- whitespace `b` is kept only if something follows it on its line
 abbrev pub white_before : ℕ → List ℕ → List ℕ

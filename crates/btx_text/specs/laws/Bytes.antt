@@ -1,6 +1,34 @@
--- The byte that ends a line.
+-- Bytes by the names of their characters, for laws and for what the code does.
 use Rattle.std.specs.Prelude.{ℕ}
 
 -- the end of a line
 abbrev pub line_feed : ℕ
 line_feed = 10
+
+-- `"`
+abbrev pub double_quote : ℕ
+double_quote = 34
+
+-- `#`
+abbrev pub hash : ℕ
+hash = 35
+
+-- `%`
+abbrev pub percent : ℕ
+percent = 37
+
+-- `'`
+abbrev pub single_quote : ℕ
+single_quote = 39
+
+-- `{`
+abbrev pub open_brace : ℕ
+open_brace = 123
+
+-- `}`
+abbrev pub close_brace : ℕ
+close_brace = 125
+
+-- the backslash
+abbrev pub backslash : ℕ
+backslash = 92

@@ -4,7 +4,12 @@ use Rattle.btx_text.specs.declared.element_kind.Kind.{Kind}
 use Rattle.btx_text.specs.declared.element_kind.Kind.TheVariants.{Special, Wide}
 use Rattle.btx_text.specs.declared.element_kind.TextMode.{TextMode}
 use Rattle.btx_text.specs.language.Sequences.{is_sequence}
-use Rattle.btx_text.specs.language.Elements.{depth_of, Element, text_of, kind_at}
+use Rattle.btx_text.specs.language.Elements.{depth_of, Element, kind_at}
+use Rattle.std.specs.List.{flat_map}
+
+-- the texts of elements, joined
+abbrev pub text_of : List Element → List ℕ
+text_of parts = flat_map (λ part. part.text) parts
 
 -- ---- the division, stated
 

@@ -1,26 +1,26 @@
 -- The bytes that the words of a database are made of, and the runs of them.
 use Rattle.std.specs.Prelude.{ℕ, suc, ◌==◌, ◌||◌, ◌&&◌, not, Bool, false, List, [], ◌∷◌, take, drop, if◌then◌else◌}
 use Rattle.btx_text.specs.language.Class.{is_white, is_name_byte}
-use Rattle.btx_text.specs.language.Elements.{depth_after, close_brace}
+use Rattle.btx_text.specs.language.Elements.{depth_after}
 use Rattle.btx_bib.specs.declared.grammar.byte_sets.Delimiter.TheVariants.{Braces, Parens}
 use Rattle.btx_bib.specs.declared.grammar.byte_sets.ByteSet.{ByteSet}
 use Rattle.btx_bib.specs.declared.grammar.byte_sets.ByteSet.TheVariants.{Gap, NameByte, Digit, KeyByte}
 use Rattle.btx_bib.specs.declared.grammar.byte_sets.Enclosure.{Enclosure}
 use Rattle.btx_bib.specs.declared.grammar.byte_sets.Enclosure.TheVariants.{Group, Quotes}
-use Rattle.btx_bib.specs.language.Grammar.Bytes.{comma, line_feed, quote}
 use Rattle.std.specs.Char.{is_ascii_digit}
+use Rattle.std.specs.Str.{byte}
 
 -- whitespace, or the end of a line: what may stand between the words and signs of a database
 abbrev pub is_gap : ℕ → Bool
-is_gap b = is_white b || b == line_feed
+is_gap b = is_white b || b == byte "\n"
 
 -- the byte is in the set; a key ends at whitespace, the end of a line or a comma, and in braces also at a `}`
 abbrev pub is_in : ByteSet → ℕ → Bool
 is_in Gap b = is_gap b
 is_in NameByte b = is_name_byte b
 is_in Digit b = is_ascii_digit b
-is_in (KeyByte Braces) b = not (is_gap b || b == comma || b == close_brace)
-is_in (KeyByte Parens) b = not (is_gap b || b == comma)
+is_in (KeyByte Braces) b = not (is_gap b || b == byte "," || b == byte "}")
+is_in (KeyByte Parens) b = not (is_gap b || b == byte ",")
 
 -- how many bytes of a set a text begins with
 unfoldable pub longest_run_len : ByteSet → List ℕ → ℕ
@@ -42,8 +42,8 @@ begins test (b ∷ bs) = test b
 
 -- the byte ends an enclosed part, at depth 0: its closing delimiter, and in quotes also a `}`, which is an error
 abbrev pub ends_enclosed : Enclosure → ℕ → Bool
-ends_enclosed Group b = b == close_brace
-ends_enclosed Quotes b = b == quote || b == close_brace
+ends_enclosed Group b = b == byte "}"
+ends_enclosed Quotes b = b == byte "\"" || b == byte "}"
 
 -- how many bytes stand before the first that ends an enclosed part, in a text whose brace depth is `depth`; all, if there is none
 unfoldable pub enclosed_len : Enclosure → ℕ → List ℕ → ℕ

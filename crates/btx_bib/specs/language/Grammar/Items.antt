@@ -1,7 +1,7 @@
 -- Items as they are read: what follows an `@`, then the fields of an entry one by one, and the end.
 use Rattle.std.specs.Prelude.{ℕ, Bool, false, zero, suc, ◌+◌, ◌*◌, ◌==◌, List, [], ◌∷◌, length, Option, None, Some, Ok, Err, if◌then◌else◌, codes}
-use Rattle.std.specs.Str.{bytes_eq}
-use Rattle.std.specs.Option.{option_map}
+use Rattle.std.specs.Str.{bytes_eq, byte}
+use Rattle.std.specs.Option.{option_map, option_map_or}
 use Rattle.btx_text.specs.language.Keys.{folded}
 use Rattle.btx_bib.specs.declared.grammar.byte_sets.Delimiter.{Delimiter}
 use Rattle.btx_bib.specs.declared.grammar.commands.Command.{Command}
@@ -10,7 +10,6 @@ use Rattle.btx_bib.specs.declared.grammar.commands.Wanted.{Wanted}
 use Rattle.btx_bib.specs.declared.grammar.commands.Wanted.TheVariants.{Item, Closing, Fields}
 use Rattle.btx_bib.specs.declared.grammar.slip.Slip.{Slip}
 use Rattle.btx_bib.specs.declared.grammar.slip.Slip.TheVariants.{NoEquals, NoClosing, Repeated}
-use Rattle.btx_bib.specs.language.Grammar.Bytes.{at_sign, equals_sign}
 use Rattle.btx_bib.specs.language.Grammar.Tokens.{Parsed, followed_by, name_at, open_at, sign_at, key_at, closing_delimiter}
 use Rattle.btx_bib.specs.language.Grammar.Values.{Part, value_at}
 use Rattle.btx_bib.specs.language.Grammar.Fields.{Field, more_in}
@@ -44,7 +43,7 @@ head_of command.Preamble name text =
 head_of command.Definition name text =
     followed_by (open_at text) (λ delimiter behind_open.
     followed_by (name_at behind_open) (λ string behind_name.
-    followed_by (sign_at equals_sign NoEquals behind_name) (λ sign behind_sign.
+    followed_by (sign_at (byte "=") NoEquals behind_name) (λ sign behind_sign.
     followed_by (value_at behind_sign) (λ value rest. Ok ((Definition string value, Closing delimiter), rest)))))
 head_of command.Entry name text =
     followed_by (open_at text) (λ delimiter behind_open.
@@ -74,7 +73,7 @@ step_by (Err wrong) = record { event = Wrong wrong.0; wanted = Item; rest = wron
 -- the text behind the first `@`
 unfoldable pub behind_at : List ℕ → Option (List ℕ)
 behind_at [] = None
-behind_at (b ∷ bs) = if b == at_sign then Some bs else behind_at bs
+behind_at (b ∷ bs) = if b == byte "@" then Some bs else behind_at bs
 
 -- the next event of a text, given what is expected there; none if an item is expected and no `@` is left
 unfoldable pub expected_step : Wanted → List ℕ → Option Step
@@ -99,15 +98,12 @@ is_repeated is_stored _ = false
 abbrev pub as_known : (List ℕ → Bool) → Event × Wanted → Event × Wanted
 as_known is_stored got = if is_repeated is_stored got.0 then (Wrong Repeated, Item) else got
 
--- what is read next, where some keys are stored: an entry that repeats one of them is a fault
-abbrev pub known_step : (List ℕ → Bool) → Option Step → Option Step
-known_step is_stored None = None
-known_step is_stored (Some step) =
-    let got = as_known is_stored (step.event, step.wanted) in Some (record { event = got.0; wanted = got.1; rest = step.rest })
-
--- the next event of a text, given what is expected there and which keys are stored
+-- the next event of a text, given what is expected there and which keys are stored: an entry that repeats one of them is a fault
 abbrev pub next_step : (List ℕ → Bool) → Wanted → List ℕ → Option Step
-next_step is_stored wanted text = known_step is_stored (expected_step wanted text)
+next_step is_stored wanted text =
+    option_map
+    (λ (step : Step). let got = as_known is_stored (step.event, step.wanted) in record { event = got.0; wanted = got.1; rest = step.rest })
+    (expected_step wanted text)
 
 -- how what is known of the items before is kept, where S is the type of all that is known: which keys are stored, and what is known after a
 -- further event
@@ -117,17 +113,13 @@ pub record Keeping (S : Type 0) : Type 0 where
 
 -- ---- the events of a text
 
--- the events of a text from the next step on, if there is one: its event, and those that `others` give of the rest
-abbrev pub events_by : {S : Type 0} → Keeping S → (S → Wanted → List ℕ → List Placed) → S → Option Step → List Placed
-events_by keeping others state None = []
-events_by keeping others state (Some step) =
-    record { event = step.event; rest = step.rest } ∷ others (keeping.after state step.event) step.wanted step.rest
-
 -- at most `turns` events of a text; the bound is that of `events_from`, and is never reached
 unfoldable pub events_within : {S : Type 0} → Keeping S → ℕ → S → Wanted → List ℕ → List Placed
 events_within keeping zero state wanted text = []
 events_within keeping (suc turns) state wanted text =
-    events_by keeping (events_within keeping turns) state (next_step (keeping.is_stored state) wanted text)
+    option_map_or
+    (λ (step : Step). record { event = step.event; rest = step.rest } ∷ events_within keeping turns (keeping.after state step.event) step.wanted step.rest)
+    (next_step (keeping.is_stored state) wanted text) []
 
 -- the events of a text, given what is known before it and what is expected first. The bound on their number is never reached, since each takes a
 -- byte or ends an item

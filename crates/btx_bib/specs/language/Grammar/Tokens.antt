@@ -1,13 +1,12 @@
 -- The words and signs of an item: what a text begins with after white, or what is wrong there.
 use Rattle.std.specs.Prelude.{ℕ, ◌==◌, List, [], ◌∷◌, drop, Result, Ok, Err, if◌then◌else◌}
+use Rattle.std.specs.Str.{byte}
 use Rattle.btx_text.specs.language.Class.{begins_name}
-use Rattle.btx_text.specs.language.Elements.{open_brace, close_brace}
 use Rattle.btx_bib.specs.declared.grammar.byte_sets.Delimiter.{Delimiter}
 use Rattle.btx_bib.specs.declared.grammar.byte_sets.Delimiter.TheVariants.{Braces, Parens}
 use Rattle.btx_bib.specs.declared.grammar.byte_sets.ByteSet.TheVariants.{Gap, NameByte, KeyByte}
 use Rattle.btx_bib.specs.declared.grammar.slip.Slip.{Slip}
 use Rattle.btx_bib.specs.declared.grammar.slip.Slip.TheVariants.{NoName, NoDelimiter, EndOfFile}
-use Rattle.btx_bib.specs.language.Grammar.Bytes.{close_parenthesis, open_parenthesis}
 use Rattle.btx_bib.specs.language.Grammar.ByteSets.{begins, longest_run, past}
 
 -- what was read and the text after it, or what is wrong and the text from its place on
@@ -39,8 +38,10 @@ name_at text = name_here (past Gap text)
 -- the opening delimiter that a text begins with, `{` or `(`, or what is wrong where it begins with neither
 unfoldable pub open_in : List ℕ → Parsed Delimiter
 open_in rest =
-    if begins (λ b. b == open_brace) rest then Ok (Braces, drop 1 rest)
-    else if begins (λ b. b == open_parenthesis) rest then Ok (Parens, drop 1 rest) else wrong_at NoDelimiter rest
+    let brace = byte "{" in
+    let parenthesis = byte "(" in
+    if begins (λ b. b == brace) rest then Ok (Braces, drop 1 rest)
+    else if begins (λ b. b == parenthesis) rest then Ok (Parens, drop 1 rest) else wrong_at NoDelimiter rest
 
 -- the opening delimiter that stands next, behind white
 abbrev pub open_at : List ℕ → Parsed Delimiter
@@ -48,8 +49,8 @@ open_at text = open_in (past Gap text)
 
 -- the delimiter that closes an item: `}` for `{`, and `)` for `(`
 abbrev pub closing_delimiter : Delimiter → ℕ
-closing_delimiter Braces = close_brace
-closing_delimiter Parens = close_parenthesis
+closing_delimiter Braces = byte "}"
+closing_delimiter Parens = byte ")"
 
 -- the sign that a text begins with, or what is wrong where it begins with another byte
 unfoldable pub sign_in : ℕ → Slip → List ℕ → Parsed (Unit {0})

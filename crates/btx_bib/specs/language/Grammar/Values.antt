@@ -1,15 +1,15 @@
 -- Values: parts joined by `#`.
 use Rattle.std.specs.Prelude.{ℕ, zero, suc, ◌==◌, List, [], ◌∷◌, length, take, drop, Option, None, Some, Ok, Err, if◌then◌else◌}
 use Rattle.btx_text.specs.language.Class.{begins_name}
-use Rattle.btx_text.specs.language.Elements.{open_brace}
 use Rattle.btx_bib.specs.declared.grammar.byte_sets.ByteSet.TheVariants.{Gap, NameByte, Digit}
 use Rattle.btx_bib.specs.declared.grammar.byte_sets.Enclosure.{Enclosure}
 use Rattle.btx_bib.specs.declared.grammar.byte_sets.Enclosure.TheVariants.{Group, Quotes}
 use Rattle.btx_bib.specs.declared.grammar.slip.Slip.TheVariants.{NoValue, Unbalanced, EndOfFile}
-use Rattle.btx_bib.specs.language.Grammar.Bytes.{hash, quote}
 use Rattle.btx_bib.specs.language.Grammar.ByteSets.{longest_run, past, enclosed_len}
 use Rattle.btx_bib.specs.language.Grammar.Tokens.{Parsed, followed_by}
 use Rattle.std.specs.Char.{is_ascii_digit}
+use Rattle.std.specs.Str.{byte}
+use Rattle.std.specs.Option.{option_map_or}
 
 -- the name of a string where it stands in a value. `rest` is the text behind it, which tells its place: how much of the file is left.
 pub record StringName : Type 0 where
@@ -28,7 +28,7 @@ pub data Part : Type 0 where
 abbrev pub closed_part : Enclosure → List ℕ → List ℕ → Parsed Part
 closed_part enclosure text [] = Err (EndOfFile, [])
 closed_part Group text (b ∷ bs) = Ok (Braced text, bs)
-closed_part Quotes text (b ∷ bs) = if b == quote then Ok (Quoted text, bs) else Err (Unbalanced, b ∷ bs)
+closed_part Quotes text (b ∷ bs) = if b == byte "\"" then Ok (Quoted text, bs) else Err (Unbalanced, b ∷ bs)
 
 -- a group or a text in quotes, from behind the byte that opens it to where it ends at depth 0
 abbrev pub enclosed_in : Enclosure → List ℕ → Parsed Part
@@ -38,8 +38,8 @@ enclosed_in enclosure rest = closed_part enclosure (take (enclosed_len enclosure
 unfoldable pub part_in : List ℕ → Parsed Part
 part_in [] = Err (EndOfFile, [])
 part_in (b ∷ bs) =
-    if b == open_brace then enclosed_in Group bs
-    else if b == quote then enclosed_in Quotes bs
+    if b == byte "{" then enclosed_in Group bs
+    else if b == byte "\"" then enclosed_in Quotes bs
     else if is_ascii_digit b then Ok (Digits (longest_run Digit (b ∷ bs)), past Digit (b ∷ bs))
     else if begins_name b then Ok (Named (record { name = longest_run NameByte (b ∷ bs); rest = past NameByte (b ∷ bs) }), past NameByte (b ∷ bs))
     else Err (NoValue, b ∷ bs)
@@ -51,21 +51,18 @@ part_at text = part_in (past Gap text)
 -- the text after a `#`
 abbrev pub behind_hash : List ℕ → Option (List ℕ)
 behind_hash [] = None
-behind_hash (b ∷ bs) = if b == hash then Some bs else None
+behind_hash (b ∷ bs) = if b == byte "#" then Some bs else None
 
 -- the text after the `#` that joins another part, where one stands after white
 abbrev pub next_part : List ℕ → Option (List ℕ)
 next_part rest = behind_hash (past Gap rest)
 
--- the parts of a value from this one on: `others` reads those after a `#`
-abbrev pub joined : (List ℕ → Parsed (List Part)) → Part → List ℕ → Option (List ℕ) → Parsed (List Part)
-joined others part rest None = Ok (part ∷ [], rest)
-joined others part rest (Some text) = followed_by (others text) (λ parts end. Ok (part ∷ parts, end))
-
--- reads a value of at most `turns` parts. The bound is never reached, since each part takes a byte at least
+-- reads a value of at most `turns` parts: a part, and the others if a `#` stands behind it. The bound is never reached, since each part takes a byte at least
 unfoldable pub value_within : ℕ → List ℕ → Parsed (List Part)
 value_within zero text = Err (EndOfFile, [])
-value_within (suc turns) text = followed_by (part_at text) (λ part rest. joined (value_within turns) part rest (next_part rest))
+value_within (suc turns) text =
+    followed_by (part_at text) (λ part rest.
+    option_map_or (λ (behind : List ℕ). followed_by (value_within turns behind) (λ parts end. Ok (part ∷ parts, end))) (next_part rest) (Ok (part ∷ [], rest)))
 
 -- the value that stands next: its parts, which `#` joins, or what is wrong in it
 unfoldable pub value_at : List ℕ → Parsed (List Part)

@@ -1,6 +1,5 @@
 -- The reading of a database: the one list of what stands in it and of what is wrong.
 use Rattle.std.specs.Prelude.{◌≡◌, ℕ, ◌==◌, true, false, List, [], ◌∷◌, ◌++◌, ◌⊎◌, Option, Some, None, Result, Ok, Err}
-use Rattle.btx_text.specs.language.Elements.{open_brace}
 use Rattle.btx_bib.specs.declared.grammar.byte_sets.Delimiter.{Delimiter}
 use Rattle.btx_bib.specs.declared.grammar.byte_sets.Delimiter.TheVariants.{Braces, Parens}
 use Rattle.btx_bib.specs.declared.grammar.byte_sets.ByteSet.TheVariants.{KeyByte}
@@ -10,12 +9,13 @@ use Rattle.btx_bib.specs.declared.grammar.commands.Wanted.{Wanted}
 use Rattle.btx_bib.specs.declared.grammar.commands.Wanted.TheVariants.{Item, Closing, Fields}
 use Rattle.btx_bib.specs.declared.grammar.slip.Slip.{Slip}
 use Rattle.btx_bib.specs.declared.grammar.slip.Slip.TheVariants.{NoDelimiter, NoComma, NoEquals, NoClosing, EndOfFile}
-use Rattle.btx_bib.specs.language.Grammar.Bytes.{at_sign, comma, equals_sign, open_parenthesis}
 use Rattle.btx_bib.specs.language.Grammar.ByteSets.{begins}
 use Rattle.btx_bib.specs.language.Grammar.Tokens.{closing_delimiter}
 use Rattle.btx_bib.specs.language.Grammar.Fields.{Field}
 use Rattle.btx_bib.specs.language.Grammar.Items.{Event, Comment, Preamble, Definition, Entry, FieldOf, End, Wrong, command_of, Placed, Keeping, as_known}
 use Rattle.btx_bib.specs.laws.Grammar.Spelling.{Grammar, Gives, Then, Spaced, IsRun, IsWrongHere, NameHere, SignHere, ValueSpelling, FieldSpelling}
+use Rattle.btx_text.specs.laws.Bytes.{open_brace}
+use Rattle.btx_bib.specs.laws.Grammar.Bytes.{at_sign, comma, equals_sign, open_parenthesis}
 
 -- a thing as `R` has it, behind the byte `sign`; or one as `S` has it where the text doesn't begin with that byte
 abbrev pub OnSign : {A : Type 0} → ℕ → Grammar A → Grammar A → Grammar A

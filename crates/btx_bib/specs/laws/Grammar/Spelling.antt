@@ -2,19 +2,20 @@
 -- end. `P (Ok a) front rest` says that `front` spells an a as `P` has it, and `P (Err slip) front rest` that `slip` is wrong where `rest` begins.
 use Rattle.std.specs.Prelude.{◌≡◌, ℕ, zero, suc, ◌==◌, ◌||◌, Bool, true, false, List, [], ◌∷◌, ◌++◌, ◌⊎◌, Result, Ok, Err}
 use Rattle.btx_text.specs.language.Class.{begins_name}
-use Rattle.btx_text.specs.language.Elements.{depth_after, depth_of, open_brace, close_brace}
+use Rattle.btx_text.specs.language.Elements.{depth_after, depth_of}
 use Rattle.btx_bib.specs.declared.grammar.byte_sets.ByteSet.{ByteSet}
 use Rattle.btx_bib.specs.declared.grammar.byte_sets.ByteSet.TheVariants.{Gap, NameByte, Digit}
 use Rattle.btx_bib.specs.declared.grammar.byte_sets.Enclosure.{Enclosure}
 use Rattle.btx_bib.specs.declared.grammar.byte_sets.Enclosure.TheVariants.{Group, Quotes}
 use Rattle.btx_bib.specs.declared.grammar.slip.Slip.{Slip}
 use Rattle.btx_bib.specs.declared.grammar.slip.Slip.TheVariants.{NoName, NoEquals, NoValue, Unbalanced, EndOfFile}
-use Rattle.btx_bib.specs.language.Grammar.Bytes.{equals_sign, hash, quote}
 use Rattle.btx_bib.specs.language.Grammar.ByteSets.{is_in, begins, ends_enclosed}
 use Rattle.btx_bib.specs.language.Grammar.Tokens.{Parsed, slip_at}
 use Rattle.btx_bib.specs.language.Grammar.Values.{Part, Braced, Quoted, Digits, Named}
 use Rattle.btx_bib.specs.language.Grammar.Fields.{Field}
 use Rattle.std.specs.Char.{is_ascii_digit}
+use Rattle.btx_text.specs.laws.Bytes.{open_brace, close_brace}
+use Rattle.btx_bib.specs.laws.Grammar.Bytes.{equals_sign, hash, quote}
 
 -- how something is spelled: a relation between what was read or is wrong, a front of a text, and the rest. The front spells the first, or it is
 -- wrong where the rest begins

@@ -5,7 +5,6 @@ use Rattle.btx_bib.specs.declared.grammar.byte_sets.Delimiter.{Delimiter}
 use Rattle.btx_bib.specs.declared.grammar.commands.Command.{Command}
 use Rattle.btx_bib.specs.declared.grammar.commands.Command.TheVariants as command
 use Rattle.btx_bib.specs.declared.grammar.slip.Slip.TheVariants.{NoEquals, NoClosing, EndOfFile}
-use Rattle.btx_bib.specs.language.Grammar.Bytes.{equals_sign}
 use Rattle.btx_bib.specs.language.Grammar.Tokens.{Parsed, followed_by, name_at, open_at, sign_at, key_at, closing_delimiter}
 use Rattle.btx_bib.specs.language.Grammar.Values.{Part, value_at}
 use Rattle.btx_bib.specs.language.Grammar.Fields.{Field}
@@ -13,6 +12,7 @@ use Rattle.btx_bib.specs.language.Grammar.Items.{command_of}
 use Rattle.btx_bib.specs.laws.Grammar.Spelling.{Grammar, Gives, Then, Spaced, NameHere, SignHere, ValueSpelling}
 use Rattle.btx_bib.specs.laws.Grammar.Reading.{OpenHere, KeyHere, MoreHere}
 use Rattle.btx_bib.specs.laws.Grammar.Fields.{more_at}
+use Rattle.btx_bib.specs.laws.Grammar.Bytes.{equals_sign}
 
 -- what stands behind an `@`: an `@comment`, which ends with its own name; a `@preamble`; a `@string`; or an entry
 pub data WholeItem : Type 0 where

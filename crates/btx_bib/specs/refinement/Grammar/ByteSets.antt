@@ -1,10 +1,10 @@
 -- How the code finds the end of what is enclosed: it skips what can't end it.
 use Rattle.std.specs.Prelude.{ℕ, suc, ◌==◌, ◌||◌, Bool, List, [], ◌∷◌, if◌then◌else◌}
-use Rattle.btx_text.specs.language.Elements.{open_brace, close_brace}
 use Rattle.btx_bib.specs.declared.grammar.byte_sets.Enclosure.{Enclosure}
 use Rattle.btx_bib.specs.declared.grammar.byte_sets.Enclosure.TheVariants.{Group, Quotes}
-use Rattle.btx_bib.specs.language.Grammar.Bytes.{quote}
 use Rattle.std.specs.Int.{is_in_range}
+use Rattle.btx_text.specs.laws.Bytes.{open_brace, close_brace}
+use Rattle.btx_bib.specs.laws.Grammar.Bytes.{quote}
 
 -- a byte that changes the depth or can end what is enclosed: a brace, and in quotes a `"`
 abbrev pub is_mark : Enclosure → ℕ → Bool

@@ -5,9 +5,12 @@ use Rattle.btx_bib.specs.declared.grammar.byte_sets.ByteSet.TheVariants.{Gap}
 use Rattle.btx_bib.specs.declared.grammar.value_ends.Ends.{Ends}
 use Rattle.btx_bib.specs.declared.grammar.value_ends.Ends.TheVariants.{Kept, Trimmed}
 use Rattle.btx_bib.specs.declared.grammar.byte_sets.Enclosure.{Enclosure}
-use Rattle.btx_bib.specs.language.Grammar.Bytes.{space}
 use Rattle.btx_bib.specs.language.Grammar.ByteSets.{enclosed_len, is_gap, past}
 use Rattle.btx_bib.specs.refinement.Grammar.ByteSets.{is_word_byte}
+
+-- the space, which stands for each run of white in a value
+abbrev pub space : ℕ
+space = 32
 
 -- bytes after a byte that was white or not: the first byte of a run becomes the space
 abbrev pub squeezed_after : Bool → List ℕ → List ℕ

@@ -1,12 +1,13 @@
 use Rattle.std.proofs.Common.{◌≡◌, ◌≤◌, ◌+◌, ◌-◌, ◌++◌, ◌∷◌, ◌∙◌, sym, length, get_or, take, drop, arith}
 use Rattle.std.proofs.lemmas.Result.{err_from_is_err_and}
-use Rattle.btx_names.specs.language.FormattedNames.{with_tokens, shown, between_text}
+use Rattle.btx_names.specs.language.FormattedNames.{with_tokens, between_text}
 use Rattle.btx_names.specs.refinement.ItemViews.{piece_view}
 use Rattle.btx_names.specs.refinement.NameTokens.{token_of, tokens_in}
 use Rattle.btx_names.specs.refinement.PartViews.{part_tokens}
 use Rattle.btx_names.proofs.PartLemmas.{no_token, held_at, tokens_at, tokens_left, no_tokens_left}
 use Rattle.btx_names.proofs.PieceLemmas.{one_token_more, shown_too_long, between_too_long, tokens_done, nothing_between, initials_joined, fails_too}
 use Rattle.btx_names.proofs.pieces.push_tokens.Goals as goal
+use Rattle.btx_names.specs.laws.FormattedNames.{shown}
 
 pub returns-then-has_nothing_between-clause-text : goal.returns-then-has_nothing_between-clause-text
 returns-then-has_nothing_between-clause-text c =

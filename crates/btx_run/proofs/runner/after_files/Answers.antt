@@ -1,8 +1,8 @@
 use Rattle.std.proofs.Common.{refl}
 use Rattle.btx_machine.proofs.ComesLemmas.{err_map, ok_map}
-use Rattle.btx_run.specs.language.Product.{work_in}
 use Rattle.btx_run.proofs.ProductLemmas.{completes_early, counts_of_end, fails_early, never_deeper, touched_with_top_file}
 use Rattle.btx_run.proofs.runner.after_files.Goals as goal
+use Rattle.btx_run.specs.refinement.Product.{work_in}
 
 pub returns-in-Ends-clause-ok : goal.returns-in-Ends-clause-ok
 returns-in-Ends-clause-ok g c =

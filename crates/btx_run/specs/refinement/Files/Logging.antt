@@ -1,10 +1,15 @@
--- What a log received while lines were logged.
+-- The bytes of log lines, and what a log received while lines were logged.
 use Rattle.std.specs.Prelude.{◌≡◌, ℕ, List, ◌++◌, Option}
 use Rattle.std.specs.Io.KnownBytes.{Appends}
 use Rattle.btx_text.specs.language.LogLines.{Line}
 use Rattle.btx_machine.specs.declared.report.LogCounts.{LogCounts}
 use Rattle.btx_run.specs.language.Files.Counts.{counts_of}
-use Rattle.btx_run.specs.language.Files.Logging.{bytes_of_lines}
+use Rattle.std.specs.List.{flat_map}
+use Rattle.btx_machine.specs.language.Saying.{ended_line}
+
+-- the bytes of log lines, each with its line feed
+abbrev pub bytes_of_lines : List Line → List ℕ
+bytes_of_lines lines = flat_map (λ line. ended_line line.text) lines
 
 -- what the log received before and after
 abbrev pub LogReceived : Type 0

@@ -1,16 +1,34 @@
 -- What calls answer that read files, and what they log.
-use Rattle.std.specs.Prelude.{ℕ, ◌+◌, ◌≤◌, List, [], ◌∷◌, ◌++◌, length, Option, Result, Ok, Err, ◌≡◌, option_to_list}
+use Rattle.std.specs.Prelude.{ℕ, ◌+◌, ◌≤◌, List, [], ◌∷◌, ◌++◌, length, Option, Result, Ok, Err, ◌≡◌, option_to_list, if◌then◌else◌}
+use Rattle.std.specs.Option.{option_map_or}
 use Rattle.btx_aux.specs.language.Files.{Files}
 use Rattle.btx_aux.specs.language.Job.{AuxJob}
 use Rattle.btx_text.specs.declared.fault.Fault.{Fault}
-use Rattle.btx_text.specs.language.Limits.{greatest_file}
+use Rattle.btx_text.specs.language.Limits.{greatest_file, is_too_long}
 use Rattle.btx_out.specs.language.Pieces.{AppendsBeginning}
 use Rattle.btx_run.specs.declared.files.found.FilesRead.{FilesRead}
 use Rattle.btx_run.specs.declared.files.found.FilesRead.TheVariants.{Ends, Found}
 use Rattle.btx_run.specs.language.Files.Logging.{bytes_of_lines}
-use Rattle.btx_run.specs.refinement.Files.Logging.{LogReceived, Counted, Logs}
+use Rattle.btx_run.specs.refinement.Files.Logging.{Counted, LogReceived, Logs}
+use Rattle.btx_run.specs.refinement.Files.Logging.{bytes_of_lines}
 use Rattle.btx_run.specs.language.Files.Found.{NamedFile, file_at}
-use Rattle.btx_run.specs.language.Files.Readings.{Logged, logged, database_logged, databases_read, style_found, behind, after_job}
+use Rattle.btx_run.specs.language.Files.Readings.{Logged, logged, behind, after_job, files_found, databases_logged}
+use Rattle.btx_text.specs.language.LogLines.{Line}
+use Rattle.btx_run.specs.language.Files.Lines.{database_line, no_database_line}
+use Rattle.btx_text.specs.declared.limits.Limit.TheVariants as kind
+use Rattle.btx_machine.specs.declared.report.End.TheVariants as ended
+
+-- the log line of a database, which has this number if it is found
+abbrev pub database_logged : ℕ → List ℕ → Option NamedFile → Line
+database_logged number name found = option_map_or (λ (file : NamedFile). database_line number name) found (no_database_line name)
+
+-- the databases of these names: those that are there
+abbrev pub databases_read : Files → List (List ℕ) → Logged (List NamedFile)
+databases_read files names = logged (databases_logged files [] names) (files_found files names)
+
+-- the reading after the style was found: a style that is too long ends the run, and no database is looked for
+abbrev pub style_found : NamedFile → Logged (List NamedFile) → Logged FilesRead
+style_found style databases = if is_too_long style.bytes then logged [] (Ends (ended.Limit kind.File)) else logged databases.lines (Found (record { style = style; databases = databases.gives }))
 
 -- ---- databases
 

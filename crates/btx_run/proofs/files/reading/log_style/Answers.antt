@@ -4,6 +4,7 @@ use Rattle.btx_out.specs.language.Pieces.{AppendsBeginning}
 use Rattle.btx_run.specs.refinement.Files.Counts.{counts_at}
 use Rattle.btx_run.specs.language.Files.Logging.{bytes_of_lines}
 use Rattle.btx_run.specs.refinement.Files.Logging.{Logs}
+use Rattle.btx_run.specs.refinement.Files.Logging.{bytes_of_lines}
 use Rattle.btx_run.specs.language.Files.Lines.{style_line}
 use Rattle.btx_run.proofs.AskedLemmas.{among-none}
 use Rattle.btx_run.proofs.ReadingLemmas.{reads_behind, reads_is, reads_nothing, reads_part, style_is_read}

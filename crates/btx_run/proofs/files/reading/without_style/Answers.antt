@@ -5,6 +5,7 @@ use Rattle.btx_run.specs.language.Files.Logging.{bytes_of_lines}
 use Rattle.btx_run.proofs.ReadingLemmas.{reads_is, reads_part, style_is_missed, style_missed}
 use Rattle.btx_run.proofs.LoggingLemmas.{line_begun, logs_line}
 use Rattle.btx_run.proofs.files.reading.without_style.Goals as goal
+use Rattle.btx_run.specs.refinement.Files.Logging.{bytes_of_lines}
 
 pub returns-in_err-log_one-clause-reads : goal.returns-in_err-log_one-clause-reads
 returns-in_err-log_one-clause-reads g c = λ files job.

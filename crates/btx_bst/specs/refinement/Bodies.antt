@@ -1,4 +1,4 @@
--- A function's body is its tokens.
+-- Names of types, as proofs write them.
 use Rattle.std.specs.Prelude.{List}
 use Rattle.btx_bst.specs.declared.token.Token.{Token}
 

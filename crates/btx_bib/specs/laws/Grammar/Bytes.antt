@@ -9,10 +9,6 @@ at_sign = 64
 abbrev pub open_parenthesis : ℕ
 open_parenthesis = 40
 
--- `)`, which closes an item that a `(` opened
-abbrev pub close_parenthesis : ℕ
-close_parenthesis = 41
-
 -- `,`
 abbrev pub comma : ℕ
 comma = 44
@@ -28,11 +24,3 @@ hash = 35
 -- `"`
 abbrev pub quote : ℕ
 quote = 34
-
--- the space, which stands for each run of white in a value
-abbrev pub space : ℕ
-space = 32
-
--- the end of a line, which counts as white in a database
-abbrev pub line_feed : ℕ
-line_feed = 10
