@@ -17,7 +17,7 @@ use Rattle.btx_bib.specs.language.Grammar.Fields.{Field}
 use Rattle.btx_bib.specs.language.Grammar.Items.{Event, Comment, Preamble, Definition, Entry, FieldOf, End, Wrong, is_repeated}
 use Rattle.btx_bib.specs.language.Grammar.ValueTexts.{value_text}
 use Rattle.btx_bib.specs.language.Known.{Known, with_current_stored, after_event, after_field, if_fits, stored_in}
-use Rattle.btx_bib.specs.language.Messages.{Database, event_messages, field_messages, spot_at, spot_before, type_messages, value_messages}
+use Rattle.btx_bib.specs.language.Messages.{Database, event_messages, field_messages, spot_at, spot_before, value_messages}
 use Rattle.btx_bib.specs.language.Wanted.{Request}
 use Rattle.btx_bib.specs.language.Entries.{Given, body_of, field_values}
 use Rattle.btx_bib.specs.refinement.Finding.{changed_at}

@@ -13,7 +13,6 @@ use Rattle.btx_run.specs.declared.options.Options.{Options}
 use Rattle.btx_run.specs.language.Files.Readings.{job_named, reading_of}
 use Rattle.btx_run.specs.laws.Laws.{BudgetLaw}
 use Rattle.btx_run.specs.language.Files.Counts.{counts_of}
-use Rattle.btx_run.specs.language.Files.Logging.{bytes_of_lines}
 use Rattle.btx_run.specs.language.Product.{product_of_files}
 use Rattle.btx_run.specs.refinement.Files.Logging.{bytes_of_lines}
 use Rattle.btx_run.specs.refinement.Product.{logged_before, work_in}

@@ -11,10 +11,8 @@ use Rattle.btx_out.specs.language.Pieces.{AppendsBeginning}
 use Rattle.btx_out.proofs.PieceLemmas.{beginning-after, beginning-all, beginning-longer}
 use Rattle.btx_machine.specs.declared.report.LogCounts.{LogCounts}
 use Rattle.btx_run.specs.language.Files.Counts.{counts_of}
-use Rattle.btx_run.specs.language.Files.Logging.{bytes_of_lines}
 use Rattle.btx_run.specs.refinement.Files.Counts.{at_most_greatest, counts_at}
-use Rattle.btx_run.specs.refinement.Files.Logging.{Logs}
-use Rattle.btx_run.specs.refinement.Files.Logging.{bytes_of_lines}
+use Rattle.btx_run.specs.refinement.Files.Logging.{Logs, bytes_of_lines}
 use Rattle.btx_machine.specs.language.Saying.{counted_if, ended_line}
 use Rattle.btx_machine.specs.refinement.Outputs.{Journal}
 use Rattle.btx_machine.specs.laws.Reports.{log_counts}

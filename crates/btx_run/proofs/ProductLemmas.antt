@@ -36,10 +36,8 @@ use Rattle.btx_run.specs.language.Files.Counts.{counts_of}
 use Rattle.btx_run.specs.language.Files.Readings.{Logged, job_named}
 use Rattle.btx_run.specs.refinement.Files.Readings.{IsRead, files_read}
 use Rattle.btx_run.specs.language.Contents.{style_in}
-use Rattle.btx_run.specs.language.Files.Logging.{bytes_of_lines}
 use Rattle.btx_run.specs.language.Product.{product, product_of_files, product_with}
-use Rattle.btx_run.specs.refinement.Files.Logging.{Logs}
-use Rattle.btx_run.specs.refinement.Files.Logging.{bytes_of_lines}
+use Rattle.btx_run.specs.refinement.Files.Logging.{Logs, bytes_of_lines}
 use Rattle.btx_run.specs.refinement.Product.{logged_before, product_of_reading, work_in, work_of}
 use Rattle.btx_machine.specs.refinement.KeepingStep.{LastLineBehindList, KeepsStep}
 use Rattle.btx_machine.specs.refinement.Outputs.{Journal}

@@ -20,9 +20,7 @@ use Rattle.btx_run.specs.declared.files.found.FilesRead.{FilesRead}
 use Rattle.btx_run.specs.declared.files.found.FilesRead.TheVariants.{Ends, Found}
 use Rattle.btx_text.specs.declared.limits.Limit.TheVariants as kind
 use Rattle.btx_machine.specs.declared.report.End.TheVariants as ended
-use Rattle.btx_run.specs.language.Files.Logging.{bytes_of_lines}
-use Rattle.btx_run.specs.refinement.Files.Logging.{Counted, LogReceived, Logs}
-use Rattle.btx_run.specs.refinement.Files.Logging.{bytes_of_lines}
+use Rattle.btx_run.specs.refinement.Files.Logging.{Counted, LogReceived, Logs, bytes_of_lines}
 use Rattle.btx_run.specs.language.Files.Lines.{no_style_line, style_line}
 use Rattle.btx_run.proofs.LoggingLemmas.{logs_both, logs_nothing, part_begins, rest_begins}
 use Rattle.btx_run.specs.language.Files.Readings.{Logged, after_job, behind, databases_logged, files_found, logged, style_named, style_read}

@@ -23,7 +23,7 @@ use Rattle.btx_bib.specs.language.Values.{field_value}
 use Rattle.btx_bib.specs.language.Wanted.{Request}
 use Rattle.btx_bib.specs.language.Strings.{defined, other_value, string_value}
 use Rattle.btx_bib.specs.language.Known.{goes_on}
-use Rattle.btx_bib.specs.language.Messages.{Database, spot_at, spot_before, type_messages, value_messages}
+use Rattle.btx_bib.specs.language.Messages.{Database, spot_at, spot_before, value_messages}
 use Rattle.btx_bib.specs.refinement.Strings.{Strings}
 use Rattle.btx_bib.specs.refinement.Messages.{type_messages}
 

@@ -18,7 +18,6 @@ use Rattle.btx_run.specs.declared.options.Options.{Options}
 use Rattle.btx_run.specs.language.Files.Counts.{counts_of}
 use Rattle.btx_run.specs.language.Contents.{style_in}
 use Rattle.btx_run.specs.language.Files.Found.{NamedFile}
-use Rattle.btx_run.specs.language.Files.Logging.{bytes_of_lines}
 use Rattle.btx_run.specs.language.Files.Readings.{job_named, reading_of}
 
 -- what follows the reading of the files, with a budget: the run ends at once, or the style is executed, with the library of the databases that were found

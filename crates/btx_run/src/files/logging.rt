@@ -1,11 +1,9 @@
 //! Lines that are logged one after another.
 ghost use Rattle.std.specs.Prelude.{◌≡◌, IfErr, OnErr, OnOk};
 ghost use Rattle.btx_out.specs.language.Pieces.{AppendsBeginning};
-ghost use Rattle.btx_run.specs.language.Files.Logging.{bytes_of_lines};
 ghost use Rattle.btx_run.specs.refinement.Files.Counts.{counts_at};
 ghost use Rattle.btx_run.specs.refinement.Files.Faults.{CountsOfLogging};
-ghost use Rattle.btx_run.specs.refinement.Files.Logging.{Logs};
-ghost use Rattle.btx_run.specs.refinement.Files.Logging.{bytes_of_lines};
+ghost use Rattle.btx_run.specs.refinement.Files.Logging.{Logs, bytes_of_lines};
 
 use btx_machine::Journal;
 use btx_out::Sink;

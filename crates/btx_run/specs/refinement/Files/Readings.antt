@@ -8,9 +8,7 @@ use Rattle.btx_text.specs.language.Limits.{greatest_file, is_too_long}
 use Rattle.btx_out.specs.language.Pieces.{AppendsBeginning}
 use Rattle.btx_run.specs.declared.files.found.FilesRead.{FilesRead}
 use Rattle.btx_run.specs.declared.files.found.FilesRead.TheVariants.{Ends, Found}
-use Rattle.btx_run.specs.language.Files.Logging.{bytes_of_lines}
-use Rattle.btx_run.specs.refinement.Files.Logging.{Counted, LogReceived, Logs}
-use Rattle.btx_run.specs.refinement.Files.Logging.{bytes_of_lines}
+use Rattle.btx_run.specs.refinement.Files.Logging.{Counted, LogReceived, Logs, bytes_of_lines}
 use Rattle.btx_run.specs.language.Files.Found.{NamedFile, file_at}
 use Rattle.btx_run.specs.language.Files.Readings.{Logged, logged, behind, after_job, files_found, databases_logged}
 use Rattle.btx_text.specs.language.LogLines.{Line}

@@ -3,9 +3,7 @@ use Rattle.btx_aux.proofs.AnswerLemmas.{by_map, by_none, shown_by}
 use Rattle.btx_out.specs.language.Pieces.{AppendsBeginning}
 use Rattle.btx_run.specs.refinement.Files.Counts.{counts_at}
 use Rattle.btx_run.specs.refinement.Files.Asked.{names_in}
-use Rattle.btx_run.specs.language.Files.Logging.{bytes_of_lines}
-use Rattle.btx_run.specs.refinement.Files.Logging.{Logs}
-use Rattle.btx_run.specs.refinement.Files.Logging.{bytes_of_lines}
+use Rattle.btx_run.specs.refinement.Files.Logging.{Logs, bytes_of_lines}
 use Rattle.btx_run.proofs.AskedLemmas.{among-none}
 use Rattle.btx_run.proofs.ReadingLemmas.{reads_behind, reads_part}
 use Rattle.btx_run.proofs.files.reading.read_files.Goals as goal
