@@ -37,7 +37,7 @@ import tempfile
 import time
 
 from stand_ins import stand_in
-from witnesses import FOLDERS, ROOT, tell_lacking, witness_of
+from witnesses import FOLDERS, ROOT, report_lacking, witness_of
 
 # How much of a goal is printed.
 LONGEST_GOAL = 300
@@ -230,7 +230,7 @@ def main():
     with concurrent.futures.ThreadPoolExecutor(arguments.jobs) as pool:
         results = [*pool.map(lambda crate: try_crate(kit, crate, arguments), reversed(crates))]
     refused = [not it.why for of_crate in results for it in of_crate]
-    lacking = tell_lacking([it.body.name for of_crate in results for it in of_crate if witness_of(it.body.text) is None])
+    lacking = report_lacking([it.body.name for of_crate in results for it in of_crate if witness_of(it.body.text) is None])
     print(f"{refused.count(True)} passed, {refused.count(False) + lacking} failed")
     return refused.count(False) + lacking
 

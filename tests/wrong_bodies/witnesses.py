@@ -160,7 +160,7 @@ def complaints_of_wrong(line, program):
 # ---- the command ----
 
 
-def tell_lacking(names):
+def report_lacking(names):
     """Says how many wrong bodies have no witness, and answers how many of them fail."""
     if names:
         print(f"{len(names)} wrong bodies have no line 'witness:': {' '.join(names)}")
@@ -182,7 +182,7 @@ def check(chosen, program, complaints):
         for it in wrong:
             print(f"{crate}/{name}: {it}")
     passed = len(chosen) - failed - len(lacking)
-    failed += tell_lacking(lacking)
+    failed += report_lacking(lacking)
     print(f"{passed} passed, {failed} failed")
     return failed
 

@@ -2,7 +2,6 @@
 use Rattle.std.proofs.Common.{◌≡◌, ◌∙◌, ℕ, List, [], ◌∷◌, Bool, true, Option, Some, Result, Ok, Err, IfOk, IsErrAnd, OnOk, MatchBool, ap, subst, sym}
 use Rattle.std.specs.Io.KnownBytes.{Keeps}
 use Rattle.btx_aux.specs.language.Files.{Files}
-use Rattle.btx_machine.specs.language.Written.{Received}
 use Rattle.btx_machine.specs.declared.report.Report.{Report}
 use Rattle.btx_run.specs.language.Answered.{CompletesAsAnswered}
 use Rattle.btx_run.specs.declared.run_fault.RunFault.{RunFault}
@@ -15,6 +14,7 @@ use Rattle.bibtex.specs.Status.{first_fault}
 use Rattle.bibtex.specs.declared.given.Settings.{Settings}
 use Rattle.bibtex.specs.declared.list_file.ListFile.{ListFile}
 use Rattle.bibtex.proofs.GrowthLemmas.{one_after_another}
+use Rattle.btx_machine.specs.refinement.Written.{Received}
 
 -- ---- an old list that is kept
 

@@ -16,9 +16,9 @@ pub data Act (W : Type 0) : Type 0 where
   -- a text was printed to standard output, or that failed
   Printed : (text : List ℕ) (printed : Result (Unit {0}) RunFault) → Act W
   -- a text and a hint behind it, which may be empty, were told on standard error
-  ToldText : (text hint : List ℕ) → Act W
+  ReportedText : (text hint : List ℕ) → Act W
   -- a fault was told on standard error
-  ToldFault : (fault : RunFault) → Act W
+  ReportedFault : (fault : RunFault) → Act W
 
 -- what was done so far; of the real system's outputs nothing is known
 abbrev pub Done : Type 0 → Type 0
@@ -31,4 +31,4 @@ WereDone before after acts = after ≡ option_map (λ done. done ++ acts) before
 -- the fault of an answer is told
 abbrev pub reporting : {W : Type 0} {T : Type 0} → Result T RunFault → List (Act W)
 reporting (Ok value) = []
-reporting (Err fault) = ToldFault fault ∷ []
+reporting (Err fault) = ReportedFault fault ∷ []

@@ -13,7 +13,7 @@ use Rattle.btx_aux.specs.language.Files.{Files}
 use Rattle.btx_machine.specs.declared.report.Report.{Report}
 use Rattle.btx_run.specs.declared.run_fault.RunFault.{RunFault}
 use Rattle.btx_run.specs.declared.run_fault.RunFault.TheVariants as run_fault
-use Rattle.bibtex.specs.Acts.{WereDone, Done, Printed, ToldFault, ToldText, reporting}
+use Rattle.bibtex.specs.Acts.{WereDone, Done, Printed, ReportedFault, ReportedText, reporting}
 use Rattle.bibtex.specs.CommandLine.{IsSettingsOf, Refuses}
 use Rattle.bibtex.specs.Jobs.{DoesJob}
 use Rattle.bibtex.specs.ListFiles.{Held}
@@ -27,11 +27,11 @@ use Rattle.bibtex.specs.declared.outcome.Exit.TheVariants as exit
 
 -- words that are not run come to this end: a text that was asked for is printed, and if that fails, the fault is told; of a mistake its
 -- text is told, with this hint; of refused memory that fault
-abbrev pub IsTold : {W : Type 0} → List ℕ → Refusal → Done W → Done W → Exit → Type 0
-IsTold hint (refusal.Shown text) before after end =
+abbrev pub IsReported : {W : Type 0} → List ℕ → Refusal → Done W → Done W → Exit → Type 0
+IsReported hint (refusal.Shown text) before after end =
     (printed : Result (Unit {0}) RunFault) × WereDone before after (Printed (string_bytes text) printed ∷ reporting printed) × (end ≡ exit_shown printed)
-IsTold hint (refusal.Mistake text) before after end = WereDone before after (ToldText (string_bytes text) hint ∷ []) × (end ≡ exit.Refused)
-IsTold hint refusal.Memory before after end = WereDone before after (ToldFault run_fault.Memory ∷ []) × (end ≡ refused_memory)
+IsReported hint (refusal.Mistake text) before after end = WereDone before after (ReportedText (string_bytes text) hint ∷ []) × (end ≡ exit.Refused)
+IsReported hint refusal.Memory before after end = WereDone before after (ReportedFault run_fault.Memory ∷ []) × (end ≡ refused_memory)
 
 -- Words that are run come to this end, over a system of these files and lists' files of these contents: their job is done, and then its fault is
 -- told, if its answer is one.
@@ -45,7 +45,7 @@ pub record RunEnds {W : Type 0} (files : Option Files) (contents : W → Held) (
 -- the settings that were read are run; a refusal, or a text that was asked for, is printed
 abbrev pub IsAnswered : {W : Type 0} → Option Files → (W → Held) → List ℕ → Result Settings Refusal → Done W → Done W → Exit → Type 0
 IsAnswered files contents hint (Ok settings) before after end = RunEnds files contents settings before after end
-IsAnswered files contents hint (Err refusal) before after end = IsTold hint refusal before after end
+IsAnswered files contents hint (Err refusal) before after end = IsReported hint refusal before after end
 
 -- the words of a command line, the program's name first, come to this end: the job of their settings is done, once, and nothing else is, or they
 -- are refused as they are read; a mistake is told with this hint
@@ -72,9 +72,9 @@ AreWordsOf (Err error) words = words ≡ Err error
 -- words that can't be read, by the kind of the error, come to this end: where memory was refused, that fault is told; else it is told that they
 -- are no text
 abbrev pub IsUnread : {W : Type 0} → ErrorKind → Done W → Done W → Exit → Type 0
-IsUnread OutOfMemory before after end = WereDone before after (ToldFault run_fault.Memory ∷ []) × (end ≡ refused_memory)
+IsUnread OutOfMemory before after end = WereDone before after (ReportedFault run_fault.Memory ∷ []) × (end ≡ refused_memory)
 IsUnread _ before after end =
-    WereDone before after (ToldText (codes "error: invalid UTF-8 was detected in one or more arguments\n") [] ∷ []) × (end ≡ exit.Refused)
+    WereDone before after (ReportedText (codes "error: invalid UTF-8 was detected in one or more arguments\n") [] ∷ []) × (end ≡ exit.Refused)
 
 -- words that were read come to the end of their command line; of others it is told why, and nothing else is done
 abbrev pub EndsFor : {W : Type 0} → Option Files → (W → Held) → Words → Done W → Done W → Exit → Type 0

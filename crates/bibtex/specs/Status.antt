@@ -46,8 +46,8 @@ fault_exit OutOfMemory = refused_memory
 fault_exit _ = Refused
 
 -- a refusal comes to its own end, unless a text that was asked for can't be printed; then it comes to that of a fault
-abbrev pub told_by : Exit → Exit → Type 0
-told_by own told = (told ≡ own) ⊎ ((own ≡ Shown) × (fault : RunFault) × (told ≡ Failed fault))
+abbrev pub reported_by : Exit → Exit → Type 0
+reported_by own told = (told ≡ own) ⊎ ((own ≡ Shown) × (fault : RunFault) × (told ≡ Failed fault))
 
 -- ---- the status of each end
 

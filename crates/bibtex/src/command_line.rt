@@ -314,7 +314,7 @@ mod tests {
     }
 
     #[test]
-    fn tells_its_version(rt: HostRuntime) -> Result<(), Fail> {
+    fn prints_its_version(rt: HostRuntime) -> Result<(), Fail> {
         for line in ["bibtex --version", "bibtex -V"] {
             gives(&rt, answered(rt.alloc(), line), "refused 0 bibtex 1.0.0\n")?;
         }

@@ -32,7 +32,7 @@ impl<S: Drop> Drop for DirectoryFinder<'_, S> {
 }
 
 impl<'a, S: System> DirectoryFinder<'a, S> {
-    /// A finder that has not failed yet.
+    /// Makes a finder over the files of the folder `directory`.
     pub fn new(system: S, directory: &'a str) -> Self
         ensures system { result.system ≡ system }
         ensures directory { result.directory ≡ directory.entry }

@@ -25,14 +25,14 @@ pub struct Settings<'a> {
 pub enum Refusal {
     /// Help or the version was asked for: what is printed.
     Shown(String),
-    /// The words are refused: what is told.
+    /// The words are refused: the text that says why.
     Mistake(String),
     /// Memory was refused.
     Memory,
 }
 
 impl Refusal {
-    /// The program's end, where its text, if it has one, could be printed.
+    /// Answers the program's end, if the text of this refusal, where it has one, could be printed.
     pub fn exit(&self) -> Exit
         ensures { result ≡ refusal_exit self.now }
     {

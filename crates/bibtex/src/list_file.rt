@@ -26,7 +26,7 @@ pub struct ListFile<W> {
 }
 
 impl<W: EmptiedFile> ListFile<W> {
-    /// A file that this run hasn't written to, and that hasn't failed yet.
+    /// Makes a sink over `file`, which this run hasn't written to.
     pub fn new(file: W) -> Self
         ensures { result ≡ unwritten file }
     {
@@ -37,7 +37,7 @@ impl<W: EmptiedFile> ListFile<W> {
         }
     }
 
-    /// The file itself.
+    /// Answers the file itself.
     pub fn into_file(self) -> W
         ensures { result ≡ self.file }
     {
@@ -72,7 +72,7 @@ impl<W: EmptiedFile> ListFile<W> {
         self.file.write(bytes)
     }
 
-    /// Ends the file after this answer of the run: what an earlier run left is thrown away, but for a job without a top file.
+    /// Ends the file after the run's `answer`: removes what an earlier run left in it, unless the job had no top file.
     pub fn finish(&mut self, answer: &Result<Report, RunFault>) -> Result<(), RunFault>
         ensures { FinishesList W.contents answer.now self.old self.new result }
     {
@@ -90,7 +90,7 @@ pub struct SystemFile<F> {
 }
 
 impl<F> SystemFile<F> {
-    /// One that is open.
+    /// Makes a file of the real system from one that is open.
     pub fn new(file: F) -> Self {
         SystemFile { file }
     }

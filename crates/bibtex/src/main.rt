@@ -4,10 +4,10 @@
 ghost use Rattle.std.specs.Prelude.{◌≡◌, [], ◌∷◌, map, string_bytes};
 ghost use Rattle.std.specs.IoError.{error_kind};
 ghost use Rattle.std.specs.Process.{exit_status};
-ghost use Rattle.bibtex.specs.Acts.{WereDone, ToldFault, reporting};
-ghost use Rattle.bibtex.specs.Ends.{AreWordsOf, ComesTo, EndsFor, ExitsWith, IsTold, IsUnread};
+ghost use Rattle.bibtex.specs.Acts.{WereDone, ReportedFault, reporting};
+ghost use Rattle.bibtex.specs.Ends.{AreWordsOf, ComesTo, EndsFor, ExitsWith, IsReported, IsUnread};
 ghost use Rattle.bibtex.specs.Spelling.{hint_of};
-ghost use Rattle.bibtex.specs.Status.{exit_of, refusal_exit, status_at, told_by};
+ghost use Rattle.bibtex.specs.Status.{exit_of, refusal_exit, status_at, reported_by};
 
 mod command_line;
 mod directory;
@@ -50,39 +50,39 @@ fn words(alloc: Global, args: io::Result<Args>) -> io::Result<Vec<String>>
 }
 
 // Tells a fault, and gives the program's end.
-fn tell_fault<O: Outputs>(outputs: &mut O, fault: RunFault) -> Exit
+fn report_fault<O: Outputs>(outputs: &mut O, fault: RunFault) -> Exit
     ensures exit { result ≡ Exit.Failed fault }
-    ensures acts { WereDone (O.acts outputs.old) (O.acts outputs.new) (ToldFault fault ∷ []) }
+    ensures acts { WereDone (O.acts outputs.old) (O.acts outputs.new) (ReportedFault fault ∷ []) }
 {
-    outputs.tell_fault(fault);
+    outputs.report_fault(fault);
     Exit::Failed(fault)
 }
 
 // Prints or tells why words are not run, a mistake with a hint, and gives the program's end: the refusal's, unless its text can't be printed.
-fn tell_refusal<O: Outputs>(outputs: &mut O, refusal: &Refusal, hint: &str) -> Exit
-    ensures exit { told_by (refusal_exit refusal.now) result }
-    ensures told { IsTold hint.now refusal.now (O.acts outputs.old) (O.acts outputs.new) result }
+fn report_refusal<O: Outputs>(outputs: &mut O, refusal: &Refusal, hint: &str) -> Exit
+    ensures exit { reported_by (refusal_exit refusal.now) result }
+    ensures reported { IsReported hint.now refusal.now (O.acts outputs.old) (O.acts outputs.new) result }
 {
     match refusal {
         Refusal::Shown(text) => match outputs.print(text.as_bytes()) {
             Ok(()) => refusal.exit(),
-            Err(fault) => tell_fault(outputs, fault),
+            Err(fault) => report_fault(outputs, fault),
         },
         Refusal::Mistake(text) => {
-            outputs.tell(text.as_str(), hint);
+            outputs.report_text(text.as_str(), hint);
             refusal.exit()
         }
-        Refusal::Memory => tell_fault(outputs, RunFault::Memory),
+        Refusal::Memory => report_fault(outputs, RunFault::Memory),
     }
 }
 
 // Tells the fault of a job that failed, and gives the program's end.
-fn tell_answer<O: Outputs>(outputs: &mut O, answer: Result<Report, RunFault>) -> Exit
+fn report_answer<O: Outputs>(outputs: &mut O, answer: Result<Report, RunFault>) -> Exit
     ensures exit { result ≡ exit_of answer }
     ensures acts { WereDone (O.acts outputs.old) (O.acts outputs.new) (reporting answer) }
 {
     if let Err(fault) = answer {
-        outputs.tell_fault(fault);
+        outputs.report_fault(fault);
     }
     Exit::of(answer)
 }
@@ -99,20 +99,20 @@ fn answer<S: System + Drop, O: Outputs>(
     match settings(alloc, words) {
         Ok(settings) => {
             let answer = run_job(alloc, &settings, system, outputs);
-            tell_answer(outputs, answer)
+            report_answer(outputs, answer)
         }
-        Err(refusal) => tell_refusal(outputs, &refusal, hint(words)),
+        Err(refusal) => report_refusal(outputs, &refusal, hint(words)),
     }
 }
 
 // Tells why the words of the command line couldn't be read, and gives the program's end.
-fn tell_unread<O: Outputs>(outputs: &mut O, error: &io::Error) -> Exit
+fn report_unread<O: Outputs>(outputs: &mut O, error: &io::Error) -> Exit
     ensures { IsUnread (error_kind error.now) (O.acts outputs.old) (O.acts outputs.new) result }
 {
     match error.kind() {
-        ErrorKind::OutOfMemory => tell_fault(outputs, RunFault::Memory),
+        ErrorKind::OutOfMemory => report_fault(outputs, RunFault::Memory),
         _ => {
-            outputs.tell(NO_TEXT, "");
+            outputs.report_text(NO_TEXT, "");
             Exit::Refused
         }
     }
@@ -129,7 +129,7 @@ fn end_of<S: System + Drop, O: Outputs>(
 {
     match words {
         Ok(words) => answer(alloc, system, outputs, words.as_slice()),
-        Err(error) => tell_unread(outputs, &error),
+        Err(error) => report_unread(outputs, &error),
     }
 }
 

@@ -85,7 +85,7 @@ pub const STATUSES: &str = "Exit status:
   5  memory was refused
   6  a file couldn't be read, or an output not be written";
 
-/// The command `bibtex`. The texts of its help change nothing in how words are read.
+/// Makes the command `bibtex`: its options and argument. The texts of its help change nothing in how words are read.
 pub fn bibtex_command<'a>(alloc: Global) -> Result<Command<'a>, AllocError>
     ensures { IfOk result (λ command. IsBibtex (app_of command)) }
 {

@@ -22,7 +22,7 @@ pub enum Exit {
 }
 
 impl Exit {
-    /// The end for what a job answered.
+    /// Answers the program's end for what a job answered.
     pub fn of(answer: Result<Report, RunFault>) -> Exit
         ensures { result ≡ exit_of answer }
     {
@@ -49,7 +49,7 @@ impl Exit {
     }
 }
 
-/// What an output that failed means for the program.
+/// Answers the fault that an output's error is for the program.
 pub fn output_fault(error: &io::Error) -> RunFault
     ensures { result ≡ output_fault (error_kind error.now) }
 {
@@ -65,7 +65,7 @@ mod tests {
     use btx_run::{End, Limit};
 
     #[test]
-    fn tells_each_status(rt: HostRuntime) {
+    fn gives_each_status(rt: HostRuntime) {
         for (end, errors, status) in [
             (End::Finished, 0, 0),
             (End::Finished, 1, 2),

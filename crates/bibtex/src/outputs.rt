@@ -1,6 +1,6 @@
 //! What the program writes: the files of a job, and the two standard streams.
 ghost use Rattle.std.specs.Prelude.{[], ◌∷◌, None};
-ghost use Rattle.bibtex.specs.Acts.{ClosedList, WereDone, Done, EmptiedLog, OpenedList, Printed, StoredLog, ToldFault, ToldText};
+ghost use Rattle.bibtex.specs.Acts.{ClosedList, WereDone, Done, EmptiedLog, OpenedList, Printed, StoredLog, ReportedFault, ReportedText};
 
 use crate::list_file::{EmptiedFile, SystemFile};
 use crate::outcome::output_fault;
@@ -40,12 +40,12 @@ pub trait Outputs {
         ensures { WereDone (acts self.old) (acts self.new) (Printed text.now result ∷ []) };
 
     /// Tells a text on standard error, and a hint behind it. Where that can't be done, nothing is said.
-    fn tell(&mut self, text: &str, hint: &str)
-        ensures { WereDone (acts self.old) (acts self.new) (ToldText text.now hint.now ∷ []) };
+    fn report_text(&mut self, text: &str, hint: &str)
+        ensures { WereDone (acts self.old) (acts self.new) (ReportedText text.now hint.now ∷ []) };
 
     /// Tells a fault on standard error. Where that can't be done, nothing is said.
-    fn tell_fault(&mut self, fault: RunFault)
-        ensures { WereDone (acts self.old) (acts self.new) (ToldFault fault ∷ []) };
+    fn report_fault(&mut self, fault: RunFault)
+        ensures { WereDone (acts self.old) (acts self.new) (ReportedFault fault ∷ []) };
 }
 
 /// Those of the real system.
@@ -60,7 +60,7 @@ impl<R> Drop for SystemOutputs<'_, R> {
 }
 
 impl<'a, R: Files + Print + Eprint> SystemOutputs<'a, R> {
-    /// Those that are reached so.
+    /// Makes the outputs of the real system, over the runtime `rt`.
     pub fn new(rt: &'a R) -> Self {
         SystemOutputs { rt }
     }
@@ -113,11 +113,11 @@ impl<R: Files + Print + Eprint> Outputs for SystemOutputs<'_, R> {
             .map_err(|error| output_fault(&error))
     }
 
-    fn tell(&mut self, text: &str, hint: &str) {
+    fn report_text(&mut self, text: &str, hint: &str) {
         let _ = eprint!(self.rt; "{text}{hint}");
     }
 
-    fn tell_fault(&mut self, fault: RunFault) {
+    fn report_fault(&mut self, fault: RunFault) {
         let _ = eprintln!(self.rt; "bibtex: {fault}");
     }
 }

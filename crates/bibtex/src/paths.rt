@@ -6,7 +6,7 @@ use crate::given::Settings;
 use btx_run::RunFault;
 use std::alloc::{AllocError, Global};
 
-/// The path of a file of a folder.
+/// Makes the path of the file `name` in the folder `directory`.
 pub fn path_in(alloc: Global, directory: &str, name: &str) -> Result<String, AllocError>
     ensures { IfOk result (λ path. string_bytes path ≡ path_in directory.now name.now) }
 {
@@ -14,7 +14,7 @@ pub fn path_in(alloc: Global, directory: &str, name: &str) -> Result<String, All
     Ok(path)
 }
 
-/// The path of the job's output with this ending. The only fault is want of memory.
+/// Makes the path of the job's output with the ending `ending`. The only fault is want of memory.
 pub fn path_of(alloc: Global, settings: &Settings<'_>, ending: &str) -> Result<String, RunFault>
     ensures path { IfOk result (λ path. string_bytes path ≡ output_path settings.now ending.now) }
     ensures fault { IfErr result (λ fault. fault ≡ RunFault.Memory) }

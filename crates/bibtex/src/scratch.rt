@@ -21,7 +21,7 @@ pub fn make_folder(
     Ok(folder)
 }
 
-/// Writes a file of a folder.
+/// Writes the file `name` of the folder `folder`.
 pub fn write_file(
     rt: &(impl Files + AllocGlobal),
     folder: &str,

@@ -26,7 +26,7 @@ fn spells_as_original(words: &[String]) -> bool
         .any(|word| is_of_original(word.as_str()))
 }
 
-/// What is told behind the text of a mistake of these words: a line where an option is spelt as the original's, and else nothing.
+/// Answers what is printed after the text of a mistake in `words`: a line if an option is spelled as the original's, else nothing.
 pub fn hint(words: &[String]) -> &'static str
     ensures { result.now ≡ hint_of words.now }
 {

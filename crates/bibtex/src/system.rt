@@ -33,7 +33,7 @@ impl<R> Drop for RealSystem<'_, R> {
 }
 
 impl<'a, R: rt::Files> RealSystem<'a, R> {
-    /// The one that is reached so.
+    /// Makes the real system, over the runtime `rt`.
     pub fn new(rt: &'a R) -> Self {
         RealSystem { rt }
     }

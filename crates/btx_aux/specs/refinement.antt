@@ -5,7 +5,7 @@ pub mod Borrowed
 pub mod Answers
 pub mod Pieces
 pub mod Commands
-pub mod Told
+pub mod Views
 pub mod KeyTable
 pub mod Drafts
 pub mod Reads

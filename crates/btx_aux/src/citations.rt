@@ -5,7 +5,7 @@ ghost use Rattle.btx_aux.specs.refinement.Faults.{CountsOfOne};
 ghost use Rattle.btx_aux.specs.language.Job.{job_of_files};
 ghost use Rattle.btx_aux.specs.refinement.Drafts.{blank};
 ghost use Rattle.btx_aux.specs.refinement.Reads.{closed, topped};
-ghost use Rattle.btx_aux.specs.refinement.Told.{note_told};
+ghost use Rattle.btx_aux.specs.refinement.Views.{note_view};
 ghost use Rattle.btx_text.specs.language.Lists.{only_if};
 ghost use Rattle.btx_aux.specs.refinement.Notes.{aux_note_line};
 ghost use Rattle.btx_aux.specs.refinement.Job.{missing_notes};
@@ -61,7 +61,7 @@ fn close(alloc: Global, draft: Draft) -> Result<AuxJob, AllocError>
 {
     let mut draft = draft;
     if draft.ending == End::Whole {
-        tell_missing(alloc, &mut draft)?;
+        log_missing(alloc, &mut draft)?;
     }
     let Draft {
         keys,
@@ -85,28 +85,28 @@ fn close(alloc: Global, draft: Draft) -> Result<AuxJob, AllocError>
 }
 
 // Tells what is missing: keys and `*`, a `\bibdata` line, a `\bibstyle` line.
-fn tell_missing(alloc: Global, draft: &mut Draft) -> Result<(), AllocError>
+fn log_missing(alloc: Global, draft: &mut Draft) -> Result<(), AllocError>
     ensures { OnOk result (draft.new ≡ record draft.old { log = draft.old.log ++ map aux_note_line (missing_notes draft.old.keys draft.old.all draft.old.has_bibdata draft.old.has_bibstyle) }) }
 {
     let has_citation = !draft.keys.is_empty() || draft.all.is_some();
-    tell_unless(alloc, draft, has_citation, Note::NoCitations)?;
+    log_unless(alloc, draft, has_citation, Note::NoCitations)?;
     let has_bibdata = draft.has_bibdata;
-    tell_unless(alloc, draft, has_bibdata, Note::NoBibdata)?;
+    log_unless(alloc, draft, has_bibdata, Note::NoBibdata)?;
     let has_bibstyle = draft.has_bibstyle;
-    tell_unless(alloc, draft, has_bibstyle, Note::NoBibstyle)
+    log_unless(alloc, draft, has_bibstyle, Note::NoBibstyle)
 }
 
 // Tells that something is missing, unless it is there.
-fn tell_unless(
+fn log_unless(
     alloc: Global,
     draft: &mut Draft,
     is_there: bool,
     note: Note<'_>,
 ) -> Result<(), AllocError>
-    ensures { OnOk result (draft.new ≡ record draft.old { log = draft.old.log ++ map aux_note_line (only_if (not is_there) (note_told note.entry)) }) }
+    ensures { OnOk result (draft.new ≡ record draft.old { log = draft.old.log ++ map aux_note_line (only_if (not is_there) (note_view note.entry)) }) }
 {
     if is_there {
         return Ok(());
     }
-    draft.tell(alloc, note)
+    draft.log_note(alloc, note)
 }

@@ -49,7 +49,7 @@ impl Draft {
     ghost use Rattle.btx_aux.specs.language.Grammar.{Absent, Cites, Databases, Includes, Opens, Styles, Taken, is_whole, pieces_of, words_of};
     ghost use Rattle.btx_aux.specs.refinement.Notes.{aux_note_line};
     ghost use Rattle.btx_aux.specs.language.Notes.{Wrong};
-    ghost use Rattle.btx_aux.specs.refinement.Told.{complaint_told, note_told};
+    ghost use Rattle.btx_aux.specs.refinement.Views.{complaint_view, note_view};
     ghost use Rattle.btx_aux.specs.refinement.Pieces.{piece_from};
     ghost use Rattle.btx_aux.specs.language.Job.{is_star, taken_with, database_complaints};
 
@@ -71,8 +71,8 @@ impl Draft {
     }
 
     /// Adds a line to the log.
-    pub fn tell(&mut self, alloc: Global, note: Note<'_>) -> Result<(), AllocError>
-        ensures { OnOk result (self.new ≡ record self.old { log = self.old.log ++ aux_note_line (note_told note.entry) ∷ [] }) }
+    pub fn log_note(&mut self, alloc: Global, note: Note<'_>) -> Result<(), AllocError>
+        ensures { OnOk result (self.new ≡ record self.old { log = self.old.log ++ aux_note_line (note_view note.entry) ∷ [] }) }
     {
         let line = log_line(alloc, note)?;
         self.log.push(line)
@@ -85,9 +85,9 @@ impl Draft {
         complaint: Complaint<'_>,
         place: Place<'_>,
     ) -> Result<(), AllocError>
-        ensures { OnOk result (self.new ≡ record self.old { log = self.old.log ++ aux_note_line (Wrong (complaint_told complaint.entry) place.entry.line place.entry.file.now) ∷ [] }) }
+        ensures { OnOk result (self.new ≡ record self.old { log = self.old.log ++ aux_note_line (Wrong (complaint_view complaint.entry) place.entry.line place.entry.file.now) ∷ [] }) }
     {
-        self.tell(alloc, Note::Wrong(complaint, place))
+        self.log_note(alloc, Note::Wrong(complaint, place))
     }
 
     // A piece of a `\citation`.
@@ -324,9 +324,9 @@ impl Draft {
         if level == 0 {
             let copy = Vec::from_slice(alloc, name)?;
             self.files.add(copy)?;
-            return self.tell(alloc, Note::TopFile(name));
+            return self.log_note(alloc, Note::TopFile(name));
         }
-        self.tell(alloc, Note::LevelFile(level, name))
+        self.log_note(alloc, Note::LevelFile(level, name))
     }
 
     /// An include of a file that isn't there.

@@ -2,7 +2,7 @@
 ghost use Rattle.std.specs.Prelude.{◌≡◌, ◌++◌, IfOk, OnOk, decimal, codes};
 ghost use Rattle.btx_text.specs.language.LogLines.{place_text};
 ghost use Rattle.btx_aux.specs.language.Notes.{aux_complaint_text, aux_note_kind, aux_note_text};
-ghost use Rattle.btx_aux.specs.refinement.Told.{complaint_told, note_told};
+ghost use Rattle.btx_aux.specs.refinement.Views.{complaint_view, note_view};
 ghost use Rattle.btx_aux.specs.refinement.Notes.{aux_note_line, aux_slip_text};
 
 use crate::command::Slip;
@@ -52,7 +52,7 @@ pub enum Note<'a> {
 
 /// The line of a note.
 pub fn log_line(alloc: Global, note: Note<'_>) -> Result<LogLine, AllocError>
-    ensures { IfOk result (λ line. line ≡ aux_note_line (note_told note.entry)) }
+    ensures { IfOk result (λ line. line ≡ aux_note_line (note_view note.entry)) }
 {
     let kind = kind(note);
     let mut text = Vec::new(alloc);
@@ -64,7 +64,7 @@ pub fn log_line(alloc: Global, note: Note<'_>) -> Result<LogLine, AllocError>
 // What a note is.
 #[tactic(auto, unfolding(crate::specs::language::Notes::aux_note_kind))]
 fn kind(note: Note<'_>) -> LineKind
-    ensures { result ≡ aux_note_kind (note_told note.entry) }
+    ensures { result ≡ aux_note_kind (note_view note.entry) }
 {
     match note {
         Note::TopFile(_) | Note::LevelFile(_, _) => LineKind::Plain,
@@ -76,7 +76,7 @@ fn kind(note: Note<'_>) -> LineKind
 // Appends the text of a note.
 #[tactic(auto, unfolding(crate::specs::language::Notes::aux_note_text))]
 fn push_note(text: &mut Vec<u8>, note: Note<'_>) -> Result<(), AllocError>
-    ensures { OnOk result (text.new.items ≡ text.old.items ++ aux_note_text (note_told note.entry)) }
+    ensures { OnOk result (text.new.items ≡ text.old.items ++ aux_note_text (note_view note.entry)) }
 {
     match note {
         Note::TopFile(name) => push_two(text, b"The top-level auxiliary file: ", name),
@@ -104,7 +104,7 @@ fn push_wrong(
     complaint: Complaint<'_>,
     place: Place<'_>,
 ) -> Result<(), AllocError>
-    ensures { OnOk result (text.new.items ≡ text.old.items ++ (aux_complaint_text (complaint_told complaint.entry) ++ place_text place.entry.line place.entry.file.now)) }
+    ensures { OnOk result (text.new.items ≡ text.old.items ++ (aux_complaint_text (complaint_view complaint.entry) ++ place_text place.entry.line place.entry.file.now)) }
 {
     push_complaint(text, complaint)?;
     push_place(text, place)
@@ -113,7 +113,7 @@ fn push_wrong(
 // Appends the text of a complaint.
 #[tactic(auto, unfolding(crate::specs::language::Notes::aux_complaint_text))]
 fn push_complaint(text: &mut Vec<u8>, complaint: Complaint<'_>) -> Result<(), AllocError>
-    ensures { OnOk result (text.new.items ≡ text.old.items ++ aux_complaint_text (complaint_told complaint.entry)) }
+    ensures { OnOk result (text.new.items ≡ text.old.items ++ aux_complaint_text (complaint_view complaint.entry)) }
 {
     match complaint {
         Complaint::Slipped(slip) => text.extend_from_slice(slip_text(slip)),

@@ -52,7 +52,7 @@ pub fn open_file<F: Finder>(
     room: usize,
 ) -> Result<(), Fault>
     requires whole { is_whole draft.old.ending ≡ true }
-    requires room { room ≤ 20 }
+    requires room { room ≤ MOST_OPEN }
     ensures draft { OnOk result (ByAnswers (F.content finder.old) (AddsNames (names_opened draft.old.files name.now room) draft.new.files)
         (λ files. draft.new ≡ opened_by files room draft.old name.now text.now)) }
     ensures counts { CountsOfOne result (F.failures finder.old, F.failures finder.new) }

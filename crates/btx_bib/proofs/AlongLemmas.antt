@@ -8,20 +8,21 @@ use Rattle.btx_bib.specs.declared.grammar.commands.Wanted.{Wanted as Next}
 use Rattle.btx_bib.specs.declared.grammar.commands.Wanted.TheVariants.{Item}
 use Rattle.btx_bib.specs.declared.grammar.slip.Slip.TheVariants.{Repeated}
 use Rattle.btx_bib.specs.declared.message.Message.{Message}
-use Rattle.btx_bib.specs.language.Grammar.Items.{Event, Comment, Preamble, Definition, Entry, FieldOf, End, Wrong, Placed, Step, events_from, is_repeated, known_step, next_step, expected_step}
+use Rattle.btx_bib.specs.language.Grammar.Items.{Event, Comment, Preamble, Definition, Entry, FieldOf, End, Wrong, Placed, Step, events_from, is_repeated, next_step, expected_step}
 use Rattle.btx_bib.specs.language.Known.{Known, known_after, after_event, with_current_stored, goes_on, keeping, stored_in}
 use Rattle.btx_bib.specs.laws.Known.{after_all}
 use Rattle.btx_bib.specs.language.Stored.{entry_with_key}
-use Rattle.btx_bib.specs.language.Told.{Database, event_messages}
+use Rattle.btx_bib.specs.language.Messages.{Database, event_messages}
 use Rattle.btx_bib.specs.language.Wanted.{Request}
-use Rattle.btx_bib.specs.refinement.Gatherings.{closed, events_with, is_kept, kept_after, kept_along, kept_told}
+use Rattle.btx_bib.specs.refinement.Gatherings.{closed, events_with, is_kept, kept_after, kept_along, kept_messages}
 use Rattle.btx_bib.specs.refinement.Sources.{source_database, source_databases}
-use Rattle.btx_bib.specs.refinement.Readings.{kept_by_all, kept_one, told_by_all, told_by_one}
-use Rattle.btx_bib.proofs.ApartLemmas.{known_all, known_one, told_all, told_along, told_one}
+use Rattle.btx_bib.specs.refinement.Readings.{kept_by_all, kept_one, messages_of_all, messages_of_one}
+use Rattle.btx_bib.proofs.ApartLemmas.{known_all, known_one, messages_from_all, messages_along, messages_one}
 use Rattle.btx_bib.proofs.GrammarLemmas.LengthLemmas.{events-none, events-some, events-less, left}
 use Rattle.btx_bib.proofs.GatheringLemmas.{ended-along, ended-told, none-along, none-told, turn-along, turn-told}
 use Rattle.btx_bib.proofs.KeptLemmas.{IsFresh, Sound, closed-kept, closed-sound, event-kept, event-said, event-sound, kept_of, stored-kept}
 use Rattle.btx_text.specs.language.Limits.{is_too_long}
+use Rattle.btx_bib.specs.refinement.Grammar.Items.{known_step}
 
 -- ---- one source, and the others
 
@@ -31,14 +32,14 @@ module _ (wanted : Request) (sources : List Source) (place : ℕ) (d : Source) (
       ap (λ (k : Gathering). kept_by_all wanted k (source_databases (drop (place + 1) sources))) is
       ∙ sym (at_drop_more (λ (ss : List Source). kept_by_all wanted before (source_databases ss)) sources place d within)
 
-  pub all-told-next : (told telling : List Message) → telling ≡ told ++ told_by_one wanted before (source_database (get_or sources place d))
-      → telling ++ told_by_all wanted now (source_databases (drop (place + 1) sources)) ≡ told ++ told_by_all wanted before (source_databases (drop place sources))
+  pub all-told-next : (told telling : List Message) → telling ≡ told ++ messages_of_one wanted before (source_database (get_or sources place d))
+      → telling ++ messages_of_all wanted now (source_databases (drop (place + 1) sources)) ≡ told ++ messages_of_all wanted before (source_databases (drop place sources))
   all-told-next told telling tells =
-      let one = told_by_one wanted before (source_database (get_or sources place d)) in
-      ap (λ (ms : List Message). ms ++ told_by_all wanted now (source_databases (drop (place + 1) sources))) tells
-      ∙ append_assoc told one (told_by_all wanted now (source_databases (drop (place + 1) sources)))
-      ∙ ap (λ (k : Gathering). told ++ (one ++ told_by_all wanted k (source_databases (drop (place + 1) sources)))) is
-      ∙ ap (λ (ms : List Message). told ++ ms) (sym (at_drop_more (λ (ss : List Source). told_by_all wanted before (source_databases ss)) sources place d within))
+      let one = messages_of_one wanted before (source_database (get_or sources place d)) in
+      ap (λ (ms : List Message). ms ++ messages_of_all wanted now (source_databases (drop (place + 1) sources))) tells
+      ∙ append_assoc told one (messages_of_all wanted now (source_databases (drop (place + 1) sources)))
+      ∙ ap (λ (k : Gathering). told ++ (one ++ messages_of_all wanted k (source_databases (drop (place + 1) sources)))) is
+      ∙ ap (λ (ms : List Message). told ++ ms) (sym (at_drop_more (λ (ss : List Source). messages_of_all wanted before (source_databases ss)) sources place d within))
 
 -- ---- repeated entries
 
@@ -80,11 +81,11 @@ module _ (wanted : Request) where
   all-ended known [] ended = refl
   all-ended known (p ∷ ps) ended = ap (λ (k : Known). after_all wanted k ps) (next-ended known p.event ended) ∙ all-ended known ps ended
 
-  told-ended : (database : Database) (known : Known) (events : List Placed) → goes_on known.ending ≡ false → told_along wanted database known events ≡ []
+  told-ended : (database : Database) (known : Known) (events : List Placed) → goes_on known.ending ≡ false → messages_along wanted database known events ≡ []
   told-ended database known [] ended = refl
   told-ended database known (p ∷ ps) ended =
-      ap (λ (b : Bool). (if b then event_messages wanted database known p.event p.rest else []) ++ told_along wanted database (known_after wanted known p.event) ps) ended
-      ∙ ap (λ (k : Known). told_along wanted database k ps) (next-ended known p.event ended)
+      ap (λ (b : Bool). (if b then event_messages wanted database known p.event p.rest else []) ++ messages_along wanted database (known_after wanted known p.event) ps) ended
+      ∙ ap (λ (k : Known). messages_along wanted database k ps) (next-ended known p.event ended)
       ∙ told-ended database known ps ended
 
   -- ---- along a database
@@ -97,7 +98,7 @@ module _ (wanted : Request) where
     abbrev Agrees : Known → Next → List ℕ → Type 0
     Agrees known w s =
         (kept_along wanted (kept_of wanted known) (events_with wanted (kept_of wanted known) w s) ≡ kept_of wanted (after_all wanted known (known_events known w s))) ×
-        (kept_told wanted database (kept_of wanted known) (events_with wanted (kept_of wanted known) w s) ≡ told_along wanted database known (known_events known w s)) ×
+        (kept_messages wanted database (kept_of wanted known) (events_with wanted (kept_of wanted known) w s) ≡ messages_along wanted database known (known_events known w s)) ×
         Sound wanted (after_all wanted known (known_events known w s))
 
     ended-agrees : (known : Known) (w : Next) (s : List ℕ) → Sound wanted known → goes_on known.ending ≡ false → Agrees known w s
@@ -116,7 +117,7 @@ module _ (wanted : Request) where
         let kept : next_step (is_kept (kept_of wanted known)) w s ≡ None = next-same (is_kept (kept_of wanted known)) (stored known) (λ key. stored-kept wanted known key sound) w s ∙ e in
         let none : known_events known w s ≡ [] = events-none (keeping wanted) known w s e in (
           none-along wanted (kept_of wanted known) w s kept ∙ ap (λ (es : List Placed). kept_of wanted (after_all wanted known es)) (sym none),
-          none-told wanted (kept_of wanted known) w s database kept ∙ ap (told_along wanted database known) (sym none),
+          none-told wanted (kept_of wanted known) w s database kept ∙ ap (messages_along wanted database known) (sym none),
           subst (λ (es : List Placed). Sound wanted (after_all wanted known es)) (sym none) sound,
         )
     step-agrees known w s (Some step) e sound whole others =
@@ -132,11 +133,11 @@ module _ (wanted : Request) where
         let said = event_messages wanted database known step.event step.rest in (
           sym (turn-along wanted (kept_of wanted known) w s step (kept_of wanted next) whole kept same) ∙ rest.0 ∙ ap (kept_of wanted) all,
           sym (turn-told wanted (kept_of wanted known) w s step (kept_of wanted next) whole kept same database)
-              ∙ ap (λ (ms : List Message). ms ++ kept_told wanted database (kept_of wanted next) (events_with wanted (kept_of wanted next) step.wanted step.rest)) (event-said wanted database known step.event step.rest sound fresh)
+              ∙ ap (λ (ms : List Message). ms ++ kept_messages wanted database (kept_of wanted next) (events_with wanted (kept_of wanted next) step.wanted step.rest)) (event-said wanted database known step.event step.rest sound fresh)
               ∙ ap (λ (ms : List Message). said ++ ms) rest.1
-              ∙ ap (λ (k : Known). said ++ told_along wanted database k (known_events k step.wanted step.rest)) goes
-              ∙ ap (λ (b : Bool). (if b then said else []) ++ told_along wanted database (known_after wanted known step.event) (known_events (known_after wanted known step.event) step.wanted step.rest)) (sym whole)
-              ∙ ap (told_along wanted database known) some,
+              ∙ ap (λ (k : Known). said ++ messages_along wanted database k (known_events k step.wanted step.rest)) goes
+              ∙ ap (λ (b : Bool). (if b then said else []) ++ messages_along wanted database (known_after wanted known step.event) (known_events (known_after wanted known step.event) step.wanted step.rest)) (sym whole)
+              ∙ ap (messages_along wanted database known) some,
           subst (Sound wanted) all rest.2,
         )
 
@@ -163,7 +164,7 @@ module _ (wanted : Request) where
       at true true = refl
       at true false = ap (closed wanted) along.0 ∙ closed-kept wanted (after_all wanted known (known_events known Item database.text)) along.2
 
-    pub one-told : (known : Known) → Sound wanted known → told_by_one wanted (kept_of wanted known) database ≡ told_one wanted known database
+    pub one-told : (known : Known) → Sound wanted known → messages_of_one wanted (kept_of wanted known) database ≡ messages_one wanted known database
     one-told known sound = ap (λ (ms : List Message). if goes_on known.ending then (if is_too_long database.text then [] else ms) else []) (agrees known Item database.text sound).1
 
     pub one-sound : (known : Known) → Sound wanted known → Sound wanted (known_one wanted known database)
@@ -179,12 +180,12 @@ module _ (wanted : Request) where
   all-kept [] known sound = refl
   all-kept (d ∷ ds) known sound = ap (λ (k : Gathering). kept_by_all wanted k ds) (one-kept d known sound) ∙ all-kept ds (known_one wanted known d) (one-sound d known sound)
 
-  pub all-told : (databases : List Database) (known : Known) → Sound wanted known → told_by_all wanted (kept_of wanted known) databases ≡ told_all wanted known databases
+  pub all-told : (databases : List Database) (known : Known) → Sound wanted known → messages_of_all wanted (kept_of wanted known) databases ≡ messages_from_all wanted known databases
   all-told [] known sound = refl
   all-told (d ∷ ds) known sound =
-      ap (λ (ms : List Message). ms ++ told_by_all wanted (kept_one wanted (kept_of wanted known) d) ds) (one-told d known sound)
-      ∙ ap (λ (k : Gathering). told_one wanted known d ++ told_by_all wanted k ds) (one-kept d known sound)
-      ∙ ap (λ (ms : List Message). told_one wanted known d ++ ms) (all-told ds (known_one wanted known d) (one-sound d known sound))
+      ap (λ (ms : List Message). ms ++ messages_of_all wanted (kept_one wanted (kept_of wanted known) d) ds) (one-told d known sound)
+      ∙ ap (λ (k : Gathering). messages_one wanted known d ++ messages_of_all wanted k ds) (one-kept d known sound)
+      ∙ ap (λ (ms : List Message). messages_one wanted known d ++ ms) (all-told ds (known_one wanted known d) (one-sound d known sound))
 
   pub all-sound : (databases : List Database) (known : Known) → Sound wanted known → Sound wanted (known_all wanted known databases)
   all-sound [] known sound = sound

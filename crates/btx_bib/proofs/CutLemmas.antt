@@ -17,24 +17,24 @@ use Rattle.btx_bib.specs.declared.grammar.value_ends.Ends.TheVariants.{Kept, Tri
 use Rattle.btx_bib.specs.declared.message.Message.{Message}
 use Rattle.btx_bib.specs.language.Grammar.Tokens.{Parsed, followed_by, name_at, open_at, sign_at, key_at}
 use Rattle.btx_bib.specs.language.Grammar.Fields.{Field}
-use Rattle.btx_bib.specs.language.Grammar.Items.{Event, Comment, Preamble, Definition, Entry, FieldOf, End as Close, Wrong, Placed, Step, Keeping, head_of, head_at, command_of, step_by, behind_at, expected_step, is_repeated, known_step, next_step, events_by, events_within, events_from}
+use Rattle.btx_bib.specs.language.Grammar.Items.{Event, Comment, Preamble, Definition, Entry, FieldOf, End as Close, Wrong, Placed, Step, Keeping, head_of, head_at, command_of, step_by, behind_at, expected_step, is_repeated, next_step, events_within, events_from}
 use Rattle.btx_bib.specs.language.Grammar.Values.{Part, Braced, Quoted, Digits, Named, value_at}
-use Rattle.btx_bib.specs.language.Grammar.ValueTexts.{StringValues, text_of_part, shaped, value_text}
+use Rattle.btx_bib.specs.language.Grammar.ValueTexts.{text_of_part, shaped, value_text}
 use Rattle.btx_bib.specs.language.Wanted.{Request}
 use Rattle.btx_bib.specs.language.Strings.{string_value, other_value, defined}
 use Rattle.btx_bib.specs.language.Entries.{Given}
 use Rattle.btx_bib.specs.language.Stored.{entry_with_key}
 use Rattle.btx_bib.specs.language.Known.{Known, goes_on, stored_in, with_current_stored, if_fits, after_field, after_event, known_after, keeping}
 use Rattle.btx_bib.specs.laws.Known.{after_all}
-use Rattle.btx_bib.specs.language.Told.{Database}
+use Rattle.btx_bib.specs.language.Messages.{Database}
 use Rattle.btx_bib.specs.language.Databases.{library_of, library_by}
 use Rattle.btx_bib.specs.laws.Cuts.{IsCutBetweenItems, GivesTheSame, CutGivesTheSame}
 use Rattle.btx_bib.proofs.ApartLemmas.{known_one, known_all, known-apart}
 use Rattle.btx_bib.proofs.GrammarLemmas.LongerLemmas.{part_on, event_on, placed_on, reading-on}
 use Rattle.btx_bib.proofs.GrammarLemmas.ReadingLemmas.{is_reading, one_reading}
-use Rattle.btx_bib.specs.refinement.Grammar.ValueTexts.{joined_text}
+use Rattle.btx_bib.specs.refinement.Grammar.ValueTexts.{joined_text, StringValues}
 use Rattle.btx_bib.specs.refinement.Known.{keeps_field, after_key, with_field}
-use Rattle.btx_bib.specs.refinement.Grammar.Items.{item_end}
+use Rattle.btx_bib.specs.refinement.Grammar.Items.{item_end, known_step, events_by}
 use Rattle.btx_bib.specs.laws.Databases.{database_events, with_macros, read_all}
 
 -- ---- what is read, without places

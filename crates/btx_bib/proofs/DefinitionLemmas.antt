@@ -14,7 +14,7 @@ use Rattle.btx_bib.specs.language.Grammar.Fields.{Field}
 use Rattle.btx_bib.specs.language.Grammar.Items.{Event, Comment, Preamble, Definition, Entry, FieldOf, End as Close, Wrong, Placed}
 use Rattle.btx_bib.specs.language.Grammar.ValueTexts.{squeezed, value_text}
 use Rattle.btx_bib.specs.language.Wanted.{Request}
-use Rattle.btx_bib.specs.language.Strings.{Strings, string_value, other_value, defined}
+use Rattle.btx_bib.specs.language.Strings.{string_value, other_value, defined}
 use Rattle.btx_bib.specs.language.Entries.{Given}
 use Rattle.btx_bib.specs.language.Stored.{is_wanted}
 use Rattle.btx_bib.specs.language.Known.{Known, goes_on, if_fits, after_field, after_event, known_after, with_current_stored}
@@ -23,6 +23,7 @@ use Rattle.btx_bib.specs.language.Databases.{with_macro}
 use Rattle.btx_bib.specs.laws.Storing.{defines, is_defined_in, LastDefinitionCounts, OthersKeepTheirs, is_macro_in, LastMacroCounts}
 use Rattle.btx_bib.specs.refinement.Known.{keeps_field, with_field}
 use Rattle.btx_bib.specs.laws.Databases.{nothing, with_macros}
+use Rattle.btx_bib.specs.refinement.Strings.{Strings}
 
 -- ---- a table with one more definition
 

@@ -4,10 +4,10 @@ use Rattle.std.specs.Option.{option_or, option_map}
 use Rattle.std.proofs.lemmas.Bool.Decides.{nat_tests}
 use Rattle.btx_bib.specs.refinement.Finding.{changed_at}
 use Rattle.btx_bib.specs.language.Wanted.{Request}
-use Rattle.btx_bib.specs.language.Entries.{KeptField, is_number, value_in, values_from}
+use Rattle.btx_bib.specs.language.Entries.{KeptField, value_in, values_from}
 use Rattle.btx_bib.specs.refinement.Filling.{blanks, with_value}
 use Rattle.btx_bib.specs.language.Values.{field_value}
-use Rattle.btx_bib.specs.refinement.Entries.{field_number}
+use Rattle.btx_bib.specs.refinement.Entries.{field_number, is_number}
 
 -- ---- by place
 

@@ -5,9 +5,9 @@ use Rattle.btx_bib.specs.declared.grammar.commands.Wanted.{Wanted as Next}
 use Rattle.btx_bib.specs.declared.message.Message.{Message}
 use Rattle.btx_bib.specs.language.Grammar.Items.{Event, Placed, Step, next_step}
 use Rattle.btx_bib.specs.language.Known.{goes_on}
-use Rattle.btx_bib.specs.language.Told.{Database}
+use Rattle.btx_bib.specs.language.Messages.{Database}
 use Rattle.btx_bib.specs.language.Wanted.{Request}
-use Rattle.btx_bib.specs.refinement.Gatherings.{events_with, is_kept, kept_after, kept_along, kept_next, kept_told, keeping_kept, told_of}
+use Rattle.btx_bib.specs.refinement.Gatherings.{events_with, is_kept, kept_after, kept_along, kept_next, kept_messages, keeping_kept, messages_of}
 use Rattle.btx_bib.proofs.GrammarLemmas.LengthLemmas.{events-none, events-some}
 
 -- ---- at a limit nothing more is kept or told
@@ -20,11 +20,11 @@ module _ (wanted : Request) where
   ended-along kept [] ended = refl
   ended-along kept (p ∷ ps) ended = ap (λ (k : Gathering). kept_along wanted k ps) (ended-next kept p.event ended) ∙ ended-along kept ps ended
 
-  pub ended-told : (database : Database) (kept : Gathering) (events : List Placed) → goes_on kept.ending ≡ false → kept_told wanted database kept events ≡ []
+  pub ended-told : (database : Database) (kept : Gathering) (events : List Placed) → goes_on kept.ending ≡ false → kept_messages wanted database kept events ≡ []
   ended-told database kept [] ended = refl
   ended-told database kept (p ∷ ps) ended =
-      ap (λ (b : Bool). (if b then told_of wanted database kept p.event p.rest else []) ++ kept_told wanted database (kept_next wanted kept p.event) ps) ended
-      ∙ ap (λ (k : Gathering). kept_told wanted database k ps) (ended-next kept p.event ended)
+      ap (λ (b : Bool). (if b then messages_of wanted database kept p.event p.rest else []) ++ kept_messages wanted database (kept_next wanted kept p.event) ps) ended
+      ∙ ap (λ (k : Gathering). kept_messages wanted database k ps) (ended-next kept p.event ended)
       ∙ ended-told database kept ps ended
 
   -- ---- one event, and the others
@@ -34,8 +34,8 @@ module _ (wanted : Request) where
     pub none-along : next_step (is_kept kept) w s ≡ None → kept_along wanted kept (events_with wanted kept w s) ≡ kept
     none-along e = ap (kept_along wanted kept) (events-none (keeping_kept wanted) kept w s e)
 
-    pub none-told : (database : Database) → next_step (is_kept kept) w s ≡ None → kept_told wanted database kept (events_with wanted kept w s) ≡ []
-    none-told database e = ap (kept_told wanted database kept) (events-none (keeping_kept wanted) kept w s e)
+    pub none-told : (database : Database) → next_step (is_kept kept) w s ≡ None → kept_messages wanted database kept (events_with wanted kept w s) ≡ []
+    none-told database e = ap (kept_messages wanted database kept) (events-none (keeping_kept wanted) kept w s e)
 
     module _ (step : Step) (after : Gathering) (whole : goes_on kept.ending ≡ true) (e : next_step (is_kept kept) w s ≡ Some step) (is : after ≡ kept_after wanted kept step.event) where
       next-is : kept_next wanted kept step.event ≡ after
@@ -46,19 +46,19 @@ module _ (wanted : Request) where
           ap (λ (k : Gathering). kept_along wanted k (events_with wanted k step.wanted step.rest)) (sym next-is)
           ∙ ap (kept_along wanted kept) (sym (events-some (keeping_kept wanted) kept w s step e))
 
-      pub turn-told : (database : Database) → told_of wanted database kept step.event step.rest ++ kept_told wanted database after (events_with wanted after step.wanted step.rest) ≡ kept_told wanted database kept (events_with wanted kept w s)
+      pub turn-told : (database : Database) → messages_of wanted database kept step.event step.rest ++ kept_messages wanted database after (events_with wanted after step.wanted step.rest) ≡ kept_messages wanted database kept (events_with wanted kept w s)
       turn-told database =
-          ap (λ (k : Gathering). told_of wanted database kept step.event step.rest ++ kept_told wanted database k (events_with wanted k step.wanted step.rest)) (sym next-is)
-          ∙ ap (λ (b : Bool). (if b then told_of wanted database kept step.event step.rest else []) ++ kept_told wanted database (kept_next wanted kept step.event) (events_with wanted (kept_next wanted kept step.event) step.wanted step.rest)) (sym whole)
-          ∙ ap (kept_told wanted database kept) (sym (events-some (keeping_kept wanted) kept w s step e))
+          ap (λ (k : Gathering). messages_of wanted database kept step.event step.rest ++ kept_messages wanted database k (events_with wanted k step.wanted step.rest)) (sym next-is)
+          ∙ ap (λ (b : Bool). (if b then messages_of wanted database kept step.event step.rest else []) ++ kept_messages wanted database (kept_next wanted kept step.event) (events_with wanted (kept_next wanted kept step.event) step.wanted step.rest)) (sym whole)
+          ∙ ap (kept_messages wanted database kept) (sym (events-some (keeping_kept wanted) kept w s step e))
 
-      pub turn-messages : (database : Database) (before now : List Message) (rest : List ℕ) → rest ≡ step.rest → now ≡ before ++ told_of wanted database kept step.event rest
-          → now ++ kept_told wanted database after (events_with wanted after step.wanted step.rest) ≡ before ++ kept_told wanted database kept (events_with wanted kept w s)
+      pub turn-messages : (database : Database) (before now : List Message) (rest : List ℕ) → rest ≡ step.rest → now ≡ before ++ messages_of wanted database kept step.event rest
+          → now ++ kept_messages wanted database after (events_with wanted after step.wanted step.rest) ≡ before ++ kept_messages wanted database kept (events_with wanted kept w s)
       turn-messages database before now rest at tells =
-          let others = kept_told wanted database after (events_with wanted after step.wanted step.rest) in
+          let others = kept_messages wanted database after (events_with wanted after step.wanted step.rest) in
           ap (λ (ms : List Message). ms ++ others) tells
-          ∙ append_assoc before (told_of wanted database kept step.event rest) others
-          ∙ ap (λ (r : List ℕ). before ++ (told_of wanted database kept step.event r ++ others)) at
+          ∙ append_assoc before (messages_of wanted database kept step.event rest) others
+          ∙ ap (λ (r : List ℕ). before ++ (messages_of wanted database kept step.event r ++ others)) at
           ∙ ap (λ (ms : List Message). before ++ ms) (turn-told database)
 
 pub ended-if : (b : Bool) → not b ≡ true → b ≡ false

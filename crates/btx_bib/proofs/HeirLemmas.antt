@@ -6,10 +6,11 @@ use Rattle.btx_bib.specs.declared.slots.Body.{Body}
 use Rattle.btx_bib.specs.declared.slots.Slot.{Slot}
 use Rattle.btx_bib.specs.language.Values.{field_value}
 use Rattle.btx_bib.specs.language.Entries.{parent_in}
-use Rattle.btx_bib.specs.language.Passes.{passed, inherited, inherited_from, inherited_values, or_values, slot_at, parent_at, body_values, with_field_values, after_first}
+use Rattle.btx_bib.specs.language.Passes.{passed, inherited, inherited_from, inherited_values, or_values, slot_at, parent_at, body_values, after_first}
 use Rattle.btx_bib.specs.laws.Parents.{values_by, declared_value, parent_by_key}
 use Rattle.btx_bib.proofs.PassLemmas.{inherited-alone, inherited-by, key-inherited}
 use Rattle.btx_bib.proofs.ParentLemmas.{slot_at-own}
+use Rattle.btx_bib.specs.refinement.Passes.{with_field_values}
 
 -- ---- the values of an entry with those of its parent
 

@@ -19,7 +19,7 @@ use Rattle.btx_bib.specs.language.Wanted.{Request}
 use Rattle.btx_bib.specs.language.Entries.{Given, KeptField, values_from, body_of, parent_in}
 use Rattle.btx_bib.specs.language.Stored.{entry_with_key}
 use Rattle.btx_bib.specs.language.Listing.{list_keys, slot_of, slots_of}
-use Rattle.btx_bib.specs.language.Passes.{checked, checked_by, without_crossref, is_parent, slot_at, parent_at, body_values, with_field_values, without_parent, after_first, after_second, entries_of, entry_at, entry_by}
+use Rattle.btx_bib.specs.language.Passes.{checked, without_crossref, is_parent, slot_at, parent_at, body_values, without_parent, after_first, after_second, entries_of, entry_at}
 use Rattle.btx_bib.specs.refinement.Steps.{lower_keys}
 use Rattle.btx_bib.specs.language.Known.{Known}
 use Rattle.btx_bib.specs.language.Databases.{library_of, library_by}
@@ -30,6 +30,7 @@ use Rattle.btx_bib.proofs.ListLemmas.{distinct-names}
 use Rattle.btx_bib.proofs.ParentLemmas.{none-contained, one-contained}
 use Rattle.btx_bib.proofs.HeirLemmas.{first-grows, first-inherits, first-takes}
 use Rattle.btx_bib.specs.laws.Databases.{read_all}
+use Rattle.btx_bib.specs.refinement.Passes.{checked_by, entry_by, with_field_values}
 
 -- ---- the second pass leaves the fields behind `crossref` alone
 

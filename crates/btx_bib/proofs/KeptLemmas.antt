@@ -17,20 +17,22 @@ use Rattle.btx_bib.specs.language.Grammar.Fields.{Field}
 use Rattle.btx_bib.specs.language.Grammar.Items.{Event, Comment, Preamble, Definition, Entry, FieldOf, End, Wrong, is_repeated}
 use Rattle.btx_bib.specs.language.Grammar.ValueTexts.{value_text}
 use Rattle.btx_bib.specs.language.Known.{Known, with_current_stored, after_event, after_field, if_fits, stored_in}
-use Rattle.btx_bib.specs.language.Told.{Database, event_messages, field_messages, type_messages, value_messages, spot_at, spot_before}
+use Rattle.btx_bib.specs.language.Messages.{Database, event_messages, field_messages, spot_at, spot_before, type_messages, value_messages}
 use Rattle.btx_bib.specs.language.Wanted.{Request}
 use Rattle.btx_bib.specs.language.Entries.{Given, body_of, field_values}
-use Rattle.btx_bib.specs.language.Filling.{value_by}
 use Rattle.btx_bib.specs.refinement.Finding.{changed_at}
 use Rattle.btx_bib.specs.language.Stored.{entry_with_key, is_wanted}
-use Rattle.btx_bib.specs.language.Strings.{Strings, defined, other_value, string_value}
+use Rattle.btx_bib.specs.language.Strings.{defined, other_value, string_value}
 use Rattle.btx_bib.specs.language.Values.{field_value}
 use Rattle.btx_bib.specs.refinement.Drafts.{has_body, has_entry, new_standing, place_in, standing_at}
-use Rattle.btx_bib.specs.refinement.Gatherings.{begun, begun_by, closed, closed_by, ended_if, entered, fielded_by, is_kept, is_pending, kept_after, taken_at, told_of, told_of_current, told_of_entry, told_of_number, told_of_standing, with_field_text}
+use Rattle.btx_bib.specs.refinement.Gatherings.{begun, begun_by, closed, closed_by, ended_if, entered, fielded_by, is_kept, is_pending, kept_after, taken_at, messages_of, messages_of_current, messages_of_entry, messages_of_number, messages_of_standing, with_field_text}
 use Rattle.btx_bib.proofs.FillingLemmas.{values_from-none, values_from-push, with_value-new}
 use Rattle.btx_bib.proofs.SlotLemmas.{entry_of-new}
 use Rattle.btx_bib.proofs.StoringLemmas.{draft, Covered, Covered-stored, none-of, standing-draft, standing_of, stored_at-draft}
 use Rattle.btx_bib.specs.refinement.Known.{keeps_field, after_key, with_field}
+use Rattle.btx_bib.specs.refinement.Filling.{value_by}
+use Rattle.btx_bib.specs.refinement.Messages.{type_messages}
+use Rattle.btx_bib.specs.refinement.Strings.{Strings}
 
 module _ (wanted : Request) where
   -- the entry that is being read, as it is kept
@@ -141,9 +143,9 @@ module _ (wanted : Request) where
       ∙ begun-by (with_current_stored known) kind key (is_wanted wanted (stored_in known) key)
 
   entered-told : (database : Database) (known : Known) (kind key rest : List ℕ) → Sound known → is_some (entry_with_key (stored_in known) key) ≡ false
-      → told_of_entry wanted database (kept_of known) kind key rest ≡ event_messages wanted database known (Entry kind key) rest
-  entered-told database known kind key rest sound new = ap (told_of_standing wanted database kind key rest) (standing-new known key sound new) ∙ at (is_wanted wanted (stored_in known) key) where
-    at : (asks : Bool) → told_of_standing wanted database kind key rest (standing_of wanted false asks) ≡ (if asks then type_messages key (wanted.kind (folded kind)) (spot_at database rest) else [])
+      → messages_of_entry wanted database (kept_of known) kind key rest ≡ event_messages wanted database known (Entry kind key) rest
+  entered-told database known kind key rest sound new = ap (messages_of_standing wanted database kind key rest) (standing-new known key sound new) ∙ at (is_wanted wanted (stored_in known) key) where
+    at : (asks : Bool) → messages_of_standing wanted database kind key rest (standing_of wanted false asks) ≡ (if asks then type_messages key (wanted.kind (folded kind)) (spot_at database rest) else [])
     at true = refl
     at false = refl
 
@@ -197,11 +199,11 @@ module _ (wanted : Request) where
   fielded-kept known field None is = ap (λ (o : Option Given). record (kept_of known) { current = option_map pending_of o }) (sym is)
   fielded-kept known field (Some given) is = field-by known given field is (wanted.field (folded field.name)) refl
 
-  fielded-told : (database : Database) (strings : Strings) (field : Field) (rest : List ℕ) (current : Option Given) → told_of_current wanted database strings field rest (option_map pending_of current) ≡ field_messages wanted database strings current field rest
+  fielded-told : (database : Database) (strings : Strings) (field : Field) (rest : List ℕ) (current : Option Given) → messages_of_current wanted database strings field rest (option_map pending_of current) ≡ field_messages wanted database strings current field rest
   unfolding body_of
   fielded-told database strings field rest None = refl
   fielded-told database strings field rest (Some given) = at (wanted.field (folded field.name)) where
-    at : (o : Option ℕ) → told_of_number database strings (pending_of given) field rest o
+    at : (o : Option ℕ) → messages_of_number database strings (pending_of given) field rest o
         ≡ (if is_some (value_by o (field_values wanted given.fields)) then message.ExtraField given.key field.name (spot_before database rest) ∷ [] else if is_some o then value_messages database strings None field.value else [])
     at None = refl
     at (Some number) = refl
@@ -242,7 +244,7 @@ module _ (wanted : Request) where
   event-kept known End sound fresh = refl
   event-kept known (Wrong slip) sound fresh = refl
 
-  pub event-said : (database : Database) (known : Known) (event : Event) (rest : List ℕ) → Sound known → IsFresh known event → told_of wanted database (kept_of known) event rest ≡ event_messages wanted database known event rest
+  pub event-said : (database : Database) (known : Known) (event : Event) (rest : List ℕ) → Sound known → IsFresh known event → messages_of wanted database (kept_of known) event rest ≡ event_messages wanted database known event rest
   event-said database known Comment rest sound fresh = refl
   event-said database known (Preamble value) rest sound fresh = refl
   event-said database known (Definition name value) rest sound fresh = refl

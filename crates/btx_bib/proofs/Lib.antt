@@ -18,7 +18,7 @@ pub mod ApartLemmas
 pub mod AlongLemmas
 pub mod RequestLemmas
 pub mod LineLemmas
-pub mod ToldLemmas
+pub mod MessageLemmas
 pub mod WholeLemmas
 pub mod StringLemmas
 pub mod ListLemmas

@@ -13,7 +13,7 @@ use Rattle.btx_bib.specs.declared.slots.Slot.{Slot}
 use Rattle.btx_bib.specs.language.Wanted.{Request}
 use Rattle.btx_bib.specs.language.Entries.{Given}
 use Rattle.btx_bib.specs.language.Listing.{first_cited, added, last_cited, list_keys, slots_of}
-use Rattle.btx_bib.specs.language.Passes.{passed, inherited, checked, after_first, after_second, entries_of, entry_at, entry_by}
+use Rattle.btx_bib.specs.language.Passes.{passed, inherited, checked, after_first, after_second, entries_of, entry_at}
 use Rattle.btx_bib.specs.refinement.Steps.{lower_keys}
 use Rattle.btx_bib.specs.language.Known.{Known}
 use Rattle.btx_bib.specs.language.Databases.{library_of, library_by}
@@ -22,6 +22,7 @@ use Rattle.btx_bib.proofs.ListedKeyLemmas.{distinct-fold, distinct-none}
 use Rattle.btx_bib.proofs.PassLemmas.{key-inherited, key-checked}
 use Rattle.btx_bib.proofs.StoringLemmas.{names-listing, slots-listing}
 use Rattle.btx_bib.specs.laws.Databases.{read_all}
+use Rattle.btx_bib.specs.refinement.Passes.{entry_by}
 
 -- ---- the passes leave the keys alone
 

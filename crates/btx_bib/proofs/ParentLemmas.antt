@@ -16,7 +16,7 @@ use Rattle.btx_bib.specs.declared.slots.Slot.{Slot}
 use Rattle.btx_bib.specs.language.Wanted.{Request}
 use Rattle.btx_bib.specs.language.Entries.{parent_in}
 use Rattle.btx_bib.specs.language.Listing.{slots_of}
-use Rattle.btx_bib.specs.language.Passes.{passed, inherited, inherited_from, inherited_values, checked, without_crossref, is_parent, slot_at, parent_at, body_values, with_field_values, without_parent, after_first, after_second, entries_of, entry_at, entry_by}
+use Rattle.btx_bib.specs.language.Passes.{passed, inherited, inherited_from, inherited_values, checked, without_crossref, is_parent, slot_at, parent_at, body_values, without_parent, after_first, after_second, entries_of, entry_at}
 use Rattle.btx_bib.specs.language.Known.{Known}
 use Rattle.btx_bib.specs.language.Databases.{library_of, library_by}
 use Rattle.btx_bib.specs.laws.Laws.{list_of}
@@ -25,6 +25,7 @@ use Rattle.btx_bib.proofs.ListedKeyLemmas.{folded-same}
 use Rattle.btx_bib.proofs.PassLemmas.{inherited-alone, inherited-by, checked-alone, checked-is, slot_at-same}
 use Rattle.btx_bib.proofs.StayingLemmas.{view-next, view-passed, view, view-inherited, view-checked, views-after, chosen, chosen_by, kept, kept-chosen}
 use Rattle.btx_bib.specs.laws.Databases.{read_all}
+use Rattle.btx_bib.specs.refinement.Passes.{entry_by, with_field_values}
 
 -- ---- a pass judges each place by a list that shows the same
 

@@ -8,9 +8,9 @@ use Rattle.btx_aux.specs.language.Names.{is_same_key}
 use Rattle.btx_bib.specs.declared.message.Message.{Message}
 use Rattle.btx_bib.specs.declared.slots.Slot.{Slot}
 use Rattle.btx_bib.specs.refinement.Finding.{first_place, changed_at}
-use Rattle.btx_bib.specs.language.Passes.{body_values, inherited_values, with_field_values, passed, pass_messages, parent_at, parent_slot, slot_at, inherited, inherited_from, checked, checked_by, is_parent, without_crossref, check_messages, check_messages_by, parent_messages}
-use Rattle.btx_bib.specs.refinement.Steps.{lower_keys, slot_by, told_by}
-use Rattle.btx_bib.specs.refinement.Passes.{with_body}
+use Rattle.btx_bib.specs.language.Passes.{body_values, check_messages, checked, inherited, inherited_from, inherited_values, is_parent, parent_at, parent_messages, pass_messages, passed, slot_at, without_crossref}
+use Rattle.btx_bib.specs.refinement.Passes.{check_messages_by, checked_by, parent_slot, with_body, with_field_values}
+use Rattle.btx_bib.specs.refinement.Steps.{lower_keys, messages_by, slot_by}
 use Rattle.btx_bib.specs.declared.slots.Body.{Body}
 use Rattle.btx_bib.proofs.ValueLemmas.{inherited-same}
 use Rattle.std.proofs.lemmas.Bool.Decides.{nat_tests}
@@ -134,12 +134,12 @@ module _ (judge : List Slot → Slot → Slot) where
       ∙ ap (λ (xs : List Slot). passed judge (take p slots) xs) (sym s.1.1.0)
 
   -- what is told at a place
-  abbrev pub told_here : (List Slot → Slot → List Message) → List Slot → Option Slot → List Message
-  told_here tell slots None = []
-  told_here tell slots (Some slot) = tell slots slot
+  abbrev pub messages_here : (List Slot → Slot → List Message) → List Slot → Option Slot → List Message
+  messages_here tell slots None = []
+  messages_here tell slots (Some slot) = tell slots slot
 
   pub told-next : (tell : List Slot → Slot → List Message) (slots after : List Slot) (p : ℕ) (told told' whole : List Message) → p < length slots → after ≡ changed_at p (judge slots) slots
-      → told' ≡ told ++ told_here tell slots (slice_get slots p) → told ++ pass_messages judge tell (take p slots) (drop p slots) ≡ whole → told' ++ pass_messages judge tell (take (p + 1) after) (drop (p + 1) after) ≡ whole
+      → told' ≡ told ++ messages_here tell slots (slice_get slots p) → told ++ pass_messages judge tell (take p slots) (drop p slots) ≡ whole → told' ++ pass_messages judge tell (take (p + 1) after) (drop (p + 1) after) ≡ whole
   told-next tell slots after p told told' whole within is tells total =
       let s = split slots p within in
       let rest = pass_messages judge tell (take p slots ++ judge slots s.0 ∷ []) (drop (suc p) slots) in
@@ -148,15 +148,15 @@ module _ (judge : List Slot → Slot → Slot) where
       ∙ ap (λ (xs : List Slot). told' ++ pass_messages judge tell xs (drop (suc p) (changed_at p (judge slots) slots))) (take-changed slots p s.0 (judge slots) s.1.0)
       ∙ ap (λ (xs : List Slot). told' ++ pass_messages judge tell (take p slots ++ judge slots s.0 ∷ []) xs) (drop-changed slots p (judge slots))
       ∙ ap (λ (ms : List Message). ms ++ rest) tells
-      ∙ ap (λ (o : Option Slot). (told ++ told_here tell slots o) ++ rest) s.1.0
+      ∙ ap (λ (o : Option Slot). (told ++ messages_here tell slots o) ++ rest) s.1.0
       ∙ append_assoc told (tell slots s.0) rest
       ∙ ap (λ (xs : List Slot). told ++ (tell xs s.0 ++ pass_messages judge tell (take p slots ++ judge xs s.0 ∷ []) (drop (suc p) slots))) (sym s.1.1.1)
       ∙ ap (λ (xs : List Slot). told ++ pass_messages judge tell (take p slots) xs) (sym s.1.1.0)
       ∙ total
 
-pub told_by-here : (slots : List Slot) (o : Option Slot) → told_by slots o ≡ told_here checked check_messages slots o
-told_by-here slots None = refl
-told_by-here slots (Some slot) = refl
+pub messages_by-here : (slots : List Slot) (o : Option Slot) → messages_by slots o ≡ messages_here checked check_messages slots o
+messages_by-here slots None = refl
+messages_by-here slots (Some slot) = refl
 
 -- ---- an entry that is away while it inherits
 

@@ -13,15 +13,18 @@ use Rattle.btx_bib.specs.declared.slots.Body.{Body}
 use Rattle.btx_bib.specs.declared.slots.Slot.{Slot}
 use Rattle.btx_bib.specs.language.Wanted.{Request}
 use Rattle.btx_bib.specs.language.Entries.{Given, body_of}
-use Rattle.btx_bib.specs.language.Stored.{entry_with_key, parents_in, references_by}
-use Rattle.btx_bib.specs.language.Requests.{asked, fewest_of}
+use Rattle.btx_bib.specs.language.Stored.{entry_with_key, parents_in}
+use Rattle.btx_bib.specs.language.Requests.{asked}
 use Rattle.btx_bib.specs.language.Listing.{list_keys, slot_of, slots_of}
-use Rattle.btx_bib.specs.language.Passes.{passed, inherited, inherited_from, checked, checked_by, without_crossref, is_parent, slot_at, parent_at, parent_slot, with_field_values, after_first, after_second, entries_of, entry_at, entry_by}
+use Rattle.btx_bib.specs.language.Passes.{passed, inherited, inherited_from, checked, without_crossref, is_parent, slot_at, parent_at, after_first, after_second, entries_of, entry_at}
 use Rattle.btx_bib.specs.language.Known.{Known}
 use Rattle.btx_bib.specs.language.Databases.{library_of, library_by}
 use Rattle.btx_bib.specs.laws.Laws.{ListIsKept, StarredCitedOrReferred, keeps_entry, list_of}
 use Rattle.btx_bib.specs.laws.Listing.{spelled, stays}
 use Rattle.btx_bib.specs.laws.Databases.{read_all}
+use Rattle.btx_bib.specs.refinement.Requests.{fewest_of}
+use Rattle.btx_bib.specs.refinement.Passes.{checked_by, parent_slot, entry_by, with_field_values}
+use Rattle.btx_bib.specs.refinement.Stored.{references_by}
 
 -- ---- what the passes leave alone
 

@@ -13,13 +13,14 @@ use Rattle.btx_bib.specs.language.Grammar.ValueTexts.{value_text}
 use Rattle.btx_bib.specs.language.Wanted.{Request}
 use Rattle.btx_bib.specs.language.Strings.{string_value, other_value, defined}
 use Rattle.btx_bib.specs.language.Entries.{Given}
-use Rattle.btx_bib.specs.language.Stored.{entry_with_key, is_wanted, parents_in, references_by}
+use Rattle.btx_bib.specs.language.Stored.{entry_with_key, is_wanted, parents_in}
 use Rattle.btx_bib.specs.language.Known.{Known, goes_on, stored_in, with_current_stored, if_fits, after_field, after_event, known_after, keeping}
 use Rattle.btx_bib.specs.laws.Storing.{is_asked_for, is_entry, WantedNewAreStored, OthersStoreNone}
 use Rattle.btx_bib.proofs.ListedKeyLemmas.{is_any_key-append}
 use Rattle.std.specs.Prelude.{option_to_list}
 use Rattle.btx_bib.specs.refinement.Known.{keeps_field, after_key, with_field}
 use Rattle.btx_bib.specs.laws.Stored.{is_any_key, keys_in}
+use Rattle.btx_bib.specs.refinement.Stored.{references_by}
 
 -- ---- an entry
 

@@ -15,7 +15,7 @@ use Rattle.btx_bib.specs.declared.slots.Slot.{Slot}
 use Rattle.btx_bib.specs.language.Wanted.{Request}
 use Rattle.btx_bib.specs.refinement.Finding.{first_place, changed_at}
 use Rattle.btx_bib.specs.language.Entries.{Given, body_of}
-use Rattle.btx_bib.specs.language.Stored.{entry_with_key, references, references_by, is_wanted}
+use Rattle.btx_bib.specs.language.Stored.{entry_with_key, references, is_wanted}
 use Rattle.btx_bib.specs.language.Listing.{added, first_cited, list_keys, last_cited, slot_of, slots_of}
 use Rattle.btx_bib.specs.refinement.Drafts.{cited_all, cited_at, empty, place_in, open_slot, with_entry, once_more, has_body, settled_all, late_slot, new_standing, put_at, referred_at, referred_by, standing_at, stored_at}
 use Rattle.btx_bib.specs.refinement.Steps.{lower_keys}
@@ -24,6 +24,7 @@ use Rattle.btx_bib.proofs.ListedKeyLemmas.{same_key_equiv, folded-same, is_any_k
 use Rattle.btx_bib.proofs.SlotLemmas.{slot_by, with_entry-slot, once_more-slot, settled-slot, entry_of-new, count_by-push}
 use Rattle.btx_bib.specs.refinement.Entries.{parent_of}
 use Rattle.btx_bib.specs.laws.Stored.{is_any_key}
+use Rattle.btx_bib.specs.refinement.Stored.{references_by}
 
 flat_map-push : {A B : Type 0} (f : A → List B) (xs : List A) (x : A) → flat_map f (xs ++ x ∷ []) ≡ flat_map f xs ++ f x
 flat_map-push f [] x = append-nil (f x)

@@ -8,8 +8,7 @@ use Rattle.std.specs.Map.{lookup}
 use Rattle.indexmap.specs.IndexMap.{insert_entry}
 use Rattle.btx_aux.specs.refinement.Entries.{Bytes}
 use Rattle.btx_bib.specs.refinement.Grammar.Squeezing.{is_squeezed}
-use Rattle.btx_bib.specs.language.Strings.{Strings}
-use Rattle.btx_bib.specs.refinement.Strings.{AreSqueezed, pairs_of}
+use Rattle.btx_bib.specs.refinement.Strings.{AreSqueezed, pairs_of, Strings}
 
 pub pairs-insert : (entries : List (Bytes × List ℕ)) (name : Bytes) (value : List ℕ) → pairs_of (insert_entry (λ (a b : Bytes). bytes_eq a.items b.items) entries name value) ≡ insert_entry bytes_eq (pairs_of entries) name.items value
 pairs-insert [] name value = refl

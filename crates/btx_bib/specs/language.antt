@@ -2,7 +2,6 @@ pub mod Grammar
 pub mod Values
 pub mod Library
 pub mod Wanted
-pub mod Filling
 pub mod Entries
 pub mod Stored
 pub mod Listing
@@ -10,6 +9,6 @@ pub mod Passes
 pub mod Requests
 pub mod Strings
 pub mod Known
-pub mod Told
+pub mod Messages
 pub mod Databases
 pub mod MessageTexts

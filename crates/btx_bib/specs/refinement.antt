@@ -15,8 +15,10 @@ pub mod Readings
 pub mod Steps
 pub mod Wordings
 pub mod Passes
-pub mod Told
+pub mod Messages
 pub mod Known
 pub mod Databases
 pub mod Entries
 pub mod Listing
+pub mod Stored
+pub mod MessageTexts

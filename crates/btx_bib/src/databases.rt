@@ -29,9 +29,9 @@ impl<'a> Gathering<'a> {
     ghost use Rattle.std.specs.Prelude.{◌≡◌, ◌++◌, true, IfOk, OnOk};
     ghost use Rattle.btx_bib.specs.declared.end.End.TheVariants as end;
     ghost use Rattle.btx_bib.specs.declared.grammar.commands.Wanted.TheVariants as next;
-    ghost use Rattle.btx_bib.specs.refinement.Gatherings.{closed, events_with, kept_along, kept_told};
+    ghost use Rattle.btx_bib.specs.refinement.Gatherings.{closed, events_with, kept_along, kept_messages};
     ghost use Rattle.btx_bib.specs.language.Known.{goes_on};
-    ghost use Rattle.btx_bib.specs.refinement.Readings.{IsListed, kept_macro, kept_macros, nothing_gathered, library_kept, listed_draft, kept_by_all, kept_one, told_by_all, told_by_one};
+    ghost use Rattle.btx_bib.specs.refinement.Readings.{IsListed, kept_macro, kept_macros, nothing_gathered, library_kept, listed_draft, kept_by_all, kept_one, messages_of_all, messages_of_one};
     ghost use Rattle.btx_bib.specs.refinement.Requests.{wanted};
     ghost use Rattle.btx_bib.specs.refinement.Sources.{source_database, source_databases};
 
@@ -45,7 +45,7 @@ impl<'a> Gathering<'a> {
     ) -> Result<(), AllocError>
         requires { goes_on self.old.ending ≡ true }
         ensures state { OnOk result (self.new ≡ closed (wanted request.now) (kept_along (wanted request.now) self.old (events_with (wanted request.now) self.old next.Item source.now.bytes.now))) }
-        ensures told { OnOk result (messages.new ≡ messages.old ++ kept_told (wanted request.now) (source_database source.now) self.old (events_with (wanted request.now) self.old next.Item source.now.bytes.now)) }
+        ensures told { OnOk result (messages.new ≡ messages.old ++ kept_messages (wanted request.now) (source_database source.now) self.old (events_with (wanted request.now) self.old next.Item source.now.bytes.now)) }
     {
         let mut site = Site {
             file: Word::new(source.name),
@@ -64,7 +64,7 @@ impl<'a> Gathering<'a> {
         messages: &mut Messages<'a>,
     ) -> Result<(), AllocError>
         ensures state { OnOk result (self.new ≡ kept_one (wanted request.now) self.old (source_database source.now)) }
-        ensures told { OnOk result (messages.new ≡ messages.old ++ told_by_one (wanted request.now) self.old (source_database source.now)) }
+        ensures told { OnOk result (messages.new ≡ messages.old ++ messages_of_one (wanted request.now) self.old (source_database source.now)) }
     {
         if self.has_ended() {
             return Ok(());
@@ -85,7 +85,7 @@ impl<'a> Gathering<'a> {
         messages: &mut Messages<'a>,
     ) -> Result<(), AllocError>
         ensures state { OnOk result (self.new ≡ kept_by_all (wanted request.now) self.old (source_databases sources.now)) }
-        ensures told { OnOk result (messages.new ≡ messages.old ++ told_by_all (wanted request.now) self.old (source_databases sources.now)) }
+        ensures told { OnOk result (messages.new ≡ messages.old ++ messages_of_all (wanted request.now) self.old (source_databases sources.now)) }
     {
         for source in sources {
             self.read_one(alloc, request, source, messages)?;

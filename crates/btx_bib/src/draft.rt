@@ -184,7 +184,7 @@ impl<'a> Draft<'a> {
         }
         self.names.add(alloc, lowered)?;
         let slot = DraftSlot {
-            key: Spelling::of_value(key),
+            key: Spelling::of_value(key, alloc)?,
             is_cited: false,
             wanting: request.fewest.saturating_sub(1),
             body: None,

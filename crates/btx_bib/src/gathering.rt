@@ -10,7 +10,7 @@ use crate::grammar::value_texts::{plain_text, value_text};
 use crate::grammar::values::Value;
 use crate::message::{Message, Messages};
 use crate::request::Request;
-use crate::site::{Site, tell_kind, tell_names};
+use crate::site::{Site, report_kind, report_names};
 use crate::slots::Body;
 use crate::spelling::Word;
 use crate::strings::{Others, StringTable};
@@ -46,7 +46,7 @@ impl<'a> Pending<'a> {
     ghost use Rattle.std.specs.Prelude.{◌≡◌, ◌++◌, true, Some, IfOk, OnOk};
     ghost use Rattle.btx_bib.specs.refinement.Grammar.FieldViews.{field_view};
     ghost use Rattle.btx_bib.specs.refinement.Grammar.PlainFields.{IsPlainPart, part_in_view, plain_field_view};
-    ghost use Rattle.btx_bib.specs.refinement.Gatherings.{IfTaken, IsSilent, field_told_of, taken_by};
+    ghost use Rattle.btx_bib.specs.refinement.Gatherings.{IfTaken, IsSilent, messages_of_field, taken_by};
     ghost use Rattle.btx_bib.specs.refinement.Requests.{wanted};
     ghost use Rattle.btx_bib.specs.refinement.Sites.{site_database};
 
@@ -62,7 +62,7 @@ impl<'a> Pending<'a> {
         messages: &mut Messages<'a>,
     ) -> Result<bool, AllocError>
         ensures entry { IfOk result (λ fits. (self.new, fits) ≡ taken_by (wanted request.now) strings.now self.old (field_view field.now)) }
-        ensures told { OnOk result (messages.new ≡ messages.old ++ field_told_of (wanted request.now) (site_database site.old) strings.now self.old (field_view field.now) rest.now) }
+        ensures told { OnOk result (messages.new ≡ messages.old ++ messages_of_field (wanted request.now) (site_database site.old) strings.now self.old (field_view field.now) rest.now) }
         ensures same { OnOk result (site.new ≡ site.old) }
     {
         let Some(number) = request.field(alloc, field.name)? else {
@@ -74,7 +74,7 @@ impl<'a> Pending<'a> {
             messages.push(message)?;
             return Ok(true);
         }
-        tell_names(alloc, &field.value, strings, None, site, messages)?;
+        report_names(alloc, &field.value, strings, None, site, messages)?;
         match value_text(alloc, &field.value, strings, Ends::Trimmed) {
             Ok(text) => {
                 self.body.values.put(alloc, number, text.share()?)?;
@@ -118,9 +118,9 @@ impl<'a> Pending<'a> {
 impl<'a> Gathering<'a> {
     ghost use Rattle.std.specs.Prelude.{◌≡◌, ◌≤◌, ◌++◌, None, Some, true, not, length, IfOk, OnOk};
     ghost use Rattle.btx_bib.specs.declared.draft.Standing.TheVariants as standing;
-    ghost use Rattle.btx_bib.specs.refinement.Gatherings.{IfTaken, IsSilent, all_kept, all_told, closed, begun, begun_by, entered, events_with, fielded_by, kept_after, kept_along, kept_told, told_of, told_of_current, told_of_entry, told_of_standing, with_preamble, with_kept_string};
+    ghost use Rattle.btx_bib.specs.refinement.Gatherings.{IfTaken, IsSilent, all_kept, all_messages, closed, begun, begun_by, entered, events_with, fielded_by, kept_after, kept_along, kept_messages, messages_of, messages_of_current, messages_of_entry, messages_of_standing, with_preamble, with_kept_string};
     ghost use Rattle.btx_bib.specs.refinement.Sites.{site_database};
-    ghost use Rattle.btx_bib.specs.language.Told.{Database, value_messages};
+    ghost use Rattle.btx_bib.specs.language.Messages.{Database, value_messages};
     ghost use Rattle.btx_bib.specs.refinement.Grammar.FieldViews.{field_view};
     ghost use Rattle.btx_bib.specs.refinement.Grammar.PlainFields.{IsPlainPart, part_in_view, plain_field_view};
     ghost use Rattle.btx_bib.specs.refinement.Grammar.EventViews.{event_view};
@@ -159,7 +159,7 @@ impl<'a> Gathering<'a> {
     }
 
     // An entry begins that is stored. A type that the style doesn't have is told of.
-    fn begin_told(
+    fn begin_messages(
         &mut self,
         alloc: Global,
         request: &Request<'_, 'a>,
@@ -170,11 +170,11 @@ impl<'a> Gathering<'a> {
         messages: &mut Messages<'a>,
     ) -> Result<(), AllocError>
         ensures state { OnOk result (self.new ≡ begun_by (wanted request.now) self.old kind.now key.entry.now standing.Wanted) }
-        ensures told { OnOk result (messages.new ≡ messages.old ++ told_of_standing (wanted request.now) (site_database site.old) kind.now key.entry.now rest.now standing.Wanted) }
+        ensures told { OnOk result (messages.new ≡ messages.old ++ messages_of_standing (wanted request.now) (site_database site.old) kind.now key.entry.now rest.now standing.Wanted) }
         ensures same { OnOk result (site.new ≡ site.old) }
     {
         let kind = request.kind(alloc, kind)?;
-        tell_kind(kind, key, rest, site, messages)?;
+        report_kind(kind, key, rest, site, messages)?;
         self.begin(alloc, request, kind, key)
     }
 
@@ -190,13 +190,15 @@ impl<'a> Gathering<'a> {
         messages: &mut Messages<'a>,
     ) -> Result<(), AllocError>
         ensures state { OnOk result (self.new ≡ entered (wanted request.now) self.old kind.now key.entry.now) }
-        ensures told { OnOk result (messages.new ≡ messages.old ++ told_of_entry (wanted request.now) (site_database site.old) self.old kind.now key.entry.now rest.now) }
+        ensures told { OnOk result (messages.new ≡ messages.old ++ messages_of_entry (wanted request.now) (site_database site.old) self.old kind.now key.entry.now rest.now) }
         ensures same { OnOk result (site.new ≡ site.old) }
     {
         self.close(alloc, request)?;
         match self.draft.standing(alloc, request, key)? {
             Standing::Unwanted | Standing::Repeated => Ok(()),
-            Standing::Wanted => self.begin_told(alloc, request, kind, key, rest, site, messages),
+            Standing::Wanted => self.begin_messages(
+                alloc, request, kind, key, rest, site, messages,
+            ),
         }
     }
 
@@ -211,7 +213,7 @@ impl<'a> Gathering<'a> {
         messages: &mut Messages<'a>,
     ) -> Result<(), AllocError>
         ensures state { OnOk result (self.new ≡ fielded_by (wanted request.now) self.old (field_view field.now) self.old.current) }
-        ensures told { OnOk result (messages.new ≡ messages.old ++ told_of_current (wanted request.now) (site_database site.old) self.old.strings (field_view field.now) rest.now self.old.current) }
+        ensures told { OnOk result (messages.new ≡ messages.old ++ messages_of_current (wanted request.now) (site_database site.old) self.old.strings (field_view field.now) rest.now self.old.current) }
         ensures same { OnOk result (site.new ≡ site.old) }
     {
         let Some(pending) = &mut self.current else {
@@ -237,7 +239,7 @@ impl<'a> Gathering<'a> {
         ensures told { OnOk result (messages.new ≡ messages.old ++ value_messages (site_database site.old) self.old.strings (Some name.entry.now) value.now) }
         ensures same { OnOk result (site.new ≡ site.old) }
     {
-        tell_names(alloc, value, &self.strings, Some(name), site, messages)?;
+        report_names(alloc, value, &self.strings, Some(name), site, messages)?;
         let others = Others {
             strings: &self.strings,
             own: name,
@@ -268,7 +270,7 @@ impl<'a> Gathering<'a> {
         ensures told { OnOk result (messages.new ≡ messages.old ++ value_messages (site_database site.old) self.old.strings None value.now) }
         ensures same { OnOk result (site.new ≡ site.old) }
     {
-        tell_names(alloc, value, &self.strings, None, site, messages)?;
+        report_names(alloc, value, &self.strings, None, site, messages)?;
         match value_text(alloc, value, &self.strings, Ends::Kept) {
             Ok(text) if text.len() <= GREATEST_STRING - self.preamble.len() => {
                 let before = std::mem::replace(&mut self.preamble, Text::empty());
@@ -295,7 +297,7 @@ impl<'a> Gathering<'a> {
         messages: &mut Messages<'a>,
     ) -> Result<(), AllocError>
         ensures state { OnOk result (self.new ≡ kept_after (wanted request.now) self.old (event_view event.now)) }
-        ensures told { OnOk result (messages.new ≡ messages.old ++ told_of (wanted request.now) (site_database site.old) self.old (event_view event.now) rest.now) }
+        ensures told { OnOk result (messages.new ≡ messages.old ++ messages_of (wanted request.now) (site_database site.old) self.old (event_view event.now) rest.now) }
         ensures same { OnOk result (site.new ≡ site.old) }
     {
         match event {
@@ -329,7 +331,7 @@ impl<'a> Gathering<'a> {
     ) -> Result<(), AllocError>
         requires { goes_on self.old.ending ≡ true }
         ensures state { OnOk result (self.new ≡ kept_along (wanted request.now) self.old (events_with (wanted request.now) self.old next.Item text.entry.now)) }
-        ensures told { OnOk result (messages.new ≡ messages.old ++ kept_told (wanted request.now) (site_database site.old) self.old (events_with (wanted request.now) self.old next.Item text.entry.now)) }
+        ensures told { OnOk result (messages.new ≡ messages.old ++ kept_messages (wanted request.now) (site_database site.old) self.old (events_with (wanted request.now) self.old next.Item text.entry.now)) }
         ensures same { OnOk result (site.new ≡ site.old) }
     {
         let mut reader = Reader::of(text);
@@ -374,7 +376,7 @@ impl<'a> Gathering<'a> {
         requires { goes_on self.old.ending ≡ true }
         ensures whole { OnOk result (goes_on self.new.ending ≡ true) }
         ensures state { OnOk result (all_kept (wanted request.now) self.new reader.new ≡ all_kept (wanted request.now) self.old reader.old) }
-        ensures told { OnOk result ((database : Database) → all_told (wanted request.now) database self.new reader.new ≡ all_told (wanted request.now) database self.old reader.old) }
+        ensures told { OnOk result ((database : Database) → all_messages (wanted request.now) database self.new reader.new ≡ all_messages (wanted request.now) database self.old reader.old) }
         ensures next { OnOk result (reader.new.0 ≡ reader.old.0) }
         ensures shorter { OnOk result (length reader.new.1 ≤ length reader.old.1) }
     {

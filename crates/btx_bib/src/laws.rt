@@ -4,7 +4,7 @@ ghost use Rattle.btx_bib.specs.laws.Cuts.{CutGivesTheSame};
 ghost use Rattle.btx_bib.specs.language.Grammar.Items.{Placed};
 ghost use Rattle.btx_bib.specs.laws.Grammar.Reading.{IsReading};
 ghost use Rattle.btx_bib.specs.language.Known.{Known, keeping};
-ghost use Rattle.btx_bib.specs.language.Told.{Database};
+ghost use Rattle.btx_bib.specs.language.Messages.{Database};
 ghost use Rattle.btx_bib.specs.language.Wanted.{Request};
 ghost use Rattle.btx_bib.specs.declared.grammar.commands.Wanted.TheVariants as next;
 ghost use Rattle.btx_bib.specs.laws.Laws.{KeysDiffer, ListIsKept, StarredCitedOrReferred};

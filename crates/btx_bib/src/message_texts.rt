@@ -1,11 +1,13 @@
 //! The lines of the log that tell messages.
-ghost use Rattle.std.specs.Prelude.{◌≡◌, ◌++◌, OnOk, IfOk, option_copied};
-ghost use Rattle.btx_bib.specs.language.MessageTexts.{message_kind, message_line, slip_text, spot_of, spot_text, message_text};
+ghost use Rattle.btx_bib.specs.language.MessageTexts.{message_kind, message_line, message_text, slip_text, spot_of};
+ghost use Rattle.std.specs.Prelude.{IfOk, OnOk, codes, option_copied, ◌++◌, ◌≡◌};
 ghost use Rattle.btx_bib.specs.refinement.Wordings.{wording_text};
+ghost use Rattle.btx_bib.specs.refinement.MessageTexts.{spot_text};
 
 use crate::grammar::byte_sets::Delimiter;
 use crate::grammar::slip::Slip;
 use crate::message::{Message, Spot};
+use crate::spelling::{Spelling, Word};
 use btx_text::log_texts::{push_four, push_mark, push_place};
 use btx_text::{LineKind, LogLine, Place};
 use std::alloc::{AllocError, Global};
@@ -77,28 +79,20 @@ impl<'a> Message<'a> {
                 second: field.as_bytes(),
                 after: b"\" field",
             },
-            Message::UndefinedString(name, _) => {
-                about(b"string name \"", name.as_bytes(), b"\" is undefined")
-            }
-            Message::OwnString(name, _) => about(
-                b"string name \"",
-                name.as_bytes(),
-                b"\" is used in its own definition",
+            Message::UndefinedString(name, _) => about_string(name, b"\" is undefined"),
+            Message::OwnString(name, _) => about_string(name, b"\" is used in its own definition"),
+            Message::BadReference(child, parent) => reference(
+                b"A bad cross reference--entry \"",
+                child,
+                parent,
+                b"\", which doesn't exist",
             ),
-            Message::BadReference(child, parent) => Wording {
-                before: b"A bad cross reference--entry \"",
-                first: child.as_bytes(),
-                between: b"\" refers to entry \"",
-                second: parent.as_bytes(),
-                after: b"\", which doesn't exist",
-            },
-            Message::NestedReference(child, parent) => Wording {
-                before: b"you've nested cross references--entry \"",
-                first: child.as_bytes(),
-                between: b"\" refers to entry \"",
-                second: parent.as_bytes(),
-                after: b"\"",
-            },
+            Message::NestedReference(child, parent) => reference(
+                b"you've nested cross references--entry \"",
+                child,
+                parent,
+                b"\"",
+            ),
             Message::NoEntry(key) => about(
                 b"I didn't find a database entry for \"",
                 key.as_bytes(),
@@ -124,6 +118,31 @@ fn about<'m>(before: &'m [u8], name: &'m [u8], after: &'m [u8]) -> Wording<'m>
         first: name,
         between: b"",
         second: b"",
+        after,
+    }
+}
+
+// Words about the name of a string, and what is wrong with it.
+fn about_string<'m>(name: &'m Word<'_>, wrong: &'m [u8]) -> Wording<'m>
+    ensures { wording_text result ≡ codes "string name \"" ++ name.now ++ wrong.now }
+{
+    about(b"string name \"", name.as_bytes(), wrong)
+}
+
+// Words about a cross-reference, from the entry `child` to the entry `parent`.
+fn reference<'m>(
+    before: &'m [u8],
+    child: &'m Spelling<'_>,
+    parent: &'m Spelling<'_>,
+    after: &'m [u8],
+) -> Wording<'m>
+    ensures { wording_text result ≡ before.now ++ child.now ++ codes "\" refers to entry \"" ++ parent.now ++ after.now }
+{
+    Wording {
+        before,
+        first: child.as_bytes(),
+        between: b"\" refers to entry \"",
+        second: parent.as_bytes(),
         after,
     }
 }

@@ -3,7 +3,7 @@ ghost use Rattle.std.specs.Prelude.{◌≡◌, ◌++◌, [], OnOk, IfOk, option_
 ghost use Rattle.std.specs.List.{flat_map};
 ghost use Rattle.btx_bib.specs.refinement.Finding.{changed_at};
 ghost use Rattle.btx_bib.specs.language.Passes.{after_first, after_second, check_messages, checked, entries_of, entry_at, inherited, is_parent, parent_messages, reference_messages, pass_messages};
-ghost use Rattle.btx_bib.specs.refinement.Steps.{lower_keys, told_by};
+ghost use Rattle.btx_bib.specs.refinement.Steps.{lower_keys, messages_by};
 ghost use Rattle.btx_bib.specs.refinement.Passes.{absence_messages};
 
 use crate::entry::Entry;
@@ -61,7 +61,7 @@ fn is_parent(parent: Option<&Slot<'_>>) -> bool
 }
 
 // Tells of a parent that has no entry, or has a parent.
-fn tell_parent<'a>(
+fn report_parent<'a>(
     alloc: Global,
     child: &Spelling<'a>,
     key: &Text<'a>,
@@ -71,15 +71,15 @@ fn tell_parent<'a>(
     ensures { OnOk result (messages.new ≡ messages.old ++ parent_messages child.now key.now (option_copied parent.entry)) }
 {
     let Some(slot) = parent else {
-        let key = Spelling::of_value(key.copy(alloc)?);
+        let key = Spelling::of_value(key.copy(alloc)?, alloc)?;
         return messages.push(Message::BadReference(child.copy(alloc)?, key));
     };
     if slot.body.is_none() {
-        let key = Spelling::of_value(key.copy(alloc)?);
+        let key = Spelling::of_value(key.copy(alloc)?, alloc)?;
         return messages.push(Message::BadReference(child.copy(alloc)?, key));
     }
     if slot.has_parent() {
-        let key = Spelling::of_value(key.copy(alloc)?);
+        let key = Spelling::of_value(key.copy(alloc)?, alloc)?;
         return messages.push(Message::NestedReference(child.copy(alloc)?, key));
     }
     Ok(())
@@ -95,7 +95,7 @@ fn check_at<'a>(
 ) -> Result<(), AllocError>
     requires { names.now ≡ lower_keys slots.old }
     ensures slots { OnOk result (slots.new ≡ changed_at place (checked slots.old) slots.old) }
-    ensures messages { OnOk result (messages.new ≡ messages.old ++ told_by slots.old (slice_get slots.old place)) }
+    ensures messages { OnOk result (messages.new ≡ messages.old ++ messages_by slots.old (slice_get slots.old place)) }
 {
     let Some(slot) = slots.at(place) else {
         return Ok(());
@@ -105,7 +105,7 @@ fn check_at<'a>(
     };
     let parent = slots.find(alloc, names, key.as_bytes())?;
     let stays = is_parent(parent);
-    tell_parent(alloc, &slot.key, &key, parent, messages)?;
+    report_parent(alloc, &slot.key, &key, parent, messages)?;
     if stays {
         return Ok(());
     }

@@ -2,7 +2,8 @@
 ghost use Rattle.std.specs.Prelude.{◌≡◌, ◌++◌, OnOk, option_copied};
 ghost use Rattle.btx_bib.specs.refinement.Grammar.PartViews.{part_view};
 ghost use Rattle.btx_bib.specs.refinement.Sites.{site_database};
-ghost use Rattle.btx_bib.specs.language.Told as spec;
+ghost use Rattle.btx_bib.specs.language.Messages as spec;
+ghost use Rattle.btx_bib.specs.refinement.Messages.{is_own, type_messages};
 
 use crate::grammar::line_counter::LineCounter;
 use crate::grammar::parts::Part;
@@ -24,7 +25,7 @@ pub struct Site<'a> {
 }
 
 impl<'a> Site<'a> {
-    ghost use Rattle.btx_bib.specs.language.Told.{spot_at, spot_before};
+    ghost use Rattle.btx_bib.specs.language.Messages.{spot_at, spot_before};
 
     /// The line of the byte with which this rest of the text begins.
     pub fn spot_at(&mut self, rest: &[u8]) -> Spot<'a>
@@ -53,7 +54,7 @@ impl<'a> Site<'a> {
 
 // Whether a name is that of the string that is being defined.
 fn is_own(own: Option<&[u8]>, name: &[u8]) -> bool
-    ensures { result ≡ spec.is_own (option_copied own.entry) name.now }
+    ensures { result ≡ is_own (option_copied own.entry) name.now }
 {
     match own {
         Some(own) => same_key(own, name),
@@ -62,7 +63,7 @@ fn is_own(own: Option<&[u8]>, name: &[u8]) -> bool
 }
 
 // Tells of a part that is a name which stands for no string.
-fn tell_part<'a>(
+fn report_part<'a>(
     alloc: Global,
     part: Part<'a>,
     strings: &StringTable<'a>,
@@ -92,8 +93,8 @@ fn tell_part<'a>(
 
 /// Tells of the names of a value that stand for no string, where this string is being defined or none.
 #[inline(always)]
-#[tactic(auto, using(crate::proofs::ToldLemmas::one_name))]
-pub fn tell_names<'a>(
+#[tactic(auto, using(crate::proofs::MessageLemmas::one_name))]
+pub fn report_names<'a>(
     alloc: Global,
     value: &Value<'a>,
     strings: &StringTable<'a>,
@@ -105,14 +106,14 @@ pub fn tell_names<'a>(
     ensures same { OnOk result (site.new ≡ site.old) }
 {
     let Some(part) = value.lone_part() else {
-        return tell_parts(alloc, value, strings, own, site, messages);
+        return report_parts(alloc, value, strings, own, site, messages);
     };
-    tell_part(alloc, part, strings, own, site, messages)?;
+    report_part(alloc, part, strings, own, site, messages)?;
     Ok(())
 }
 
 // The same of a value, part by part.
-fn tell_parts<'a>(
+fn report_parts<'a>(
     alloc: Global,
     value: &Value<'a>,
     strings: &StringTable<'a>,
@@ -124,20 +125,20 @@ fn tell_parts<'a>(
     ensures same { OnOk result (site.new ≡ site.old) }
 {
     for part in value.parts() {
-        tell_part(alloc, part, strings, own, site, messages)?;
+        report_part(alloc, part, strings, own, site, messages)?;
     }
     Ok(())
 }
 
 /// Tells of the type of the entry of a key, if the style doesn't have it.
-pub fn tell_kind<'a>(
+pub fn report_kind<'a>(
     kind: Option<u32>,
     key: &'a [u8],
     rest: &[u8],
     site: &mut Site<'a>,
     messages: &mut Messages<'a>,
 ) -> Result<(), AllocError>
-    ensures told { OnOk result (messages.new ≡ messages.old ++ spec.type_messages key.entry.now kind (spec.spot_at (site_database site.old) rest.now)) }
+    ensures told { OnOk result (messages.new ≡ messages.old ++ type_messages key.entry.now kind (spec.spot_at (site_database site.old) rest.now)) }
     ensures same { OnOk result (site.new ≡ site.old) }
 {
     match kind {

@@ -5,6 +5,7 @@ ghost use Rattle.btx_text.specs.language.Limits.{greatest_string};
 use btx_text::Text;
 use std::alloc::{AllocError, Global};
 use std::marker::Model;
+use std::rc::RcSlice;
 
 /// A piece of a file's bytes, of any length: borrowed, not copied.
 #[derive(Drop)]
@@ -48,8 +49,8 @@ impl<'a> Word<'a> {
 enum Source<'a> {
     // In a file.
     File(&'a [u8]),
-    // In the value of a field.
-    Value(Text<'a>),
+    // In the value of a field that doesn't stand in a file. Such keys are rare, so what they share takes the room of a pointer.
+    Value(RcSlice<u8>),
 }
 
 /// A key or a name as a file or a value spells it.
@@ -79,12 +80,14 @@ impl<'a> Spelling<'a> {
     }
 
     /// The spelling of a value.
-    pub fn of_value(text: Text<'a>) -> Self
-        ensures { result ≡ text.entry }
+    pub fn of_value(text: Text<'a>, alloc: Global) -> Result<Self, AllocError>
+        ensures { IfOk result (λ spelling. spelling ≡ text.entry) }
     {
-        Spelling {
-            source: Source::Value(text),
-        }
+        let source = match text.lent() {
+            Some(bytes) => Source::File(bytes),
+            None => Source::Value(text.into_shared(alloc)?),
+        };
+        Ok(Spelling { source })
     }
 
     /// The bytes.
@@ -93,7 +96,7 @@ impl<'a> Spelling<'a> {
     {
         match &self.source {
             Source::File(bytes) => bytes,
-            Source::Value(text) => text.as_bytes(),
+            Source::Value(bytes) => bytes.as_slice(),
         }
     }
 
@@ -103,7 +106,7 @@ impl<'a> Spelling<'a> {
     {
         let source = match &self.source {
             Source::File(bytes) => Source::File(bytes),
-            Source::Value(text) => Source::Value(text.copy(alloc)?),
+            Source::Value(bytes) => Source::Value(bytes.clone()?),
         };
         Ok(Spelling { source })
     }
@@ -115,7 +118,7 @@ impl<'a> Spelling<'a> {
     {
         match &self.source {
             Source::File(bytes) => Ok(Text::borrowed(bytes)),
-            Source::Value(text) => text.copy(alloc),
+            Source::Value(bytes) => Ok(Text::of_shared(bytes.clone()?)),
         }
     }
 }

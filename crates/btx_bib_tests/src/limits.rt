@@ -7,7 +7,7 @@ use std::alloc::{AllocError, Global};
 
 const MOST: usize = 1_000_000;
 
-/// What stands before so many letters and behind them in a database, and the size of what it gives.
+/// A database with a long run of letters: the text before it, the number of letters, the text behind it, and the size of what it gives.
 type Long = (&'static [u8], usize, &'static [u8], Size);
 
 const LONG: [Long; 9] = [

@@ -81,7 +81,7 @@ fn library_shown(alloc: Global, fields: u32, library: &Library<'_>) -> Result<Ve
     Ok(shown)
 }
 
-/// The job that cites these keys.
+/// Makes the job that cites `keys`.
 pub fn citing(alloc: Global, keys: &[u8]) -> Result<AuxJob, Fault> {
     let mut top = Vec::from_slice(alloc, b"\\citation{")?;
     top.extend_from_slice(keys)?;
@@ -113,7 +113,7 @@ fn shown_by(
     shown_with(alloc, asked, style, &job, sources)
 }
 
-/// What databases give.
+/// Shows what the databases `sources` give to what is asked.
 pub fn shown_of(alloc: Global, asked: Asked<'_>, sources: &[Source<'_>]) -> Result<Vec<u8>, Fault> {
     let style = read_style(alloc, b"s.bst", asked.style)?;
     shown_by(alloc, asked, &style, sources)
@@ -127,7 +127,7 @@ fn title_len(library: &Library<'_>) -> usize {
     }
 }
 
-/// The size of what a database gives to a style and a job.
+/// Answers the size of what the database `text` gives to a style and a job.
 pub fn size_with(
     alloc: Global,
     style: &Style<'_>,
@@ -149,7 +149,7 @@ fn size_by(alloc: Global, style: &Style<'_>, keys: &[u8], text: &[u8]) -> Result
     size_with(alloc, style, &job, text)
 }
 
-/// The size of what a database gives to a style of this text and a job that cites this.
+/// Answers the size of what the database `text` gives to the style `style` and a job that cites `keys`.
 pub fn size_of(alloc: Global, style: &[u8], keys: &[u8], text: &[u8]) -> Result<Size, Fault> {
     let style = read_style(alloc, b"s.bst", style)?;
     size_by(alloc, &style, keys, text)

@@ -5,13 +5,13 @@ use Rattle.btx_bst.specs.declared.token.Token.{Token}
 use Rattle.btx_bst.specs.declared.token.Token.TheVariants.{Quote, Run}
 use Rattle.btx_bst.specs.language.Places.{size}
 use Rattle.btx_bst.specs.language.Complaints.{Complaint, EndOfFile}
-use Rattle.btx_bst.specs.language.Bodies.{FunctionBody}
 use Rattle.btx_bst.specs.language.Items.{Item, Message}
 use Rattle.btx_bst.specs.language.Names.{Names, named}
 use Rattle.btx_bst.specs.language.Turns.{Turn}
 use Rattle.btx_bst.specs.language.Words.{BodyWord, Open, Close, String, Integer, Quoted, Name, Faulty, Unended, Ended, met_at}
 use Rattle.btx_bst.specs.language.BodyText.{Inside, BodyEnd, Whole, Broken, with_named, closed_inside, word_turn, body_turn, body_end}
 use Rattle.btx_bst.proofs.TurnLemmas.{OnTurn, turns-keep}
+use Rattle.btx_bst.specs.refinement.Bodies.{FunctionBody}
 
 -- kept by each further message
 abbrev pub OnMessages : (List Item → Type 0) → Type 0

@@ -8,7 +8,6 @@ use Rattle.btx_bst.specs.refinement.Weights.{body_weight}
 use Rattle.btx_bst.specs.language.Places.{Place, ink, size}
 use Rattle.btx_bst.specs.language.Fronts.{word_len, digits_len, quote_len, is_word_end}
 use Rattle.btx_bst.specs.language.Complaints.{TextAfter, EndOfFile}
-use Rattle.btx_bst.specs.language.Bodies.{FunctionBody}
 use Rattle.btx_bst.specs.language.Words.{BodyWord, Open, Close, String, Integer, Quoted, Name, Faulty, Unended, Ended, front, Met, word_front, integer_at, integer_front, integer_before, signed, digits_value, string_at, string_ended, met_at, met_in}
 use Rattle.btx_bst.specs.language.Names.{Names, named}
 use Rattle.btx_bst.specs.language.Turns.{Turn, Again, Ends, after_turn}
@@ -16,6 +15,7 @@ use Rattle.btx_bst.specs.language.BodyText.{Inside, BodyEnd, Whole, Broken, with
 use Rattle.btx_bst.proofs.TurnLemmas.{OnTurn, turns-next, turns-keep}
 use Rattle.btx_bst.proofs.SizeLemmas.{ink-size}
 use Rattle.btx_bst.specs.refinement.Words.{string_before}
+use Rattle.btx_bst.specs.refinement.Bodies.{FunctionBody}
 
 drop-len : (n : ℕ) (s : List ℕ) → length (drop n s) ≤ length s
 drop-len n s = omega (arith, length-drop n s)

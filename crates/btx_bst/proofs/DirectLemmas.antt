@@ -4,10 +4,10 @@ use Rattle.std.specs.Prelude.{slice_index_or}
 use Rattle.std.proofs.lemmas.Option.{slice_get_past}
 use Rattle.std.proofs.lemmas.Bool.{ltb-true, ltb-false}
 use Rattle.std.proofs.lemmas.List.{get_or_past}
-use Rattle.btx_bst.specs.language.Bodies.{FunctionBody}
 use Rattle.btx_bst.specs.language.Style.{Style}
 use Rattle.btx_bst.specs.language.Direct.{is_direct_at, is_call_type, is_user_literal, IsDirect}
 use Rattle.btx_bst.specs.refinement.Direct.{IsDirectBody}
+use Rattle.btx_bst.specs.refinement.Bodies.{FunctionBody}
 
 -- past its end a body is direct
 direct-past : (body : FunctionBody) (i : ℕ) → length body ≤ i → is_direct_at body i ≡ true

@@ -11,12 +11,12 @@ use Rattle.btx_bst.specs.declared.callee.Callee.{Callee}
 use Rattle.btx_bst.specs.declared.callee.Callee.TheVariants as callee
 use Rattle.btx_bst.specs.declared.callee.Callee.TheVariants.{User, Field, EntryInteger, EntryString, GlobalInteger, GlobalString}
 use Rattle.btx_bst.specs.language.BuiltIns.{built_in_of}
-use Rattle.btx_bst.specs.language.Names.{Names, named_lower, has_name}
+use Rattle.btx_bst.specs.language.Names.{Names, named_lower}
 use Rattle.std.specs.declared.vec.Vec.{Vec}
 use Rattle.std.specs.declared.alloc.Global.{Global}
 use Rattle.btx_bst.specs.refinement.NameTables.{IsPadded, Entries, IsTable}
 use Rattle.btx_bst.proofs.TableLemmas.{IsFurther, table-push}
-use Rattle.btx_bst.specs.refinement.Names.{number_in, padded}
+use Rattle.btx_bst.specs.refinement.Names.{number_in, padded, has_name}
 
 -- ---- the place of the first that passes
 

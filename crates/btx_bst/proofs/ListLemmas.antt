@@ -12,10 +12,10 @@ use Rattle.btx_bst.specs.language.Complaints.{Complaint, NoQuote}
 use Rattle.btx_bst.specs.language.Reads.{Read, Took, Slip}
 use Rattle.btx_bst.specs.language.Names.{Names, named, with_name}
 use Rattle.btx_bst.specs.language.Turns.{Turn, Again, Ends, after_turn}
-use Rattle.btx_bst.specs.language.Lists.{brace_in, opening, closing, front_of, name_in, next_name, quoted_text, quoted_in, quoted_at, Listing, listing, Listed, list_read, list_at, with_new, name_turn, list_turn_in, list_turn, list_end}
+use Rattle.btx_bst.specs.language.Lists.{brace_in, opening, closing, front_of, name_in, next_name, quoted_text, quoted_in, quoted_at, Listing, listing, Listed, list_read, list_at, name_turn, list_turn_in, list_turn, list_end}
 use Rattle.btx_bst.proofs.TurnLemmas.{OnTurn, turns-next, turns-keep}
 use Rattle.btx_bst.proofs.SizeLemmas.{ink-size}
-use Rattle.btx_bst.specs.refinement.Lists.{unlisted}
+use Rattle.btx_bst.specs.refinement.Lists.{unlisted, with_new}
 
 -- what was read, and how much is left: less after somekind that was taken, and no more after a complaint
 abbrev pub Sized : {A : Type 0} → ℕ → Read A → Type 0

@@ -9,7 +9,6 @@ use Rattle.btx_text.specs.language.Keys.{folded}
 use Rattle.btx_bst.specs.language.Complaints.{Complaint}
 use Rattle.btx_bst.specs.language.Items.{Item}
 use Rattle.btx_bst.specs.language.Items as item
-use Rattle.btx_bst.specs.language.Names.{Macros}
 use Rattle.btx_bst.specs.language.Style.{Style}
 use Rattle.btx_bst.specs.language.BodyText.{BodyEnd, Whole, Broken, body_end}
 use Rattle.btx_bst.specs.language.Outcomes.{with_item}
@@ -24,6 +23,7 @@ use Rattle.btx_bst.proofs.KeepLemmas.{Keeps, kept-style}
 use Rattle.btx_bst.specs.laws.StyleText.{unread_style}
 use Rattle.btx_bst.specs.refinement.Commands.{inside_at}
 use Rattle.btx_bst.specs.laws.Names.{macro_lower}
+use Rattle.btx_bst.specs.refinement.Names.{Macros}
 
 -- ---- before READ
 

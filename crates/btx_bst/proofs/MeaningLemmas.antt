@@ -20,7 +20,7 @@ use Rattle.btx_bst.specs.language.BuiltIns.{built_ins, built_in_of, built_in_nam
 use Rattle.btx_bst.specs.language.Names.{Names, named, named_lower, name_of, with_name, with_function}
 use Rattle.btx_bst.specs.language.Style.{Style}
 use Rattle.btx_bst.specs.language.Turns.{Turn}
-use Rattle.btx_bst.specs.language.Lists.{opening, closing, next_name, Listing, listing, Listed, with_new, name_turn, list_turn_in, list_turn, list_end, list_read}
+use Rattle.btx_bst.specs.language.Lists.{opening, closing, next_name, Listing, listing, Listed, name_turn, list_turn_in, list_turn, list_end, list_read}
 use Rattle.btx_bst.specs.language.BodyText.{BodyEnd, Whole, Broken, body_end}
 use Rattle.btx_bst.specs.language.Commands.{function_ended}
 use Rattle.btx_bst.specs.language.Predefined.{predefined}
@@ -33,17 +33,17 @@ use Rattle.btx_bst.proofs.ItemLemmas.{push_cases}
 use Rattle.btx_bst.proofs.KeepLemmas.{Keeps, kept-style}
 use Rattle.btx_bst.proofs.ReferenceLemmas.{FineEnd, FineStyle, fine_keeps, fine_start, fine_function_body}
 use Rattle.btx_bst.specs.refinement.Names.{padded}
-use Rattle.btx_bst.specs.refinement.Lists.{unlisted}
+use Rattle.btx_bst.specs.refinement.Lists.{unlisted, with_new}
 use Rattle.btx_bst.specs.refinement.Commands.{inside_at}
 
 -- ---- lists of names
 
 -- each name of a list is told by what looks names up
-abbrev pub Told : (List ℕ → Option Callee) → (ℕ → Callee) → List (List ℕ) → Type 0
-Told look f xs = (k : ℕ) (m : List ℕ) → slice_get xs k ≡ Some m → look m ≡ Some (f k)
+abbrev pub Found : (List ℕ → Option Callee) → (ℕ → Callee) → List (List ℕ) → Type 0
+Found look f xs = (k : ℕ) (m : List ℕ) → slice_get xs k ≡ Some m → look m ≡ Some (f k)
 
-abbrev pub ToldFunctions : (List ℕ → Option Callee) → List (Option (List ℕ)) → Type 0
-ToldFunctions look xs = (k : ℕ) (m : List ℕ) → slice_get xs k ≡ Some (Some m) → look m ≡ Some (User k)
+abbrev pub FoundFunctions : (List ℕ → Option Callee) → List (Option (List ℕ)) → Type 0
+FoundFunctions look xs = (k : ℕ) (m : List ℕ) → slice_get xs k ≡ Some (Some m) → look m ≡ Some (User k)
 
 same : (name : List ℕ) → bytes_eq name name ≡ true
 same name = (bytes_eq-Decides name name).1 refl
@@ -56,19 +56,19 @@ new_look a b name m c d g none e f =
     ap (named_lower b) (sym e) ∙ g name ∙ ap (λ (o : Option Callee). option_or o (cond (bytes_eq name name) (Some c) None)) none
     ∙ ap (λ (t : Bool). cond t (Some c) None) (same name) ∙ ap (λ (x : Callee). Some x) f
 
-told_keep : (a b : Names) (f : ℕ → Callee) (xs : List (List ℕ)) (name : List ℕ) (c : Callee) → IsFurther a b name c → Told (named_lower a) f xs → Told (named_lower b) f xs
-told_keep a b f xs name c g t k m e = kept_look a b name m c (f k) g (t k m e)
+found_keep : (a b : Names) (f : ℕ → Callee) (xs : List (List ℕ)) (name : List ℕ) (c : Callee) → IsFurther a b name c → Found (named_lower a) f xs → Found (named_lower b) f xs
+found_keep a b f xs name c g t k m e = kept_look a b name m c (f k) g (t k m e)
 
-told_push : (a b : Names) (f : ℕ → Callee) (xs : List (List ℕ)) (name : List ℕ) → IsFurther a b name (f (length xs)) → named_lower a name ≡ None → Told (named_lower a) f xs → Told (named_lower b) f (xs ++ name ∷ [])
-told_push a b f xs name g none t k m e = at (push_cases xs name k m e) where
+found_push : (a b : Names) (f : ℕ → Callee) (xs : List (List ℕ)) (name : List ℕ) → IsFurther a b name (f (length xs)) → named_lower a name ≡ None → Found (named_lower a) f xs → Found (named_lower b) f (xs ++ name ∷ [])
+found_push a b f xs name g none t k m e = at (push_cases xs name k m e) where
   at : (slice_get xs k ≡ Some m) ⊎ ((k ≡ length xs) × (name ≡ m)) → named_lower b m ≡ Some (f k)
-  at (inl h) = told_keep a b f xs name (f (length xs)) g t k m h
+  at (inl h) = found_keep a b f xs name (f (length xs)) g t k m h
   at (inr h) = new_look a b name m (f (length xs)) (f k) g none h.1 (ap f (sym h.0))
 
-functions_keep : (a b : Names) (xs : List (Option (List ℕ))) (name : List ℕ) (c : Callee) → IsFurther a b name c → ToldFunctions (named_lower a) xs → ToldFunctions (named_lower b) xs
+functions_keep : (a b : Names) (xs : List (Option (List ℕ))) (name : List ℕ) (c : Callee) → IsFurther a b name c → FoundFunctions (named_lower a) xs → FoundFunctions (named_lower b) xs
 functions_keep a b xs name c g t k m e = kept_look a b name m c (User k) g (t k m e)
 
-functions_push : (a b : Names) (xs : List (Option (List ℕ))) (name : List ℕ) (n : ℕ) → n ≡ length xs → IsFurther a b name (User n) → named_lower a name ≡ None → ToldFunctions (named_lower a) xs → ToldFunctions (named_lower b) (xs ++ Some name ∷ [])
+functions_push : (a b : Names) (xs : List (Option (List ℕ))) (name : List ℕ) (n : ℕ) → n ≡ length xs → IsFurther a b name (User n) → named_lower a name ≡ None → FoundFunctions (named_lower a) xs → FoundFunctions (named_lower b) (xs ++ Some name ∷ [])
 functions_push a b xs name n l g none t k m e = at (push_cases xs (Some name) k (Some m) e) where
   at : (slice_get xs k ≡ Some (Some m)) ⊎ ((k ≡ length xs) × (◌≡◌ {A = Option (List ℕ)} (Some name) (Some m))) → named_lower b m ≡ Some (User k)
   at (inl h) = functions_keep a b xs name (User n) g t k m h
@@ -83,94 +83,94 @@ pad_cases (x ∷ xs) c (suc k) m e = pad_cases xs c k m e
 
 -- ---- names
 
-pub record AllTold (a : Names) : Type 0 where
-  pub of_functions : ToldFunctions (named_lower a) a.functions
-  pub of_fields : Told (named_lower a) Field a.fields
-  pub of_entry_integers : Told (named_lower a) EntryInteger a.entry_integers
-  pub of_entry_strings : Told (named_lower a) EntryString a.entry_strings
-  pub of_global_integers : Told (named_lower a) GlobalInteger a.global_integers
-  pub of_global_strings : Told (named_lower a) GlobalString a.global_strings
+pub record AllFound (a : Names) : Type 0 where
+  pub of_functions : FoundFunctions (named_lower a) a.functions
+  pub of_fields : Found (named_lower a) Field a.fields
+  pub of_entry_integers : Found (named_lower a) EntryInteger a.entry_integers
+  pub of_entry_strings : Found (named_lower a) EntryString a.entry_strings
+  pub of_global_integers : Found (named_lower a) GlobalInteger a.global_integers
+  pub of_global_strings : Found (named_lower a) GlobalString a.global_strings
 
-told_name : (a : Names) (k : Kind) (name : List ℕ) → named_lower a name ≡ None → AllTold a → AllTold (with_name k name a)
-told_name a kind.Field name none t =
+found_name : (a : Names) (k : Kind) (name : List ℕ) → named_lower a name ≡ None → AllFound a → AllFound (with_name k name a)
+found_name a kind.Field name none t =
     let b = with_name kind.Field name a in
     let g = further-field a name (length a.fields) refl none in
-    record { of_functions = functions_keep a b a.functions name _ g t.of_functions; of_fields = told_push a b Field a.fields name g none t.of_fields; of_entry_integers = told_keep a b EntryInteger a.entry_integers name _ g t.of_entry_integers; of_entry_strings = told_keep a b EntryString a.entry_strings name _ g t.of_entry_strings; of_global_integers = told_keep a b GlobalInteger a.global_integers name _ g t.of_global_integers; of_global_strings = told_keep a b GlobalString a.global_strings name _ g t.of_global_strings }
-told_name a kind.EntryInteger name none t =
+    record { of_functions = functions_keep a b a.functions name _ g t.of_functions; of_fields = found_push a b Field a.fields name g none t.of_fields; of_entry_integers = found_keep a b EntryInteger a.entry_integers name _ g t.of_entry_integers; of_entry_strings = found_keep a b EntryString a.entry_strings name _ g t.of_entry_strings; of_global_integers = found_keep a b GlobalInteger a.global_integers name _ g t.of_global_integers; of_global_strings = found_keep a b GlobalString a.global_strings name _ g t.of_global_strings }
+found_name a kind.EntryInteger name none t =
     let b = with_name kind.EntryInteger name a in
     let g = further-entry_integer a name (length a.entry_integers) refl none in
-    record { of_functions = functions_keep a b a.functions name _ g t.of_functions; of_fields = told_keep a b Field a.fields name _ g t.of_fields; of_entry_integers = told_push a b EntryInteger a.entry_integers name g none t.of_entry_integers; of_entry_strings = told_keep a b EntryString a.entry_strings name _ g t.of_entry_strings; of_global_integers = told_keep a b GlobalInteger a.global_integers name _ g t.of_global_integers; of_global_strings = told_keep a b GlobalString a.global_strings name _ g t.of_global_strings }
-told_name a kind.EntryString name none t =
+    record { of_functions = functions_keep a b a.functions name _ g t.of_functions; of_fields = found_keep a b Field a.fields name _ g t.of_fields; of_entry_integers = found_push a b EntryInteger a.entry_integers name g none t.of_entry_integers; of_entry_strings = found_keep a b EntryString a.entry_strings name _ g t.of_entry_strings; of_global_integers = found_keep a b GlobalInteger a.global_integers name _ g t.of_global_integers; of_global_strings = found_keep a b GlobalString a.global_strings name _ g t.of_global_strings }
+found_name a kind.EntryString name none t =
     let b = with_name kind.EntryString name a in
     let g = further-entry_string a name (length a.entry_strings) refl none in
-    record { of_functions = functions_keep a b a.functions name _ g t.of_functions; of_fields = told_keep a b Field a.fields name _ g t.of_fields; of_entry_integers = told_keep a b EntryInteger a.entry_integers name _ g t.of_entry_integers; of_entry_strings = told_push a b EntryString a.entry_strings name g none t.of_entry_strings; of_global_integers = told_keep a b GlobalInteger a.global_integers name _ g t.of_global_integers; of_global_strings = told_keep a b GlobalString a.global_strings name _ g t.of_global_strings }
-told_name a kind.GlobalInteger name none t =
+    record { of_functions = functions_keep a b a.functions name _ g t.of_functions; of_fields = found_keep a b Field a.fields name _ g t.of_fields; of_entry_integers = found_keep a b EntryInteger a.entry_integers name _ g t.of_entry_integers; of_entry_strings = found_push a b EntryString a.entry_strings name g none t.of_entry_strings; of_global_integers = found_keep a b GlobalInteger a.global_integers name _ g t.of_global_integers; of_global_strings = found_keep a b GlobalString a.global_strings name _ g t.of_global_strings }
+found_name a kind.GlobalInteger name none t =
     let b = with_name kind.GlobalInteger name a in
     let g = further-global_integer a name (length a.global_integers) refl none in
-    record { of_functions = functions_keep a b a.functions name _ g t.of_functions; of_fields = told_keep a b Field a.fields name _ g t.of_fields; of_entry_integers = told_keep a b EntryInteger a.entry_integers name _ g t.of_entry_integers; of_entry_strings = told_keep a b EntryString a.entry_strings name _ g t.of_entry_strings; of_global_integers = told_push a b GlobalInteger a.global_integers name g none t.of_global_integers; of_global_strings = told_keep a b GlobalString a.global_strings name _ g t.of_global_strings }
-told_name a kind.GlobalString name none t =
+    record { of_functions = functions_keep a b a.functions name _ g t.of_functions; of_fields = found_keep a b Field a.fields name _ g t.of_fields; of_entry_integers = found_keep a b EntryInteger a.entry_integers name _ g t.of_entry_integers; of_entry_strings = found_keep a b EntryString a.entry_strings name _ g t.of_entry_strings; of_global_integers = found_push a b GlobalInteger a.global_integers name g none t.of_global_integers; of_global_strings = found_keep a b GlobalString a.global_strings name _ g t.of_global_strings }
+found_name a kind.GlobalString name none t =
     let b = with_name kind.GlobalString name a in
     let g = further-global_string a name (length a.global_strings) refl none in
-    record { of_functions = functions_keep a b a.functions name _ g t.of_functions; of_fields = told_keep a b Field a.fields name _ g t.of_fields; of_entry_integers = told_keep a b EntryInteger a.entry_integers name _ g t.of_entry_integers; of_entry_strings = told_keep a b EntryString a.entry_strings name _ g t.of_entry_strings; of_global_integers = told_keep a b GlobalInteger a.global_integers name _ g t.of_global_integers; of_global_strings = told_push a b GlobalString a.global_strings name g none t.of_global_strings }
+    record { of_functions = functions_keep a b a.functions name _ g t.of_functions; of_fields = found_keep a b Field a.fields name _ g t.of_fields; of_entry_integers = found_keep a b EntryInteger a.entry_integers name _ g t.of_entry_integers; of_entry_strings = found_keep a b EntryString a.entry_strings name _ g t.of_entry_strings; of_global_integers = found_keep a b GlobalInteger a.global_integers name _ g t.of_global_integers; of_global_strings = found_push a b GlobalString a.global_strings name g none t.of_global_strings }
 
-told_padded : (a : Names) (n : ℕ) → AllTold a → AllTold (record a { functions = padded n a.functions })
-told_padded a n t =
+found_padded : (a : Names) (n : ℕ) → AllFound a → AllFound (record a { functions = padded n a.functions })
+found_padded a n t =
     let c = n - length a.functions in
     record { of_functions = λ k m e. named-pad a c m ∙ t.of_functions k m (pad_cases a.functions c k m e); of_fields = λ k m e. named-pad a c m ∙ t.of_fields k m e; of_entry_integers = λ k m e. named-pad a c m ∙ t.of_entry_integers k m e; of_entry_strings = λ k m e. named-pad a c m ∙ t.of_entry_strings k m e; of_global_integers = λ k m e. named-pad a c m ∙ t.of_global_integers k m e; of_global_strings = λ k m e. named-pad a c m ∙ t.of_global_strings k m e }
 
-told_after : (a : Names) (n : ℕ) (name : List ℕ) → n ≡ length a.functions → named_lower a name ≡ None → AllTold a → AllTold (record a { functions = a.functions ++ Some name ∷ [] })
-told_after a n name l none t =
+found_after : (a : Names) (n : ℕ) (name : List ℕ) → n ≡ length a.functions → named_lower a name ≡ None → AllFound a → AllFound (record a { functions = a.functions ++ Some name ∷ [] })
+found_after a n name l none t =
     let b : Names = record a { functions = a.functions ++ Some name ∷ [] } in
     let g = further-function a name n l none in
-    record { of_functions = functions_push a b a.functions name n l g none t.of_functions; of_fields = told_keep a b Field a.fields name _ g t.of_fields; of_entry_integers = told_keep a b EntryInteger a.entry_integers name _ g t.of_entry_integers; of_entry_strings = told_keep a b EntryString a.entry_strings name _ g t.of_entry_strings; of_global_integers = told_keep a b GlobalInteger a.global_integers name _ g t.of_global_integers; of_global_strings = told_keep a b GlobalString a.global_strings name _ g t.of_global_strings }
+    record { of_functions = functions_push a b a.functions name n l g none t.of_functions; of_fields = found_keep a b Field a.fields name _ g t.of_fields; of_entry_integers = found_keep a b EntryInteger a.entry_integers name _ g t.of_entry_integers; of_entry_strings = found_keep a b EntryString a.entry_strings name _ g t.of_entry_strings; of_global_integers = found_keep a b GlobalInteger a.global_integers name _ g t.of_global_integers; of_global_strings = found_keep a b GlobalString a.global_strings name _ g t.of_global_strings }
 
-told_function : (a : Names) (n : ℕ) (name : List ℕ) → length a.functions ≤ n → named_lower a name ≡ None → AllTold a → AllTold (with_function n name a)
-told_function a n name l none t =
-    told_after (record a { functions = padded n a.functions }) n name (sym (padded-length n a.functions l)) (named-pad a (n - length a.functions) name ∙ none) (told_padded a n t)
+found_function : (a : Names) (n : ℕ) (name : List ℕ) → length a.functions ≤ n → named_lower a name ≡ None → AllFound a → AllFound (with_function n name a)
+found_function a n name l none t =
+    found_after (record a { functions = padded n a.functions }) n name (sym (padded-length n a.functions l)) (named-pad a (n - length a.functions) name ∙ none) (found_padded a n t)
 
 -- ---- lists of names that are read
 
-abbrev ToldTurn : Turn Listing Listed → Type 0
-ToldTurn t = OnTurn (λ s. AllTold s.names) (λ r. AllTold r.listing.names) t
+abbrev FoundTurn : Turn Listing Listed → Type 0
+FoundTurn t = OnTurn (λ s. AllFound s.names) (λ r. AllFound r.listing.names) t
 
-told_new : (k : Kind) (a : Names) (name : List ℕ) (p : Place) (o : Option Callee) → named a name ≡ o → AllTold a → ToldTurn (with_new k a name p o)
-told_new k a name p None e t = told_name a k (folded name) e t
-told_new k a name p (Some other) e t = t
+found_new : (k : Kind) (a : Names) (name : List ℕ) (p : Place) (o : Option Callee) → named a name ≡ o → AllFound a → FoundTurn (with_new k a name p o)
+found_new k a name p None e t = found_name a k (folded name) e t
+found_new k a name p (Some other) e t = t
 
-told_read : (k : Kind) (a : Names) (r : Read (List ℕ)) → AllTold a → ToldTurn (name_turn k a r)
-told_read k a (Slip c p) t = t
-told_read k a (Took name p) t = told_new k a name p (named a name) refl t
+found_read : (k : Kind) (a : Names) (r : Read (List ℕ)) → AllFound a → FoundTurn (name_turn k a r)
+found_read k a (Slip c p) t = t
+found_read k a (Took name p) t = found_new k a name p (named a name) refl t
 
-told_turn : (k : Kind) (a : Names) (r : Read (Unit {0})) → AllTold a → ToldTurn (list_turn_in k a r)
-told_turn k a (Took x p) t = t
-told_turn k a (Slip c p) t = told_read k a (next_name p) t
+found_turn : (k : Kind) (a : Names) (r : Read (Unit {0})) → AllFound a → FoundTurn (list_turn_in k a r)
+found_turn k a (Took x p) t = t
+found_turn k a (Slip c p) t = found_read k a (next_name p) t
 
-told_end : (k : Kind) (s : Listing) → AllTold s.names → AllTold (list_end k s).listing.names
+found_end : (k : Kind) (s : Listing) → AllFound s.names → AllFound (list_end k s).listing.names
 unfolding list_end list_turn
-told_end k s t =
-    turns-keep (λ u. AllTold u.names) (λ r. AllTold r.listing.names) (list_turn k) unlisted
-    (λ u f. told_turn k u.names (closing u.place) f) (λ u f. f) (suc (size s.place)) s t
+found_end k s t =
+    turns-keep (λ u. AllFound u.names) (λ r. AllFound r.listing.names) (list_turn k) unlisted
+    (λ u f. found_turn k u.names (closing u.place) f) (λ u f. f) (suc (size s.place)) s t
 
-told_list : (k : Kind) (a : Names) (r : Read (Unit {0})) → AllTold a → AllTold (list_read k a r).listing.names
-told_list k a (Slip c p) t = t
-told_list k a (Took x p) t = told_end k (listing a p) t
+found_list : (k : Kind) (a : Names) (r : Read (Unit {0})) → AllFound a → AllFound (list_read k a r).listing.names
+found_list k a (Slip c p) t = t
+found_list k a (Took x p) t = found_end k (listing a p) t
 
 -- ---- styles
 
 abbrev pub Clear : Style → Type 0
-Clear s = FineStyle s × AllTold s.names
+Clear s = FineStyle s × AllFound s.names
 
-clear_ended : (s : Style) (name : List ℕ) (r : BodyEnd) → named_lower s.names name ≡ None → Clear s → FineEnd s.names (length s.bodies) r → AllTold (function_ended s name r).style.names
+clear_ended : (s : Style) (name : List ℕ) (r : BodyEnd) → named_lower s.names name ≡ None → Clear s → FineEnd s.names (length s.bodies) r → AllFound (function_ended s name r).style.names
 clear_ended s name (Broken c i) none h f = h.1
 clear_ended s name (Whole i) none h f =
     let l = h.0.no_later in
     let g = f.grown in
-    told_function s.names (length i.bodies) name (omega arith) none h.1
+    found_function s.names (length i.bodies) name (omega arith) none h.1
 
 clear_keeps : Keeps Clear
 clear_keeps = record {
   on_message = λ c line s h. (fine_keeps.on_message c line s h.0, h.1);
-  on_names = λ s k p h. (fine_keeps.on_names s k p h.0, told_list k s.names (opening p) h.1);
+  on_names = λ s k p h. (fine_keeps.on_names s k p h.0, found_list k s.names (opening p) h.1);
   on_entry = λ s e h. (fine_keeps.on_entry s e h.0, h.1);
   on_read = λ s e g h. (fine_keeps.on_read s e g h.0, h.1);
   on_function = λ s name p e h. (fine_keeps.on_function s name p e h.0, clear_ended s (folded name) (body_end s.names (inside_at s p)) e h (fine_function_body s p h.0));
@@ -184,28 +184,28 @@ clear_keeps = record {
 }
 
 -- the names before a style
-told_one : (f : ℕ → Callee) (name : List ℕ) → named_lower predefined name ≡ Some (f 0) → Told (named_lower predefined) f (name ∷ [])
-told_one f name h zero m e = ap (named_lower predefined) (sym (same_Some name m e)) ∙ h
-told_one f name h (suc k) m e = absurd (cc)
+found_one : (f : ℕ → Callee) (name : List ℕ) → named_lower predefined name ≡ Some (f 0) → Found (named_lower predefined) f (name ∷ [])
+found_one f name h zero m e = ap (named_lower predefined) (sym (same_Some name m e)) ∙ h
+found_one f name h (suc k) m e = absurd (cc)
 
-told_two : (f : ℕ → Callee) (first second : List ℕ) → named_lower predefined first ≡ Some (f 0) → named_lower predefined second ≡ Some (f 1) → Told (named_lower predefined) f (first ∷ second ∷ [])
-told_two f first second h g zero m e = ap (named_lower predefined) (sym (same_Some first m e)) ∙ h
-told_two f first second h g (suc zero) m e = ap (named_lower predefined) (sym (same_Some second m e)) ∙ g
-told_two f first second h g (suc (suc k)) m e = absurd (cc)
+found_two : (f : ℕ → Callee) (first second : List ℕ) → named_lower predefined first ≡ Some (f 0) → named_lower predefined second ≡ Some (f 1) → Found (named_lower predefined) f (first ∷ second ∷ [])
+found_two f first second h g zero m e = ap (named_lower predefined) (sym (same_Some first m e)) ∙ h
+found_two f first second h g (suc zero) m e = ap (named_lower predefined) (sym (same_Some second m e)) ∙ g
+found_two f first second h g (suc (suc k)) m e = absurd (cc)
 
-told_predefined : AllTold predefined
+found_predefined : AllFound predefined
 unfolding named_lower built_in_of built_ins
-told_predefined = record {
+found_predefined = record {
   of_functions = λ k m e. absurd (cc);
-  of_fields = told_one Field (codes "crossref") refl;
+  of_fields = found_one Field (codes "crossref") refl;
   of_entry_integers = λ k m e. absurd (cc);
-  of_entry_strings = told_one EntryString (codes "sort.key$") refl;
-  of_global_integers = told_two GlobalInteger (codes "entry.max$") (codes "global.max$") refl refl;
+  of_entry_strings = found_one EntryString (codes "sort.key$") refl;
+  of_global_integers = found_two GlobalInteger (codes "entry.max$") (codes "global.max$") refl refl;
   of_global_strings = λ k m e. absurd (cc);
 }
 
 pub clear-style : (file text : List ℕ) → Clear (style_of file text)
-clear-style file text = kept-style Clear clear_keeps file text (fine_start file, told_predefined)
+clear-style file text = kept-style Clear clear_keeps file text (fine_start file, found_predefined)
 
 -- ---- the name of anything
 
@@ -253,7 +253,7 @@ word_named : (a : Names) (b : BuiltIn) → named_lower a (built_in_name b) ≡ S
 unfolding named_lower
 word_named a b = rw (built_in_word b) refl
 
-at_number : (look : List ℕ → Option Callee) (f : ℕ → Callee) (xs : List (List ℕ)) (k : ℕ) → Told look f xs → k < length xs → look (slice_index_or xs k []) ≡ Some (f k)
+at_number : (look : List ℕ → Option Callee) (f : ℕ → Callee) (xs : List (List ℕ)) (k : ℕ) → Found look f xs → k < length xs → look (slice_index_or xs k []) ≡ Some (f k)
 at_number look f xs k t l = t k (slice_index_or xs k []) (slice_get-get_or xs k [] l)
 
 function_there : (xs : List (Option (List ℕ))) (k : ℕ) (m : List ℕ) → slice_index_or xs k None ≡ Some m → slice_get xs k ≡ Some (Some m)
@@ -261,7 +261,7 @@ function_there [] k m e = absurd (cc)
 function_there (x ∷ xs) zero m e = ap (λ (o : Option (List ℕ)). Some o) e
 function_there (x ∷ xs) (suc k) m e = function_there xs k m e
 
-meaning : (a : Names) (c : Callee) → AllTold a → HasName a c → named_lower a (name_of a c) ≡ Some c
+meaning : (a : Names) (c : Callee) → AllFound a → HasName a c → named_lower a (name_of a c) ≡ Some c
 meaning a (callee.BuiltIn b) t h = word_named a b
 meaning a (User k) t h = rw h.1 (t.of_functions k h.0 (function_there a.functions k h.0 h.1))
 meaning a (Field k) t h = at_number (named_lower a) Field a.fields k t.of_fields h

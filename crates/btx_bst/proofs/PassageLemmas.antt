@@ -15,24 +15,24 @@ use Rattle.btx_bst.specs.language.Complaints.{Complaint, NoCommand, NoOpen, NoCl
 use Rattle.btx_bst.specs.language.Reads.{Read, Took, Slip}
 use Rattle.btx_bst.specs.language.Items as item
 use Rattle.btx_bst.specs.language.Items.{Item}
-use Rattle.btx_bst.specs.language.Bodies.{FunctionBody}
 use Rattle.btx_bst.specs.language.Fronts.{name_len, quote_len, word_len, digits_len, is_word_end}
 use Rattle.btx_bst.specs.language.Words.{BodyWord, Open, Close, String, Integer, Quoted, Name, Faulty, Unended, Ended, front, word_front, integer_at, integer_front, integer_before, string_at, string_ended, met_at, met_in}
 use Rattle.btx_bst.specs.language.Names.{Names, named}
 use Rattle.btx_bst.specs.language.Style.{Style}
 use Rattle.btx_bst.specs.language.Turns.{Turn}
-use Rattle.btx_bst.specs.language.Lists.{brace_in, opening, closing, front_of, name_in, next_name, letters_at, quoted_text, quoted_in, quoted_at, Listing, listing, Listed, with_new, name_turn, list_turn_in, list_turn, list_end, list_read, list_at}
+use Rattle.btx_bst.specs.language.Lists.{brace_in, opening, closing, front_of, name_in, next_name, letters_at, quoted_text, quoted_in, quoted_at, Listing, listing, Listed, name_turn, list_turn_in, list_turn, list_end, list_read, list_at}
 use Rattle.btx_bst.specs.language.BodyText.{Inside, BodyEnd, Whole, Broken, with_named, closed_inside, word_turn, body_turn, body_end}
 use Rattle.btx_bst.specs.language.Outcomes.{CommandOutcome, outcome, after_read, with_item}
-use Rattle.btx_bst.specs.language.Commands.{after_listed, after_list, entry_command, function_ended, function_of, function_command, has_read, read_command, function_in, run_of, run_command, sort_command, declare, macro_of, macro_command, command_at, command_named}
-use Rattle.btx_bst.specs.language.StyleText.{word_outcome}
+use Rattle.btx_bst.specs.language.Commands.{after_list, entry_command, function_ended, function_command, has_read, read_command, function_in, run_of, run_command, sort_command, declare, macro_command, command_at, command_named}
 use Rattle.btx_bst.specs.laws.Passages.{lines_text, text_from, Passage, InkLaw, CommandLaw, SkipLaw}
 use Rattle.btx_bst.proofs.TurnLemmas.{OnTurn, turns-keep}
-use Rattle.btx_bst.specs.refinement.Commands.{entry_lists, run_name, macro_name, inside_at}
+use Rattle.btx_bst.specs.refinement.Commands.{entry_lists, run_name, macro_name, inside_at, after_listed, function_of, macro_of}
 use Rattle.btx_bst.specs.refinement.Words.{string_before}
-use Rattle.btx_bst.specs.refinement.Lists.{unlisted}
+use Rattle.btx_bst.specs.refinement.Lists.{unlisted, with_new}
 use Rattle.btx_bst.specs.refinement.Fronts.{letters_len}
 use Rattle.btx_bst.specs.laws.Names.{macro_lower}
+use Rattle.btx_bst.specs.refinement.StyleText.{word_outcome}
+use Rattle.btx_bst.specs.refinement.Bodies.{FunctionBody}
 
 -- ---- passages
 

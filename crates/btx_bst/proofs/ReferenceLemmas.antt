@@ -19,13 +19,12 @@ use Rattle.btx_bst.specs.language.Complaints.{Complaint, EndOfFile}
 use Rattle.btx_bst.specs.language.Reads.{Read, Took, Slip}
 use Rattle.btx_bst.specs.language.Items.{Item}
 use Rattle.btx_bst.specs.language.Items as item
-use Rattle.btx_bst.specs.language.Bodies.{FunctionBody}
 use Rattle.btx_bst.specs.language.BuiltIns.{built_in_of}
-use Rattle.btx_bst.specs.language.Names.{Names, named, named_lower, has_name, with_name, with_function}
+use Rattle.btx_bst.specs.language.Names.{Names, named, named_lower, with_name, with_function}
 use Rattle.btx_bst.specs.language.Style.{Style, as_type}
 use Rattle.btx_bst.specs.language.Turns.{Turn}
 use Rattle.btx_bst.specs.language.Words.{BodyWord, Open, Close, String, Integer, Quoted, Name, Faulty, Unended, Ended, met_at}
-use Rattle.btx_bst.specs.language.Lists.{opening, closing, next_name, Listing, listing, Listed, with_new, name_turn, list_turn_in, list_turn, list_end, list_read, list_at}
+use Rattle.btx_bst.specs.language.Lists.{opening, closing, next_name, Listing, listing, Listed, name_turn, list_turn_in, list_turn, list_end, list_read, list_at}
 use Rattle.btx_bst.specs.language.BodyText.{Inside, BodyEnd, Whole, Broken, with_named, closed_inside, word_turn, body_turn, body_end}
 use Rattle.btx_bst.specs.language.Outcomes.{with_item}
 use Rattle.btx_bst.specs.language.Commands.{function_ended, function_in}
@@ -34,10 +33,11 @@ use Rattle.btx_bst.specs.language.StyleText.{style_of}
 use Rattle.btx_bst.specs.laws.References.{IsKnown, IsFunction, Refers, IsKnownItem, RefersWithin, ReferencesLaw, ItemsLaw}
 use Rattle.btx_bst.proofs.TurnLemmas.{OnTurn, turns-keep}
 use Rattle.btx_bst.proofs.KeepLemmas.{Keeps, kept-style}
-use Rattle.btx_bst.specs.refinement.Names.{number_in, padded}
+use Rattle.btx_bst.specs.refinement.Names.{number_in, padded, has_name}
 use Rattle.btx_bst.specs.laws.StyleText.{unread_style}
-use Rattle.btx_bst.specs.refinement.Lists.{unlisted}
+use Rattle.btx_bst.specs.refinement.Lists.{unlisted, with_new}
 use Rattle.btx_bst.specs.refinement.Commands.{inside_at}
+use Rattle.btx_bst.specs.refinement.Bodies.{FunctionBody}
 
 -- ---- more of each kind
 

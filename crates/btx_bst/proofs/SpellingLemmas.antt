@@ -5,13 +5,13 @@ use Rattle.btx_bst.specs.language.Places.{Place, size}
 use Rattle.btx_bst.specs.language.Complaints.{Complaint, NoQuoteEnd, EndOfFile}
 use Rattle.btx_bst.specs.declared.token.Token.{Token}
 use Rattle.btx_bst.specs.declared.token.Token.TheVariants.{Quote, Run}
-use Rattle.btx_bst.specs.language.Bodies.{FunctionBody}
 use Rattle.btx_bst.specs.language.Words.{BodyWord, Open, Close, String, Integer, Quoted, Name, Faulty, Unended, Ended, Met, met, met_at}
 use Rattle.btx_bst.specs.language.Names.{Names, named}
 use Rattle.btx_bst.specs.language.Turns.{Again, Ends, after_turn}
 use Rattle.btx_bst.specs.language.BodyText.{Whole, Broken, with_named, closed_inside, word_turn, body_turn, body_end}
 use Rattle.btx_bst.specs.laws.Spelling.{Parts, Nothing, Plain, Group, IsPlain, Spells, Fragment, Here, After, AfterGroup, Inner, breaks, Breaks, Made, made_named, made_word, nameless_begun, nameless_defined, made_by, complaint_in, made_till, Division, inside_made, IsBroken}
 use Rattle.btx_bst.proofs.BodyTurnLemmas.{body_end-next, met_at-size, is_ended}
+use Rattle.btx_bst.specs.refinement.Bodies.{FunctionBody}
 
 -- ---- one word
 

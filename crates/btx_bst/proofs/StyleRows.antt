@@ -10,9 +10,9 @@ use Rattle.btx_bst.specs.language.Turns.{turns_within}
 use Rattle.btx_bst.specs.language.Lists.{list_turn, list_end}
 use Rattle.btx_bst.specs.language.BodyText.{body_turn, body_end}
 use Rattle.btx_bst.specs.language.Commands.{command_named, entry_command, function_command, read_command, run_command, sort_command, declare, macro_command}
-use Rattle.btx_bst.specs.language.MessageTexts.{before_shown, shown_of, after_shown}
 use Rattle.btx_bst.specs.language.StyleText.{item_turn, style_from, style_of}
 use Rattle.btx_bst.specs.laws.WorkedStyles.{commands, faults, bodies, words, complaint_texts, AreRead, AreBodies, AreWords, AreTexts}
+use Rattle.btx_bst.specs.language.MessageTexts.{complaint_text}
 
 pub commands-worked : AreRead commands
 unfolding style_of style_from item_turn turns_within behind_white ink_from skipped_from size lines_size len_till digits_value signed integer_at word_front list_turn list_end body_turn body_end command_named entry_command function_command read_command run_command sort_command declare macro_command named_lower built_in_of built_ins line_pieces trimmed
@@ -31,7 +31,7 @@ unfolding style_of style_from item_turn turns_within behind_white ink_from skipp
 words-worked = (refl, refl, (refl, refl, (refl, refl, (refl, refl, (refl, refl, (refl, refl, (refl, refl, (refl, refl, (refl, refl, (refl, refl, (refl, refl, (refl, refl, (refl, refl, (refl, refl, (refl, refl, (refl, refl, (refl, refl, (refl, refl, (refl, refl, (refl, refl, (refl, refl, (refl, refl, (refl, refl, (refl, refl, (refl, refl, (refl, refl, (refl, refl, (refl, refl, (refl, refl, (refl, refl, (refl, refl, (refl, refl, (refl, refl, (refl, refl, (refl, refl, (refl, refl, (refl, refl, tt)))))))))))))))))))))))))))))))))))))
 
 pub messages-worked : AreTexts complaint_texts
-unfolding before_shown shown_of after_shown
+unfolding complaint_text
 messages-worked = (refl, (refl, (refl, (refl, (refl, (refl, (refl, (refl, (refl, (refl, (refl, (refl, (refl, (refl, (refl, (refl, (refl, (refl, (refl, (refl, tt))))))))))))))))))))
 
 pub ruleset worked_rows = (commands-worked, faults-worked, bodies-worked, words-worked, messages-worked)

@@ -22,18 +22,20 @@ use Rattle.btx_bst.specs.language.Words.{BodyWord}
 use Rattle.btx_bst.specs.language.Names.{Names, named, with_name}
 use Rattle.btx_bst.specs.language.Style.{Style}
 use Rattle.btx_bst.specs.language.Turns.{Again, Ends}
-use Rattle.btx_bst.specs.language.Lists.{brace_in, opening, closing, front_of, name_in, next_name, letters_at, listing, Listed, listed, with_new, name_turn, list_turn_in, list_turn, list_end, list_read, list_at}
+use Rattle.btx_bst.specs.language.Lists.{brace_in, opening, closing, front_of, name_in, next_name, letters_at, listing, Listed, listed, name_turn, list_turn_in, list_turn, list_end, list_read, list_at}
 use Rattle.btx_bst.specs.language.Outcomes.{CommandOutcome, outcome, after_read, with_item}
-use Rattle.btx_bst.specs.language.Commands.{after_list, entry_command, function_ended, function_of, function_command, read_command, run_of, run_command, sort_command, declare, macro_of, macro_command, command_at}
-use Rattle.btx_bst.specs.language.StyleText.{StyleState, word_outcome, command_outcome}
+use Rattle.btx_bst.specs.language.Commands.{after_list, entry_command, function_ended, function_command, read_command, run_of, run_command, sort_command, declare, macro_command, command_at}
+use Rattle.btx_bst.specs.language.StyleText.{StyleState, command_outcome}
 use Rattle.btx_bst.specs.laws.Spelling.{Parts, Nothing, Plain, Group, Made, made_named, made_word, nameless_begun, nameless_defined, made_by}
 use Rattle.btx_bst.specs.laws.Written.{Written, Entry, Function, Read, Execute, Iterate, Reverse, Sort, Integers, Strings, Macro, command_written, SpellsNames, SpellsList, SpellsName, SpellsArguments, SpellsCommand, AreNew, declared, IsGoodWord, IsGoodBody, made_in, ExecutesFunction, MakesStyle, WrittenLaw, item_command, FaultlessLaw}
 use Rattle.btx_bst.proofs.ListLemmas.{list_end-again, list_end-ends}
 use Rattle.btx_bst.proofs.StyleLemmas.{style_from-again}
 use Rattle.btx_bst.proofs.SpellingLemmas.{spelled}
 use Rattle.btx_bst.proofs.ItemSpellingLemmas.{given, more_turn}
-use Rattle.btx_bst.specs.refinement.Commands.{entry_lists, run_name, macro_name}
+use Rattle.btx_bst.specs.refinement.Commands.{entry_lists, run_name, macro_name, function_of, macro_of}
 use Rattle.btx_bst.specs.refinement.Fronts.{letters_len}
+use Rattle.btx_bst.specs.refinement.StyleText.{word_outcome}
+use Rattle.btx_bst.specs.refinement.Lists.{with_new}
 
 -- ---- white
 

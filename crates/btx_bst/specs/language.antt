@@ -1,7 +1,6 @@
 pub mod BuiltIns
 pub mod CommandWords
 pub mod Names
-pub mod Bodies
 pub mod Complaints
 pub mod Items
 pub mod Style

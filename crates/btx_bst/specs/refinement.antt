@@ -14,3 +14,5 @@ pub mod StyleText
 pub mod Words
 pub mod Lists
 pub mod Fronts
+pub mod Bodies
+pub mod MessageTexts

@@ -23,7 +23,7 @@ pub struct Bodies {
 
 impl Model for Bodies {
     ghost use Rattle.std.specs.Prelude.{◌≤◌, List, length, map, All};
-    ghost use Rattle.btx_bst.specs.language.Bodies.{FunctionBody};
+    ghost use Rattle.btx_bst.specs.refinement.Bodies.{FunctionBody};
     ghost use Rattle.btx_bst.specs.refinement.Ranges.{tokens_in};
 
     ghost Value = { List FunctionBody };

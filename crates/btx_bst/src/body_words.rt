@@ -12,7 +12,7 @@ use crate::callee::Callee;
 use crate::complaint::Complaint;
 use crate::cursor::Cursor;
 use crate::item::Item;
-use crate::message::told;
+use crate::message::logged;
 use crate::name::Name;
 use crate::names::Names;
 use crate::open::Open;
@@ -67,48 +67,27 @@ fn turn<'a>(
     ensures { IfOk result (λ turn. body_turn_view turn (inside_view cursor.new current.new bodies.new texts.new.items items.new.items) ≡ body_turn names.now (inside_view cursor.old current.old bodies.old texts.old.items items.old.items)) }
 {
     match cursor.word() {
-        Word::Open => {
-            current.open()?;
-            Ok(Turn::Again)
-        }
-        Word::Close => close(current, bodies),
+        Word::Open => current.open()?,
+        Word::Close => return close(current, bodies),
         Word::String(text) => {
             let number = texts.len() as u32;
             texts.push(text)?;
             current.push(Token::Text(number))?;
-            Ok(Turn::Again)
         }
-        Word::Integer(value) => {
-            current.push(Token::Integer(value))?;
-            Ok(Turn::Again)
-        }
+        Word::Integer(value) => current.push(Token::Integer(value))?,
         Word::Quoted(name) => match find(alloc, names, name)? {
-            Some(callee) => {
-                current.push(Token::Quote(callee))?;
-                Ok(Turn::Again)
-            }
-            None => {
-                items.push(told(Complaint::Unknown(name), cursor.number()))?;
-                Ok(Turn::Again)
-            }
+            Some(callee) => current.push(Token::Quote(callee))?,
+            None => items.push(logged(Complaint::Unknown(name), cursor.number()))?,
         },
         Word::Name(name) => match find(alloc, names, name)? {
-            Some(callee) => {
-                current.push(Token::Run(callee))?;
-                Ok(Turn::Again)
-            }
-            None => {
-                items.push(told(Complaint::Unknown(name), cursor.number()))?;
-                Ok(Turn::Again)
-            }
+            Some(callee) => current.push(Token::Run(callee))?,
+            None => items.push(logged(Complaint::Unknown(name), cursor.number()))?,
         },
-        Word::Faulty(complaint) => {
-            items.push(told(complaint, cursor.number()))?;
-            Ok(Turn::Again)
-        }
-        Word::Unended => Ok(Turn::Broken(Complaint::NoQuoteEnd)),
-        Word::Ended => Ok(Turn::Broken(Complaint::EndOfFile)),
+        Word::Faulty(complaint) => items.push(logged(complaint, cursor.number()))?,
+        Word::Unended => return Ok(Turn::Broken(Complaint::NoQuoteEnd)),
+        Word::Ended => return Ok(Turn::Broken(Complaint::EndOfFile)),
     }
+    Ok(Turn::Again)
 }
 
 // Takes a `}`: the innermost function is defined, if it is a nameless one.

@@ -15,7 +15,7 @@ pub struct Macros<'a> {
 }
 
 impl<'a> Model for Macros<'a> {
-    ghost use Rattle.btx_bst.specs.language.Names.{Macros as Known};
+    ghost use Rattle.btx_bst.specs.refinement.Names.{Macros as Known};
     ghost use Rattle.btx_bst.specs.refinement.NameTables.{macros_view};
 
     ghost Value = { Known };

@@ -1,8 +1,9 @@
 //! What is wrong in a style, with its place.
 ghost use Rattle.std.specs.Prelude.{◌≡◌, ◌++◌, OnOk, IfOk};
 ghost use Rattle.btx_bst.specs.language.Items as spec;
-ghost use Rattle.btx_bst.specs.language.MessageTexts.{after_shown, before_shown, complaint_line, shown_of, complaint_text};
+ghost use Rattle.btx_bst.specs.language.MessageTexts.{complaint_line, complaint_text};
 ghost use Rattle.btx_bst.specs.refinement.Views.{complaint_view, item_view};
+ghost use Rattle.btx_bst.specs.refinement.MessageTexts.{before_shown, shown_of, after_shown};
 
 use crate::complaint::Complaint;
 use crate::item::Item;
@@ -40,14 +41,14 @@ impl<'a> Message<'a> {
 }
 
 /// The item for a message.
-pub fn told(complaint: Complaint<'_>, line: usize) -> Item<'_>
+pub fn logged(complaint: Complaint<'_>, line: usize) -> Item<'_>
     ensures { item_view result ≡ spec.Message (complaint_view complaint.entry) line }
 {
     Item::Message(Message { complaint, line })
 }
 
 // Appends what is wrong.
-#[tactic(auto, using(crate::proofs::LineLemmas::line_steps))]
+#[tactic(auto, using(crate::proofs::LineLemmas::complaint_steps))]
 fn push_complaint(text: &mut Vec<u8>, complaint: Complaint<'_>) -> Result<(), AllocError>
     ensures { OnOk result (text.new.items ≡ text.old.items ++ complaint_text (complaint_view complaint.entry)) }
 {
@@ -56,7 +57,7 @@ fn push_complaint(text: &mut Vec<u8>, complaint: Complaint<'_>) -> Result<(), Al
 }
 
 // What stands before the name or the command that is shown, or the whole text.
-#[tactic(auto, unfolding(crate::specs::language::MessageTexts::before_shown))]
+#[tactic(auto, unfolding(crate::specs::refinement::MessageTexts::before_shown))]
 fn before(complaint: Complaint<'_>) -> &'static [u8]
     ensures { result.now ≡ before_shown (complaint_view complaint.entry) }
 {
@@ -79,7 +80,7 @@ fn before(complaint: Complaint<'_>) -> &'static [u8]
 }
 
 // The name or the command that is shown.
-#[tactic(auto, unfolding(crate::specs::language::MessageTexts::shown_of))]
+#[tactic(auto, unfolding(crate::specs::refinement::MessageTexts::shown_of))]
 fn shown<'a>(complaint: Complaint<'a>) -> &'a [u8]
     ensures { result.now ≡ shown_of (complaint_view complaint.entry) }
 {
@@ -94,7 +95,7 @@ fn shown<'a>(complaint: Complaint<'a>) -> &'a [u8]
 }
 
 // What stands after it.
-#[tactic(auto, unfolding(crate::specs::language::MessageTexts::after_shown))]
+#[tactic(auto, unfolding(crate::specs::refinement::MessageTexts::after_shown))]
 fn after(complaint: Complaint<'_>) -> &'static [u8]
     ensures { result.now ≡ after_shown (complaint_view complaint.entry) }
 {

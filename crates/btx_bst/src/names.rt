@@ -1,6 +1,6 @@
 //! The names that are known, found by a table.
-ghost use Rattle.std.specs.Prelude.{◌≡◌, None, IfOk, OnOk, length, slice_index_or, [], ◌<◌, ◌≤◌, ◌+◌, ◌^◌, List, ℕ};
-ghost use Rattle.btx_bst.specs.language.Names.{named_lower, name_of, with_name, with_function, shown_name};
+ghost use Rattle.std.specs.Prelude.{◌≡◌, None, IfOk, OnOk, length, slice_index_or, [], ◌<◌, ◌≤◌, ◌+◌, ◌^◌, List, ℕ, unwrap_or, codes};
+ghost use Rattle.btx_bst.specs.language.Names.{named_lower, name_of, with_name, with_function};
 ghost use Rattle.btx_bst.specs.laws.Names.{no_names};
 ghost use Rattle.btx_bst.specs.refinement.Names.{names_of_kind};
 ghost use Rattle.btx_bst.specs.declared.callee.Kind.TheVariants as kind;
@@ -159,7 +159,7 @@ fn name_at<'n>(names: &'n [Name<'_>], number: u32) -> &'n [u8]
 
 // The name that is shown of the function of a number.
 fn shown_name<'n>(functions: &'n [Option<Name<'_>>], number: u32) -> &'n [u8]
-    ensures { result.now ≡ shown_name (slice_index_or functions.now number None) }
+    ensures { result.now ≡ unwrap_or (slice_index_or functions.now number None) (codes "{}") }
 {
     match functions.get(number as usize) {
         Some(Some(name)) => name.as_bytes(),

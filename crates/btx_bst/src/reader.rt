@@ -4,16 +4,16 @@ ghost use Rattle.btx_text.specs.language.Keys.{folded};
 ghost use Rattle.btx_bst.specs.language.Commands.{command_named};
 ghost use Rattle.btx_bst.specs.language.Outcomes.{after_read};
 ghost use Rattle.btx_bst.specs.language.Lists.{letters_at};
-ghost use Rattle.btx_bst.specs.language.StyleText.{item_turn, style_state, style_from, word_outcome, command_outcome};
+ghost use Rattle.btx_bst.specs.language.StyleText.{item_turn, style_state, style_from, command_outcome};
 ghost use Rattle.btx_bst.specs.refinement.Weights.{HasRoom};
 ghost use Rattle.btx_bst.specs.refinement.DraftViews.{draft_view, item_turn_view, outcome_view};
-ghost use Rattle.btx_bst.specs.refinement.StyleText.{resumed_after};
+ghost use Rattle.btx_bst.specs.refinement.StyleText.{resumed_after, word_outcome};
 
 use crate::command::Command;
 use crate::complaint::Complaint;
 use crate::cursor::Cursor;
 use crate::draft::Draft;
-use crate::message::told;
+use crate::message::logged;
 use crate::name::Name;
 use std::alloc::{AllocError, Global};
 
@@ -46,7 +46,7 @@ fn item<'a>(
         return Ok(false);
     }
     if let Some(complaint) = command(alloc, cursor, draft)? {
-        draft.items.push(told(complaint, cursor.number()))?;
+        draft.items.push(logged(complaint, cursor.number()))?;
         cursor.skip();
     }
     Ok(true)

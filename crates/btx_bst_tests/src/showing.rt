@@ -47,7 +47,7 @@ pub enum Shown {
     Bodies,
 }
 
-/// Puts each of these rows that is shown otherwise behind the wrong ones, as it is shown.
+/// Adds to `wrong` each row of `rows` that isn't shown as the row says, as it is shown.
 pub fn push_wrong_rows(
     alloc: Global,
     rows: &[Row],
@@ -146,7 +146,7 @@ fn push_callee(
     }
 }
 
-/// How many messages a style has.
+/// Answers how many messages a style has.
 pub fn messages(style: &Style<'_>) -> usize {
     style
         .items()

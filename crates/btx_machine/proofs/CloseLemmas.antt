@@ -74,5 +74,5 @@ module _ (start : Start) (old new : Outputs) (end : Ending) (out : Out) (last : 
         last_line = inl w;
       }
 
-pub nothing_told : (l : Option (List ℕ)) (bytes : List ℕ) → AppendsBeginning l l bytes
-nothing_told l bytes = record { front = []; rest = bytes; whole = refl; received = Appends-nil l }
+pub nothing_logged : (l : Option (List ℕ)) (bytes : List ℕ) → AppendsBeginning l l bytes
+nothing_logged l bytes = record { front = []; rest = bytes; whole = refl; received = Appends-nil l }

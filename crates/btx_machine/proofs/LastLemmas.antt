@@ -10,10 +10,12 @@ use Rattle.btx_machine.specs.refinement.Written.{Start, StandsFor}
 use Rattle.btx_machine.specs.language.Saying.{ended_line}
 use Rattle.btx_machine.specs.declared.report.Report.{Report}
 use Rattle.btx_machine.specs.declared.report.LogCounts.{LogCounts}
-use Rattle.btx_machine.specs.language.Reports.{end_as, log_counts, report_of, last_line}
-use Rattle.btx_machine.specs.language.Product.{bbl_at, report_at}
+use Rattle.btx_machine.specs.language.Reports.{end_as, report_of, last_line}
+use Rattle.btx_machine.specs.language.Product.{bbl_at}
 use Rattle.btx_machine.specs.refinement.Closing.{FinishedAt, FinishedPart, Closes, ClosesPart}
 use Rattle.btx_machine.proofs.CloseLemmas.{closing_bbl, closing_log}
+use Rattle.btx_machine.specs.refinement.Product.{report_at}
+use Rattle.btx_machine.specs.laws.Reports.{log_counts}
 
 -- the pending line could not be ended
 pub unfinished_part : (work : Work) (end : Ending) (steps : ℕ) (new : Outputs) → new.log ≡ work.outputs.log → FinishedPart work.outputs end new → ClosesPart work end steps new
@@ -29,8 +31,8 @@ module _ (work : Work) (end : Ending) (steps : ℕ) (mid new : Outputs) (log : m
     report_is start out h =
         let w : mid.log.warnings ≡ work.outputs.log.warnings = ap (λ (log : Journal). log.warnings) log in
         let e : mid.log.errors ≡ work.outputs.log.errors = ap (λ (log : Journal). log.errors) log in
-        let told_is : counts ≡ log_counts out.warnings out.errors = ap (λ n. log_counts n counts.errors) (tw ∙ w ∙ h.warnings) ∙ ap (log_counts out.warnings) (te ∙ e ∙ h.errors) in
-        r ∙ ap (λ n. report_of (end_as end) steps n counts) d ∙ ap (report_of (end_as end) steps work.store.deepest) told_is
+        let logged_is : counts ≡ log_counts out.warnings out.errors = ap (λ n. log_counts n counts.errors) (tw ∙ w ∙ h.warnings) ∙ ap (log_counts out.warnings) (te ∙ e ∙ h.errors) in
+        r ∙ ap (λ n. report_of (end_as end) steps n counts) d ∙ ap (report_of (end_as end) steps work.store.deepest) logged_is
 
     pub line_part : AppendsBeginning mid.log.sink.received new.log.sink.received (ended_line (last_line report)) → ClosesPart work end steps new
     line_part part start out h =

@@ -1,5 +1,5 @@
 -- Where no function of the style stands on the stack, a step leaves none there; and what it opens or executes comes of its token alone.
-use Rattle.std.proofs.Common.{◌≡◌, ℕ, ℤ, pos, ◌<◌, Bool, true, false, cond, nat_lt, List, [], ◌∷◌, ◌++◌, length, take, Option, Some, None, refl, arith, sym, subst}
+use Rattle.std.proofs.Common.{◌≡◌, ℕ, ℤ, pos, ◌<◌, Bool, true, false, cond, nat_lt, List, [], ◌∷◌, ◌++◌, length, take, Option, Some, None, refl, arith, sym, subst, negsuc}
 use Rattle.std.specs.Prelude.{◌+ℤ◌, ◌-ℤ◌, int_lt, slice_get, slice_index_or}
 use Rattle.std.specs.List.{list_all}
 use Rattle.std.specs.Ordering.{int_eq}
@@ -21,7 +21,7 @@ use Rattle.btx_stack.specs.declared.literal.Literal.{Literal}
 use Rattle.btx_stack.specs.declared.literal.Literal.TheVariants as literal
 use Rattle.btx_step.specs.declared.literal.Wanted.{Wanted}
 use Rattle.btx_step.specs.declared.literal.Wanted.TheVariants as wanted
-use Rattle.btx_step.specs.declared.next.Limit.TheVariants as limit
+use Rattle.btx_text.specs.declared.limits.Limit.TheVariants as limit
 use Rattle.btx_step.specs.declared.next.Next.{Next}
 use Rattle.btx_step.specs.declared.next.Next.TheVariants as next
 use Rattle.btx_step.specs.declared.said.Note.{Note}
@@ -49,9 +49,10 @@ use Rattle.btx_step.specs.language.Control as control
 use Rattle.btx_step.specs.refinement.Control as kept_control
 use Rattle.btx_step.specs.language.Entries as entries
 use Rattle.btx_step.specs.refinement.Entries as kept_entries
-use Rattle.btx_step.specs.language.Names as names
+use Rattle.btx_step.specs.refinement.Names as kept_names
 use Rattle.btx_step.specs.refinement.Stacks as stacks
 use Rattle.btx_step.specs.language.Strings as strings
+use Rattle.btx_step.specs.refinement.Strings as kept_strings
 use Rattle.btx_step.specs.language.Variables as variables
 use Rattle.btx_step.specs.refinement.Variables as kept_variables
 use Rattle.btx_step.specs.language.Steps.{built_in_run, function_run, step_of}
@@ -175,7 +176,7 @@ module _ (r : ℕ) where
   equals_low (literal.Text b) (literal.Text a) s h = truth_low (bytes_eq a b) s h
   equals_low x y s h = complains_low note.Incomparable stand_in.Zero s h
 
-  result_low : (b : Bool) (n : ℤ) (s : Store) → Free s.literals → Low r (arithmetic.result_if b n s)
+  result_low : (b : Bool) (n : ℤ) (s : Store) → Free s.literals → Low r (kept_arithmetic.result_if b n s)
   result_low true n s h = integer_low said.Nothing n s h
   result_low false n s h = complains_low note.Overflow stand_in.Zero s h
 
@@ -190,8 +191,9 @@ module _ (r : ℕ) where
   code_low text s h = complains_low (note.NotOneCharacter text) stand_in.Zero s h
 
   character_low : (n : ℤ) (s : Store) → Free s.literals → Low r (arithmetic.gives_character n s)
-  character_low n s h =
-      pick (arithmetic.is_ascii n) (pushes said.Nothing (literal.Text (arithmetic.byte_of n ∷ [])) s) (complains (note.NotAscii n) stand_in.Empty s) (string_low said.Nothing (arithmetic.byte_of n ∷ []) s h) (complains_low (note.NotAscii n) stand_in.Empty s h)
+  character_low (pos n) s h =
+      pick (nat_lt n 128) (pushes said.Nothing (literal.Text (n ∷ [])) s) (complains (note.NotAscii (pos n)) stand_in.Empty s) (string_low said.Nothing (n ∷ []) s h) (complains_low (note.NotAscii (pos n)) stand_in.Empty s h)
+  character_low (negsuc n) s h = complains_low (note.NotAscii (negsuc n)) stand_in.Empty s h
 
   empty_low : (field : Option (List ℕ)) (s : Store) → Free s.literals → Low r (strings.finds_empty field s)
   empty_low None s h = truth_low true s h
@@ -214,8 +216,8 @@ module _ (r : ℕ) where
   in_entry_low go (Some entry) s h each = each entry
 
   assigned_low : (job : Job) (f : Callee) (v : Literal) (s : Store) → Free s.literals → Low r (variables.assigns job f v s)
-  assigned_low job (callee.GlobalInteger i) v s h = stored_integer_low (variables.with_integer i) (λ n s. refl) v s h
-  assigned_low job (callee.GlobalString i) v s h = stored_string_low job.global_max (variables.with_string i) (λ text s. refl) v s h
+  assigned_low job (callee.GlobalInteger i) v s h = stored_integer_low (kept_variables.with_integer i) (λ n s. refl) v s h
+  assigned_low job (callee.GlobalString i) v s h = stored_string_low job.global_max (kept_variables.with_string i) (λ text s. refl) v s h
   assigned_low job (callee.EntryInteger i) v s h =
       in_entry_low (λ entry. variables.stores_integer (variables.with_entry_integer entry i) v) s.current s h (λ entry. stored_integer_low (variables.with_entry_integer entry i) (λ n s. refl) v s h)
   assigned_low job (callee.EntryString i) v s h =
@@ -224,13 +226,13 @@ module _ (r : ℕ) where
 
   entry_integer_low : (i : ℕ) (current : Option ℕ) (s : Store) → Free s.literals → Low r (kept_variables.entry_integer i current s)
   entry_integer_low i None s h = outside_low s h
-  entry_integer_low i (Some entry) s h = integer_low said.Nothing (variables.integer_of s.entries entry i) s h
+  entry_integer_low i (Some entry) s h = integer_low said.Nothing (kept_variables.integer_of s.entries entry i) s h
 
   entry_string_low : (i : ℕ) (current : Option ℕ) (s : Store) → Free s.literals → Low r (kept_variables.entry_string i current s)
   entry_string_low i None s h = outside_low s h
   entry_string_low i (Some entry) s h = string_low said.Nothing (variables.string_of s.entries entry i) s h
 
-  value_low : (value : Option (List ℕ)) (s : Store) → Free s.literals → Low r (pushes said.Nothing (entries.field_literal value) s)
+  value_low : (value : Option (List ℕ)) (s : Store) → Free s.literals → Low r (pushes said.Nothing (kept_entries.field_literal value) s)
   value_low None s h = pushes_low said.Nothing literal.Missing s tt h
   value_low (Some text) s h = string_low said.Nothing text s h
 
@@ -244,7 +246,7 @@ module _ (r : ℕ) where
 
   type_low : (job : Job) (current : Option ℕ) (s : Store) → Free s.literals → Low r (kept_entries.gives_type job current s)
   type_low job None s h = outside_low s h
-  type_low job (Some entry) s h = text_low said.Nothing (entries.type_name job (entry_type (entries.entry_of job entry))) s h
+  type_low job (Some entry) s h = text_low said.Nothing (kept_entries.type_name job (entry_type (entries.entry_of job entry))) s h
 
   without_entry : (xs : List Literal) (s : Store) → Free xs → Low r (misses_entry xs s)
   without_entry [] s f = (tt, tt)
@@ -297,12 +299,12 @@ module _ (r : ℕ) where
   row_low job built_in.Assign c = λ f u x v s h. assigned_low job f x s h
   row_low job built_in.AddPeriod c = λ text u s h. text_low said.Nothing (add_period_of text) s h
   row_low job built_in.CallType c = absurd c
-  row_low job built_in.ChangeCase c = λ letter u text v s h. text_low (strings.conversion_said (case_complaints letter).illegal_conversion letter) (change_case_of text letter) s h
+  row_low job built_in.ChangeCase c = λ letter u text v s h. text_low (kept_strings.conversion_said (case_complaints letter).illegal_conversion letter) (change_case_of text letter) s h
   row_low job built_in.CharacterToInteger c = λ text u s h. code_low text s h
   row_low job built_in.Cite c = λ s h. cites_low job s.current s h
   row_low job built_in.Duplicate c = λ x u s h. pushes_low said.Nothing x (with_literals (x ∷ s.literals) s) u (u, h)
   row_low job built_in.Empty c = λ field u s h. empty_low field s h
-  row_low job built_in.FormatName c = λ format u number v people w s h. text_low (names.name_said (format_name_complaints people number format) people number format) (format_name_text job.mode people number format) s h
+  row_low job built_in.FormatName c = λ format u number v people w s h. text_low (kept_names.name_said (format_name_complaints people number format) people number format) (format_name_text job.mode people number format) s h
   row_low job built_in.If c = λ f u g v n w s h. (chosen_below (control.is_positive n) g f (below_more r g v) (below_more r f u), h)
   row_low job built_in.IntegerToCharacter c = λ n u s h. character_low n s h
   row_low job built_in.IntegerToString c = λ n u s h. string_low said.Nothing (signed_decimal n) s h

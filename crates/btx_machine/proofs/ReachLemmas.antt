@@ -7,7 +7,6 @@ use Rattle.btx_machine.specs.language.States.{Out, State, state, Outcome, Done, 
 use Rattle.btx_machine.specs.laws.States.{final_state}
 use Rattle.btx_machine.specs.refinement.States.{outcome_of}
 use Rattle.btx_machine.specs.language.Meaning.{then_do}
-use Rattle.btx_machine.specs.language.Commands.{Doing}
 use Rattle.btx_machine.specs.laws.Goings.{Starts}
 use Rattle.btx_machine.specs.refinement.Written.{Comes, Runs}
 use Rattle.btx_machine.proofs.Goings.{starts_self, starts_trans}
@@ -16,6 +15,7 @@ use Rattle.btx_machine.proofs.OrderLemmas.{Lasts, Grows}
 use Rattle.btx_machine.proofs.WithinLemmas.{ends_stay}
 use Rattle.btx_machine.proofs.VisitLemmas.{end_code}
 use Rattle.btx_machine.specs.refinement.Progress.{StoppedAt, StoppedBefore, Reached, RunEnded}
+use Rattle.btx_machine.specs.refinement.Commands.{Doing}
 
 -- the steps left, by which an outcome with more steps is known from one with none left
 abbrev left_in : Outcome → ℕ

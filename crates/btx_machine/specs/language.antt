@@ -8,5 +8,4 @@ pub mod Items
 pub mod Reports
 pub mod Product
 pub mod DirectDepth
-pub mod Written
 pub mod KeepingStep

@@ -9,3 +9,4 @@ pub mod WorkedReports
 pub mod ProductLaws
 pub mod StepsNeeded
 pub mod DirectDepth
+pub mod Reports

@@ -14,3 +14,4 @@ pub mod Steps
 pub mod Items
 pub mod KeepingStep
 pub mod Product
+pub mod Commands

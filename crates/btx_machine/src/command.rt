@@ -11,7 +11,7 @@ pub enum Command {
 }
 
 impl Command {
-    /// The command's name, as messages show it.
+    /// Answers the command's name, as messages show it.
     #[tactic(auto, unfolding(crate::specs::language::Commands::command_word))]
     pub fn word(self) -> &'static [u8]
         ensures { result.now ≡ command_word self }

@@ -3,11 +3,11 @@ ghost use Rattle.std.specs.Prelude.{◌≡◌, IfErr, IfOk, OnErr, OnOk};
 ghost use Rattle.std.specs.Io.KnownBytes.{Appends};
 ghost use Rattle.btx_out.specs.language.Pieces.{AppendsBeginning};
 ghost use Rattle.btx_text.specs.language.LogLines.{is_error, is_warning};
-ghost use Rattle.btx_machine.specs.refinement.Faults.{CountsOfLog};
+ghost use Rattle.btx_aux.specs.refinement.Faults.{CountsOfOne};
 ghost use Rattle.btx_machine.specs.language.Reports.{last_line};
 ghost use Rattle.btx_machine.specs.language.Saying.{counted_if, ended_line};
 
-use crate::last::tell_end;
+use crate::last::log_end;
 use crate::report::{LogCounts, Report};
 use btx_out::{Log, Sink};
 use btx_text::{Fault, LineKind, LogLine};
@@ -35,7 +35,7 @@ impl<'s, L: Sink> Model for Journal<'s, L> {
 }
 
 impl<'s, L: Sink> Journal<'s, L> {
-    /// A log that goes on in a sink, after lines with these counts.
+    /// Makes a log that goes on in `sink`, after lines of which `counts` were warnings and errors.
     pub fn new(sink: &'s mut L, counts: LogCounts) -> Self
         ensures name { result.sink.name ≡ sink.entry.ghost_name }
         ensures received { result.sink.received ≡ L.received sink.old }
@@ -50,7 +50,7 @@ impl<'s, L: Sink> Journal<'s, L> {
         }
     }
 
-    /// How many warnings and errors the log has.
+    /// Answers how many warnings and errors the log has.
     pub fn counts(&self) -> LogCounts
         ensures warnings { result.warnings ≡ self.now.warnings }
         ensures errors { result.errors ≡ self.now.errors }
@@ -62,14 +62,14 @@ impl<'s, L: Sink> Journal<'s, L> {
     }
 
     /// Writes a line, and counts it. The only fault is the device's; the log then received a prefix of the line.
-    pub fn tell(&mut self, line: &LogLine) -> Result<(), Fault>
+    pub fn log_one(&mut self, line: &LogLine) -> Result<(), Fault>
         ensures ok { OnOk result (Appends self.old.sink.received self.new.sink.received (ended_line line.now.text)) }
         ensures err { OnErr result (AppendsBeginning self.old.sink.received self.new.sink.received (ended_line line.now.text)) }
         ensures fault { IfErr result (λ fault. fault ≡ Fault.Device) }
         ensures warnings { self.new.warnings ≡ counted_if (is_warning line.now.kind) self.old.warnings }
         ensures errors { self.new.errors ≡ counted_if (is_error line.now.kind) self.old.errors }
         ensures sink { self.new.sink.name ≡ self.old.sink.name }
-        ensures counts { CountsOfLog result (self.old.sink.failures, self.new.sink.failures) }
+        ensures counts { CountsOfOne result (self.old.sink.failures, self.new.sink.failures) }
     {
         self.count(line.kind());
         Log::new().line(line.text(), self.sink)
@@ -94,9 +94,9 @@ impl<'s, L: Sink> Journal<'s, L> {
         ensures ok { OnOk result (Appends self.old.sink.received self.new.sink.received (ended_line (last_line report))) }
         ensures err { OnErr result (AppendsBeginning self.old.sink.received self.new.sink.received (ended_line (last_line report))) }
         ensures sink { self.new.sink.name ≡ self.old.sink.name }
-        ensures counts { CountsOfLog result (self.old.sink.failures, self.new.sink.failures) }
+        ensures counts { CountsOfOne result (self.old.sink.failures, self.new.sink.failures) }
     {
-        tell_end(alloc, report, self.sink)
+        log_end(alloc, report, self.sink)
     }
 
     /// Gives the sink back.

@@ -3,9 +3,11 @@ ghost use Rattle.std.specs.Prelude.{◌≡◌, ◌++◌, ◌∷◌, [], IfOk, On
 ghost use Rattle.std.specs.Io.KnownBytes.{Appends};
 ghost use Rattle.btx_out.specs.language.Pieces.{AppendsBeginning};
 ghost use Rattle.btx_machine.specs.refinement.Closing.{Closes, ClosesPart, FinishedAt, FinishedPart};
-ghost use Rattle.btx_machine.specs.refinement.Faults.{CountsOfBoth, CountsOfLog, Writes};
-ghost use Rattle.btx_machine.specs.language.Reports.{end_as, last_line, report_of, log_counts};
+ghost use Rattle.btx_aux.specs.refinement.Faults.{CountsOfOne};
+ghost use Rattle.btx_machine.specs.language.Reports.{end_as, last_line, report_of};
+ghost use Rattle.btx_machine.specs.refinement.Faults.{CountsOfBoth, Writes};
 ghost use Rattle.btx_machine.specs.language.Saying.{ended_line};
+ghost use Rattle.btx_machine.specs.laws.Reports.{log_counts};
 
 use crate::ending::Ending;
 use crate::outputs::Outputs;
@@ -34,11 +36,11 @@ fn last_line(alloc: Global, report: &Report) -> Result<Vec<u8>, AllocError>
 }
 
 /// Writes the last line of the log, and answers the report that it gives: the whole end of a run whose style isn't executed.
-pub fn tell_end<L: Sink>(alloc: Global, report: Report, log: &mut L) -> Result<Report, Fault>
+pub fn log_end<L: Sink>(alloc: Global, report: Report, log: &mut L) -> Result<Report, Fault>
     ensures report { IfOk result (λ answer. answer ≡ report) }
     ensures ok { OnOk result (Appends (L.received log.old) (L.received log.new) (ended_line (last_line report))) }
     ensures err { OnErr result (AppendsBeginning (L.received log.old) (L.received log.new) (ended_line (last_line report))) }
-    ensures counts { CountsOfLog result (L.failures log.old, L.failures log.new) }
+    ensures counts { CountsOfOne result (L.failures log.old, L.failures log.new) }
 {
     let line = last_line(alloc, &report)?;
     Log::new().line(line.as_slice(), log)?;
@@ -59,7 +61,8 @@ fn finish<W: Sink, L: Sink>(outputs: &mut Outputs<'_, W, L>, end: Ending) -> Res
     }
 }
 
-/// Writes what a run writes last, and answers its report.
+/// Ends a run that ended as `end` says, after `steps` steps: writes the pending line of the list, if the run finished, and the last line of the log.
+/// Answers the report.
 pub fn conclude<W: Sink, L: Sink>(
     work: &mut Work<'_, '_, W, L>,
     end: Ending,

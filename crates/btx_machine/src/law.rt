@@ -5,7 +5,7 @@ ghost use Rattle.btx_machine.specs.laws.MeaningLaws.{ExistsLaw, LimitsLaw, Uniqu
 ghost use Rattle.btx_machine.specs.laws.ProductLaws.{DepthLaw, RunLaw};
 ghost use Rattle.btx_machine.specs.laws.StepsNeeded.{StepsNeededLaw, StoppedStepsLaw};
 ghost use Rattle.btx_machine.specs.laws.WorkedBodies.{WorkedBodies};
-ghost use Rattle.btx_machine.specs.laws.WorkedReports.{AreNamed, AreWritten, limits, reports};
+ghost use Rattle.btx_machine.specs.laws.WorkedReports.{AreWritten, reports};
 
 /// Each style has a meaning: the one that the contracts speak of meets the equations that a style writer knows.
 pub fn meaning_exists()
@@ -52,8 +52,7 @@ pub fn worked_bodies_come_to_this()
     ensures { WorkedBodies }
 {}
 
-/// The last line of the log, and the status, of each way in which a run ends, and the words for each limit of a step.
+/// The last line of the log, and the status, of each way in which a run ends.
 pub fn worked_reports_are_written_so()
-    ensures written { AreWritten reports }
-    ensures named { AreNamed limits }
+    ensures { AreWritten reports }
 {}

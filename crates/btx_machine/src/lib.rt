@@ -18,9 +18,9 @@ pub mod visits;
 pub mod work;
 
 pub use command::Command;
-pub use ending::{Ending, Limit};
+pub use ending::Ending;
 pub use journal::Journal;
-pub use last::tell_end;
+pub use last::log_end;
 pub use law::{
     budget_law, depth_law, direct_law, limits_law, meaning_exists, meaning_is_unique, steps_law,
     worked_bodies_come_to_this,

@@ -6,8 +6,8 @@ ghost use Rattle.btx_bib.specs.language.MessageTexts.{message_line};
 ghost use Rattle.btx_step.specs.refinement.Answers.{silence};
 ghost use Rattle.btx_machine.specs.declared.ending.Ending.TheVariants.{Finished};
 ghost use Rattle.btx_machine.specs.language.Reports.{last_line};
-ghost use Rattle.btx_machine.specs.language.Saying.{ended_line, line_logged, note_lines, lines_logged, said_on};
-ghost use Rattle.btx_machine.specs.refinement.Saying.{current_key, wrote, pending_ended};
+ghost use Rattle.btx_machine.specs.language.Saying.{ended_line, lines_logged, said_on};
+ghost use Rattle.btx_machine.specs.refinement.Saying.{current_key, wrote, pending_ended, line_logged, note_lines};
 
 use crate::journal::Journal;
 use crate::report::{LogCounts, Report};
@@ -47,7 +47,7 @@ impl<'s, W: Sink, L: Sink> Outputs<'s, W, L> {
     ghost use Rattle.btx_machine.specs.refinement.Faults.{CountsOfBoth, Writes};
     ghost use Rattle.btx_machine.specs.refinement.Written.{Becomes, Stops};
 
-    /// Outputs with nothing pending, for lines of at most this number of bytes, which go on with this log.
+    /// Makes outputs with nothing pending: `bbl` for the list, in lines of at most `line` bytes, and `log`, which goes on.
     pub fn new(bbl: &'s mut W, line: LineLength, log: Journal<'s, L>) -> Self
         ensures name { result.bbl.name ≡ bbl.entry.ghost_name }
         ensures received { result.bbl.received ≡ W.received bbl.old }
@@ -76,7 +76,7 @@ impl<'s, W: Sink, L: Sink> Outputs<'s, W, L> {
         (self.bbl, self.log.into_sink())
     }
 
-    /// How many warnings and errors the log has.
+    /// Answers how many warnings and errors the log has.
     pub fn counts(&self) -> LogCounts
         ensures warnings { result.warnings ≡ self.now.log.warnings }
         ensures errors { result.errors ≡ self.now.log.errors }
@@ -84,7 +84,7 @@ impl<'s, W: Sink, L: Sink> Outputs<'s, W, L> {
         self.log.counts()
     }
 
-    /// Writes and logs what is said while a function of this name is executed.
+    /// Writes and logs what `said` has, which came of the function named `executed`, in the entry `current` if there is one.
     pub fn say(
         &mut self,
         alloc: Global,
@@ -108,7 +108,7 @@ impl<'s, W: Sink, L: Sink> Outputs<'s, W, L> {
         }
     }
 
-    /// Adds to the pending line of the list of references.
+    /// Adds `bytes` to the pending line of the list of references.
     pub fn write(&mut self, bytes: &[u8]) -> Result<(), Fault>
         requires { Writes self.old }
         ensures ok { OnOk result (Becomes self.old self.new (λ out. wrote bytes.now out)) }
@@ -130,7 +130,7 @@ impl<'s, W: Sink, L: Sink> Outputs<'s, W, L> {
         self.breaker.newline(self.bbl)
     }
 
-    // Tells what is noted while a function of this name is executed.
+    // Logs what is noted while a function of this name is executed.
     fn note_all(
         &mut self,
         alloc: Global,
@@ -147,13 +147,13 @@ impl<'s, W: Sink, L: Sink> Outputs<'s, W, L> {
         let key = key_at(job, current);
         for note in notes {
             let line = line_of(alloc, job.style(), executed, key, note)?;
-            self.tell(&line)?;
+            self.log_one(&line)?;
         }
         Ok(())
     }
 
-    /// Tells messages of the databases, one after another; no more than one's line is held at a time.
-    pub fn tell_messages(&mut self, alloc: Global, messages: &[Message<'_>]) -> Result<(), Fault>
+    /// Logs messages of the databases, one after another; no more than one's line is held at a time.
+    pub fn log_messages(&mut self, alloc: Global, messages: &[Message<'_>]) -> Result<(), Fault>
         ensures ok { OnOk result (Becomes self.old self.new (λ out. lines_logged (map message_line messages.now) out)) }
         ensures err { OnErr result (Stops self.old self.new (λ out. lines_logged (map message_line messages.now) out)) }
         ensures breaker { self.new.breaker ≡ self.old.breaker }
@@ -161,19 +161,19 @@ impl<'s, W: Sink, L: Sink> Outputs<'s, W, L> {
     {
         for message in messages {
             let line = message.log_line(alloc)?;
-            self.tell(&line)?;
+            self.log_one(&line)?;
         }
         Ok(())
     }
 
-    /// Tells a line of the log.
-    pub fn tell(&mut self, line: &LogLine) -> Result<(), Fault>
+    /// Logs a line of the log.
+    pub fn log_one(&mut self, line: &LogLine) -> Result<(), Fault>
         ensures ok { OnOk result (Becomes self.old self.new (λ out. line_logged line.now out)) }
         ensures err { OnErr result (Stops self.old self.new (λ out. line_logged line.now out)) }
         ensures breaker { self.new.breaker ≡ self.old.breaker }
         ensures counts { CountsOfBoth result self.old self.new }
     {
-        self.log.tell(line)
+        self.log.log_one(line)
     }
 
     /// Ends the pending line of a run that finished, if there is anything in it.

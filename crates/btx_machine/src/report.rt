@@ -2,7 +2,8 @@
 ghost use Rattle.std.specs.Prelude.{◌≡◌};
 ghost use Rattle.btx_machine.specs.language.Reports.{end_as, report_of, status_of, end_word};
 
-use crate::ending::{Ending, Limit};
+use crate::ending::Ending;
+use btx_text::Limit;
 
 /// How a run ends.
 #[derive(Clone, Copy, Debug, PartialEq, Eq)]
@@ -49,7 +50,7 @@ pub struct Report {
 }
 
 impl End {
-    /// The end of a run whose style was executed.
+    /// Answers the end of a run whose style was executed, from how that ended.
     pub fn of(ending: Ending) -> End
         ensures { result ≡ end_as ending }
     {
@@ -60,7 +61,7 @@ impl End {
         }
     }
 
-    /// The word of the log for this end.
+    /// Answers the word for this end in the log's last line.
     #[tactic(auto, unfolding(crate::specs::language::Reports::end_word))]
     pub fn word(self) -> &'static str
         ensures { result.now ≡ end_word self }
@@ -78,7 +79,7 @@ impl End {
         }
     }
 
-    /// The status of a run that ended so, with this number of error messages.
+    /// Answers the exit status of a run that ended so, with `errors` error messages.
     pub fn status(self, errors: u64) -> u8
         ensures { result ≡ status_of self errors }
     {
@@ -91,7 +92,7 @@ impl End {
     }
 }
 
-/// The report of a run that ended so.
+/// Makes the report of a run that ended so: its status, steps, greatest depth, warnings and errors.
 pub fn report_of(end: End, steps: u64, deepest: usize, counts: LogCounts) -> Report
     ensures { result ≡ report_of end steps deepest counts }
 {

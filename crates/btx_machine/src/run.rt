@@ -4,11 +4,11 @@ ghost use Rattle.btx_out.specs.laws.Breaking.{Collecting};
 ghost use Rattle.btx_out.specs.refinement.Breakers.{holding};
 ghost use Rattle.btx_out.specs.laws.Lengths.{IsLineLength};
 ghost use Rattle.btx_step.specs.language.Starts.{first_store};
-ghost use Rattle.btx_machine.specs.refinement.Faults.{CountsOfBoth, CountsOfOutputs};
+ghost use Rattle.btx_machine.specs.refinement.Faults.{CountsOfBoth, CountsOfTwo};
 ghost use Rattle.btx_machine.specs.language.KeepingStep.{AtFault, Completes};
 ghost use Rattle.btx_machine.specs.language.Product.{style_product};
-ghost use Rattle.btx_machine.specs.language.Reports.{log_counts};
 ghost use Rattle.btx_machine.specs.refinement.Written.{received};
+ghost use Rattle.btx_machine.specs.laws.Reports.{log_counts};
 
 use crate::items::do_items;
 use crate::journal::Journal;
@@ -37,7 +37,7 @@ pub fn execute_style<'a, W: Sink, L: Sink>(
     ensures bound { IfOk result (λ report. report.steps ≤ budget) }
     ensures err { OnErr result (AtFault (W.received bbl.old, L.received log.old) (W.received bbl.new, L.received log.new)
         (style_product job.now counts line) budget) }
-    ensures counts { CountsOfOutputs result (W.failures bbl.old, W.failures bbl.new) (L.failures log.old, L.failures log.new) }
+    ensures counts { CountsOfTwo result (W.failures bbl.old, W.failures bbl.new) (L.failures log.old, L.failures log.new) }
 {
     let store = Store::new(alloc, job)?;
     let outputs = Outputs::new(bbl, line, Journal::new(log, counts));

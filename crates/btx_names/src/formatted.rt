@@ -108,7 +108,7 @@ fn push_kept(writer: &mut Writer, item: &KeptItem, parts: &NameParts<'_>) -> Res
             if part.tokens.is_empty() {
                 return Ok(());
             }
-            push_piece(writer, piece.as_piece(), part)
+            push_piece(writer, piece.as_piece(), *part)
         }
     }
 }
@@ -150,19 +150,19 @@ fn push_item(writer: &mut Writer, item: Item<'_>, parts: &NameParts<'_>) -> Resu
     match item {
         Item::Literal(literal) => push_literal(writer, literal),
         Item::Plain(inside) => push_plain(writer, inside),
-        Item::Name(piece) => push_piece(writer, piece, part_of(parts, piece.part)),
+        Item::Name(piece) => push_piece(writer, piece, *part_of(parts, piece.part)),
         Item::Illegal => Ok(()),
     }
 }
 
 // The part of a name that a piece of a format asks for.
-fn part_of<'t>(parts: &NameParts<'t>, part: PartName) -> Part<'t>
-    ensures { part_tokens result ≡ tokens_of_part part (parts_view parts.now) }
+fn part_of<'p, 't>(parts: &'p NameParts<'t>, part: PartName) -> &'p Part<'t>
+    ensures { part_tokens result.now ≡ tokens_of_part part (parts_view parts.now) }
 {
     match part {
-        PartName::First => parts.first,
-        PartName::Von => parts.von,
-        PartName::Last => parts.last,
-        PartName::Jr => parts.jr,
+        PartName::First => &parts.first,
+        PartName::Von => &parts.von,
+        PartName::Last => &parts.last,
+        PartName::Jr => &parts.jr,
     }
 }

@@ -1,5 +1,5 @@
 //! Formats of names, kept as they were read.
-ghost use Rattle.std.specs.Prelude.{◌≡◌, ◌++◌, IfOk, IfSome, OnOk, IsTrue, true};
+ghost use Rattle.std.specs.Prelude.{◌≡◌, ◌++◌, IfOk, IfSome, IsSomeAnd, IsTrue, OnOk, slice_get, true};
 ghost use Rattle.std.specs.List.{flat_map};
 ghost use Rattle.btx_names.specs.language.Formats.{is_legal, items_of};
 ghost use Rattle.btx_names.specs.refinement.KeptItems.{items_in};
@@ -53,6 +53,8 @@ pub struct KeptFormats {
     // How many are kept at most.
     most: usize,
     formats: Vec<KeptFormat>,
+    // The index behind the format that was found last.
+    next: usize,
 }
 
 impl KeptFormats {
@@ -62,19 +64,43 @@ impl KeptFormats {
             alloc,
             most,
             formats: Vec::new(alloc),
+            next: 0,
         }
     }
 
     /// A format as it was read, if it is kept.
-    pub fn find(&self, format: &[u8]) -> Option<&KeptFormat>
+    pub fn find(&mut self, format: &[u8]) -> Option<&KeptFormat>
         ensures { IfSome result (λ kept. kept.now.text.items ≡ format.now) }
     {
-        for kept in &self.formats {
-            if kept.text.as_slice() == format {
-                return Some(kept);
+        let at = self.position(format)?;
+        self.next = at + 1;
+        Some(&self.formats[at])
+    }
+
+    // The index of a format, if it is kept. The one behind the format that was found last is looked at first: a style mostly asks for a name in
+    // several formats, always in the same order.
+    fn position(&self, format: &[u8]) -> Option<usize>
+        ensures { IfSome result (λ at. IsSomeAnd (slice_get self.now.formats.items at) (λ kept. kept.text.items ≡ format.now)) }
+    {
+        if self.is_at(self.next, format) {
+            return Some(self.next);
+        }
+        for at in 0..self.formats.len() {
+            if self.is_at(at, format) {
+                return Some(at);
             }
         }
         None
+    }
+
+    // Whether a format is kept at an index.
+    fn is_at(&self, at: usize, format: &[u8]) -> bool
+        ensures { IsTrue result → IsSomeAnd (slice_get self.now.formats.items at) (λ kept. kept.text.items ≡ format.now) }
+    {
+        match self.formats.get(at) {
+            Some(kept) => kept.text.as_slice() == format,
+            None => false,
+        }
     }
 
     /// Keeps a format, if it is legal and short and there is room.

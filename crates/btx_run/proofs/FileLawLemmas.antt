@@ -9,8 +9,9 @@ use Rattle.btx_aux.specs.language.Files.{Files}
 use Rattle.btx_run.specs.language.Files.Lines.{database_line, no_database_line}
 use Rattle.btx_run.specs.language.Files.Found.{NamedFile, file_at}
 use Rattle.btx_run.specs.laws.Files.Laws.{FoundAreNumbered, MissingAreErrors, OneLineEach, is_plain_line, numbered}
-use Rattle.btx_run.specs.language.Files.Readings.{database_logged, databases_logged, files_found}
+use Rattle.btx_run.specs.language.Files.Readings.{databases_logged, files_found}
 use Rattle.btx_run.specs.refinement.Files.Found.{named_file}
+use Rattle.btx_run.specs.refinement.Files.Readings.{database_logged}
 
 -- ---- the databases that were found are numbered
 

@@ -11,12 +11,12 @@ use Rattle.btx_run.specs.declared.files.found.FilesRead.{FilesRead}
 use Rattle.btx_run.specs.declared.files.found.FilesRead.TheVariants.{Ends, Found}
 use Rattle.btx_machine.specs.declared.report.End.TheVariants as ended
 use Rattle.btx_run.specs.language.Files.Lines.{database_line, no_style_line, style_line, no_database_line}
-use Rattle.btx_machine.specs.language.Reports.{log_counts}
 use Rattle.btx_run.specs.language.Files.Counts.{counts_of}
 use Rattle.btx_run.specs.language.Files.Readings.{Logged, after_job, reading_of, style_named, style_read}
 use Rattle.btx_run.specs.refinement.Files.Readings.{after_style}
 use Rattle.btx_run.specs.refinement.Files.Found.{named_file}
 use Rattle.btx_aux.specs.refinement.Notes.{aux_note_line}
+use Rattle.btx_machine.specs.laws.Reports.{log_counts}
 
 -- the texts of what is logged
 abbrev texts : Logged FilesRead → List (List ℕ)

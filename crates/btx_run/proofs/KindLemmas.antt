@@ -14,11 +14,12 @@ use Rattle.btx_bib.specs.language.Entries.{Given, body_of}
 use Rattle.btx_bib.specs.language.Known.{Known}
 use Rattle.btx_bib.specs.language.Library.{entry_type}
 use Rattle.btx_bib.specs.language.Listing.{slot_of, slots_of, list_keys}
-use Rattle.btx_bib.specs.language.Passes.{with_field_values, passed, slot_at, parent_at, parent_slot, inherited_from, inherited, is_parent, without_crossref, checked_by, checked, entry_by, entry_at, after_first, after_second, entries_of}
+use Rattle.btx_bib.specs.language.Passes.{passed, slot_at, parent_at, inherited_from, inherited, is_parent, without_crossref, checked, entry_at, after_first, after_second, entries_of}
 use Rattle.btx_bib.specs.language.Stored.{entry_with_key}
-use Rattle.btx_bib.specs.language.Told.{Database}
+use Rattle.btx_bib.specs.language.Messages.{Database}
 use Rattle.btx_bib.specs.language.Wanted.{Request}
 use Rattle.btx_bib.specs.laws.Databases.{read_all}
+use Rattle.btx_bib.specs.refinement.Passes.{checked_by, parent_slot, entry_by, with_field_values}
 
 module _ (n : ℕ) where
   -- one of the first n functions, or none

@@ -13,8 +13,10 @@ use Rattle.btx_run.specs.declared.options.Options.{Options}
 use Rattle.btx_run.specs.language.Files.Readings.{job_named, reading_of}
 use Rattle.btx_run.specs.laws.Laws.{BudgetLaw}
 use Rattle.btx_run.specs.language.Files.Counts.{counts_of}
-use Rattle.btx_run.specs.language.Product.{product_of_files, logged_before, work_in}
-use Rattle.btx_run.specs.language.Files.Telling.{bytes_of_lines}
+use Rattle.btx_run.specs.language.Files.Logging.{bytes_of_lines}
+use Rattle.btx_run.specs.language.Product.{product_of_files}
+use Rattle.btx_run.specs.refinement.Files.Logging.{bytes_of_lines}
+use Rattle.btx_run.specs.refinement.Product.{logged_before, work_in}
 
 -- the same lines before both
 behind_lines : (lines : List Line) (shorter longer : Product) → Foretells shorter longer → Foretells (logged_before lines shorter) (logged_before lines longer)

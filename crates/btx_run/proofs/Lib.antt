@@ -1,4 +1,4 @@
-pub mod TellingLemmas
+pub mod LoggingLemmas
 pub mod ReadingLemmas
 pub mod AskedLemmas
 pub mod FileLawLemmas

@@ -17,13 +17,13 @@ use Rattle.btx_bib.specs.language.Databases.{library_of}
 use Rattle.btx_bib.specs.language.Library.{Library}
 use Rattle.btx_bib.specs.language.Requests.{asked}
 use Rattle.btx_step.specs.language.Jobs.{Job}
-use Rattle.btx_machine.specs.refinement.Faults.{CountsOfLog, CountsOfOutputs}
+use Rattle.btx_aux.specs.refinement.Faults.{CountsOfOne}
+use Rattle.btx_machine.specs.refinement.Faults.{CountsOfTwo}
 use Rattle.btx_machine.specs.language.KeepingStep.{AtFault, BothBegin, BothExtend, Completes}
-use Rattle.btx_machine.specs.language.Product.{Product, product_of, executed, style_product}
-use Rattle.btx_machine.specs.language.Reports.{last_line, log_counts}
+use Rattle.btx_machine.specs.language.Product.{Product, product_of, style_product}
+use Rattle.btx_machine.specs.language.Reports.{last_line}
 use Rattle.btx_machine.specs.language.Saying.{ended_line}
 use Rattle.btx_machine.specs.language.States.{Outcome, Done, Stopped, Limit}
-use Rattle.btx_machine.specs.language.Written.{Received}
 use Rattle.btx_machine.specs.declared.report.End.TheVariants.{NoTopFile}
 use Rattle.btx_machine.specs.declared.report.Report.{Report}
 use Rattle.btx_machine.specs.declared.report.LogCounts.{LogCounts}
@@ -35,15 +35,19 @@ use Rattle.btx_run.specs.declared.options.Options.{Options}
 use Rattle.btx_run.specs.language.Files.Counts.{counts_of}
 use Rattle.btx_run.specs.language.Files.Readings.{Logged, job_named}
 use Rattle.btx_run.specs.refinement.Files.Readings.{IsRead, files_read}
-use Rattle.btx_run.specs.language.Files.Telling.{bytes_of_lines}
-use Rattle.btx_run.specs.refinement.Files.Telling.{Tells}
-use Rattle.btx_run.specs.language.Contents.{database_of, style_in}
-use Rattle.btx_run.specs.language.Product.{product, product_of_files, product_of_reading, product_with, logged_before, work_in}
-use Rattle.btx_run.specs.refinement.Product.{work_of}
+use Rattle.btx_run.specs.language.Contents.{style_in}
+use Rattle.btx_run.specs.language.Files.Logging.{bytes_of_lines}
+use Rattle.btx_run.specs.language.Product.{product, product_of_files, product_with}
+use Rattle.btx_run.specs.refinement.Files.Logging.{Logs}
+use Rattle.btx_run.specs.refinement.Files.Logging.{bytes_of_lines}
+use Rattle.btx_run.specs.refinement.Product.{logged_before, product_of_reading, work_in, work_of}
 use Rattle.btx_machine.specs.refinement.KeepingStep.{LastLineBehindList, KeepsStep}
 use Rattle.btx_machine.specs.refinement.Outputs.{Journal}
-use Rattle.btx_machine.specs.refinement.Product.{product_early}
+use Rattle.btx_machine.specs.refinement.Product.{product_early, executed}
 use Rattle.btx_run.specs.refinement.Files.Counts.{counts_at}
+use Rattle.btx_machine.specs.refinement.Written.{Received}
+use Rattle.btx_machine.specs.laws.Reports.{log_counts}
+use Rattle.btx_run.specs.refinement.Contents.{database_of}
 
 -- ---- what the style works on
 
@@ -160,7 +164,7 @@ fails_in_lines lines b l m make budget part = record { beginnings = begins budge
 
 -- what was logged, by the counts of its lines
 pub counts_of_lines : (warnings errors : ℕ) (first counts : LogCounts) (log : Received) (lines : List Line)
-    → warnings ≡ counts.warnings → errors ≡ counts.errors → first ≡ counts_of [] → Tells (first, counts) log lines → log_counts warnings errors ≡ counts_of lines
+    → warnings ≡ counts.warnings → errors ≡ counts.errors → first ≡ counts_of [] → Logs (first, counts) log lines → log_counts warnings errors ≡ counts_of lines
 counts_of_lines warnings errors first counts log lines is_warnings is_errors new tells =
     ap (λ warnings. log_counts warnings errors) is_warnings
     ∙ ap (log_counts counts.warnings) is_errors
@@ -199,17 +203,17 @@ module _ (name : List ℕ) (options : Options) (a z : Received) (job : AuxJob) w
 
 -- ---- counts of failures
 
-pub counts_of_memory : (r : Result Report Fault) (bbl log : ℕ) → r ≡ Err Memory → CountsOfOutputs r (bbl, bbl) (log, log)
-counts_of_memory r bbl log is = subst (λ (r : Result Report Fault). CountsOfOutputs r (bbl, bbl) (log, log)) (sym is) (refl, refl)
+pub counts_of_memory : (r : Result Report Fault) (bbl log : ℕ) → r ≡ Err Memory → CountsOfTwo r (bbl, bbl) (log, log)
+counts_of_memory r bbl log is = subst (λ (r : Result Report Fault). CountsOfTwo r (bbl, bbl) (log, log)) (sym is) (refl, refl)
 
 pub counts_of_style : (r : Result Report Fault) (fault : Fault) (name text : List ℕ) (bbl log : ℕ) → r ≡ Err fault → Reads (Err fault) name text → length text ≤ greatest_file
-    → CountsOfOutputs r (bbl, bbl) (log, log)
+    → CountsOfTwo r (bbl, bbl) (log, log)
 counts_of_style r Memory name text bbl log is reads fits = counts_of_memory r bbl log is
 counts_of_style r FileLimit name text bbl log is reads fits = absurd (omega (arith, reads, fits))
 counts_of_style r Device name text bbl log is reads fits = absurd reads
 counts_of_style r StringLimit name text bbl log is reads fits = absurd reads
 
-pub counts_of_end : (r : Result Report Fault) (bbl : ℕ) (log : Change) → CountsOfLog r log → CountsOfOutputs r (bbl, bbl) log
+pub counts_of_end : (r : Result Report Fault) (bbl : ℕ) (log : Change) → CountsOfOne r log → CountsOfTwo r (bbl, bbl) log
 counts_of_end (Ok report) bbl log counts = (refl, counts)
 counts_of_end (Err Memory) bbl log counts = (refl, counts)
 counts_of_end (Err Device) bbl log counts = inr (refl, counts)

@@ -18,14 +18,15 @@ use Rattle.btx_aux.specs.declared.end.End.{End as AuxEnd}
 use Rattle.btx_aux.specs.declared.end.End.TheVariants as aux
 use Rattle.btx_run.specs.declared.files.found.FilesRead.{FilesRead}
 use Rattle.btx_run.specs.declared.files.found.FilesRead.TheVariants.{Ends, Found}
-use Rattle.btx_machine.specs.declared.ending.Limit.TheVariants as kind
+use Rattle.btx_text.specs.declared.limits.Limit.TheVariants as kind
 use Rattle.btx_machine.specs.declared.report.End.TheVariants as ended
-use Rattle.btx_run.specs.language.Files.Telling.{bytes_of_lines}
-use Rattle.btx_run.specs.refinement.Files.Telling.{LogReceived, Counted, Tells}
+use Rattle.btx_run.specs.language.Files.Logging.{bytes_of_lines}
+use Rattle.btx_run.specs.refinement.Files.Logging.{Counted, LogReceived, Logs}
+use Rattle.btx_run.specs.refinement.Files.Logging.{bytes_of_lines}
 use Rattle.btx_run.specs.language.Files.Lines.{no_style_line, style_line}
-use Rattle.btx_run.specs.language.Files.Readings.{Logged, after_job, behind, database_logged, databases_read, databases_logged, files_found, logged, style_named, style_read}
-use Rattle.btx_run.specs.refinement.Files.Readings.{AddsAs, IsAdded, IsRead, ReadsAs, after_style, database_read}
-use Rattle.btx_run.proofs.TellingLemmas.{part_begins, rest_begins, tells_both, tells_nothing}
+use Rattle.btx_run.proofs.LoggingLemmas.{logs_both, logs_nothing, part_begins, rest_begins}
+use Rattle.btx_run.specs.language.Files.Readings.{Logged, after_job, behind, databases_logged, files_found, logged, style_named, style_read}
+use Rattle.btx_run.specs.refinement.Files.Readings.{AddsAs, IsAdded, IsRead, ReadsAs, after_style, database_logged, database_read, databases_read}
 use Rattle.std.specs.Prelude.{option_to_list}
 use Rattle.btx_run.specs.refinement.Files.Found.{named_file}
 
@@ -37,9 +38,9 @@ of_any None P p = tt
 of_any (Some files) P p = p files
 
 -- what follows from what is known of the content
-pub of_told : (content : Option Files) (Q P : Files → Type 0) → IfSome content Q → ((files : Files) → Q files → P files) → IfSome content P
-of_told None Q P q p = tt
-of_told (Some files) Q P q p = p files q
+pub of_logged : (content : Option Files) (Q P : Files → Type 0) → IfSome content Q → ((files : Files) → Q files → P files) → IfSome content P
+of_logged None Q P q p = tt
+of_logged (Some files) Q P q p = p files q
 
 -- what follows from two things that are known of it, one after the other
 pub of_both : (content later : Option Files) (Q R P : Files → Type 0) → later ≡ content → IfSome content Q → IfSome later R → ((files : Files) → Q files → R files → P files) → IfSome content P
@@ -84,8 +85,8 @@ reads_failing (Err fault) a b x y part err begins = begins
 
 -- lines, and then a part
 pub reads_behind : {T : Type 0} (r : Result T Fault) (a b c : LogCounts) (x y z : Option (List ℕ)) (lines : List Line) (part : Logged T)
-    → Tells (a, b) (x, y) lines → ReadsAs r (b, c) (y, z) part → ReadsAs r (a, c) (x, z) (behind lines part)
-reads_behind (Ok value) a b c x y z lines part told read = record { gives = read.gives; tells = tells_both a b c x y z _ _ told read.tells }
+    → Logs (a, b) (x, y) lines → ReadsAs r (b, c) (y, z) part → ReadsAs r (a, c) (x, z) (behind lines part)
+reads_behind (Ok value) a b c x y z lines part told read = record { gives = read.gives; tells = logs_both a b c x y z _ _ told read.tells }
 reads_behind (Err fault) a b c x y z lines part told read = rest_begins x y z a b _ _ told read
 
 -- a fault while the lines before a part were written
@@ -96,7 +97,7 @@ reads_part (Err fault) a b x y lines part err told = part_begins x y _ _ told
 
 -- a part without a line
 pub reads_at_once : {T : Type 0} (value : T) (a : LogCounts) (x : Option (List ℕ)) → IsRead value (a, a) (x, x) (logged [] value)
-reads_at_once value a x = record { gives = refl; tells = tells_nothing a x }
+reads_at_once value a x = record { gives = refl; tells = logs_nothing a x }
 
 -- ---- databases
 
@@ -104,12 +105,12 @@ reads_at_once value a x = record { gives = refl; tells = tells_nothing a x }
 pub no_database : (files : Files) (found : List NamedFile) (a : LogCounts) (x : Option (List ℕ)) → found ≡ [] → IsRead found (a, a) (x, x) (databases_read files [])
 no_database files found a x none = subst (λ (found : List NamedFile). IsRead found (a, a) (x, x) (logged [] [])) (sym none) (reads_at_once [] a x)
 
-databases_told-append : (files : Files) (earlier xs ys : List (List ℕ))
+databases_logged-append : (files : Files) (earlier xs ys : List (List ℕ))
     → databases_logged files earlier (xs ++ ys) ≡ databases_logged files earlier xs ++ databases_logged files (earlier ++ xs) ys
-databases_told-append files earlier [] ys = ap (λ l. databases_logged files l ys) (sym (append-nil earlier))
-databases_told-append files earlier (x ∷ xs) ys =
+databases_logged-append files earlier [] ys = ap (λ l. databases_logged files l ys) (sym (append-nil earlier))
+databases_logged-append files earlier (x ∷ xs) ys =
     ap (λ l. database_logged (length (files_found files earlier) + 1) x (file_at files x) ∷ l)
-    (databases_told-append files (earlier ++ x ∷ []) xs ys
+    (databases_logged-append files (earlier ++ x ∷ []) xs ys
     ∙ ap (λ l. databases_logged files (earlier ++ x ∷ []) xs ++ databases_logged files l ys) (append_assoc earlier (x ∷ []) xs))
 
 -- the names of one database more
@@ -118,10 +119,10 @@ pub names_more : (names : List Bytes) (i : ℕ) (name : Bytes) → i < length na
 names_more names i name lt is =
     ap texts_of (take_more names i name lt ∙ ap (λ x. take i names ++ x ∷ []) (sym is)) ∙ map-append (λ (name : Bytes). name.items) (take i names) (name ∷ [])
 
-told_more : (files : Files) (names : List Bytes) (i : ℕ) (name : Bytes) → i < length names → name ≡ get_or names i name
+logged_more : (files : Files) (names : List Bytes) (i : ℕ) (name : Bytes) → i < length names → name ≡ get_or names i name
     → databases_logged files [] (texts_of (take (i + 1) names))
     ≡ databases_logged files [] (texts_of (take i names)) ++ database_logged (length (files_found files (texts_of (take i names))) + 1) name.items (file_at files name.items) ∷ []
-told_more files names i name lt is = ap (databases_logged files []) (names_more names i name lt is) ∙ databases_told-append files [] (texts_of (take i names)) (name.items ∷ [])
+logged_more files names i name lt is = ap (databases_logged files []) (names_more names i name lt is) ∙ databases_logged-append files [] (texts_of (take i names)) (name.items ∷ [])
 
 found_more : (files : Files) (names : List Bytes) (i : ℕ) (name : Bytes) → i < length names → name ≡ get_or names i name
     → files_found files (texts_of (take (i + 1) names)) ≡ files_found files (texts_of (take i names)) ++ option_to_list (file_at files name.items)
@@ -132,10 +133,10 @@ found_more files names i name lt is =
 
 -- a database's line was logged
 pub database_is_read : (files : Files) (number : ℕ) (name : List ℕ) (found : Option NamedFile) (line : Line) (a b : LogCounts) (x y : Option (List ℕ)) → found ≡ file_at files name
-    → line ≡ database_logged number name found → Tells (a, b) (x, y) (line ∷ []) → IsRead found (a, b) (x, y) (database_read files number name)
+    → line ≡ database_logged number name found → Logs (a, b) (x, y) (line ∷ []) → IsRead found (a, b) (x, y) (database_read files number name)
 database_is_read files number name found line a b x y is is_line told = record {
   gives = is;
-  tells = subst (λ line. Tells (a, b) (x, y) (line ∷ [])) (is_line ∙ ap (database_logged number name) is) told;
+  tells = subst (λ line. Logs (a, b) (x, y) (line ∷ [])) (is_line ∙ ap (database_logged number name) is) told;
 }
 
 -- a beginning of it
@@ -150,7 +151,7 @@ pub adds_found : (files : Files) (before after : List NamedFile) (number : ℕ) 
     → IsAdded before after (a, b) (x, y) (database_read files (length before + 1) name)
 adds_found files before after number name found a b x y next kept read = record {
   kept = kept ∙ ap (λ found. before ++ option_to_list found) read.gives;
-  tells = subst (λ number. Tells (a, b) (x, y) (database_read files number name).lines) next read.tells;
+  tells = subst (λ number. Logs (a, b) (x, y) (database_read files number name).lines) next read.tells;
 }
 
 -- a fault at a database
@@ -168,9 +169,9 @@ pub databases_more : (files : Files) (names : List Bytes) (i : ℕ) (name : Byte
 databases_more files names i name text found later a b c x y z lt is same read added = record {
   gives = added.kept ∙ ap (λ l. found ++ option_to_list (file_at files l)) same ∙ ap (λ l. l ++ option_to_list (file_at files name.items)) read.gives ∙ sym (found_more files names i name lt is);
   tells =
-      let here = subst (λ text. Tells (b, c) (y, z) (database_logged (length found + 1) text (file_at files text) ∷ [])) same added.tells in
-      let next = subst (λ l. Tells (b, c) (y, z) (database_logged (length l + 1) name.items (file_at files name.items) ∷ [])) read.gives here in
-      subst (Tells (a, c) (x, z)) (sym (told_more files names i name lt is)) (tells_both a b c x y z _ _ read.tells next);
+      let here = subst (λ text. Logs (b, c) (y, z) (database_logged (length found + 1) text (file_at files text) ∷ [])) same added.tells in
+      let next = subst (λ l. Logs (b, c) (y, z) (database_logged (length l + 1) name.items (file_at files name.items) ∷ [])) read.gives here in
+      subst (Logs (a, c) (x, z)) (sym (logged_more files names i name lt is)) (logs_both a b c x y z _ _ read.tells next);
 }
 
 -- a fault at a database
@@ -183,11 +184,11 @@ databases_begin files names i name text found a b x y z lt is same read part =
     let here = subst (λ text. AppendsBeginning y z (bytes_of_lines (database_logged (length found + 1) text (file_at files text) ∷ []))) same part in
     let next = subst (λ l. AppendsBeginning y z (bytes_of_lines (database_logged (length l + 1) name.items (file_at files name.items) ∷ []))) read.gives here in
     let first = rest_begins x y z a b _ _ read.tells next in
-    let so_far = subst (λ l. AppendsBeginning x z (bytes_of_lines l)) (sym (told_more files names i name lt is)) first in
+    let so_far = subst (λ l. AppendsBeginning x z (bytes_of_lines l)) (sym (logged_more files names i name lt is)) first in
     let whole : texts_of names ≡ texts_of (take (i + 1) names) ++ texts_of (drop (i + 1) names) =
     ap texts_of (sym (take-append-drop (i + 1) names)) ∙ map-append (λ (name : Bytes). name.items) (take (i + 1) names) (drop (i + 1) names) in
     let lines : databases_logged files [] (texts_of names) ≡ databases_logged files [] (texts_of (take (i + 1) names)) ++ databases_logged files (texts_of (take (i + 1) names)) (texts_of (drop (i + 1) names)) =
-    ap (databases_logged files []) whole ∙ databases_told-append files [] (texts_of (take (i + 1) names)) (texts_of (drop (i + 1) names)) in
+    ap (databases_logged files []) whole ∙ databases_logged-append files [] (texts_of (take (i + 1) names)) (texts_of (drop (i + 1) names)) in
     subst (λ l. AppendsBeginning x z (bytes_of_lines l)) (sym lines) (part_begins x z _ _ so_far)
 
 -- ---- the style
@@ -226,9 +227,9 @@ unfolding style_read
 style_is_missed files job name = refl
 
 pub style_missed : (files : Files) (job : AuxJob) (name : List ℕ) (line : Line) (a b : LogCounts) (x y : Option (List ℕ))
-    → line ≡ no_style_line name → Tells (a, b) (x, y) (line ∷ []) → IsRead (Ends ended.Finished) (a, b) (x, y) (style_read files job name None)
+    → line ≡ no_style_line name → Logs (a, b) (x, y) (line ∷ []) → IsRead (Ends ended.Finished) (a, b) (x, y) (style_read files job name None)
 unfolding style_read
-style_missed files job name line a b x y is told = record { gives = refl; tells = subst (λ line. Tells (a, b) (x, y) (line ∷ [])) is told }
+style_missed files job name line a b x y is told = record { gives = refl; tells = subst (λ line. Logs (a, b) (x, y) (line ∷ [])) is told }
 
 -- the same answer for the same part
 pub reads_is : {T : Type 0} (r : Result T Fault) (counted : Counted) (log : LogReceived) (part same : Logged T) → part ≡ same → ReadsAs r counted log same → ReadsAs r counted log part

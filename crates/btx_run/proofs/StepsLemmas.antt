@@ -6,7 +6,7 @@ use Rattle.btx_aux.specs.language.Job.{AuxJob}
 use Rattle.btx_aux.specs.declared.end.End.{End as AuxEnd}
 use Rattle.btx_aux.specs.declared.end.End.TheVariants as aux
 use Rattle.btx_text.specs.language.LogLines.{Line}
-use Rattle.btx_machine.specs.declared.ending.Limit.TheVariants as kind
+use Rattle.btx_text.specs.declared.limits.Limit.TheVariants as kind
 use Rattle.btx_machine.specs.declared.report.End.{End}
 use Rattle.btx_machine.specs.declared.report.End.TheVariants as ended
 use Rattle.btx_machine.specs.declared.report.LogCounts.{LogCounts}
@@ -17,12 +17,13 @@ use Rattle.btx_run.specs.declared.files.found.FilesRead.{FilesRead}
 use Rattle.btx_run.specs.declared.files.found.FilesRead.TheVariants.{Ends, Found}
 use Rattle.btx_run.specs.declared.options.Options.{Options}
 use Rattle.btx_run.specs.language.Files.Found.{NamedFile, file_at}
-use Rattle.btx_run.specs.language.Files.Readings.{Logged, logged, databases_read, style_read, style_named, after_job, job_named, reading_of}
-use Rattle.btx_run.specs.refinement.Files.Readings.{after_style, with_style}
+use Rattle.btx_run.specs.language.Files.Readings.{Logged, logged, style_read, style_named, after_job, job_named, reading_of}
+use Rattle.btx_run.specs.refinement.Files.Readings.{after_style, with_style, databases_read}
 use Rattle.btx_run.specs.laws.Laws.{NeedsLaw, StoppedLaw}
 use Rattle.btx_run.specs.language.Files.Counts.{counts_of}
-use Rattle.btx_run.specs.language.Product.{product_of_files, logged_before, work_in}
+use Rattle.btx_run.specs.language.Product.{product_of_files}
 use Rattle.btx_text.specs.language.Limits.{is_too_long}
+use Rattle.btx_run.specs.refinement.Product.{work_in, logged_before}
 
 -- ---- what a run needs that isn't stopped
 

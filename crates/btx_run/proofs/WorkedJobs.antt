@@ -13,7 +13,6 @@ use Rattle.btx_bst.specs.language.BuiltIns.{built_in_of, built_ins}
 use Rattle.btx_bst.specs.language.Commands.{command_named, declare, entry_command, function_command, macro_command, read_command, run_command, sort_command}
 use Rattle.btx_bst.specs.language.Fronts.{len_till}
 use Rattle.btx_bst.specs.language.Lists.{list_end, list_turn}
-use Rattle.btx_bst.specs.language.MessageTexts.{after_shown, before_shown, shown_of}
 use Rattle.btx_bst.specs.language.Names.{named_lower}
 use Rattle.btx_bst.specs.language.Places.{behind_white, ink_from, lines_size, size, skipped_from}
 use Rattle.btx_bst.specs.language.StyleText.{item_turn, style_from, style_of}
@@ -32,7 +31,7 @@ use Rattle.btx_bib.specs.language.Grammar.Values.{part_in, value_at, value_withi
 use Rattle.btx_bib.specs.language.Listing.{slot_of}
 use Rattle.btx_bib.specs.language.MessageTexts.{slip_text, message_text}
 use Rattle.btx_bib.specs.language.Passes.{check_messages, checked, entries_of, inherited, reference_messages}
-use Rattle.btx_step.specs.language.Notes.{form_of, has_place, note_kind, note_line, not_ascii_text, place_of, note_text}
+use Rattle.btx_step.specs.language.Notes.{form_of, has_place, note_kind, note_line, place_of, note_text}
 use Rattle.btx_step.specs.language.Sorting.{sorted_by}
 use Rattle.btx_step.specs.language.Steps.{built_in_run, function_run, step_of}
 use Rattle.btx_machine.specs.language.Commands.{command_word, visit}
@@ -47,10 +46,11 @@ use Rattle.btx_run.specs.language.Files.Readings.{after_job, style_named, style_
 use Rattle.btx_run.specs.refinement.Files.Readings.{after_style}
 use Rattle.btx_run.specs.laws.WorkedJobs as jobs
 use Rattle.btx_run.specs.laws.WorkedJobs.{JobsAreSo, IsSo}
+use Rattle.btx_bst.specs.language.MessageTexts.{complaint_text}
 
 -- opens each definition that the rows compute with
 computes : Unit {0}
-unfolding digits line_pieces trimmed mark_of place_text said job_events pieces_of aux_command_named words_of job_of_files aux_complaint_text aux_note_text aux_note_kind skip_white till_white from_white last_white break_of cut_within cut_of body_turn body_end built_ins built_in_of command_named entry_command function_command read_command run_command sort_command declare macro_command len_till list_turn list_end before_shown shown_of after_shown named_lower behind_white ink_from skipped_from lines_size size item_turn style_from style_of turns_within digits_value signed integer_at word_front library_of body_of longest_run_len enclosed_len unmarked_len field_at after_comma more_in command_of head_of head_at behind_at expected_step events_within events_from lines_begun name_here open_in sign_in key_here squeezed part_in value_within value_at slot_of slip_text message_text inherited checked check_messages entries_of reference_messages form_of not_ascii_text place_of note_text note_kind has_place note_line sorted_by built_in_run function_run step_of command_word visit do_item do_items meaning loop_of end_word last_line lines_logged said_on token_effect turn_of style_line no_style_line database_line no_database_line after_style style_read style_named after_job
+unfolding digits line_pieces trimmed mark_of place_text said job_events pieces_of aux_command_named words_of job_of_files aux_complaint_text aux_note_text aux_note_kind skip_white till_white from_white last_white break_of cut_within cut_of body_turn body_end built_ins built_in_of command_named entry_command function_command read_command run_command sort_command declare macro_command len_till list_turn list_end complaint_text named_lower behind_white ink_from skipped_from lines_size size item_turn style_from style_of turns_within digits_value signed integer_at word_front library_of body_of longest_run_len enclosed_len unmarked_len field_at after_comma more_in command_of head_of head_at behind_at expected_step events_within events_from lines_begun name_here open_in sign_in key_here squeezed part_in value_within value_at slot_of slip_text message_text inherited checked check_messages entries_of reference_messages form_of place_of note_text note_kind has_place note_line sorted_by built_in_run function_run step_of command_word visit do_item do_items meaning loop_of end_word last_line lines_logged said_on token_effect turn_of style_line no_style_line database_line no_database_line after_style style_read style_named after_job
 computes = tt
 
 a_citation : IsSo jobs.a_citation

@@ -3,7 +3,7 @@ ghost use Rattle.std.specs.Prelude.{◌≡◌, IfErr, IfOk, map};
 ghost use Rattle.btx_bib.specs.language.Databases.{library_of};
 ghost use Rattle.btx_bib.specs.language.Requests.{asked};
 ghost use Rattle.btx_bib.specs.refinement.Sources.{source_databases};
-ghost use Rattle.btx_run.specs.language.Contents.{database_of};
+ghost use Rattle.btx_run.specs.refinement.Contents.{database_of};
 
 use crate::files::found::FoundFiles;
 use btx_aux::AuxJob;
@@ -26,8 +26,8 @@ fn sources<'f>(alloc: Global, found: &'f FoundFiles<'_>) -> Result<Vec<Source<'f
     Ok(sources)
 }
 
-/// Reads the databases that were found, for a job and its style, where an entry that isn't cited takes this number of references to stay. The only
-/// fault is want of memory.
+/// Reads the databases in `found`, for a job and its style. A parent that isn't cited stays if at least `min_crossrefs` stored entries refer to it.
+/// The only fault is want of memory.
 pub fn read_library<'a>(
     alloc: Global,
     style: &Style<'a>,

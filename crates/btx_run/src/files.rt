@@ -5,9 +5,9 @@ mod databases;
 pub mod found;
 pub mod laws;
 mod lines;
+mod logging;
 mod names;
 pub mod reading;
-mod telling;
 
 pub use found::{FilesRead, FoundFile, FoundFiles, JobFiles};
 pub use reading::{read_files, read_job};

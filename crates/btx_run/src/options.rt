@@ -12,7 +12,7 @@ pub struct Options {
     pub budget: u64,
     /// How the text of strings is read.
     pub text: TextMode,
-    /// The greatest length of a line of the `.bbl`, where white allows a break.
+    /// The greatest length of a line of the `.bbl`, in bytes, if whitespace allows a break.
     pub line: LineLength,
     /// How many bytes of a string a variable of an entry keeps.
     pub entry_max: KeptBytes,

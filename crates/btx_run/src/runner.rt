@@ -4,7 +4,7 @@ ghost use Rattle.std.specs.Io.KnownBytes.{Appends};
 ghost use Rattle.btx_text.specs.language.Limits.{greatest_file};
 ghost use Rattle.btx_aux.specs.refinement.Answers.{ByAnswers};
 ghost use Rattle.btx_machine.specs.language.DirectDepth.{StaysWithin};
-ghost use Rattle.btx_machine.specs.refinement.Faults.{CountsOfOutputs};
+ghost use Rattle.btx_machine.specs.refinement.Faults.{CountsOfTwo};
 ghost use Rattle.btx_machine.specs.language.KeepingStep.{AtFault, Completes};
 ghost use Rattle.btx_machine.specs.language.Product.{log_of, style_product as executed};
 ghost use Rattle.btx_machine.specs.declared.report.End.TheVariants.{NoTopFile};
@@ -14,9 +14,9 @@ ghost use Rattle.btx_run.specs.refinement.Files.Asked.{AreAmong, names_in};
 ghost use Rattle.btx_run.specs.refinement.Files.Faults.{CountsOfThree};
 ghost use Rattle.btx_run.specs.language.Files.Readings.{reading_of};
 ghost use Rattle.btx_run.specs.refinement.Files.Readings.{StyleFits, files_read};
-ghost use Rattle.btx_run.specs.language.Product.{product, product_of_files, product_of_reading, product_with, work_in};
+ghost use Rattle.btx_run.specs.language.Product.{product, product_of_files, product_with};
 ghost use Rattle.btx_run.specs.language.RunFaults.{CountsOfRun};
-ghost use Rattle.btx_run.specs.refinement.Product.{work_of};
+ghost use Rattle.btx_run.specs.refinement.Product.{work_of, work_in, product_of_reading};
 
 use crate::contents::read_library;
 use crate::files::{FilesRead, JobFiles, read_files, read_job};
@@ -26,7 +26,7 @@ use btx_aux::{AuxJob, Finder};
 use btx_bib::Library;
 use btx_bst::{Style, read_style};
 use btx_machine::report::report_of;
-use btx_machine::{Journal, LogCounts, Report, execute_style, tell_end};
+use btx_machine::{Journal, LogCounts, Report, execute_style, log_end};
 use btx_out::Sink;
 use btx_step::Job;
 use btx_text::Fault;
@@ -47,7 +47,7 @@ fn execute<'a, W: Sink, L: Sink>(
     ensures bound { IfOk result (λ report. report.steps ≤ options.now.budget) }
     ensures err { OnErr result (AtFault (W.received bbl.old, L.received log.old) (W.received bbl.new, L.received log.new)
         (executed (work_of style.now library.now options.now) counts options.now.line) options.now.budget) }
-    ensures counts { CountsOfOutputs result (W.failures bbl.old, W.failures bbl.new) (L.failures log.old, L.failures log.new) }
+    ensures counts { CountsOfTwo result (W.failures bbl.old, W.failures bbl.new) (L.failures log.old, L.failures log.new) }
 {
     let job = Job::new(
         style,
@@ -75,7 +75,7 @@ fn execute_found<'a, W: Sink, L: Sink>(
     ensures bound { IfOk result (λ report. report.steps ≤ options.now.budget) }
     ensures err { OnErr result (AtFault (W.received bbl.old, L.received log.old) (W.received bbl.new, L.received log.new)
         (executed (work_in job.now found.now options.now) counts options.now.line) options.now.budget) }
-    ensures counts { CountsOfOutputs result (W.failures bbl.old, W.failures bbl.new) (L.failures log.old, L.failures log.new) }
+    ensures counts { CountsOfTwo result (W.failures bbl.old, W.failures bbl.new) (L.failures log.old, L.failures log.new) }
 {
     let style = read_style(alloc, found.style.name(), found.style.bytes())?;
     let library = read_library(alloc, &style, job, &found.databases, options.min_crossrefs)?;
@@ -100,10 +100,10 @@ fn after_files<'a, W: Sink, L: Sink>(
     ensures err { OnErr result (AtFault (W.received bbl.old, L.received log.old) (W.received bbl.new, L.received log.new)
         (product_of_files job.now read.entry options.now counts) options.now.budget) }
     ensures untouched { IfOk result (λ report. report.end ≡ NoTopFile → bbl.new ≡ bbl.old) }
-    ensures counts { CountsOfOutputs result (W.failures bbl.old, W.failures bbl.new) (L.failures log.old, L.failures log.new) }
+    ensures counts { CountsOfTwo result (W.failures bbl.old, W.failures bbl.new) (L.failures log.old, L.failures log.new) }
 {
     match read {
-        FilesRead::Ends(end) => tell_end(alloc, report_of(end, 0, 0, counts), log),
+        FilesRead::Ends(end) => log_end(alloc, report_of(end, 0, 0, counts), log),
         FilesRead::Found(found) => execute_found(alloc, job, &found, options, counts, bbl, log),
     }
 }

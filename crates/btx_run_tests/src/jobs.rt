@@ -31,7 +31,7 @@ pub struct Outputs {
     pub answer: Result<Report, RunFault>,
 }
 
-/// The usual options, with a budget.
+/// Makes the usual options, with the budget `budget`, in steps.
 pub fn options(budget: u64) -> Options {
     Options {
         min_crossrefs: 2,
@@ -43,12 +43,12 @@ pub fn options(budget: u64) -> Options {
     }
 }
 
-/// The files of a job.
+/// Makes the files of a job: its `.aux` file, its style and its database.
 pub fn job_of<'a>(aux: &'a [u8], style: &'a [u8], database: &'a [u8]) -> [File<'a>; 3] {
     [(b"job.aux", aux), (b"s.bst", style), (b"d.bib", database)]
 }
 
-/// Runs the job of a name.
+/// Runs the job `name` over `files`, with at most `budget` steps.
 pub fn run_named(
     alloc: Global,
     files: &[File<'_>],
@@ -73,7 +73,7 @@ pub fn run_named(
     })
 }
 
-/// Runs the job `job`.
+/// Runs the job `job` over `files`, with at most `budget` steps.
 pub fn run_over(alloc: Global, files: &[File<'_>], budget: u64) -> Result<Outputs, Fault> {
     run_named(alloc, files, b"job", budget)
 }

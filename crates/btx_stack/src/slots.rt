@@ -12,7 +12,7 @@ use crate::slot::{Kind, Slot, are_large, are_same};
 use crate::variable::Variable;
 use btx_code::Op;
 use btx_code::op::Function;
-use btx_text::Text;
+use btx_text::{MOST_LITERALS, Text};
 use std::alloc::{AllocError, Global};
 use std::marker::Model;
 
@@ -49,8 +49,8 @@ impl<'a> Slots<'a> {
         ensures { IfOk result (λ s. s ≡ []) }
     {
         Ok(Slots {
-            all: vec![in alloc; Slot::empty(); 1000]?,
-            top: 1000,
+            all: vec![in alloc; Slot::empty(); MOST_LITERALS]?,
+            top: MOST_LITERALS,
             pool: Vec::new(alloc),
         })
     }
@@ -62,7 +62,7 @@ impl<'a> Slots<'a> {
         ensures length { result ≡ length self.now }
         ensures within { length self.now ≤ 1000 }
     {
-        1000 - self.top
+        MOST_LITERALS - self.top
     }
 
     /// Pushes an integer and answers true, or answers false where there is no room.
@@ -180,7 +180,7 @@ impl<'a> Slots<'a> {
         ensures within { length self.now ≤ 1000 }
     {
         let at = self.top;
-        if at == 1000 {
+        if at == MOST_LITERALS {
             return None;
         }
         let a = self.all[at];
@@ -199,7 +199,7 @@ impl<'a> Slots<'a> {
         ensures unchanged { OnErr result (self.new ≡ self.old) }
     {
         let at = self.top;
-        if at == 1000 {
+        if at == MOST_LITERALS {
             return Ok(None);
         }
         let a = self.all[at];
@@ -240,7 +240,7 @@ impl<'a> Slots<'a> {
         ensures none { IfNone result (self.new ≡ self.old) }
     {
         let at = self.top;
-        if at == 1000 {
+        if at == MOST_LITERALS {
             return None;
         }
         let a = self.all[at];
@@ -264,7 +264,7 @@ impl<'a> Slots<'a> {
         ensures none { IfNone result (self.new ≡ self.old) }
     {
         let at = self.top;
-        if at == 1000 {
+        if at == MOST_LITERALS {
             return None;
         }
         let a = self.all[at];
@@ -284,7 +284,7 @@ impl<'a> Slots<'a> {
         ensures some { is_some result ≡ has_text (drop depth self.now) }
         ensures text { IfSome result (λ text. drop depth self.now ≡ content.Text text.now ∷ drop (depth + 1) self.now) }
     {
-        if depth >= 1000 - self.top {
+        if depth >= MOST_LITERALS - self.top {
             return None;
         }
         let slot = self.all[self.top + depth];
@@ -304,7 +304,7 @@ impl<'a> Slots<'a> {
     pub fn integer_at(&self, depth: usize) -> Option<i32>
         ensures { result ≡ integer_on (drop depth self.now) }
     {
-        if depth >= 1000 - self.top {
+        if depth >= MOST_LITERALS - self.top {
             return None;
         }
         let slot = self.all[self.top + depth];
@@ -322,7 +322,7 @@ impl<'a> Slots<'a> {
         ensures function { IfSome result (λ f. drop depth self.now ≡ content.Function (callee_of f.op f.number) ∷ drop (depth + 1) self.now) }
         ensures runs { IfSome result (λ f. Runs f.op) }
     {
-        if depth >= 1000 - self.top {
+        if depth >= MOST_LITERALS - self.top {
             return None;
         }
         let slot = self.all[self.top + depth];
@@ -341,7 +341,7 @@ impl<'a> Slots<'a> {
     pub fn missing_at(&self, depth: usize) -> bool
         ensures { result ≡ has_missing (drop depth self.now) }
     {
-        if depth >= 1000 - self.top {
+        if depth >= MOST_LITERALS - self.top {
             return false;
         }
         let slot = self.all[self.top + depth];
@@ -357,7 +357,7 @@ impl<'a> Slots<'a> {
     pub fn large_at(&self, depth: usize) -> Option<u32>
         ensures { result ≡ large_on (drop depth self.now) }
     {
-        if depth >= 1000 - self.top {
+        if depth >= MOST_LITERALS - self.top {
             return None;
         }
         let slot = self.all[self.top + depth];
@@ -444,7 +444,7 @@ impl<'a> Slots<'a> {
         ensures { Partly result self.old (replaced (content.Integer integer) self.old) self.new }
     {
         let at = self.top;
-        if at == 1000 {
+        if at == MOST_LITERALS {
             return false;
         }
         let a = self.all[at];
@@ -614,7 +614,7 @@ impl<'a> Slots<'a> {
         if at == 0 {
             return Ok(false);
         }
-        if at == 1000 {
+        if at == MOST_LITERALS {
             return Ok(false);
         }
         let mut a = self.all[at];
@@ -636,7 +636,7 @@ impl<'a> Slots<'a> {
         ensures unchanged { OnErr result (self.new ≡ self.old) }
     {
         let at = self.top;
-        if at == 1000 {
+        if at == MOST_LITERALS {
             return Ok(false);
         }
         let a = self.all[at];

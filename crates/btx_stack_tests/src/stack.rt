@@ -27,8 +27,8 @@ const ROWS: [(&[u8], &[u8]); 17] = [
     (b"ms8y=", b"made -8 made "),
 ];
 
-// The call of a letter.
-fn called<'a>(alloc: Global, stack: &mut Literals<'a>, letter: u8) -> Result<(), AllocError> {
+// Pushes the literal that a letter stands for.
+fn pushed<'a>(alloc: Global, stack: &mut Literals<'a>, letter: u8) -> Result<(), AllocError> {
     match letter {
         b'1' => {
             stack.push_integer(-7);
@@ -54,9 +54,29 @@ fn called<'a>(alloc: Global, stack: &mut Literals<'a>, letter: u8) -> Result<(),
         b'y' => {
             stack.push_text(Text::owned(vec![in alloc; b'y'; 3000]?))?;
         }
-        b'F' => {
+        _ => {
             stack.push(Literal::Function(Callee::User(5)))?;
         }
+    }
+    Ok(())
+}
+
+// Makes the call of a letter that wants a literal on top, if there is one.
+fn changed<'a>(alloc: Global, stack: &mut Literals<'a>, letter: u8) -> Result<(), AllocError> {
+    if stack.len() == 0 {
+        return Ok(());
+    }
+    match letter {
+        b'8' => stack.replace_integer(-8),
+        b'=' => stack.replace_made(alloc, b"made")?,
+        _ => stack.drop_top(),
+    }
+    Ok(())
+}
+
+// Makes the call that a letter stands for.
+fn called<'a>(alloc: Global, stack: &mut Literals<'a>, letter: u8) -> Result<(), AllocError> {
+    match letter {
         b'*' => {
             stack.join(alloc)?;
         }
@@ -66,22 +86,12 @@ fn called<'a>(alloc: Global, stack: &mut Literals<'a>, letter: u8) -> Result<(),
         b'2' => {
             stack.duplicate(alloc)?;
         }
-        _ => {
+        b'8' | b'=' | b'.' => {
             changed(alloc, stack, letter)?;
         }
-    }
-    Ok(())
-}
-
-// The call of a letter that wants a literal on top.
-fn changed<'a>(alloc: Global, stack: &mut Literals<'a>, letter: u8) -> Result<(), AllocError> {
-    if stack.len() == 0 {
-        return Ok(());
-    }
-    match letter {
-        b'8' => stack.replace_integer(-8),
-        b'=' => stack.replace_made(alloc, b"made")?,
-        _ => stack.drop_top(),
+        _ => {
+            pushed(alloc, stack, letter)?;
+        }
     }
     Ok(())
 }

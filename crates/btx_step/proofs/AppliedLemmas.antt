@@ -12,10 +12,11 @@ use Rattle.btx_step.specs.declared.said.Note.TheVariants as note
 use Rattle.btx_step.specs.language.Jobs.{Job}
 use Rattle.btx_step.specs.language.Stores.{Store}
 use Rattle.btx_step.specs.language.Answers.{Answer, with_literals}
-use Rattle.btx_step.specs.language.Operands.{Operand, Any, Of, Value, Does, seen_as, applied, absent, wrong, misfit_notes, or_else, complaints, or_default}
+use Rattle.btx_step.specs.language.Operands.{Operand, Any, Of, Value, Does, Default, Push, Back, seen_as, applied, absent, wrong, or_else, or_default}
 use Rattle.btx_step.specs.language.Table.{row, runs, runs_missing}
 use Rattle.btx_step.specs.language.Steps.{built_in_run}
-use Rattle.btx_step.specs.laws.Applied.{operand_literal, OperandValues, operand_literals, done_on, IsApplied, AreMissing, IsWrong, IsReported, FollowsRule, AppliedOrReported}
+use Rattle.btx_step.specs.laws.Applied.{operand_literal, OperandValues, operand_literals, done_on, IsApplied, AreMissing, IsWrong, by_default, IsReported, FollowsRule, AppliedOrReported}
+use Rattle.btx_step.specs.refinement.Operands.{misfit_notes, complaints}
 
 -- ---- one operand
 
@@ -78,10 +79,10 @@ record Fails (operands : List Operand) (does : Does operands) (xs : List Literal
   is : applied operands does xs ≡ None
 
 -- where the first one fits, what is told is told of the others
-told_later : (operand : Operand) (more : List Operand) (x : Literal) (xs : List Literal) (value : Value operand) → seen_as operand x ≡ Some value
+logged_later : (operand : Operand) (more : List Operand) (x : Literal) (xs : List Literal) (value : Value operand) → seen_as operand x ≡ Some value
     → complaints (operand ∷ more) (x ∷ xs) ≡ complaints more xs
-told_later Any more x xs value e = refl
-told_later (Of kind) more x xs value e = ap (λ o. or_else (absent more xs) (misfit_notes o (note.WrongKind x kind) (wrong more xs))) e
+logged_later Any more x xs value e = refl
+logged_later (Of kind) more x xs value e = ap (λ o. or_else (absent more xs) (misfit_notes o (note.WrongKind x kind) (wrong more xs))) e
 
 module _ (operand : Operand) (more : List Operand) (does : Does (operand ∷ more)) (x : Literal) (xs : List Literal) (value : Value operand) (same : x ≡ operand_literal operand value) (seen : seen_as operand x ≡ Some value) where
   go_on : applied (operand ∷ more) does (x ∷ xs) ≡ applied more (does value) xs
@@ -98,7 +99,7 @@ module _ (operand : Operand) (more : List Operand) (does : Does (operand ∷ mor
 
   why_later : AreMissing more xs (complaints more xs) ⊎ IsWrong more xs (complaints more xs)
       → AreMissing (operand ∷ more) (x ∷ xs) (complaints (operand ∷ more) (x ∷ xs)) ⊎ IsWrong (operand ∷ more) (x ∷ xs) (complaints (operand ∷ more) (x ∷ xs))
-  why_later (inl h) = let others = h.others in inl (record { missing = h.missing; some = h.some; others = omega (arith, others); logged = told_later operand more x xs value seen ∙ h.logged })
+  why_later (inl h) = let others = h.others in inl (record { missing = h.missing; some = h.some; others = omega (arith, others); logged = logged_later operand more x xs value seen ∙ h.logged })
   why_later (inr h) = let there = h.there in inr (record {
     place = suc h.place;
     kind = h.kind;
@@ -109,7 +110,7 @@ module _ (operand : Operand) (more : List Operand) (does : Does (operand ∷ mor
     misfits = h.misfits;
     above = (value, h.above);
     fit = ap (λ y. y ∷ take h.place xs) same ∙ ap (λ ys. operand_literal operand value ∷ ys) h.fit;
-    logged = told_later operand more x xs value seen ∙ h.logged;
+    logged = logged_later operand more x xs value seen ∙ h.logged;
   })
 
   later : Fits more (does value) xs ⊎ Fails more (does value) xs → Fits (operand ∷ more) does (x ∷ xs) ⊎ Fails (operand ∷ more) does (x ∷ xs)
@@ -118,8 +119,8 @@ module _ (operand : Operand) (more : List Operand) (does : Does (operand ∷ mor
 
 module _ (kind : Wanted) (more : List Operand) (x : Literal) (xs : List Literal) (none : seen_as (Of kind) x ≡ None) where
   -- it is told, unless another one isn't there
-  told_here : (notes : List Note) → absent more xs ≡ notes → complaints (Of kind ∷ more) (x ∷ xs) ≡ or_else notes (note.WrongKind x kind ∷ [])
-  told_here notes e = ap (λ o. or_else (absent more xs) (misfit_notes o (note.WrongKind x kind) (wrong more xs))) none ∙ ap (λ l. or_else l (note.WrongKind x kind ∷ [])) e
+  logged_here : (notes : List Note) → absent more xs ≡ notes → complaints (Of kind ∷ more) (x ∷ xs) ≡ or_else notes (note.WrongKind x kind ∷ [])
+  logged_here notes e = ap (λ o. or_else (absent more xs) (misfit_notes o (note.WrongKind x kind) (wrong more xs))) none ∙ ap (λ l. or_else l (note.WrongKind x kind ∷ [])) e
 
   why_here : Enough more xs ⊎ Few more xs
       → AreMissing (Of kind ∷ more) (x ∷ xs) (complaints (Of kind ∷ more) (x ∷ xs)) ⊎ IsWrong (Of kind ∷ more) (x ∷ xs) (complaints (Of kind ∷ more) (x ∷ xs))
@@ -133,9 +134,9 @@ module _ (kind : Wanted) (more : List Operand) (x : Literal) (xs : List Literal)
     misfits = misfit kind x none;
     above = tt;
     fit = refl;
-    logged = told_here [] e.1;
+    logged = logged_here [] e.1;
   })
-  why_here (inr e) = let others = e.1 in inl (record { missing = suc e.0; some = omega arith; others = omega (arith, others); logged = told_here _ e.2 })
+  why_here (inr e) = let others = e.1 in inl (record { missing = suc e.0; some = omega arith; others = omega (arith, others); logged = logged_here _ e.2 })
 
 abbrev Verdict : (operands : List Operand) → Does operands → List Literal → Type 0
 Verdict operands does xs = Fits operands does xs ⊎ Fails operands does xs
@@ -157,6 +158,10 @@ verdict (Of kind ∷ more) does (x ∷ xs) = of_kind kind more does x xs (λ val
 
 -- ---- the law
 
+defaulted : (default : Default) (notes : List Note) (seen below : List Literal) (s : Store) → or_default None default notes seen below s ≡ by_default default notes seen below s
+defaulted (Push instead) notes seen below s = refl
+defaulted Back notes seen below s = refl
+
 by_table : (job : Job) (f : BuiltIn) (s : Store) → built_in_run job f s ≡ runs f ((row f).does job) s → IsApplied job f s ⊎ IsReported job f s
 by_table job f s e = decided (verdict (row f).operands ((row f).does job) s.literals)
   where
@@ -170,7 +175,11 @@ by_table job f s e = decided (verdict (row f).operands ((row f).does job) s.lite
       taken = h.taken;
       is = e ∙ ap answered h.is ∙ ap (λ below. done_on (row f).operands ((row f).does job) h.values (with_literals below s)) h.left;
     })
-    decided (inr h) = inr (record { notes = complaints (row f).operands s.literals; why = h.why; is = e ∙ ap answered h.is })
+    decided (inr h) = inr (record {
+      notes = complaints (row f).operands s.literals;
+      why = h.why;
+      is = e ∙ ap answered h.is ∙ defaulted (row f).default _ s.literals (drop (length (row f).operands) s.literals) s;
+    })
 
 missing_by_table : (job : Job) (s : Store) (current : Option ℕ) → s.current ≡ current → FollowsRule built_in.Missing current → IsApplied job built_in.Missing s ⊎ IsReported job built_in.Missing s
 unfolding built_in_run

@@ -55,10 +55,10 @@ module _ {X : Type 0} (lt : X → X → Bool) (o : IsStrictWeakOrder lt) where
       (cases_Bool (ties lt z y))
 
   -- a test that tells what is less than x from x
-  abbrev pub Tells : (X → Bool) → Type 0
-  Tells p = (x y : X) → lt y x ≡ true → p x ≡ true → p y ≡ false
+  abbrev pub Splits : (X → Bool) → Type 0
+  Splits p = (x y : X) → lt y x ≡ true → p x ≡ true → p y ≡ false
 
-  placed_passes : (p : X → Bool) → Tells p → (x : X) (ys : List X) → filter p (inserted lt x ys) ≡ filter p (x ∷ ys)
+  placed_passes : (p : X → Bool) → Splits p → (x : X) (ys : List X) → filter p (inserted lt x ys) ≡ filter p (x ∷ ys)
   placed_passes p tells x [] = refl
   placed_passes p tells x (y ∷ ys) =
       let more = placed_passes p tells x ys in
@@ -76,7 +76,7 @@ module _ {X : Type 0} (lt : X → X → Bool) (o : IsStrictWeakOrder lt) where
   sorted_ascends [] = tt
   sorted_ascends (x ∷ xs) = placed_ascends x (sorted_by lt xs) (sorted_ascends xs)
 
-  pub sorted_passes : (p : X → Bool) → Tells p → (xs : List X) → filter p (sorted_by lt xs) ≡ filter p xs
+  pub sorted_passes : (p : X → Bool) → Splits p → (xs : List X) → filter p (sorted_by lt xs) ≡ filter p xs
   unfolding sorted_by
   sorted_passes p tells [] = refl
   sorted_passes p tells (x ∷ xs) = placed_passes p tells x (sorted_by lt xs) ∙ ap (λ l. cond (p x) (x ∷ l) l) (sorted_passes p tells xs)

@@ -4,8 +4,7 @@ use Rattle.std.specs.Cmp.{nat_cmp_is}
 use Rattle.std.specs.Cmp.Lexicographic.{slice_cmp}
 use Rattle.std.specs.Ordering.{ordering_then}
 use Rattle.std.proofs.lemmas.Bool.{cases_Bool}
-use Rattle.btx_step.specs.language.Sorting.{precedes}
-use Rattle.btx_step.specs.laws.Orders.{comes_first}
+use Rattle.btx_step.specs.laws.Orders.{comes_first, precedes}
 
 pub precedes_reads : (b c : List ℕ) → precedes b c ≡ comes_first b c
 precedes_reads [] [] = refl

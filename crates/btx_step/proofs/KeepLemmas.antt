@@ -1,5 +1,5 @@
 -- What the steps that assign nothing leave: all but the literals, and the literals below their operands.
-use Rattle.std.proofs.Common.{◌≡◌, ℕ, ℤ, true, false, Bool, cond, nat_lt, List, [], ◌∷◌, length, drop, Option, Some, None, refl, arith}
+use Rattle.std.proofs.Common.{◌≡◌, ℕ, ℤ, true, false, Bool, cond, nat_lt, List, [], ◌∷◌, length, drop, Option, Some, None, refl, arith, pos, negsuc}
 use Rattle.btx_bst.specs.declared.built_in.BuiltIn.{BuiltIn}
 use Rattle.btx_bst.specs.declared.built_in.BuiltIn.TheVariants as built_in
 use Rattle.btx_step.specs.declared.calculation.Calculation.{Calculation}
@@ -8,7 +8,7 @@ use Rattle.btx_stack.specs.declared.literal.Literal.{Literal}
 use Rattle.btx_stack.specs.declared.literal.Literal.TheVariants.{Integer, Text}
 use Rattle.btx_step.specs.declared.next.Next.{Next}
 use Rattle.btx_step.specs.declared.next.Next.TheVariants as next
-use Rattle.btx_step.specs.declared.next.Limit.TheVariants as limit
+use Rattle.btx_text.specs.declared.limits.Limit.TheVariants as limit
 use Rattle.btx_step.specs.declared.said.Note.{Note}
 use Rattle.btx_step.specs.declared.said.Note.TheVariants as note
 use Rattle.btx_step.specs.declared.said.Said.{Said}
@@ -94,7 +94,7 @@ equals (Integer b) (Integer a) s = pushing said.Nothing _ s
 equals (Text b) (Text a) s = pushing said.Nothing _ s
 equals x y s = complaining _ stand_in.Zero s
 
-result : (b : Bool) (n : ℤ) (s : Store) → Kept s (arithmetic.result_if b n s)
+result : (b : Bool) (n : ℤ) (s : Store) → Kept s (kept_arithmetic.result_if b n s)
 result true n s = pushing said.Nothing _ s
 result false n s = complaining _ stand_in.Zero s
 
@@ -110,7 +110,8 @@ code (b ∷ []) s = pushing said.Nothing _ s
 code (b ∷ c ∷ text) s = complaining _ stand_in.Zero s
 
 character : (n : ℤ) (s : Store) → Kept s (arithmetic.gives_character n s)
-character n s = either (arithmetic.is_ascii n) _ _ (pushing said.Nothing _ s) (complaining _ stand_in.Empty s)
+character (pos n) s = either (nat_lt n 128) _ _ (pushing said.Nothing _ s) (complaining _ stand_in.Empty s)
+character (negsuc n) s = complaining _ stand_in.Empty s
 
 emptiness : (field : Option (List ℕ)) (s : Store) → Kept s (strings.finds_empty field s)
 emptiness None s = pushing said.Nothing _ s
@@ -146,7 +147,7 @@ pub gives_type : (job : Job) (current : Option ℕ) (s : Store) → Keeps (with_
 gives_type job None s = complaining _ stand_in.Nothing s
 gives_type job (Some entry) s = pushing_text said.Nothing _ s
 
-type_run : (f : Option ℕ) (s : Store) → Keeps (with_literals [] s) s.literals (entries.runs_type f s)
+type_run : (f : Option ℕ) (s : Store) → Keeps (with_literals [] s) s.literals (kept_entries.runs_type f s)
 type_run None s = answered next.Nothing said.Nothing s
 type_run (Some f) s = answered _ said.Nothing s
 

@@ -8,8 +8,9 @@ use Rattle.btx_step.specs.declared.stand_in.StandIn.{StandIn}
 use Rattle.btx_step.specs.declared.stand_in.StandIn.TheVariants as stand_in
 use Rattle.btx_step.specs.language.Stores.{Store}
 use Rattle.btx_step.specs.language.Answers.{Answer, with_literals, complained}
-use Rattle.btx_step.specs.language.Operands.{Operand, Any, Of, Value, Does, Default, Push, Back, applied, or_default, complaints, on_operands}
+use Rattle.btx_step.specs.language.Operands.{Operand, Any, Of, Value, Does, Default, Push, Back, applied, or_default, on_operands}
 use Rattle.btx_step.specs.laws.Applied.{operand_literal}
+use Rattle.btx_step.specs.refinement.Operands.{complaints}
 
 -- Q of the literals that are taken, R of those below them, and P of the store that a function begins with and its answer
 module _ (Q : Literal → Type 0) (R : List Literal → Type 0) (P : Store → Answer → Type 0) where

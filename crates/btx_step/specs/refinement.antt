@@ -14,3 +14,5 @@ pub mod Control
 pub mod Steps
 pub mod Sorting
 pub mod Starts
+pub mod Notes
+pub mod Operands

@@ -1,7 +1,8 @@
 //! What a step reads and never changes.
 ghost use Rattle.std.specs.Prelude.{◌≡◌};
 ghost use Rattle.btx_bib.specs.language.Library.{key_of, entry_type};
-ghost use Rattle.btx_step.specs.language.Entries.{entry_of, runner_of, type_name};
+ghost use Rattle.btx_step.specs.language.Entries.{entry_of};
+ghost use Rattle.btx_step.specs.refinement.Entries.{type_name, runner_of};
 
 use crate::kept_bytes::KeptBytes;
 use btx_bib::Library;
@@ -34,7 +35,8 @@ impl<'a> Model for Job<'a> {
 }
 
 impl<'a> Job<'a> {
-    /// A job of these.
+    /// Makes a job of a style, the entries of its databases, how text is read, and how many bytes of a string the variables of entries and the global
+    /// ones keep.
     pub fn new(
         style: &'a Style<'a>,
         library: &'a Library<'a>,
@@ -53,49 +55,49 @@ impl<'a> Job<'a> {
         }
     }
 
-    /// The style.
+    /// Answers the style.
     pub fn style(&self) -> &'a Style<'a>
         ensures { result.now ≡ self.now.style }
     {
         self.style
     }
 
-    /// The entries.
+    /// Answers the library: what the databases give.
     pub fn library(&self) -> &'a Library<'a>
         ensures { result.now ≡ self.now.library }
     {
         self.library
     }
 
-    /// How text is read.
+    /// Answers how text is read: as bytes or as UTF-8.
     pub fn mode(&self) -> TextMode
         ensures { result ≡ self.now.mode }
     {
         self.mode
     }
 
-    /// How many bytes of a string a variable of an entry keeps.
+    /// Answers how many bytes of a string a variable of an entry keeps (`entry.max$`).
     pub fn entry_max(&self) -> KeptBytes
         ensures { result ≡ self.now.entry_max }
     {
         self.entry_max
     }
 
-    /// How many bytes of a string a global variable keeps.
+    /// Answers how many bytes of a string a global variable keeps (`global.max$`).
     pub fn global_max(&self) -> KeptBytes
         ensures { result ≡ self.now.global_max }
     {
         self.global_max
     }
 
-    /// The key of an entry, no bytes where there is no such entry.
+    /// Answers the key of the entry of number `entry`, or no bytes if there is no such entry.
     pub fn key(&self, entry: usize) -> &'a [u8]
         ensures { result.now ≡ key_of (entry_of self.now entry) }
     {
         self.library.key(entry)
     }
 
-    /// The name of an entry's type, the empty one for a type that the style doesn't know.
+    /// Answers the name of the type of the entry `entry`, or no bytes if the style doesn't know the type.
     pub fn type_name(&self, entry: usize) -> &'a [u8]
         ensures { result.now ≡ type_name self.now (entry_type (entry_of self.now entry)) }
     {
@@ -105,7 +107,7 @@ impl<'a> Job<'a> {
         }
     }
 
-    /// The function of an entry's type; that of the type `default.type` for a type that the style doesn't know.
+    /// Answers the number of the function for the type of the entry `entry`: that of `default.type` if the style doesn't know the type.
     pub fn runner(&self, entry: usize) -> Option<u32>
         ensures { result ≡ runner_of self.now (entry_type (entry_of self.now entry)) }
     {

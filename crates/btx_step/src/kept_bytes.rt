@@ -25,7 +25,7 @@ impl Model for KeptBytes {
 }
 
 impl KeptBytes {
-    /// So many bytes; None exactly where the number is 0 or above 1,000,000.
+    /// Makes a limit of `bytes` bytes, or answers None exactly if that is 0 or above 1,000,000.
     pub fn new(bytes: u32) -> Option<KeptBytes>
         ensures { SomeIff result (IsKeptBytes bytes) bytes }
     {
@@ -36,7 +36,7 @@ impl KeptBytes {
         }
     }
 
-    /// The number of bytes.
+    /// Answers the number of bytes.
     pub fn get(self) -> u32
         ensures value { result ≡ self }
         ensures range { IsKeptBytes result }
@@ -44,14 +44,14 @@ impl KeptBytes {
         self.bytes
     }
 
-    /// What a variable of an entry keeps where nothing else is said.
+    /// Answers the default for a variable of an entry.
     pub fn of_entries() -> KeptBytes
         ensures { result ≡ 250 }
     {
         KeptBytes { bytes: 250 }
     }
 
-    /// What a global variable keeps where nothing else is said.
+    /// Answers the default for a global variable.
     pub fn of_globals() -> KeptBytes
         ensures { result ≡ 20000 }
     {

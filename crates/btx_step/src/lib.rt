@@ -19,7 +19,7 @@ pub mod values;
 pub use job::Job;
 pub use kept_bytes::KeptBytes;
 pub use literal::{Literal, Wanted};
-pub use next::{Limit, Next};
+pub use next::Next;
 pub use said::{Note, Notes, Said};
 pub use store::Store;
 pub use values::EntryValues;

@@ -3,16 +3,17 @@ ghost use Rattle.std.specs.Prelude.{◌≡◌, ◌++◌, IfOk, OnOk, codes, deci
 ghost use Rattle.std.specs.Option.{option_copied};
 ghost use Rattle.std.specs.Fmt.{signed_decimal};
 ghost use Rattle.btx_step.specs.language.Notes as spec;
+ghost use Rattle.btx_step.specs.refinement.Notes as kept_spec;
 
 use crate::literal::{Literal, Wanted};
 use crate::said::Note;
 use btx_bst::{Callee, Style};
 use btx_text::log_texts::{push_four, push_mark, push_number, push_two};
-use btx_text::{LineKind, LogLine};
+use btx_text::{LineKind, LogLine, Text};
 use itoa::Buffer;
 use std::alloc::{AllocError, Global};
 
-/// A line of the log, met while a function of this name is executed, in an entry of this key if there is one.
+/// Makes the log line of `note`, which was met while the function named `executed` ran, in the entry of key `key` if there is a current entry.
 #[tactic(auto, using(btx_text::proofs::JoinLemmas::joins), unfolding(crate::specs::language::Notes::note_line))]
 pub fn line_of(
     alloc: Global,
@@ -58,7 +59,7 @@ fn push_place_if(
     executed: &[u8],
     key: Option<&[u8]>,
 ) -> Result<(), AllocError>
-    ensures { OnOk result (text.new.items ≡ text.old.items ++ spec.place_if follows executed.now (option_copied key.entry)) }
+    ensures { OnOk result (text.new.items ≡ text.old.items ++ kept_spec.place_if follows executed.now (option_copied key.entry)) }
 {
     if follows {
         push_place(text, executed, key)
@@ -117,6 +118,55 @@ fn push_name(
     push_three(text, between, names, after)
 }
 
+// Appends that a list of names has no name of this number.
+fn push_no_such_name(text: &mut Vec<u8>, number: i32, names: &Text<'_>) -> Result<(), AllocError>
+    ensures { OnOk result (text.new.items ≡ text.old.items ++ (codes "There is no name number " ++ signed_decimal number ++ codes " in \"" ++ names.now ++ codes "\"")) }
+{
+    push_name(
+        text,
+        b"There is no name number ",
+        number,
+        b" in \"",
+        names.as_bytes(),
+        b"\"",
+    )
+}
+
+// Appends that the name of this number has a comma at its end.
+fn push_final_comma(text: &mut Vec<u8>, number: i32, names: &Text<'_>) -> Result<(), AllocError>
+    ensures { OnOk result (text.new.items ≡ text.old.items ++ (codes "Name " ++ signed_decimal number ++ codes " in \"" ++ names.now ++ codes "\" has a comma at the end")) }
+{
+    push_name(
+        text,
+        b"Name ",
+        number,
+        b" in \"",
+        names.as_bytes(),
+        b"\" has a comma at the end",
+    )
+}
+
+// Appends that the name of this number has more than two commas.
+fn push_too_many_commas(text: &mut Vec<u8>, number: i32, names: &Text<'_>) -> Result<(), AllocError>
+    ensures { OnOk result (text.new.items ≡ text.old.items ++ (codes "Too many commas in name " ++ signed_decimal number ++ codes " of \"" ++ names.now ++ codes "\"")) }
+{
+    push_name(
+        text,
+        b"Too many commas in name ",
+        number,
+        b" of \"",
+        names.as_bytes(),
+        b"\"",
+    )
+}
+
+// Appends a string behind a quotation mark, and a piece, which begins with the other mark.
+fn push_quoted(text: &mut Vec<u8>, shown: &Text<'_>, after: &[u8]) -> Result<(), AllocError>
+    ensures { OnOk result (text.new.items ≡ text.old.items ++ (codes "\"" ++ shown.now ++ after.now)) }
+{
+    push_three(text, b"\"", shown.as_bytes(), after)
+}
+
 // Appends an integer and a piece.
 #[tactic(auto, using(btx_text::proofs::JoinLemmas::joins))]
 fn push_integer_before(text: &mut Vec<u8>, number: i32, after: &[u8]) -> Result<(), AllocError>
@@ -127,9 +177,8 @@ fn push_integer_before(text: &mut Vec<u8>, number: i32, after: &[u8]) -> Result<
 }
 
 // Appends that an integer is no code.
-#[tactic(auto, unfolding(crate::specs::language::Notes::not_ascii_text))]
 fn push_not_ascii(text: &mut Vec<u8>, number: i32) -> Result<(), AllocError>
-    ensures { OnOk result (text.new.items ≡ text.old.items ++ spec.not_ascii_text number) }
+    ensures { OnOk result (text.new.items ≡ text.old.items ++ (signed_decimal number ++ codes " isn't an ASCII code")) }
 {
     push_integer_before(text, number, b" isn't an ASCII code")
 }
@@ -176,18 +225,6 @@ fn push_form(text: &mut Vec<u8>, style: &Style<'_>, value: &Literal<'_>) -> Resu
     }
 }
 
-// The kind of literal that was wanted.
-fn kind_text(wanted: Wanted) -> &'static [u8]
-    ensures { result.now ≡ spec.kind_text wanted }
-{
-    match wanted {
-        Wanted::Integer => b" is not an integer",
-        Wanted::Text => b" is not a string",
-        Wanted::Function => b" is not a function",
-        Wanted::TextOrMissing => b" is not a string or missing field",
-    }
-}
-
 // Appends the text of a line, without its place.
 #[tactic(auto, unfolding(crate::specs::language::Notes::note_text))]
 fn push_note(text: &mut Vec<u8>, style: &Style<'_>, note: &Note<'_>) -> Result<(), AllocError>
@@ -195,7 +232,18 @@ fn push_note(text: &mut Vec<u8>, style: &Style<'_>, note: &Note<'_>) -> Result<(
 {
     match note {
         Note::EmptyStack => text.extend_from_slice(b"You can't pop an empty literal stack"),
-        Note::WrongKind(value, wanted) => push_form_before(text, style, value, kind_text(*wanted)),
+        Note::WrongKind(value, Wanted::Integer) => {
+            push_form_before(text, style, value, b" is not an integer")
+        }
+        Note::WrongKind(value, Wanted::Text) => {
+            push_form_before(text, style, value, b" is not a string")
+        }
+        Note::WrongKind(value, Wanted::Function) => {
+            push_form_before(text, style, value, b" is not a function")
+        }
+        Note::WrongKind(value, Wanted::TextOrMissing) => {
+            push_form_before(text, style, value, b" is not a string or missing field")
+        }
         Note::Incomparable => text.extend_from_slice(b"= needs two integers or two strings"),
         Note::Overflow => text.extend_from_slice(b"Integer overflow"),
         Note::NotAssignable(function) => push_two(
@@ -205,52 +253,13 @@ fn push_note(text: &mut Vec<u8>, style: &Style<'_>, note: &Note<'_>) -> Result<(
         ),
         Note::NoEntry => text.extend_from_slice(b"You can't mess with entries here"),
         Note::NotAscii(n) => push_not_ascii(text, *n),
-        Note::NotOneCharacter(shown) => {
-            push_three(
-                text,
-                b"\"",
-                shown.as_bytes(),
-                b"\" isn't a single character",
-            )
-        }
+        Note::NotOneCharacter(shown) => push_quoted(text, shown, b"\" isn't a single character"),
         Note::NoConversion(shown) => {
-            push_three(
-                text,
-                b"\"",
-                shown.as_bytes(),
-                b"\" is an illegal case-conversion string",
-            )
+            push_quoted(text, shown, b"\" is an illegal case-conversion string")
         }
-        Note::NoSuchName(n, names) => {
-            push_name(
-                text,
-                b"There is no name number ",
-                *n,
-                b" in \"",
-                names.as_bytes(),
-                b"\"",
-            )
-        }
-        Note::FinalComma(n, names) => {
-            push_name(
-                text,
-                b"Name ",
-                *n,
-                b" in \"",
-                names.as_bytes(),
-                b"\" has a comma at the end",
-            )
-        }
-        Note::TooManyCommas(n, names) => {
-            push_name(
-                text,
-                b"Too many commas in name ",
-                *n,
-                b" of \"",
-                names.as_bytes(),
-                b"\"",
-            )
-        }
+        Note::NoSuchName(n, names) => push_no_such_name(text, *n, names),
+        Note::FinalComma(n, names) => push_final_comma(text, *n, names),
+        Note::TooManyCommas(n, names) => push_too_many_commas(text, *n, names),
         Note::IllegalFormat(format) => {
             push_three(
                 text,

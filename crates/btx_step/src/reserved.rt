@@ -21,7 +21,7 @@ impl<T: Drop, const N: usize> Model for Reserved<T, N> {
 }
 
 impl<T: Drop, const N: usize> Reserved<T, N> {
-    /// An empty stack, with room for N values.
+    /// Makes an empty stack, and reserves room for N values.
     pub fn new(alloc: Global) -> Result<Self, AllocError>
         ensures { IfOk result (λ s. s ≡ []) }
     {
@@ -30,7 +30,7 @@ impl<T: Drop, const N: usize> Reserved<T, N> {
         })
     }
 
-    /// How many values there are.
+    /// Answers how many values there are.
     pub fn len(&self) -> usize
         ensures length { result ≡ length self.now }
         ensures within { length self.now ≤ N }
@@ -38,14 +38,14 @@ impl<T: Drop, const N: usize> Reserved<T, N> {
         self.items.len()
     }
 
-    /// The top value.
+    /// Answers the top value, if there is one.
     pub fn top(&self) -> Option<&T>
         ensures { option_copied result ≡ top self.now }
     {
         self.items.last()
     }
 
-    /// Puts a value in the place of the top one.
+    /// Replaces the top value by `value`.
     pub fn replace_top(&mut self, value: T)
         requires { 0 < length self.old }
         ensures { self.new ≡ value ∷ below_top self.old }
@@ -54,7 +54,7 @@ impl<T: Drop, const N: usize> Reserved<T, N> {
         self.items.push_reserved(value);
     }
 
-    /// Puts a value on top.
+    /// Pushes `value`.
     pub fn push(&mut self, value: T)
         requires { length self.old < N }
         ensures { self.new ≡ value ∷ self.old }
@@ -62,7 +62,7 @@ impl<T: Drop, const N: usize> Reserved<T, N> {
         self.items.push_reserved(value);
     }
 
-    /// Takes the top value off.
+    /// Pops the top value, if there is one.
     pub fn pop(&mut self) -> Option<T>
         ensures value { result ≡ top self.old }
         ensures rest { self.new ≡ below_top self.old }

@@ -39,7 +39,7 @@ pub enum Note<'a> {
     IllegalFormat(Text<'a>),
     /// Literals were left after a command.
     LeftOver,
-    /// A string of so many bytes was cut to so many.
+    /// A string of a first number of bytes was cut to a second number.
     Cut(usize, usize),
     /// A warning of the style's own.
     Warning(Text<'a>),
@@ -72,7 +72,7 @@ pub enum Said<'a> {
 }
 
 impl<'a> Notes<'a> {
-    /// No line.
+    /// Makes an empty list of lines.
     pub fn new(alloc: Global) -> Self
         ensures { result ≡ [] }
     {
@@ -81,7 +81,7 @@ impl<'a> Notes<'a> {
         }
     }
 
-    /// One line.
+    /// Makes a list of one line.
     pub fn one(alloc: Global, note: Note<'a>) -> Result<Self, AllocError>
         ensures { IfOk result (λ notes. notes ≡ note.entry ∷ []) }
     {
@@ -90,7 +90,7 @@ impl<'a> Notes<'a> {
         Ok(notes)
     }
 
-    /// The stack was empty, so many times.
+    /// Makes a list that says `times` times that the stack was empty.
     #[tactic(auto, using(crate::proofs::Replicas::one_more))]
     pub fn empty_stack(alloc: Global, times: usize) -> Result<Self, AllocError>
         ensures { IfOk result (λ notes. notes ≡ replicate times note.EmptyStack) }
@@ -102,14 +102,14 @@ impl<'a> Notes<'a> {
         Ok(notes)
     }
 
-    /// One more line.
+    /// Adds a line at the end.
     pub fn push(&mut self, note: Note<'a>) -> Result<(), AllocError>
         ensures { OnOk result (self.new ≡ self.old ++ note.entry ∷ []) }
     {
         self.notes.push(note).map_err(AllocError::from)
     }
 
-    /// The lines.
+    /// Answers the lines, in order.
     pub fn as_slice(&self) -> &[Note<'a>]
         ensures { result.now ≡ self.now }
     {

@@ -6,8 +6,7 @@ ghost use Rattle.btx_step.specs.refinement.Sorting.{sort_key};
 use crate::store::Store;
 use std::alloc::AllocError;
 
-/// Puts entries, given by their places in the list, in the order of a string variable, by bytes; entries whose values are equal stay as
-/// they stood.
+/// Sorts entries by the string variable `variable`, byte by byte. `list` has their numbers. Entries with equal values keep their order.
 pub fn sort(list: &mut Vec<usize>, store: &Store<'_>, variable: u32) -> Result<(), AllocError>
     ensures ok { OnOk result (list.new.items ≡ sorted (sort_key store.now variable) list.old.items) }
     ensures err { OnErr result (list.new.items ≡ list.old.items) }

@@ -27,14 +27,14 @@ mod variables;
 use crate::calculation::Calculation;
 use crate::job::Job;
 use crate::literal::{Literal, Wanted};
-use crate::next::{Limit, Next};
+use crate::next::Next;
 use crate::said::{Note, Notes, Said};
 use crate::stand_in::StandIn;
 use crate::values::EntryValues;
 use btx_bst::{BuiltIn, Callee, Token};
 use btx_names::NameFormatter;
 use btx_stack::{Literals, Variable};
-use btx_text::GREATEST_STRING;
+use btx_text::{GREATEST_STRING, Limit};
 use std::alloc::{AllocError, Global};
 use std::marker::Model;
 
@@ -70,7 +70,7 @@ impl<'a> Model for Store<'a> {
 }
 
 impl<'a> Store<'a> {
-    /// What a token does. What it says goes into `said`, which says nothing before.
+    /// Executes a token, and answers what follows. What is to be written or logged goes into `said`, which is empty before.
     #[tactic(auto, unfolding(crate::specs::language::Steps::step_of))]
     pub fn step(
         &mut self,
@@ -89,7 +89,7 @@ impl<'a> Store<'a> {
         }
     }
 
-    /// What a function does.
+    /// Executes a function, a field or a variable, and answers what follows. `said` is as for `step`.
     #[tactic(auto, unfolding(crate::specs::language::Steps::function_run))]
     pub fn run(
         &mut self,
@@ -162,7 +162,7 @@ impl<'a> Store<'a> {
         }
     }
 
-    /// The current entry, if there is one.
+    /// Answers the number of the current entry, if there is one.
     pub fn current(&self) -> Option<usize>
         ensures { result ≡ self.now.current }
     {
@@ -176,21 +176,21 @@ impl<'a> Store<'a> {
         self.current = entry;
     }
 
-    /// The greatest number of bodies that were open at once.
+    /// Answers the greatest number of bodies that were open at once.
     pub fn deepest(&self) -> usize
         ensures { result ≡ self.now.deepest }
     {
         self.deepest
     }
 
-    /// Notes how many bodies are open.
+    /// Notes that `bodies` bodies are open, for the greatest number.
     pub fn open(&mut self, bodies: usize)
         ensures { self.new ≡ with_depth bodies self.old }
     {
         self.deepest = self.deepest.max(bodies);
     }
 
-    /// How many literals are on the stack.
+    /// Answers how many literals are on the stack.
     pub fn depth(&self) -> usize
         ensures length { result ≡ length self.now.literals }
         ensures within { length self.now.literals ≤ 1000 }
@@ -198,14 +198,14 @@ impl<'a> Store<'a> {
         self.literals.len()
     }
 
-    /// Whether no literal is on the stack.
+    /// Answers whether the stack is empty.
     pub fn is_empty(&self) -> bool
         ensures { result ≡ (length self.now.literals == 0) }
     {
         self.literals.len() == 0
     }
 
-    /// Takes the top literal off.
+    /// Pops the top literal, if there is one.
     pub fn pop(&mut self) -> Result<Option<Literal<'a>>, AllocError>
         ensures some { IfOk result (λ top. IfSome top (λ value. self.old.literals ≡ value ∷ self.new.literals)) }
         ensures none { IfOk result (λ top. IfNone top (self.old.literals ≡ [])) }
@@ -282,7 +282,7 @@ impl<'a> Store<'a> {
 
     // A line of the log, and what stands in for a result.
     #[cold]
-    fn tell(
+    fn log_note(
         &mut self,
         note: Note<'a>,
         instead: StandIn,
@@ -296,7 +296,7 @@ impl<'a> Store<'a> {
 
     // The stack was empty, so many times.
     #[cold]
-    fn tell_lack(
+    fn log_lack(
         &mut self,
         missing: usize,
         instead: StandIn,
@@ -311,7 +311,7 @@ impl<'a> Store<'a> {
 
     // A literal of another kind was wanted.
     #[cold]
-    fn tell_refusal(
+    fn log_refusal(
         &mut self,
         value: Literal<'a>,
         wanted: Wanted,
@@ -320,7 +320,7 @@ impl<'a> Store<'a> {
     ) -> Result<Next, AllocError>
         ensures { IfOk result (λ next. answer next said.new self.new ≡ refuses value.entry wanted instead self.old) }
     {
-        self.tell(Note::WrongKind(value, wanted), instead, said)
+        self.log_note(Note::WrongKind(value, wanted), instead, said)
     }
 
     // What a function says where something is wrong. Each of these calls takes the answer of the one behind it apart: so the answer of a function
@@ -336,7 +336,7 @@ impl<'a> Store<'a> {
     ) -> Result<Next, AllocError>
         ensures { IfOk result (λ next. answer next said.new self.new ≡ complains note.entry instead self.old) }
     {
-        let next = self.tell(note, instead, said)?;
+        let next = self.log_note(note, instead, said)?;
         Ok(next)
     }
 
@@ -351,7 +351,7 @@ impl<'a> Store<'a> {
         requires { self.old.literals ≡ [] }
         ensures { IfOk result (λ next. answer next said.new self.new ≡ lacks missing instead self.old) }
     {
-        let next = self.tell_lack(missing, instead, said)?;
+        let next = self.log_lack(missing, instead, said)?;
         Ok(next)
     }
 
@@ -366,7 +366,7 @@ impl<'a> Store<'a> {
     ) -> Result<Next, AllocError>
         ensures { IfOk result (λ next. answer next said.new self.new ≡ refuses value.entry wanted instead self.old) }
     {
-        let next = self.tell_refusal(value, wanted, instead, said)?;
+        let next = self.log_refusal(value, wanted, instead, said)?;
         Ok(next)
     }
 

@@ -1,8 +1,8 @@
 //! The values of variables, by number.
 ghost use Rattle.std.specs.Prelude.{◌≡◌, ◌<◌, ◌≤◌, ◌+◌, ◌*◌, ◌^◌, ◌⊎◌, pos, [], length, replicate, slice_get, slice_set};
 ghost use Rattle.std.specs.Prelude.{IfOk, IfSome, IfNone};
-ghost use Rattle.btx_step.specs.language.Variables.{integer_of, string_of, values_of};
-ghost use Rattle.btx_step.specs.refinement.Variables.{integer_in, integer_set, string_set};
+ghost use Rattle.btx_step.specs.language.Variables.{string_of, values_of};
+ghost use Rattle.btx_step.specs.refinement.Variables.{integer_in, integer_set, string_set, integer_of};
 
 use crate::list::item;
 use btx_text::Text;
@@ -33,7 +33,7 @@ impl<'a> Model for EntryValues<'a> {
     ghost invariant = { λ v. (length v.integers.items ≡ v.entries * v.integers_each) × (length v.strings.items ≡ v.entries * v.strings_each) };
 }
 
-/// The integer of a number, 0 where there is none.
+/// Answers the integer at `index`, counted from 0, or 0 if there is none.
 pub fn integer_at(integers: &[i32], index: u32) -> i32
     ensures { result ≡ integer_in (slice_get integers.now index) }
 {
@@ -64,7 +64,7 @@ impl<'a> EntryValues<'a> {
         })
     }
 
-    /// The value of an integer variable of an entry, 0 where there is none.
+    /// Answers the integer variable `number` of the entry `entry`, or 0 if there is none.
     #[tactic(auto, using(crate::proofs::EntryValueLemmas::integer_there, crate::proofs::EntryValueLemmas::integer_nowhere))]
     pub fn integer(&self, entry: usize, number: u32) -> i32
         ensures { result ≡ integer_of self.now entry number }
@@ -75,7 +75,7 @@ impl<'a> EntryValues<'a> {
         }
     }
 
-    /// The value of a string variable of an entry, the empty one where there is none. No bytes are copied where they are shared.
+    /// Answers the string variable `number` of the entry `entry`, or the empty string if there is none. Shared bytes aren't copied.
     #[tactic(auto, using(crate::proofs::EntryValueLemmas::string_there, crate::proofs::EntryValueLemmas::string_nowhere))]
     pub fn string(&self, alloc: Global, entry: usize, number: u32) -> Result<Text<'a>, AllocError>
         ensures { IfOk result (λ text. text ≡ string_of self.now entry number) }
@@ -86,7 +86,7 @@ impl<'a> EntryValues<'a> {
         }
     }
 
-    /// The bytes of a string variable of an entry.
+    /// Answers the bytes of the string variable `number` of the entry `entry`, or none if there is none.
     #[tactic(auto, using(crate::proofs::EntryValueLemmas::string_there, crate::proofs::EntryValueLemmas::string_nowhere))]
     pub fn string_bytes(&self, entry: usize, number: u32) -> &[u8]
         ensures { result.now ≡ string_of self.now entry number }
@@ -97,7 +97,7 @@ impl<'a> EntryValues<'a> {
         }
     }
 
-    /// Gives an integer variable of an entry a value, if there is such a variable.
+    /// Sets the integer variable `number` of the entry `entry` to `value`, if there is such a variable.
     #[tactic(auto, using(crate::proofs::EntryValueLemmas::integer_put, crate::proofs::EntryValueLemmas::integer_kept))]
     pub fn set_integer(&mut self, entry: usize, number: u32, value: i32)
         ensures { self.new ≡ slice_set self.old entry (integer_set number value (values_of self.old entry)) }
@@ -107,7 +107,7 @@ impl<'a> EntryValues<'a> {
         }
     }
 
-    /// Gives a string variable of an entry a value, if there is such a variable.
+    /// Sets the string variable `number` of the entry `entry` to `value`, if there is such a variable.
     #[tactic(auto, using(crate::proofs::EntryValueLemmas::string_put, crate::proofs::EntryValueLemmas::string_kept))]
     pub fn set_string(&mut self, entry: usize, number: u32, value: Text<'a>)
         ensures { self.new ≡ slice_set self.old entry (string_set number value.entry (values_of self.old entry)) }

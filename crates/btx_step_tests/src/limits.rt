@@ -24,7 +24,7 @@ fn body_of(alloc: Global, pieces: &[Piece]) -> Result<Vec<u8>, AllocError> {
     Ok(body)
 }
 
-/// Whether a body's answers begin so.
+/// Asserts that the answers of the body that `pieces` make begin with `wanted`.
 fn begins(
     rt: &impl Abort,
     alloc: Global,
@@ -37,6 +37,22 @@ fn begins(
     let front = &told.as_slice()[..wanted.len().min(told.len())];
     assert!(rt; front == wanted.as_bytes());
     Ok(())
+}
+
+/// Asserts that the answers of a body that pushes 1,000 literals and goes on with `more` begin with `wanted`.
+fn begins_when_full(
+    rt: &impl Abort,
+    alloc: Global,
+    more: &'static str,
+    wanted: &str,
+) -> Result<(), Fail> {
+    begins(
+        rt,
+        alloc,
+        &usual(Some(0)),
+        &[("#7 ", 1_000), (more, 1)],
+        wanted,
+    )
 }
 
 #[test]
@@ -57,14 +73,7 @@ fn the_thousandth_literal_and_one_more(rt: HostRuntime) -> Result<(), Fail> {
         "quote$",
         "duplicate$",
     ] {
-        let full = [("#7 ", 1_000), (more, 1)];
-        begins(
-            &rt,
-            rt.alloc(),
-            &usual(Some(0)),
-            &full,
-            "limit literals | 7 | 7 | 7",
-        )?;
+        begins_when_full(&rt, rt.alloc(), more, "limit literals | 7 | 7 | 7")?;
     }
     for (more, wanted) in [
         ("+", "14 | 7 | 7"),
@@ -72,13 +81,7 @@ fn the_thousandth_literal_and_one_more(rt: HostRuntime) -> Result<(), Fail> {
         ("swap$ skip$ newline$", "newline | 7 | 7"),
         ("int.to.str$", "\"7\" | 7 | 7"),
     ] {
-        begins(
-            &rt,
-            rt.alloc(),
-            &usual(Some(0)),
-            &[("#7 ", 1_000), (more, 1)],
-            wanted,
-        )?;
+        begins_when_full(&rt, rt.alloc(), more, wanted)?;
     }
     Ok(())
 }
@@ -107,7 +110,7 @@ fn the_longest_string_and_one_byte_more(rt: HostRuntime) -> Result<(), Fail> {
 }
 
 #[test]
-fn what_ends_a_run_tells_nothing_else(rt: HostRuntime) -> Result<(), Fail> {
+fn what_ends_a_run_logs_nothing_else(rt: HostRuntime) -> Result<(), Fail> {
     let comma = [
         ("\"", 1),
         ("x", 600_000),
@@ -127,7 +130,7 @@ fn what_ends_a_run_tells_nothing_else(rt: HostRuntime) -> Result<(), Fail> {
     Ok(())
 }
 
-/// Whether a body's answers are these where variables keep two bytes, and global ones three.
+/// Asserts that a body's answers are `wanted` if variables of entries keep two bytes, and global ones three.
 fn cut_short(rt: &impl Abort, alloc: Global, body: &'static str, wanted: &str) -> Result<(), Fail> {
     let setting = Setting {
         entry: Some(0),
@@ -188,7 +191,7 @@ fn strings_that_variables_usually_cut(rt: HostRuntime) -> Result<(), Fail> {
     Ok(())
 }
 
-/// A body of characters of two bytes, in both text modes.
+/// Asserts what a body with characters of two bytes answers: `bytes` if text is read as bytes, `wide` if it is read as UTF-8.
 fn in_both(
     rt: &impl Abort,
     alloc: Global,

@@ -48,7 +48,7 @@ const SAMPLES: [Sample; 4] = [
     (b'M', "author", "missing field"),
 ];
 
-/// How a literal is told that a function doesn't take.
+/// Answers how the log says that a literal isn't of the kind `wanted`.
 fn complaint(wanted: u8) -> &'static str {
     match wanted {
         b'I' => " is not an integer",
@@ -58,12 +58,12 @@ fn complaint(wanted: u8) -> &'static str {
     }
 }
 
-/// Whether a function that wants this kind takes a literal of that kind.
+/// Answers whether a function that wants the kind `wanted` takes a literal of the kind `kind`.
 fn takes(wanted: u8, kind: u8) -> bool {
     wanted == b'L' || wanted == kind || (wanted == b'M' && kind == b'S')
 }
 
-/// The literal of an operand, counted from the top, in one of the ways to give each operand one of the four kinds.
+/// Answers the literal at `place`, counted from the top, in the way `way` to give each operand one of the four kinds.
 fn sample(way: usize, place: usize) -> Sample {
     let digit = match place {
         0 => way,
@@ -73,7 +73,7 @@ fn sample(way: usize, place: usize) -> Sample {
     SAMPLES[digit % 4]
 }
 
-/// How many ways there are.
+/// Answers how many ways there are to give each operand one of the four kinds.
 fn ways(kinds: &str) -> usize {
     match kinds.len() {
         1 => 4,
@@ -82,7 +82,7 @@ fn ways(kinds: &str) -> usize {
     }
 }
 
-/// The first operand that a function doesn't take, and the kind that it wants; None where it takes all.
+/// Answers the first operand that a function doesn't take, and the kind that it wants; None if it takes all.
 fn unfit(kinds: &str, way: usize) -> Option<(u8, Sample)> {
     for (place, wanted) in kinds.as_bytes().iter().enumerate() {
         let given = sample(way, place);
@@ -93,7 +93,7 @@ fn unfit(kinds: &str, way: usize) -> Option<(u8, Sample)> {
     None
 }
 
-/// The body that pushes so many literals of a way, the first one last, and executes a function.
+/// Makes the body that pushes the first `count` literals of a way, the first one last, and executes `function`.
 fn body_of(alloc: Global, function: &str, way: usize, count: usize) -> Result<Vec<u8>, AllocError> {
     let mut body = Vec::new(alloc);
     for place in (0..count).rev() {
@@ -104,7 +104,7 @@ fn body_of(alloc: Global, function: &str, way: usize, count: usize) -> Result<Ve
     Ok(body)
 }
 
-/// Puts an error behind a text that a function tells.
+/// Adds an error, and what was executed, behind the other answers in `told`.
 fn add_error(told: &mut Vec<u8>, pieces: &[&str], function: &str) -> Result<(), AllocError> {
     told.extend_from_slice(b"Error--")?;
     for piece in pieces {
@@ -116,7 +116,7 @@ fn add_error(told: &mut Vec<u8>, pieces: &[&str], function: &str) -> Result<(), 
     Ok(())
 }
 
-/// Puts what stands in for a result behind a text.
+/// Adds what stands in for a result behind the other answers in `told`.
 fn add_instead(told: &mut Vec<u8>, instead: &str) -> Result<(), AllocError> {
     if instead.is_empty() {
         return Ok(());
@@ -126,7 +126,7 @@ fn add_instead(told: &mut Vec<u8>, instead: &str) -> Result<(), AllocError> {
     Ok(())
 }
 
-/// What a function tells that has so many literals too few.
+/// Makes the answers of a function that has `missing` literals too few.
 fn lack_of(alloc: Global, row: Row, missing: usize) -> Result<Vec<u8>, AllocError> {
     let mut told = Vec::new(alloc);
     for number in 0..missing {
@@ -139,7 +139,7 @@ fn lack_of(alloc: Global, row: Row, missing: usize) -> Result<Vec<u8>, AllocErro
     Ok(told)
 }
 
-/// What a function tells of a literal that it doesn't take.
+/// Makes the answers of a function that doesn't take the literal `given`.
 fn refusal_of(alloc: Global, row: Row, wanted: u8, given: Sample) -> Result<Vec<u8>, AllocError> {
     let mut told = Vec::new(alloc);
     add_error(&mut told, &[given.2, complaint(wanted)], row.0)?;
@@ -153,14 +153,14 @@ fn plays_as(rt: &impl Abort, alloc: Global, body: Vec<u8>, wanted: Vec<u8>) -> R
     Ok(())
 }
 
-/// Whether a function with so many literals, which are too few, tells it.
+/// Asserts that a function with `given` literals, which are too few, logs it.
 fn lacks(rt: &impl Abort, alloc: Global, row: Row, given: usize) -> Result<(), Fail> {
     let body = body_of(alloc, row.0, 0, given)?;
     let wanted = lack_of(alloc, row, row.1.len().saturating_sub(given))?;
     plays_as(rt, alloc, body, wanted)
 }
 
-/// Whether a function with literals one of which it doesn't take tells it.
+/// Asserts that a function which doesn't take one of its literals logs it.
 fn refuses(rt: &impl Abort, alloc: Global, row: Row, way: usize) -> Result<(), Fail> {
     let Some((wanted, given)) = unfit(row.1, way) else {
         return Ok(());

@@ -3,8 +3,8 @@ use btx_aux::{AuxJob, MemoryFinder, read_aux};
 use btx_bib::{Library, Source, read_databases};
 use btx_bst::{Style, Token, read_style};
 use btx_step::lines::line_of;
-use btx_step::{Job, KeptBytes, Limit, Next, Note, Said, Store};
-use btx_text::{Fault, TextMode};
+use btx_step::{Job, KeptBytes, Next, Note, Said, Store};
+use btx_text::{Fault, Limit, TextMode};
 use std::alloc::{AllocError, Global};
 
 /// Two entries are cited, the second of a type that the style doesn't know.
@@ -27,7 +27,7 @@ pub struct Setting {
     pub global_max: KeptBytes,
 }
 
-/// A setting as it usually is, in an entry or in none.
+/// Makes the usual setting, in the entry `entry` or in none.
 pub fn usual(entry: Option<usize>) -> Setting {
     Setting {
         entry,
@@ -37,13 +37,13 @@ pub fn usual(entry: Option<usize>) -> Setting {
     }
 }
 
-/// What the tokens of a body answer, and the literals that they leave, top first: items with ` | ` between them.
+/// Executes the tokens of a body. Answers what they write and log and the literals that they leave, top first, with ` | ` between the items.
 pub fn play(alloc: Global, setting: &Setting, body: &[u8]) -> Result<Vec<u8>, Fault> {
     let text = body_text(alloc, body)?;
     play_style(alloc, setting, &text)
 }
 
-/// A style whose last function has this body.
+/// Makes the text of a style whose last function has the body `body`.
 fn body_text(alloc: Global, body: &[u8]) -> Result<Vec<u8>, AllocError> {
     let mut text = Vec::from_slice(alloc, DECLARATIONS)?;
     text.extend_from_slice(b"FUNCTION {body} {")?;
@@ -52,7 +52,7 @@ fn body_text(alloc: Global, body: &[u8]) -> Result<Vec<u8>, AllocError> {
     Ok(text)
 }
 
-/// The same of the last function of a style.
+/// Does the same for the last function of the style `text`.
 fn play_style(alloc: Global, setting: &Setting, text: &[u8]) -> Result<Vec<u8>, Fault> {
     let mut finder = MemoryFinder::new(alloc, &[(b"job.aux", CITATIONS)])?;
     let citations = read_aux(alloc, &mut finder, b"job.aux")?;
@@ -70,7 +70,7 @@ fn play_cited<'a>(
     Ok(play_read(alloc, setting, &style, &library)?)
 }
 
-/// What one database gives to a job.
+/// Reads the library that one database gives to a job.
 pub fn library_of<'a>(
     alloc: Global,
     style: &Style<'a>,
@@ -105,11 +105,11 @@ fn play_read<'a>(
             break;
         }
     }
-    tell_literals(alloc, &job, &mut store, &mut told)?;
+    write_literals(alloc, &job, &mut store, &mut told)?;
     Ok(told)
 }
 
-/// The tokens of the last function, which are none where there is no function.
+/// Answers the tokens of the last function, or none if there is no function.
 pub fn last_body<'a>(style: &'a Style<'_>) -> &'a [Token] {
     let functions = style.functions();
     if functions == 0 {
@@ -118,7 +118,7 @@ pub fn last_body<'a>(style: &'a Style<'_>) -> &'a [Token] {
     style.body(functions - 1)
 }
 
-/// Takes a token, and tells what it answers; whether more may follow.
+/// Executes a token, and adds what it answers to `told`. Answers whether another may follow.
 fn play_token<'a>(
     alloc: Global,
     job: &Job<'a>,
@@ -128,12 +128,12 @@ fn play_token<'a>(
 ) -> Result<bool, AllocError> {
     let mut said = Said::Nothing;
     let next = store.step(job, token, &mut said)?;
-    tell_said(alloc, job, store.current(), token, said, told)?;
-    tell_next(job, next, told)?;
+    write_said(alloc, job, store.current(), token, said, told)?;
+    write_next(job, next, told)?;
     Ok(!matches!(next, Next::End(_)))
 }
 
-fn tell_said(
+fn write_said(
     alloc: Global,
     job: &Job<'_>,
     entry: Option<usize>,
@@ -143,18 +143,18 @@ fn tell_said(
 ) -> Result<(), AllocError> {
     match said {
         Said::Nothing => Ok(()),
-        Said::Wrote(text) => tell_written(told, text.as_bytes()),
-        Said::EndedLine => tell(told, &[b"newline"]),
-        Said::Noted(notes) => tell_notes(alloc, job, entry, token, notes.as_slice(), told),
+        Said::Wrote(text) => write_written(told, text.as_bytes()),
+        Said::EndedLine => write_line(told, &[b"newline"]),
+        Said::Noted(notes) => write_notes(alloc, job, entry, token, notes.as_slice(), told),
     }
 }
 
-fn tell_written(told: &mut Vec<u8>, text: &[u8]) -> Result<(), AllocError> {
-    tell(told, &[b"write ", text])
+fn write_written(told: &mut Vec<u8>, text: &[u8]) -> Result<(), AllocError> {
+    write_line(told, &[b"write ", text])
 }
 
-/// Puts an item behind the others.
-fn tell(told: &mut Vec<u8>, pieces: &[&[u8]]) -> Result<(), AllocError> {
+/// Adds an item, in pieces, behind the others in `told`.
+fn write_line(told: &mut Vec<u8>, pieces: &[&[u8]]) -> Result<(), AllocError> {
     if !told.is_empty() {
         told.extend_from_slice(b" | ")?;
     }
@@ -164,7 +164,7 @@ fn tell(told: &mut Vec<u8>, pieces: &[&[u8]]) -> Result<(), AllocError> {
     Ok(())
 }
 
-fn tell_notes(
+fn write_notes(
     alloc: Global,
     job: &Job<'_>,
     entry: Option<usize>,
@@ -175,12 +175,12 @@ fn tell_notes(
     let executed = executed_name(job.style(), token);
     let key = entry.map(|entry| job.key(entry));
     for note in notes {
-        tell_note(alloc, job, executed, key, note, told)?;
+        write_note(alloc, job, executed, key, note, told)?;
     }
     Ok(())
 }
 
-fn tell_note(
+fn write_note(
     alloc: Global,
     job: &Job<'_>,
     executed: &[u8],
@@ -189,10 +189,10 @@ fn tell_note(
     told: &mut Vec<u8>,
 ) -> Result<(), AllocError> {
     let line = line_of(alloc, job.style(), executed, key, note)?;
-    tell(told, &[line.text()])
+    write_line(told, &[line.text()])
 }
 
-/// The name of what a token executes.
+/// Answers the name of what a token executes.
 fn executed_name<'a>(style: &'a Style<'_>, token: Token) -> &'a [u8] {
     match token {
         Token::Run(function) => style.name(function),
@@ -200,38 +200,41 @@ fn executed_name<'a>(style: &'a Style<'_>, token: Token) -> &'a [u8] {
     }
 }
 
-fn tell_next(job: &Job<'_>, next: Next, told: &mut Vec<u8>) -> Result<(), AllocError> {
+fn write_next(job: &Job<'_>, next: Next, told: &mut Vec<u8>) -> Result<(), AllocError> {
     let style = job.style();
     match next {
         Next::Nothing => Ok(()),
-        Next::End(Limit::Literals) => tell(told, &[b"limit literals"]),
-        Next::End(_) => tell(told, &[b"limit string"]),
-        Next::Run(function) => tell(told, &[b"run ", style.name(function)]),
-        Next::Open(_) => tell(told, &[b"open"]),
-        Next::Loop(test, body) => tell(told, &[b"loop ", style.name(test), b" ", style.name(body)]),
+        Next::End(Limit::Literals) => write_line(told, &[b"limit literals"]),
+        Next::End(_) => write_line(told, &[b"limit string"]),
+        Next::Run(function) => write_line(told, &[b"run ", style.name(function)]),
+        Next::Open(_) => write_line(told, &[b"open"]),
+        Next::Loop(test, body) => write_line(
+            told,
+            &[b"loop ", style.name(test), b" ", style.name(body)],
+        ),
     }
 }
 
-fn tell_literals(
+fn write_literals(
     alloc: Global,
     job: &Job<'_>,
     store: &mut Store<'_>,
     told: &mut Vec<u8>,
 ) -> Result<(), AllocError> {
     for _ in 0..store.depth() {
-        tell_top(alloc, job, store, told)?;
+        write_top(alloc, job, store, told)?;
     }
     Ok(())
 }
 
-fn tell_top(
+fn write_top(
     alloc: Global,
     job: &Job<'_>,
     store: &mut Store<'_>,
     told: &mut Vec<u8>,
 ) -> Result<(), AllocError> {
     match store.pop()? {
-        Some(value) => tell_note(alloc, job, b"", None, &Note::Shown(value), told),
+        Some(value) => write_note(alloc, job, b"", None, &Note::Shown(value), told),
         None => Ok(()),
     }
 }

@@ -43,7 +43,7 @@ author author = => Error--= needs two integers or two strings while executing = 
 #-2147483648 int.to.str$ => "-2147483648""#
 }
 
-// Strings and names.
+// Strings.
 fn strings_rows() -> &'static str {
     r#""a" "b" * => "ab"
 "" "" * => ""
@@ -82,8 +82,12 @@ quote$ => """
 "abc" #0 text.prefix$ => ""
 "abc" #-1 text.prefix$ => ""
 "AB" width$ => 1458
-"" width$ => 0
-"A and {B and C} AND D" num.names$ => 3
+"" width$ => 0"#
+}
+
+// Names.
+fn names_rows() -> &'static str {
+    r#""A and {B and C} AND D" num.names$ => 3
 "" num.names$ => 0
 "Jean-Paul Sartre" #1 "{f.~}{ll}" format.name$ => "J.-P. Sartre"
 "A" #2 "{ll}" format.name$ => Error--There is no name number 2 in "A" while executing format.name$ for entry k | ""
@@ -228,6 +232,7 @@ fn functions_do_what_the_rules_say(rt: HostRuntime) -> Result<(), Fail> {
     for rows in [
         integers_rows(),
         strings_rows(),
+        names_rows(),
         control_rows(),
         stack_rows(),
         entry_rows(),

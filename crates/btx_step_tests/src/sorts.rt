@@ -37,7 +37,7 @@ fn sorted(alloc: Global, titles: &str) -> Result<Vec<u8>, Fault> {
     sorted_cited(alloc, &database, &citations)
 }
 
-/// A database of entries with these titles.
+/// Makes a database of entries with the titles in `titles`.
 fn database_of(alloc: Global, titles: &str) -> Result<Vec<u8>, AllocError> {
     let mut text = Vec::new(alloc);
     let mut key = b'a';
@@ -85,7 +85,7 @@ fn sorted_read<'a>(
     listed(alloc, &list)
 }
 
-/// The entries, each of which was given its key.
+/// Gives each of the `entries` entries its key, and answers their numbers.
 fn keyed<'a>(
     alloc: Global,
     job: &Job<'a>,
@@ -101,7 +101,7 @@ fn keyed<'a>(
     Ok(list)
 }
 
-/// Takes the tokens that give the current entry its key.
+/// Executes the tokens that give the current entry its key.
 fn give_key<'a>(job: &Job<'a>, store: &mut Store<'a>) -> Result<(), AllocError> {
     for token in last_body(job.style()) {
         let mut said = Said::Nothing;
@@ -110,7 +110,7 @@ fn give_key<'a>(job: &Job<'a>, store: &mut Store<'a>) -> Result<(), AllocError> 
     Ok(())
 }
 
-/// Numbers below ten, each with a space.
+/// Shows numbers below ten, each with a space.
 fn listed(alloc: Global, list: &[usize]) -> Result<Vec<u8>, AllocError> {
     let mut text = Vec::new(alloc);
     for number in list {

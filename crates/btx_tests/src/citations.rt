@@ -11,7 +11,7 @@ use std::test::Fail;
 // How many lines, errors and keys a job has, and how its reading ended.
 type Counts = (usize, usize, usize, End);
 
-// A top file's first lines, before one for a database and one for a style; its keys, its log and its counts, in the form of `Told`.
+// A top file's first lines, before one for a database and one for a style; its keys, its log and its counts, in the form of `Logged`.
 #[derive(Clone, Copy)]
 struct Row {
     lines: &'static [u8],
@@ -115,7 +115,7 @@ const FOUND_TOP: &[u8] = b"The top-level auxiliary file: job.aux\n";
 // and the databases, each with a semicolon, with the style behind a colon. A test that holds a job or a finder itself takes long to
 // prove, since each `?` is a way out on which all of it is dropped.
 #[derive(Drop)]
-struct Told {
+struct Logged {
     log: Vec<u8>,
     keys: Vec<u8>,
     files: Vec<u8>,
@@ -162,8 +162,8 @@ fn counts_of(job: &AuxJob) -> Counts {
 }
 
 // What a job says.
-fn tell(alloc: Global, job: &AuxJob) -> Result<Told, AllocError> {
-    Ok(Told {
+fn logged(alloc: Global, job: &AuxJob) -> Result<Logged, AllocError> {
+    Ok(Logged {
         log: log_of(alloc, job.log())?,
         keys: listed(alloc, job.keys())?,
         files: files_of(alloc, job)?,
@@ -173,27 +173,27 @@ fn tell(alloc: Global, job: &AuxJob) -> Result<Told, AllocError> {
 }
 
 // What the job of a name says, over a finder.
-fn read_from<F: Finder>(alloc: Global, finder: &mut F, name: &[u8]) -> Result<Told, Fault> {
+fn read_from<F: Finder>(alloc: Global, finder: &mut F, name: &[u8]) -> Result<Logged, Fault> {
     let job = read_aux(alloc, finder, name)?;
-    tell(alloc, &job).map_err(Fault::from)
+    logged(alloc, &job).map_err(Fault::from)
 }
 
 // A file's name and bytes.
 type File<'a> = (&'a [u8], &'a [u8]);
 
 // What the job of a name says, over files in memory.
-fn read_named(alloc: Global, files: &[File<'_>], name: &[u8]) -> Result<Told, Fault> {
+fn read_named(alloc: Global, files: &[File<'_>], name: &[u8]) -> Result<Logged, Fault> {
     let mut finder = MemoryFinder::new(alloc, files)?;
     read_from(alloc, &mut finder, name)
 }
 
 // What the job `job.aux` says, over files in memory.
-fn read(alloc: Global, files: &[File<'_>]) -> Result<Told, Fault> {
+fn read(alloc: Global, files: &[File<'_>]) -> Result<Logged, Fault> {
     read_named(alloc, files, b"job.aux")
 }
 
 // What a job says whose top file ends in one line for a database and one for a style.
-fn read_lines(alloc: Global, lines: &[u8]) -> Result<Told, Fault> {
+fn read_lines(alloc: Global, lines: &[u8]) -> Result<Logged, Fault> {
     let top = joined(alloc, &[lines, b"\n\\bibdata{d}\n\\bibstyle{s}\n"])?;
     read(alloc, &[(b"job.aux", &top)])
 }
@@ -213,7 +213,7 @@ fn same(rt: &impl Abort, found: &[u8], wanted: &[u8]) {
 // Asserts a job's keys, its log and its counts.
 fn says(
     rt: &impl Abort,
-    told: Result<Told, Fault>,
+    told: Result<Logged, Fault>,
     keys: &[u8],
     log: &[u8],
     counts: Counts,
@@ -228,7 +228,7 @@ fn says(
 // Asserts a job's files, and the place of `*`.
 fn uses(
     rt: &impl Abort,
-    told: Result<Told, Fault>,
+    told: Result<Logged, Fault>,
     files: &[u8],
     all: Option<usize>,
 ) -> Result<(), Fail> {
@@ -252,7 +252,7 @@ fn stands(
 // Asserts how long the text of a job's keys is and how it ends, and the job's counts.
 fn ends(
     rt: &impl Abort,
-    told: Result<Told, Fault>,
+    told: Result<Logged, Fault>,
     size: usize,
     last: &[u8],
     counts: Counts,
@@ -301,7 +301,7 @@ const CHAIN: [File<'static>; 21] = [
 ];
 
 #[test]
-fn tells_what_is_wrong(rt: HostRuntime) -> Result<(), Fail> {
+fn logs_what_is_wrong(rt: HostRuntime) -> Result<(), Fail> {
     for row in &ROWS {
         let told = read_lines(rt.alloc(), row.lines);
         says(&rt, told, row.keys, row.log, row.counts)?;
@@ -340,7 +340,7 @@ fn all_missing() -> &'static [u8] {
 const EMPTY: [File<'static>; 1] = [(b"job.aux", b"")];
 
 #[test]
-fn tells_what_is_missing(rt: HostRuntime) -> Result<(), Fail> {
+fn logs_what_is_missing(rt: HostRuntime) -> Result<(), Fail> {
     let told = read(rt.alloc(), &EMPTY);
     says(&rt, told, b"", all_missing(), (4, 3, 0, End::Whole))?;
     let told = read_named(rt.alloc(), &EMPTY, b"other.aux");

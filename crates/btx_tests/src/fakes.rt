@@ -32,7 +32,7 @@ pub struct FakeWriter {
 }
 
 impl FakeWriter {
-    /// A writer that takes at most so many bytes at a time, and fails at one write, counted from 0.
+    /// Makes a writer that takes at most `most` bytes at a time, and fails at the write `fails_at`, counted from 0, in the way `how`.
     pub fn new(alloc: Global, most: usize, how: Failing, fails_at: u64) -> Self {
         FakeWriter {
             bytes: Vec::new(alloc),

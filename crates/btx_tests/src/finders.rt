@@ -68,7 +68,7 @@ impl<F: Finder> Finder for RefusedFinder<F> {
     }
 }
 
-/// A finder of one file, and of the same bytes under every other name. It doesn't tell its content.
+/// A finder of one file, and of the same bytes under every other name. It doesn't show its content.
 #[derive(Drop)]
 pub struct EveryFinder<'a> {
     pub name: &'a [u8],

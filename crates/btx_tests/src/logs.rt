@@ -17,7 +17,7 @@ struct Written {
 }
 
 // Writes lines to a log.
-fn tell(lines: &[&[u8]], sink: &mut Over<FakeWriter>) -> Result<(), Fault> {
+fn log_lines(lines: &[&[u8]], sink: &mut Over<FakeWriter>) -> Result<(), Fault> {
     let mut log = Log::new();
     for line in lines {
         log.line(line, sink)?;
@@ -28,7 +28,7 @@ fn tell(lines: &[&[u8]], sink: &mut Over<FakeWriter>) -> Result<(), Fault> {
 // Writes lines to a sink that takes so many bytes at a time, and fails at one write.
 fn write_lines(alloc: Global, lines: &[&[u8]], most: usize, how: Failing, at: u64) -> Written {
     let mut sink = Over::new(FakeWriter::new(alloc, most, how, at));
-    let answer = tell(lines, &mut sink);
+    let answer = log_lines(lines, &mut sink);
     Written {
         answer,
         bytes: sink.writer.bytes,

@@ -4,7 +4,7 @@ use btx_strings::{
     Answer, Complaints, add_period, change_case, purify, substring, text_length, text_prefix, width,
 };
 use btx_text::{
-    Class, Elements, Fault, Kind, TextMode, class, depth_at, fold_key, lines, same_key,
+    Class, Elements, Fault, Kind, Text, TextMode, class, depth_at, fold_key, lines, same_key,
 };
 use std::alloc::{AllocError, Global};
 use std::process::Abort;
@@ -460,6 +460,33 @@ fn lines_and_keys(rt: HostRuntime) -> Result<(), Fail> {
     let mut key = *b"Knuth:84@[Z\xC9";
     fold_key(&mut key);
     assert!(rt; key.as_slice() == b"knuth:84@[z\xC9".as_slice());
+    Ok(())
+}
+
+// Whether the bytes of a text are these once several places share them, and again as a text.
+fn is_shared_as(alloc: Global, text: Text<'_>, want: &[u8]) -> Result<bool, AllocError> {
+    let shared = text.into_shared(alloc)?;
+    let again = Text::of_shared(shared.clone()?);
+    Ok(shared.as_slice() == want && again.as_bytes() == want)
+}
+
+// Whether it is so of a text that is lent, of one that was computed, and of one that is shared.
+fn sharing_holds(alloc: Global, string: &[u8]) -> Result<bool, AllocError> {
+    if string.len() > 1_000_000 {
+        return Ok(false);
+    }
+    let owned = Text::owned(Vec::from_slice(alloc, string)?);
+    let shared = Text::shared(Vec::from_slice(alloc, string)?)?;
+    Ok(
+        is_shared_as(alloc, Text::borrowed(string), string)?
+            && is_shared_as(alloc, owned, string)?
+            && is_shared_as(alloc, shared, string)?,
+    )
+}
+
+#[test]
+fn shared_texts(rt: HostRuntime) -> Result<(), Fail> {
+    assert!(rt; sharing_holds(rt.alloc(), STRING)? == true);
     Ok(())
 }
 

@@ -4,7 +4,7 @@ use std::alloc::{AllocError, Global};
 /// A byte, and how often it stands there.
 pub type Run = (u8, usize);
 
-/// The text that these bytes stand for.
+/// Makes the text of `runs`: each byte as often as it says.
 pub fn text_of(alloc: Global, runs: &[Run]) -> Result<Vec<u8>, AllocError> {
     let mut text = Vec::new(alloc);
     for (byte, count) in runs {
@@ -13,7 +13,7 @@ pub fn text_of(alloc: Global, runs: &[Run]) -> Result<Vec<u8>, AllocError> {
     Ok(text)
 }
 
-/// These texts, one behind the other.
+/// Joins texts, one behind the other.
 pub fn joined(alloc: Global, texts: &[&[u8]]) -> Result<Vec<u8>, AllocError> {
     let mut whole = Vec::new(alloc);
     for text in texts {

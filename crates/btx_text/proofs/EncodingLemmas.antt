@@ -41,9 +41,9 @@ second_from : (a b : ℕ) → Second a b → second_fits a b ≡ true
 unfolding second_fits
 second_from a b h = grind (arith, nat_tests, h.overlong_three, h.surrogate, h.overlong_four, h.last)
 
-second_tells : (a b : ℕ) → second_fits a b ≡ true → Second a b
+second_shows : (a b : ℕ) → second_fits a b ≡ true → Second a b
 unfolding second_fits
-second_tells a b h = record {
+second_shows a b h = record {
   low = grind (arith, nat_tests);
   high = grind (arith, nat_tests);
   overlong_three = λ e. grind (arith, nat_tests);
@@ -55,8 +55,8 @@ second_tells a b h = record {
 further_from : (b : ℕ) → 128 ≤ b → b ≤ 191 → is_further b ≡ true
 further_from b h k = grind (arith, nat_tests)
 
-further_tells : (b : ℕ) → is_further b ≡ true → (128 ≤ b) × (b ≤ 191)
-further_tells b h = (grind (arith, nat_tests), grind (arith, nat_tests))
+further_shows : (b : ℕ) → is_further b ≡ true → (128 ≤ b) × (b ≤ 191)
+further_shows b h = (grind (arith, nat_tests), grind (arith, nat_tests))
 
 -- ---- an encoding is a sequence
 
@@ -187,14 +187,14 @@ by_size a b [] len s f =
     (λ more. ⊎_elim (λ three. absurd (omega (arith, three.0))) (λ most. ⊎_elim (λ four. absurd (omega (arith, four.0))) (λ none. absurd (omega arith)) most) more)
     (size_cases a)
 by_size a b (d ∷ []) len s f =
-    let fits = further_tells d (and_parts _ _ f).0 in
+    let fits = further_shows d (and_parts _ _ f).0 in
     ⊎_elim (λ two. absurd (omega (arith, two.0)))
     (λ more. ⊎_elim (λ three. encoded_three a b d three.1 three.2 s fits.0 fits.1) (λ most. ⊎_elim (λ four. absurd (omega (arith, four.0))) (λ none. absurd (omega arith)) most) more)
     (size_cases a)
 by_size a b (d ∷ e ∷ []) len s f =
     let parts = and_parts _ _ f in
-    let fits = further_tells d parts.0 in
-    let fits_more = further_tells e (and_parts _ _ parts.1).0 in
+    let fits = further_shows d parts.0 in
+    let fits_more = further_shows e (and_parts _ _ parts.1).0 in
     ⊎_elim (λ two. absurd (omega (arith, two.0)))
     (λ more. ⊎_elim (λ three. absurd (omega (arith, three.0))) (λ most. ⊎_elim (λ four. encoded_four a b d e four.1 four.2 s fits.0 fits.1 fits_more.0 fits_more.1) (λ none. absurd (omega arith)) most) more)
     (size_cases a)
@@ -210,4 +210,4 @@ is_sequence-encoded (a ∷ []) h = absurd (false≢true h)
 is_sequence-encoded (a ∷ b ∷ others) h =
     let parts = and_parts _ _ h in
     let front = and_parts _ _ parts.0 in
-    by_size a b others (eqb-true _ _ front.0) (second_tells a b front.1) parts.1
+    by_size a b others (eqb-true _ _ front.0) (second_shows a b front.1) parts.1

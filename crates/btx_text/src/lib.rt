@@ -1,5 +1,5 @@
 //! The words of the other crates: byte classes, the lines of a text, the elements of a string, strings that are
-//! lent or shared, the lines of a log, and the faults of a call.
+//! lent or shared, the lines of a log, the limits of a run, and the faults of a call.
 #![tactic(auto)]
 
 pub mod byte_class;
@@ -24,7 +24,7 @@ pub use depths::depth_at;
 pub use element_kind::{Kind, TextMode};
 pub use fault::Fault;
 pub use keys::{fold_key, same_key};
-pub use limits::{GREATEST_FILE, GREATEST_STRING};
+pub use limits::{GREATEST_FILE, GREATEST_STRING, Limit, MOST_LITERALS};
 pub use log_line::{LineKind, LogLine, LogLines};
 pub use log_texts::Place;
 pub use string_elements::{Element, Elements};

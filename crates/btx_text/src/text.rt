@@ -1,5 +1,6 @@
 //! A string of at most 1,000,000 bytes.
 ghost use Rattle.std.specs.Prelude.{◌≡◌, ◌≤◌, ◌+◌, ◌++◌, [], length, take, IfOk, IfSome};
+ghost use Rattle.std.specs.Rc.{rc_slice_items};
 ghost use Rattle.btx_text.specs.language.Limits.{greatest_string};
 
 use std::alloc::{AllocError, Global};
@@ -67,6 +68,16 @@ impl<'a> Text<'a> {
         }
     }
 
+    /// Bytes that stand in several places.
+    pub fn of_shared(bytes: RcSlice<u8>) -> Self
+        requires { length (rc_slice_items bytes) ≤ greatest_string }
+        ensures { result ≡ rc_slice_items bytes }
+    {
+        Text {
+            kept: Kept::Shared(bytes),
+        }
+    }
+
     /// Bytes that were computed, of which copies take no more memory.
     pub fn shared(bytes: Vec<u8>) -> Result<Self, AllocError>
         requires { length bytes.items ≤ greatest_string }
@@ -115,6 +126,17 @@ impl<'a> Text<'a> {
                 kept: Kept::Shared(RcSlice::from_vec(bytes)?),
             }),
             kept => Ok(Text { kept }),
+        }
+    }
+
+    /// The bytes, of which copies take no more memory. Only those of a file are copied.
+    pub fn into_shared(self, alloc: Global) -> Result<RcSlice<u8>, AllocError>
+        ensures { IfOk result (λ shared. rc_slice_items shared ≡ self.entry) }
+    {
+        match self.kept {
+            Kept::Borrowed(bytes) => RcSlice::from_slice(alloc, bytes),
+            Kept::Owned(bytes) => RcSlice::from_vec(bytes),
+            Kept::Shared(bytes) => Ok(bytes),
         }
     }
 

@@ -3,6 +3,7 @@
 -- the finder's content has it and fewer than 20 files are open; the events of an opened file follow at once.
 use Rattle.std.specs.Prelude.{ℕ, zero, suc, ◌+◌, ◌-◌, not, ◌&&◌, List, [], ◌∷◌, ◌++◌, map, Option, None, Some, if◌then◌else◌, codes}
 use Rattle.std.specs.List.{flat_map}
+use Rattle.btx_aux.specs.declared.reading.TheConstants.{MOST_OPEN}
 use Rattle.std.specs.Option.{option_map_or}
 use Rattle.btx_text.specs.language.Limits.{is_too_long}
 use Rattle.btx_text.specs.language.Lines.{lines_of}
@@ -78,4 +79,4 @@ until_end (event ∷ events) = if is_whole (end_by event.word) then event ∷ un
 
 -- the events of a job whose top file is `top`: those of that file and of the files that it opens, or that it is missing
 unfoldable pub job_events : Files → List ℕ → List AuxEvent
-job_events files top = until_end (option_map_or (opened files 20 [] top) (files top) (event_at top 0 NoTop ∷ []))
+job_events files top = until_end (option_map_or (opened files MOST_OPEN [] top) (files top) (event_at top 0 NoTop ∷ []))

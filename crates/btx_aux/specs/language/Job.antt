@@ -99,25 +99,25 @@ slip_complaints (Cut slip) = Slipped slip ∷ []
 -- what is wrong with an event, given the keys, the place of `*`, whether there were a `\bibdata` and a `\bibstyle` line, and the file names, all as
 -- they stand before it: an error in a piece, a second `*`, a key that is listed in another spelling (`earlier`), a second line of its kind, an `\@input`
 -- of another ending than `.aux` or of a file that is named already, and a file that isn't there
-abbrev pub complaints_by : List (List ℕ) → Option ℕ → Bool → Bool → List (List ℕ) → EventKind → List AuxComplaint
-complaints_by keys all bibdata bibstyle files (Cites (Taken key)) =
+abbrev pub event_complaints : List (List ℕ) → Option ℕ → Bool → Bool → List (List ℕ) → EventKind → List AuxComplaint
+event_complaints keys all bibdata bibstyle files (Cites (Taken key)) =
     if is_star key then only_if (is_some all) SecondStar
     else option_map_or (λ (earlier : List ℕ). only_if (not (bytes_eq earlier key)) (CaseMismatch earlier key)) (listed_as keys key) []
-complaints_by keys all bibdata bibstyle files (Cites (Cut slip)) = Slipped slip ∷ []
-complaints_by keys all bibdata bibstyle files (Databases pieces) = if bibdata then AnotherBibdata ∷ [] else database_complaints [] pieces
-complaints_by keys all bibdata bibstyle files (Styles piece) = if bibstyle then AnotherBibstyle ∷ [] else slip_complaints piece
-complaints_by keys all bibdata bibstyle files (Includes (Taken name)) =
+event_complaints keys all bibdata bibstyle files (Cites (Cut slip)) = Slipped slip ∷ []
+event_complaints keys all bibdata bibstyle files (Databases pieces) = if bibdata then AnotherBibdata ∷ [] else database_complaints [] pieces
+event_complaints keys all bibdata bibstyle files (Styles piece) = if bibstyle then AnotherBibstyle ∷ [] else slip_complaints piece
+event_complaints keys all bibdata bibstyle files (Includes (Taken name)) =
     if has_ending (codes ".aux") name then only_if (is_among files name) (AlreadyMet name) else WrongExtension name ∷ []
-complaints_by keys all bibdata bibstyle files (Includes (Cut slip)) = Slipped slip ∷ []
-complaints_by keys all bibdata bibstyle files (Absent name) = NotOpened name ∷ []
-complaints_by keys all bibdata bibstyle files _ = []
+event_complaints keys all bibdata bibstyle files (Includes (Cut slip)) = Slipped slip ∷ []
+event_complaints keys all bibdata bibstyle files (Absent name) = NotOpened name ∷ []
+event_complaints keys all bibdata bibstyle files _ = []
 
 -- the notes of an event: that a file is opened, or what is wrong, each with the event's file and line
 abbrev pub notes_by : List (List ℕ) → Option ℕ → Bool → Bool → List (List ℕ) → AuxEvent → EventKind → List AuxNote
 notes_by keys all bibdata bibstyle files event (Opens zero) = TopFile event.file ∷ []
 notes_by keys all bibdata bibstyle files event (Opens (suc level)) = LevelFile (suc level) event.file ∷ []
 notes_by keys all bibdata bibstyle files event word =
-    map (λ (complaint : AuxComplaint). Wrong complaint event.line event.file) (complaints_by keys all bibdata bibstyle files word)
+    map (λ (complaint : AuxComplaint). Wrong complaint event.line event.file) (event_complaints keys all bibdata bibstyle files word)
 
 -- the notes of an event, given the events before it
 abbrev pub notes_at : List AuxEvent → AuxEvent → List AuxNote

@@ -3,6 +3,7 @@ use Rattle.std.specs.Prelude.{ℕ, List, [], ◌∷◌, Option, None, Some, Bool
 use Rattle.std.specs.Option.{option_map_or}
 use Rattle.btx_aux.specs.language.Events.{AuxEvent, named_by, FileEvents, event_at, said, expanded, opened}
 use Rattle.btx_aux.specs.language.Grammar.{Absent, TooLong, NoTop}
+use Rattle.btx_aux.specs.declared.reading.TheConstants.{MOST_OPEN}
 use Rattle.btx_aux.specs.language.Files.{Files}
 
 -- what follows an `\@input` of the file `name`, given the bytes that the finder has for that: the events of the file, which `reading` gives, or
@@ -16,7 +17,7 @@ inside long files reading earlier name text = if long then event_at name 0 TooLo
 
 -- the events of the top file and of the files that it opens, given its text; without a text, that it is missing
 abbrev pub from_top : Files → List ℕ → Option (List ℕ) → List AuxEvent
-from_top files top text = option_map_or (opened files 20 [] top) text (event_at top 0 NoTop ∷ [])
+from_top files top text = option_map_or (opened files MOST_OPEN [] top) text (event_at top 0 NoTop ∷ [])
 
 -- the name of the file that an event mentions, as a list of one, or of none
 abbrev pub file_named : AuxEvent → List (List ℕ)

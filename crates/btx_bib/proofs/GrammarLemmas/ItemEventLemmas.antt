@@ -10,12 +10,12 @@ use Rattle.btx_bib.specs.declared.grammar.slip.Slip.TheVariants.{NoEquals, NoClo
 use Rattle.btx_bib.specs.language.Grammar.Tokens.{Parsed, followed_by, name_at, open_at, sign_at, key_at, closing_delimiter}
 use Rattle.btx_bib.specs.language.Grammar.Values.{Part, value_at}
 use Rattle.btx_bib.specs.language.Grammar.Fields.{Field}
-use Rattle.btx_bib.specs.language.Grammar.Items.{Event, Comment, Preamble, Definition, Entry, FieldOf, End, Wrong, Keeping, is_repeated, Step, step_by, field_event, expected_step, known_step, next_step, behind_at, command_of, head_of, head_at, events_from}
+use Rattle.btx_bib.specs.language.Grammar.Items.{Event, Comment, Preamble, Definition, Entry, FieldOf, End, Wrong, Keeping, is_repeated, Step, step_by, field_event, expected_step, next_step, behind_at, command_of, head_of, head_at, events_from}
 use Rattle.btx_bib.specs.laws.Grammar.WholeItems.{PreambleItem, StringItem, EntryItem, other_fields, fields_at, whole_item, whole_item_at}
 use Rattle.btx_bib.specs.laws.Grammar.ItemEvents.{read_events, bare_events, GivesEvents, IsNew}
 use Rattle.btx_bib.proofs.GrammarLemmas.LengthLemmas.{Shrinks, events-some}
 use Rattle.btx_bib.proofs.GrammarLemmas.WholeItemLemmas.{more-shrinks, fields_at-step}
-use Rattle.btx_bib.specs.refinement.Grammar.Items.{item_end}
+use Rattle.btx_bib.specs.refinement.Grammar.Items.{item_end, known_step}
 use Rattle.btx_bib.specs.laws.Grammar.Fields.{more_at}
 
 -- ---- one step

@@ -14,14 +14,15 @@ use Rattle.btx_bib.specs.declared.grammar.slip.Slip.{Slip}
 use Rattle.btx_bib.specs.declared.grammar.slip.Slip.TheVariants.{NoEquals, NoClosing, Repeated}
 use Rattle.btx_bib.specs.language.Grammar.ByteSets.{begins, past, enclosed_len}
 use Rattle.btx_bib.specs.language.Grammar.Tokens.{Parsed, followed_by, name_here, name_at, open_in, open_at, sign_in, sign_at, key_here, key_at, closing_delimiter}
-use Rattle.btx_bib.specs.language.Grammar.Values.{Part, closed_part, enclosed_in, part_in, part_at, next_part, joined, value_within, value_at}
+use Rattle.btx_bib.specs.language.Grammar.Values.{Part, closed_part, enclosed_in, part_in, part_at, next_part, value_within, value_at}
 use Rattle.btx_bib.specs.language.Grammar.Fields.{Field, field_at, after_comma, more_in}
-use Rattle.btx_bib.specs.language.Grammar.Items.{Event, Wrong, Keeping, is_repeated, as_known, known_step, next_step, command_of, head_of, head_at, field_event, Step, step_by, behind_at, expected_step, Placed, events_by, events_within, events_from}
+use Rattle.btx_bib.specs.language.Grammar.Items.{Event, Wrong, Keeping, is_repeated, as_known, next_step, command_of, head_of, head_at, field_event, Step, step_by, behind_at, expected_step, Placed, events_within, events_from}
 use Rattle.btx_bib.proofs.GrammarLemmas.ValueLemmas.{Within, behind_hash-within, past-le}
-use Rattle.btx_bib.specs.refinement.Grammar.Items.{item_end}
+use Rattle.btx_bib.specs.refinement.Grammar.Items.{item_end, known_step, events_by}
 use Rattle.btx_bib.specs.refinement.Grammar.Fields.{one_more}
 use Rattle.std.specs.Char.{is_ascii_digit}
 use Rattle.btx_bib.specs.laws.Grammar.Fields.{more_at}
+use Rattle.btx_bib.specs.refinement.Grammar.Values.{joined}
 
 -- the text that follows isn't longer than so many bytes
 abbrev pub Stays : {A : Type 0} → ℕ → Parsed A → Type 0

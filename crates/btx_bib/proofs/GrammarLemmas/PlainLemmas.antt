@@ -11,11 +11,12 @@ use Rattle.btx_text.specs.language.Class.{begins_name}
 use Rattle.btx_bib.specs.language.Grammar.ByteSets.{is_gap, past, longest_run, longest_run_len}
 use Rattle.btx_bib.specs.language.Grammar.Tokens.{closing_delimiter, name_here, sign_in}
 use Rattle.btx_bib.specs.language.Grammar.Fields.{after_comma, field_at, more_in}
-use Rattle.btx_bib.specs.language.Grammar.Items.{known_step, next_step, expected_step}
+use Rattle.btx_bib.specs.language.Grammar.Items.{next_step, expected_step}
 use Rattle.btx_bib.specs.refinement.Grammar.PlainFields.{plain_step}
 use Rattle.btx_bib.specs.language.Grammar.Values.{Part, value_at}
 use Rattle.btx_bib.proofs.GrammarLemmas.LengthLemmas.{events-less, left}
 use Rattle.btx_bib.specs.laws.Grammar.Fields.{more_at}
+use Rattle.btx_bib.specs.refinement.Grammar.Items.{known_step}
 
 -- a byte that begins a name is none that doesn't
 no-name : (b k : ℕ) → begins_name k ≡ false → begins_name b ≡ true → eqb b k ≡ false

@@ -16,12 +16,12 @@ use Rattle.btx_bib.specs.language.Grammar.ByteSets.{begins, longest_run_len, lon
 use Rattle.btx_bib.specs.language.Grammar.Tokens.{Parsed, followed_by, wrong_at, name_at, open_in, open_at, sign_at, key_here, key_at, closing_delimiter}
 use Rattle.btx_bib.specs.language.Grammar.Values.{value_at}
 use Rattle.btx_bib.specs.language.Grammar.Fields.{Field, field_at, after_comma, more_in}
-use Rattle.btx_bib.specs.language.Grammar.Items.{Event, Comment, Preamble, Definition, Entry, End, Wrong, command_of, head_of, head_at, field_event, Step, step_by, behind_at, expected_step, Placed, Keeping, as_known, known_step, events_by, events_from}
+use Rattle.btx_bib.specs.language.Grammar.Items.{Event, Comment, Preamble, Definition, Entry, End, Wrong, command_of, head_of, head_at, field_event, Step, step_by, behind_at, expected_step, Placed, Keeping, as_known, events_from}
 use Rattle.btx_bib.specs.laws.Grammar.Spelling.{Grammar, Gives, Then, Spaced, NameHere, SignHere, ValueSpelling, FieldSpelling, Splits, read_as}
 use Rattle.btx_bib.specs.laws.Grammar.Reading.{OnSign, WrongHere, OpenHere, KeyHere, AfterComma, MoreHere, HeadOf, Head, more_event, HasNoAt, Stands, IsOutcome, IsReading}
 use Rattle.btx_bib.proofs.GrammarLemmas.LengthLemmas.{left, StepsTo, next-leaves, events_from-step, events-none}
 use Rattle.btx_bib.proofs.GrammarLemmas.SpellingLemmas.{Decides, Only, then-decides, gives-decides, spaced-decides, name-decides, sign-decides, value-decides, field-decides, run-of, past-of, is_run}
-use Rattle.btx_bib.specs.refinement.Grammar.Items.{item_end}
+use Rattle.btx_bib.specs.refinement.Grammar.Items.{item_end, known_step, events_by}
 use Rattle.btx_bib.specs.refinement.Grammar.Fields.{one_more}
 use Rattle.btx_bib.specs.laws.Grammar.Fields.{more_at}
 

@@ -12,11 +12,12 @@ use Rattle.btx_bib.specs.declared.grammar.slip.Slip.{Slip}
 use Rattle.btx_bib.specs.declared.grammar.slip.Slip.TheVariants.{NoName, NoDelimiter, NoComma, NoEquals, NoClosing, NoValue, Unbalanced, EndOfFile, Repeated}
 use Rattle.btx_bib.specs.language.Grammar.ByteSets.{is_in, begins, ends_enclosed, longest_run_len, longest_run, past, enclosed_len}
 use Rattle.btx_bib.specs.language.Grammar.Tokens.{Parsed, followed_by, wrong_at, name_here, name_at, sign_in, sign_at}
-use Rattle.btx_bib.specs.language.Grammar.Values.{Part, Braced, Quoted, Digits, Named, closed_part, enclosed_in, part_in, part_at, behind_hash, next_part, joined, value_at}
+use Rattle.btx_bib.specs.language.Grammar.Values.{Part, Braced, Quoted, Digits, Named, closed_part, enclosed_in, part_in, part_at, behind_hash, next_part, value_at}
 use Rattle.btx_bib.specs.language.Grammar.Fields.{Field, field_at}
 use Rattle.btx_bib.specs.laws.Grammar.Spelling.{Grammar, Gives, Both, Then, AllIn, IsRun, White, Spaced, NameHere, SignHere, IsInside, IsWrongPart, PartHere, EndsThere, OthersFollow, ValueOf, ValueSpelling, FieldSpelling, Splits, read_as}
 use Rattle.btx_bib.proofs.GrammarLemmas.ValueLemmas.{value_at-step, Within, behind_hash-within, past-le, Leaves, part_at-leaves}
 use Rattle.std.specs.Char.{is_ascii_digit}
+use Rattle.btx_bib.specs.refinement.Grammar.Values.{joined}
 
 -- a function reads as a grammar says: what it reads is spelled, and what is spelled it reads
 pub record Decides {A : Type 0} (read : List ℕ → Parsed A) (R : Grammar A) : Type 0 where

@@ -10,8 +10,8 @@ use Rattle.btx_bib.specs.declared.grammar.value_ends.Ends.{Ends}
 use Rattle.btx_bib.specs.declared.grammar.value_ends.Ends.TheVariants.{Kept, Trimmed}
 use Rattle.btx_bib.specs.language.Grammar.ByteSets.{is_gap, begins, past, longest_run_len}
 use Rattle.btx_bib.specs.language.Grammar.Values.{Part}
-use Rattle.btx_bib.specs.language.Grammar.ValueTexts.{StringValues, text_of_part, squeezed, shaped, without_first_space, without_last_space}
-use Rattle.btx_bib.specs.refinement.Grammar.ValueTexts.{GathersWithin, MakesText, joined_text}
+use Rattle.btx_bib.specs.language.Grammar.ValueTexts.{text_of_part, squeezed, shaped, without_first_space, without_last_space}
+use Rattle.btx_bib.specs.refinement.Grammar.ValueTexts.{GathersWithin, MakesText, joined_text, StringValues}
 use Rattle.btx_bib.specs.refinement.Grammar.Squeezing.{squeezed_after, white_after, stays_squeezed, is_squeezed, ends_in_gap, stands, without_last_gap, without_gaps}
 
 both : (s : List ℕ) → (squeezed_after false s ≡ squeezed s) × (squeezed s ≡ cond (begins is_gap s) (32 ∷ squeezed_after true s) (squeezed_after true s))

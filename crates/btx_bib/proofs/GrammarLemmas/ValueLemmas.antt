@@ -15,8 +15,8 @@ use Rattle.btx_bib.specs.declared.grammar.slip.Slip.{Slip}
 use Rattle.btx_bib.specs.declared.grammar.slip.Slip.TheVariants.{NoValue, Unbalanced}
 use Rattle.btx_bib.specs.language.Grammar.Tokens.{Parsed, followed_by}
 use Rattle.btx_bib.specs.refinement.Grammar.Tokens.{seen}
-use Rattle.btx_bib.specs.language.Grammar.Values.{Part, Quoted, Digits, Named, closed_part, enclosed_in, part_in, part_at, behind_hash, next_part, joined, value_within, value_at}
-use Rattle.btx_bib.specs.refinement.Grammar.Values.{parts_read, value_end}
+use Rattle.btx_bib.specs.language.Grammar.Values.{Part, Quoted, Digits, Named, closed_part, enclosed_in, part_in, part_at, behind_hash, next_part, value_within, value_at}
+use Rattle.btx_bib.specs.refinement.Grammar.Values.{parts_read, value_end, joined}
 use Rattle.std.specs.Char.{is_ascii_digit}
 
 -- what was read leaves less

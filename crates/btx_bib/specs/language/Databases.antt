@@ -13,7 +13,7 @@ use Rattle.btx_bib.specs.language.Strings.{defined}
 use Rattle.btx_bib.specs.language.Listing.{slots_of}
 use Rattle.btx_bib.specs.language.Passes.{entries_of, reference_messages}
 use Rattle.btx_bib.specs.language.Known.{Known, goes_on, with_current_stored, if_fits, keeping}
-use Rattle.btx_bib.specs.language.Told.{Database, Reading, read_next}
+use Rattle.btx_bib.specs.language.Messages.{Database, Reading, read_next}
 
 -- ---- before the first database
 

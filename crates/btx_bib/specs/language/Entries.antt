@@ -1,7 +1,7 @@
 -- What an entry of a database gives: its values for the declared fields, the number of its type, and its parent.
-use Rattle.std.specs.Prelude.{ℕ, zero, suc, nat_eq, Bool, false, List, [], ◌∷◌, Option, None, Some}
+use Rattle.std.specs.Prelude.{ℕ, zero, suc, nat_eq, Bool, false, List, [], ◌∷◌, Option, None}
 use Rattle.std.specs.List.{find}
-use Rattle.std.specs.Option.{option_map}
+use Rattle.std.specs.Option.{option_map, option_map_or}
 use Rattle.btx_text.specs.language.Keys.{folded}
 use Rattle.btx_bib.specs.declared.slots.Body.{Body}
 use Rattle.btx_bib.specs.language.Wanted.{Request}
@@ -17,14 +17,11 @@ pub record Given : Type 0 where
   pub key : List ℕ
   pub fields : List KeptField
 
--- a number is there, and it is `number`
-abbrev pub is_number : ℕ → Option ℕ → Bool
-is_number number None = false
-is_number number (Some other) = nat_eq other number
-
 -- the value of an entry's first field whose number is `number`; nothing if it has none
 abbrev pub value_in : Request → List KeptField → ℕ → Option (List ℕ)
-value_in wanted fields number = option_map (λ (field : KeptField). field.value) (find (λ (field : KeptField). is_number number (wanted.field (folded field.name))) fields)
+value_in wanted fields number =
+    let has_number : KeptField → Bool = λ field. option_map_or (λ (other : ℕ). nat_eq other number) (wanted.field (folded field.name)) false in
+    option_map (λ (field : KeptField). field.value) (find has_number fields)
 
 -- the values of `count` fields, from field number `first` on
 abbrev pub values_from : Request → List KeptField → ℕ → ℕ → List (Option (List ℕ))

@@ -10,15 +10,16 @@ use Rattle.btx_bib.specs.language.Grammar.Fields.{Field}
 use Rattle.btx_bib.specs.language.Grammar.Items.{Event, Comment, Preamble, Definition, Entry, FieldOf, End as Close, Wrong, Keeping}
 use Rattle.btx_bib.specs.language.Grammar.ValueTexts.{value_text}
 use Rattle.btx_bib.specs.language.Wanted.{Request}
-use Rattle.btx_bib.specs.language.Strings.{Strings, string_value, other_value, defined}
-use Rattle.btx_bib.specs.language.Filling.{value_by}
+use Rattle.btx_bib.specs.language.Strings.{string_value, other_value, defined}
 use Rattle.btx_bib.specs.language.Entries.{Given, field_values}
 use Rattle.btx_bib.specs.language.Stored.{entry_with_key, is_wanted}
+use Rattle.std.specs.Option.{option_and_then}
+use Rattle.btx_bib.specs.language.Values.{field_value}
 
--- the strings, the entries that are stored, the one of these that is being read, the values of all `@preamble`s joined, and how the
--- reading has ended so far
+-- the strings, which are names in lower case, each with its value; the entries that are stored, the one of these that is being read, the values of all
+-- `@preamble`s joined, and how the reading has ended so far
 pub record Known : Type 0 where
-  pub strings : Strings
+  pub strings : List (List ℕ × List ℕ)
   pub stored : List Given
   pub current : Option Given
   pub preamble : List ℕ
@@ -44,7 +45,7 @@ if_fits text known next = if nat_lt greatest_string (length text) then record kn
 
 -- an entry has a value for the field `name` already
 abbrev pub has_value : Request → Given → List ℕ → Bool
-has_value wanted given name = is_some (value_by (wanted.field (folded name)) (field_values wanted given.fields))
+has_value wanted given name = is_some (option_and_then (λ (place : ℕ). field_value place (field_values wanted given.fields)) (wanted.field (folded name)))
 
 -- what is known after a field: it is kept if its entry is stored, the style declares the field, and the entry has no value for it yet. Any other
 -- field changes nothing

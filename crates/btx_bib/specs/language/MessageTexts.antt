@@ -10,6 +10,7 @@ use Rattle.btx_bib.specs.declared.grammar.slip.Slip.TheVariants.{NoName, NoDelim
 use Rattle.btx_bib.specs.declared.message.Message.{Message}
 use Rattle.btx_bib.specs.declared.message.Message.TheVariants.{Wrong, UnknownKind, ExtraField, UndefinedString, OwnString, BadReference, NestedReference, NoEntry}
 use Rattle.btx_bib.specs.declared.message.Spot.{Spot}
+use Rattle.std.specs.Option.{option_map_or}
 
 -- what is wrong at a place of a database, in words
 unfoldable pub slip_text : Slip → List ℕ
@@ -53,11 +54,9 @@ spot_of (UndefinedString name spot) = Some spot
 spot_of (OwnString name spot) = Some spot
 spot_of _ = None
 
--- the end of a log line that has a place: `--line 7 of file refs.bib`
-abbrev pub spot_text : Option Spot → List ℕ
-spot_text None = []
-spot_text (Some spot) = place_text spot.line spot.file
-
--- the line of the log for a message
+-- the line of the log for a message, which ends with its place, if it has one: `--line 7 of file refs.bib`
 abbrev pub message_line : Message → Line
-message_line message = record { text = mark_of (message_kind message) ++ message_text message ++ spot_text (spot_of message); kind = message_kind message }
+message_line message = record {
+  text = mark_of (message_kind message) ++ message_text message ++ option_map_or (λ (spot : Spot). place_text spot.line spot.file) (spot_of message) [];
+  kind = message_kind message;
+}

@@ -1,8 +1,8 @@
 -- Cross-references (btxdoc, section 2.2's `crossref`; the two passes are those of the original). Each pass goes along the list, and
 -- each place is judged by the list as it is then.
-use Rattle.std.specs.Prelude.{ℕ, ◌&&◌, Bool, false, List, [], ◌∷◌, ◌++◌, Option, None, Some, is_some, if◌then◌else◌}
+use Rattle.std.specs.Prelude.{ℕ, ◌&&◌, Bool, false, List, [], ◌∷◌, ◌++◌, Option, None, Some, is_some, if◌then◌else◌, option_map}
 use Rattle.std.specs.List.{find, flat_map}
-use Rattle.std.specs.Option.{option_or, option_map_or}
+use Rattle.std.specs.Option.{option_or, option_map_or, option_and_then}
 use Rattle.btx_aux.specs.language.Names.{is_same_key}
 use Rattle.btx_bib.specs.declared.entry.Entry.{Entry}
 use Rattle.btx_bib.specs.declared.message.Message.{Message}
@@ -36,16 +36,6 @@ parent_at slot = parent_in (body_values slot.body)
 abbrev pub slot_at : List Slot → List ℕ → Option Slot
 slot_at slots key = find (λ (slot : Slot). is_same_key key slot.key) slots
 
--- the place of the list for a parent, given its key, if there is one
-abbrev pub parent_slot : List Slot → Option (List ℕ) → Option Slot
-parent_slot slots None = None
-parent_slot slots (Some key) = slot_at slots key
-
--- an entry with other values for its fields, if there is an entry
-abbrev pub with_field_values : Option Body → List (Option (List ℕ)) → Option Body
-with_field_values None values = None
-with_field_values (Some body) values = Some (record body { values = values })
-
 -- an entry's values, with the parent's value for each missing one
 abbrev pub or_values : List (Option (List ℕ)) → List (Option (List ℕ)) → List (Option (List ℕ))
 or_values [] parents = []
@@ -63,11 +53,13 @@ inherited_values key (value ∷ values) (parent ∷ parents) = Some key ∷ or_v
 abbrev pub inherited_from : Option Slot → Slot → Slot
 inherited_from None slot = slot
 inherited_from (Some parent) slot =
-    record slot { body = with_field_values slot.body (inherited_values parent.key (body_values slot.body) (body_values parent.body)) }
+    record slot {
+      body = option_map (λ (body : Body). record body { values = inherited_values parent.key (body_values slot.body) (body_values parent.body) }) slot.body;
+    }
 
 -- the first pass, at a place of the list: what the entry there lacks it takes from its parent, by what that has at that moment
 unfoldable pub inherited : List Slot → Slot → Slot
-inherited slots slot = inherited_from (parent_slot slots (parent_at slot)) slot
+inherited slots slot = inherited_from (option_and_then (slot_at slots) (parent_at slot)) slot
 
 -- values without the parent's key
 abbrev pub without_parent : List (Option (List ℕ)) → List (Option (List ℕ))
@@ -76,22 +68,16 @@ without_parent (value ∷ values) = None ∷ values
 
 -- a place of the list whose entry has lost its `crossref`
 abbrev pub without_crossref : Slot → Slot
-without_crossref slot = record slot { body = with_field_values slot.body (without_parent (body_values slot.body)) }
+without_crossref slot = record slot { body = option_map (λ (body : Body). record body { values = without_parent (body_values slot.body) }) slot.body }
 
 -- the parent has an entry that stays
 abbrev pub is_parent : Option Slot → Bool
 is_parent None = false
 is_parent (Some parent) = is_some parent.body && parent.stays
 
--- the second pass at a place, given the key of the parent that the entry there names: the entry loses its `crossref` if the parent has no entry or
--- doesn't stay
-abbrev pub checked_by : Option (List ℕ) → List Slot → Slot → Slot
-checked_by None slots slot = slot
-checked_by (Some key) slots slot = if is_parent (slot_at slots key) then slot else without_crossref slot
-
--- the second pass, at a place of the list: the entry there keeps its parent only if that has an entry that stays
+-- the second pass, at a place of the list: the entry there loses its `crossref` if the parent that it names has no entry or doesn't stay
 unfoldable pub checked : List Slot → Slot → Slot
-checked slots slot = checked_by (parent_at slot) slots slot
+checked slots slot = option_map_or (λ (key : List ℕ). if is_parent (slot_at slots key) then slot else without_crossref slot) (parent_at slot) slot
 
 -- the message of a parent: that it has no entry, or that it has a parent
 abbrev pub parent_messages : List ℕ → List ℕ → Option Slot → List Message
@@ -99,23 +85,14 @@ parent_messages child key None = BadReference child key ∷ []
 parent_messages child key (Some parent) =
     if is_some parent.body then (if is_some (parent_at parent) then NestedReference child key ∷ [] else []) else BadReference child key ∷ []
 
--- the messages about the parent that the entry at a place of the list names, if it names one
-abbrev pub check_messages_by : Option (List ℕ) → List Slot → Slot → List Message
-check_messages_by None slots slot = []
-check_messages_by (Some key) slots slot = parent_messages slot.key key (slot_at slots key)
-
 -- what the second pass logs of a place: that the parent has no entry, or that it has a parent itself
 unfoldable pub check_messages : List Slot → Slot → List Message
-check_messages slots slot = check_messages_by (parent_at slot) slots slot
-
--- the entry at a place of the list, if there is one and it stays
-abbrev pub entry_by : List ℕ → Bool → Option Body → List Entry
-entry_by key stays None = []
-entry_by key stays (Some body) = if stays then record { key = key; kind = body.kind; values = body.values } ∷ [] else []
+check_messages slots slot = option_map_or (λ (key : List ℕ). parent_messages slot.key key (slot_at slots key)) (parent_at slot) []
 
 -- the entry of the library at a place of the list, if one is there and stays
 abbrev pub entry_at : Slot → List Entry
-entry_at slot = entry_by slot.key slot.stays slot.body
+entry_at slot =
+    option_map_or (λ (body : Body). if slot.stays then record { key = slot.key; kind = body.kind; values = body.values } ∷ [] else []) slot.body []
 
 -- the list after the first pass: children have what they inherit
 abbrev pub after_first : List Slot → List Slot

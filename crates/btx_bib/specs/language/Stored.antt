@@ -1,6 +1,6 @@
 -- Which entries of the databases are stored. An entry is stored if `*` or its key is cited, or if it is the parent of an entry stored
 -- before it, and no entry stored before it has its key. Keys are compared without case (btxdoc, section 3).
-use Rattle.std.specs.Prelude.{ℕ, ◌||◌, Bool, List, [], ◌++◌, Option, None, Some, is_some, option_to_list}
+use Rattle.std.specs.Prelude.{ℕ, ◌||◌, Bool, List, [], ◌++◌, Option, is_some, option_to_list, if◌then◌else◌}
 use Rattle.std.specs.List.{find, list_any, flat_map}
 use Rattle.btx_aux.specs.language.Names.{is_same_key}
 use Rattle.btx_bib.specs.language.Wanted.{Request}
@@ -14,14 +14,9 @@ entry_with_key entries key = find (λ (given : Given). is_same_key key given.key
 abbrev pub parents_in : Request → List Given → List (List ℕ)
 parents_in wanted entries = flat_map (λ (given : Given). option_to_list (parent_in (field_values wanted given.fields))) entries
 
--- the references that count for the list: the parents of stored entries; none with `*`
-abbrev pub references_by : Option ℕ → Request → List Given → List (List ℕ)
-references_by None wanted entries = parents_in wanted entries
-references_by (Some place) wanted entries = []
-
 -- the parents that stored entries name, one for each child; none with `*`, which lists every entry anyway
 abbrev pub references : Request → List Given → List (List ℕ)
-references wanted entries = references_by wanted.all wanted entries
+references wanted entries = if is_some wanted.all then [] else parents_in wanted entries
 
 -- an entry with the key `key` is to be stored: `*` was cited, or the key was, or one of the stored entries names it as its parent
 abbrev pub is_wanted : Request → List Given → List ℕ → Bool

@@ -7,18 +7,14 @@ use Rattle.indexmap.specs.IndexMap.{insert_entry}
 use Rattle.btx_text.specs.language.Keys.{folded}
 use Rattle.btx_aux.specs.language.Names.{is_same_key}
 
--- the strings that are defined: names in lower case, each with its value
-abbrev pub Strings : Type 0
-Strings = List (List ℕ × List ℕ)
-
 -- the value of the string `name`, whose case is ignored; none if it isn't defined
-abbrev pub string_value : Strings → List ℕ → Option (List ℕ)
+abbrev pub string_value : List (List ℕ × List ℕ) → List ℕ → Option (List ℕ)
 string_value strings name = lookup (bytes_eq (folded name)) strings
 
 -- the value of a name inside the `@string` that defines `own`: for `own` itself none, even if it had one before
-abbrev pub other_value : Strings → List ℕ → List ℕ → Option (List ℕ)
+abbrev pub other_value : List (List ℕ × List ℕ) → List ℕ → List ℕ → Option (List ℕ)
 other_value strings own name = if is_same_key own name then None else string_value strings name
 
 -- the strings after a definition: an earlier value of the name is replaced
-abbrev pub defined : Strings → List ℕ → List ℕ → Strings
+abbrev pub defined : List (List ℕ × List ℕ) → List ℕ → List ℕ → List (List ℕ × List ℕ)
 defined strings name value = insert_entry bytes_eq strings (folded name) value

@@ -6,7 +6,7 @@ use Rattle.btx_bib.specs.language.Grammar.Items.{Comment, End, Placed}
 use Rattle.btx_bib.specs.language.Wanted.{Request}
 use Rattle.btx_bib.specs.language.Library.{Library}
 use Rattle.btx_bib.specs.language.Known.{Known}
-use Rattle.btx_bib.specs.language.Told.{Database}
+use Rattle.btx_bib.specs.language.Messages.{Database}
 use Rattle.btx_bib.specs.language.Databases.{library_of}
 use Rattle.btx_text.specs.language.Limits.{is_too_long}
 use Rattle.btx_bib.specs.laws.Databases.{database_events, read_all}

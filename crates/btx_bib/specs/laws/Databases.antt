@@ -4,7 +4,7 @@ use Rattle.btx_bib.specs.declared.grammar.commands.Wanted.TheVariants.{Item}
 use Rattle.btx_bib.specs.language.Grammar.Items.{Placed, events_from}
 use Rattle.btx_bib.specs.language.Wanted.{Request}
 use Rattle.btx_bib.specs.language.Known.{Known, keeping}
-use Rattle.btx_bib.specs.language.Told.{Database, Reading}
+use Rattle.btx_bib.specs.language.Messages.{Database, Reading}
 use Rattle.btx_bib.specs.declared.end.End.TheVariants as end
 use Rattle.btx_bib.specs.language.Databases.{with_macro, read_one}
 

@@ -12,7 +12,7 @@ use Rattle.btx_bib.specs.language.Listing.{list_keys}
 use Rattle.btx_bib.specs.language.Library.{Library}
 use Rattle.btx_bib.specs.language.Requests.{asked}
 use Rattle.btx_bib.specs.language.Wanted.{Request}
-use Rattle.btx_bib.specs.language.Told.{Database}
+use Rattle.btx_bib.specs.language.Messages.{Database}
 use Rattle.btx_bib.specs.language.Databases.{library_of}
 use Rattle.btx_bib.specs.laws.Listing.{spelled, stays}
 use Rattle.btx_bib.specs.laws.Databases.{read_all}

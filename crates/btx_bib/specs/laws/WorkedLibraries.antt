@@ -13,7 +13,7 @@ use Rattle.btx_bib.specs.declared.message.Message.TheVariants as message
 use Rattle.btx_bib.specs.declared.message.Spot.{Spot}
 use Rattle.btx_bib.specs.language.Wanted.{Request}
 use Rattle.btx_bib.specs.language.Library.{Library}
-use Rattle.btx_bib.specs.language.Told.{Database}
+use Rattle.btx_bib.specs.language.Messages.{Database}
 use Rattle.btx_bib.specs.language.Databases.{library_of}
 use Rattle.btx_bib.specs.language.MessageTexts.{message_line}
 use Rattle.btx_bib.specs.laws.Cuts.{IsCutBetweenItems}

@@ -4,7 +4,7 @@ use Rattle.btx_bib.specs.declared.grammar.commands.Wanted.TheVariants.{Item}
 use Rattle.btx_bib.specs.language.Grammar.Items.{events_from}
 use Rattle.btx_bib.specs.language.Wanted.{Request}
 use Rattle.btx_bib.specs.language.Known.{with_current_stored, keeping}
-use Rattle.btx_bib.specs.language.Told.{Database, Reading, read_next}
+use Rattle.btx_bib.specs.language.Messages.{Database, Reading, read_next}
 
 -- a database is read event by event; at its end the entry that is being read is at its end too
 abbrev pub read_whole : Request → Reading → Database → Reading

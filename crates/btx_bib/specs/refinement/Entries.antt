@@ -1,8 +1,13 @@
 -- Names of parts of an entry.
-use Rattle.std.specs.Prelude.{ℕ, Option, List}
+use Rattle.std.specs.Prelude.{ℕ, Option, List, nat_eq, Bool, false}
 use Rattle.btx_text.specs.language.Keys.{folded}
 use Rattle.btx_bib.specs.language.Wanted.{Request}
 use Rattle.btx_bib.specs.language.Entries.{KeptField, Given, field_values, parent_in}
+use Rattle.std.specs.Option.{option_map_or}
+
+-- a number is there, and it is `number`
+abbrev pub is_number : ℕ → Option ℕ → Bool
+is_number number found = option_map_or (λ (other : ℕ). nat_eq other number) found false
 
 -- the number of the declared field that a field is, if it is one
 abbrev pub field_number : Request → KeptField → Option ℕ

@@ -1,7 +1,12 @@
 -- The values of the declared fields, one field after the other.
 use Rattle.std.specs.Prelude.{ℕ, zero, suc, List, [], ◌∷◌, Option, None, Some}
-use Rattle.std.specs.Option.{option_or}
+use Rattle.std.specs.Option.{option_or, option_and_then}
 use Rattle.btx_bib.specs.refinement.Finding.{changed_at}
+use Rattle.btx_bib.specs.language.Values.{field_value}
+
+-- the value at a place of the list, if there is such a place
+abbrev pub value_by : Option ℕ → List (Option (List ℕ)) → Option (List ℕ)
+value_by place values = option_and_then (λ (number : ℕ). field_value number values) place
 
 -- no value
 abbrev pub blanks : ℕ → List (Option (List ℕ))

@@ -21,9 +21,11 @@ use Rattle.btx_bib.specs.refinement.Filling.{blanks}
 use Rattle.btx_bib.specs.refinement.Finding.{changed_at}
 use Rattle.btx_bib.specs.language.Values.{field_value}
 use Rattle.btx_bib.specs.language.Wanted.{Request}
-use Rattle.btx_bib.specs.language.Strings.{Strings, defined, other_value, string_value}
+use Rattle.btx_bib.specs.language.Strings.{defined, other_value, string_value}
 use Rattle.btx_bib.specs.language.Known.{goes_on}
-use Rattle.btx_bib.specs.language.Told.{Database, type_messages, value_messages, spot_at, spot_before}
+use Rattle.btx_bib.specs.language.Messages.{Database, spot_at, spot_before, type_messages, value_messages}
+use Rattle.btx_bib.specs.refinement.Strings.{Strings}
+use Rattle.btx_bib.specs.refinement.Messages.{type_messages}
 
 -- an entry with the value of a field
 abbrev pub with_field_text : Pending → ℕ → List ℕ → Pending
@@ -40,18 +42,18 @@ abbrev pub taken_by : Request → Strings → Pending → Field → Pending × B
 taken_by wanted strings pending field = taken_at strings pending field (wanted.field (folded field.name))
 
 -- the messages of a field of this number
-abbrev pub told_of_number : Database → Strings → Pending → Field → List ℕ → Option ℕ → List Message
-told_of_number database strings pending field rest None = []
-told_of_number database strings pending field rest (Some number) =
+abbrev pub messages_of_number : Database → Strings → Pending → Field → List ℕ → Option ℕ → List Message
+messages_of_number database strings pending field rest None = []
+messages_of_number database strings pending field rest (Some number) =
     if is_some (field_value number pending.body.values) then message.ExtraField pending.key field.name (spot_before database rest) ∷ [] else value_messages database strings None field.value
 
-abbrev pub field_told_of : Request → Database → Strings → Pending → Field → List ℕ → List Message
-field_told_of wanted database strings pending field rest = told_of_number database strings pending field rest (wanted.field (folded field.name))
+abbrev pub messages_of_field : Request → Database → Strings → Pending → Field → List ℕ → List Message
+messages_of_field wanted database strings pending field rest = messages_of_number database strings pending field rest (wanted.field (folded field.name))
 
 -- the messages of a field of the entry that is being read, or of none
-abbrev pub told_of_current : Request → Database → Strings → Field → List ℕ → Option Pending → List Message
-told_of_current wanted database strings field rest None = []
-told_of_current wanted database strings field rest (Some pending) = field_told_of wanted database strings pending field rest
+abbrev pub messages_of_current : Request → Database → Strings → Field → List ℕ → Option Pending → List Message
+messages_of_current wanted database strings field rest None = []
+messages_of_current wanted database strings field rest (Some pending) = messages_of_field wanted database strings pending field rest
 
 -- what is kept once the entry that was being read is at its end
 abbrev pub closed_by : Request → Gathering → Option Pending → Gathering
@@ -96,14 +98,14 @@ abbrev pub entered : Request → Gathering → List ℕ → List ℕ → Gatheri
 entered wanted kept kind key = let before = closed wanted kept in begun_by wanted before kind key (standing_at wanted before.draft (place_in before.draft key))
 
 -- the message of an entry that stands so
-abbrev pub told_of_standing : Request → Database → List ℕ → List ℕ → List ℕ → Standing → List Message
-told_of_standing wanted database kind key rest standing.Unwanted = []
-told_of_standing wanted database kind key rest standing.Repeated = []
-told_of_standing wanted database kind key rest standing.Wanted = type_messages key (wanted.kind (folded kind)) (spot_at database rest)
+abbrev pub messages_of_standing : Request → Database → List ℕ → List ℕ → List ℕ → Standing → List Message
+messages_of_standing wanted database kind key rest standing.Unwanted = []
+messages_of_standing wanted database kind key rest standing.Repeated = []
+messages_of_standing wanted database kind key rest standing.Wanted = type_messages key (wanted.kind (folded kind)) (spot_at database rest)
 
-abbrev pub told_of_entry : Request → Database → Gathering → List ℕ → List ℕ → List ℕ → List Message
-told_of_entry wanted database kept kind key rest =
-    let before = closed wanted kept in told_of_standing wanted database kind key rest (standing_at wanted before.draft (place_in before.draft key))
+abbrev pub messages_of_entry : Request → Database → Gathering → List ℕ → List ℕ → List ℕ → List Message
+messages_of_entry wanted database kept kind key rest =
+    let before = closed wanted kept in messages_of_standing wanted database kind key rest (standing_at wanted before.draft (place_in before.draft key))
 
 -- ---- along a database
 
@@ -127,30 +129,30 @@ kept_after wanted kept End = kept
 kept_after wanted kept (Wrong slip) = kept
 
 -- the messages of it
-abbrev pub told_of : Request → Database → Gathering → Event → List ℕ → List Message
-told_of wanted database kept Comment rest = []
-told_of wanted database kept (Preamble value) rest = value_messages database kept.strings None value
-told_of wanted database kept (Definition name value) rest = value_messages database kept.strings (Some name) value
-told_of wanted database kept (Entry kind key) rest = told_of_entry wanted database kept kind key rest
-told_of wanted database kept (FieldOf field) rest = told_of_current wanted database kept.strings field rest kept.current
-told_of wanted database kept End rest = []
-told_of wanted database kept (Wrong slip) rest = message.Wrong slip (spot_at database rest) ∷ []
+abbrev pub messages_of : Request → Database → Gathering → Event → List ℕ → List Message
+messages_of wanted database kept Comment rest = []
+messages_of wanted database kept (Preamble value) rest = value_messages database kept.strings None value
+messages_of wanted database kept (Definition name value) rest = value_messages database kept.strings (Some name) value
+messages_of wanted database kept (Entry kind key) rest = messages_of_entry wanted database kept kind key rest
+messages_of wanted database kept (FieldOf field) rest = messages_of_current wanted database kept.strings field rest kept.current
+messages_of wanted database kept End rest = []
+messages_of wanted database kept (Wrong slip) rest = message.Wrong slip (spot_at database rest) ∷ []
 
 -- the same, while the reading goes on
 abbrev pub kept_next : Request → Gathering → Event → Gathering
 kept_next wanted kept event = if goes_on kept.ending then kept_after wanted kept event else kept
 
-abbrev pub told_next : Request → Database → Gathering → Placed → List Message
-told_next wanted database kept placed = if goes_on kept.ending then told_of wanted database kept placed.event placed.rest else []
+abbrev pub messages_next : Request → Database → Gathering → Placed → List Message
+messages_next wanted database kept placed = if goes_on kept.ending then messages_of wanted database kept placed.event placed.rest else []
 
 -- what is kept after some events, and the messages along them
 abbrev pub kept_along : Request → Gathering → List Placed → Gathering
 kept_along wanted kept [] = kept
 kept_along wanted kept (placed ∷ events) = kept_along wanted (kept_next wanted kept placed.event) events
 
-abbrev pub kept_told : Request → Database → Gathering → List Placed → List Message
-kept_told wanted database kept [] = []
-kept_told wanted database kept (placed ∷ events) = told_next wanted database kept placed ++ kept_told wanted database (kept_next wanted kept placed.event) events
+abbrev pub kept_messages : Request → Database → Gathering → List Placed → List Message
+kept_messages wanted database kept [] = []
+kept_messages wanted database kept (placed ∷ events) = messages_next wanted database kept placed ++ kept_messages wanted database (kept_next wanted kept placed.event) events
 
 -- the events of a text where this is kept and this is wanted first
 abbrev pub keeping_kept : Request → Keeping Gathering
@@ -163,8 +165,8 @@ events_with wanted kept next text = events_from (keeping_kept wanted) kept next 
 abbrev pub all_kept : Request → Gathering → Next × List ℕ → Gathering
 all_kept wanted kept place = kept_along wanted kept (events_with wanted kept place.0 place.1)
 
-abbrev pub all_told : Request → Database → Gathering → Next × List ℕ → List Message
-all_told wanted database kept place = kept_told wanted database kept (events_with wanted kept place.0 place.1)
+abbrev pub all_messages : Request → Database → Gathering → Next × List ℕ → List Message
+all_messages wanted database kept place = kept_messages wanted database kept (events_with wanted kept place.0 place.1)
 
 -- ---- a field in its plainest form, which is taken or not
 
@@ -175,4 +177,4 @@ IfTaken false taken left = left
 
 -- no message comes of a field of the entry that is being read, or of none
 abbrev pub IsSilent : Request → Strings → Field → Option Pending → Type 0
-IsSilent wanted strings field current = (database : Database) (rest : List ℕ) → told_of_current wanted database strings field rest current ≡ []
+IsSilent wanted strings field current = (database : Database) (rest : List ℕ) → messages_of_current wanted database strings field rest current ≡ []

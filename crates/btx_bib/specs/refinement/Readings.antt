@@ -10,14 +10,14 @@ use Rattle.btx_bib.specs.declared.grammar.commands.Wanted.TheVariants.{Item}
 use Rattle.btx_bib.specs.declared.message.Message.{Message}
 use Rattle.btx_bib.specs.refinement.Drafts.{cited_all, empty, settled_all}
 use Rattle.btx_bib.specs.language.Grammar.ValueTexts.{squeezed}
-use Rattle.btx_bib.specs.refinement.Gatherings.{closed, events_with, kept_along, kept_told}
+use Rattle.btx_bib.specs.refinement.Gatherings.{closed, events_with, kept_along, kept_messages}
 use Rattle.btx_bib.specs.language.Known.{goes_on}
 use Rattle.btx_bib.specs.language.Library.{Library}
 use Rattle.btx_bib.specs.language.Listing.{first_cited, last_cited}
 use Rattle.btx_bib.specs.language.Passes.{entries_of, reference_messages}
 use Rattle.btx_bib.specs.refinement.Steps.{lower_keys}
 use Rattle.btx_bib.specs.language.Strings.{defined}
-use Rattle.btx_bib.specs.language.Told.{Database}
+use Rattle.btx_bib.specs.language.Messages.{Database}
 use Rattle.btx_bib.specs.language.Wanted.{Request}
 
 -- what is kept after a database
@@ -28,18 +28,18 @@ kept_one wanted kept database =
     else kept
 
 -- the messages of it
-abbrev pub told_by_one : Request → Gathering → Database → List Message
-told_by_one wanted kept database =
-    if goes_on kept.ending then (if is_too_long database.text then [] else kept_told wanted database kept (events_with wanted kept Item database.text)) else []
+abbrev pub messages_of_one : Request → Gathering → Database → List Message
+messages_of_one wanted kept database =
+    if goes_on kept.ending then (if is_too_long database.text then [] else kept_messages wanted database kept (events_with wanted kept Item database.text)) else []
 
 -- the same of all databases
 abbrev pub kept_by_all : Request → Gathering → List Database → Gathering
 kept_by_all wanted kept [] = kept
 kept_by_all wanted kept (database ∷ databases) = kept_by_all wanted (kept_one wanted kept database) databases
 
-abbrev pub told_by_all : Request → Gathering → List Database → List Message
-told_by_all wanted kept [] = []
-told_by_all wanted kept (database ∷ databases) = told_by_one wanted kept database ++ told_by_all wanted (kept_one wanted kept database) databases
+abbrev pub messages_of_all : Request → Gathering → List Database → List Message
+messages_of_all wanted kept [] = []
+messages_of_all wanted kept (database ∷ databases) = messages_of_one wanted kept database ++ messages_of_all wanted (kept_one wanted kept database) databases
 
 -- ---- before the first database
 

@@ -1,5 +1,6 @@
 -- How a key or a name is spelled, in a file or in a value.
 use Rattle.std.specs.Prelude.{◌≡◌, ◌<◌, ◌≤◌, ℕ, List, slice_index}
+use Rattle.std.specs.Rc.{rc_slice_items}
 use Rattle.std.specs.Char.{to_ascii_lowercase}
 use Rattle.btx_bib.specs.declared.lowering.Kept.{Kept}
 use Rattle.btx_bib.specs.declared.lowering.Kept.TheVariants.{Lent, Made}
@@ -9,7 +10,7 @@ use Rattle.btx_bib.specs.declared.spelling.Source.TheVariants.{File, Value}
 -- the bytes, wherever they are
 abbrev pub spelled_in : Source → List ℕ
 spelled_in (File bytes) = bytes.now
-spelled_in (Value text) = text
+spelled_in (Value bytes) = rc_slice_items bytes
 
 -- the bytes of a name in lower case, wherever they are
 abbrev pub lowered_in : Kept → List ℕ

@@ -27,6 +27,6 @@ slot_by slots None = None
 slot_by slots (Some place) = slice_get slots place
 
 -- the messages of the second pass at a place
-abbrev pub told_by : List Slot → Option Slot → List Message
-told_by slots None = []
-told_by slots (Some slot) = check_messages slots slot
+abbrev pub messages_by : List Slot → Option Slot → List Message
+messages_by slots None = []
+messages_by slots (Some slot) = check_messages slots slot

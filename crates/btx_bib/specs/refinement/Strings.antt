@@ -3,7 +3,10 @@ use Rattle.std.specs.Prelude.{◌≡◌, ℕ, true, false, List, map}
 use Rattle.std.specs.List.{AllByRecursion}
 use Rattle.btx_aux.specs.refinement.Entries.{Bytes}
 use Rattle.btx_bib.specs.refinement.Grammar.Squeezing.{is_squeezed}
-use Rattle.btx_bib.specs.language.Strings.{Strings}
+
+-- the strings that are defined: names in lower case, each with its value
+abbrev pub Strings : Type 0
+Strings = List (List ℕ × List ℕ)
 
 -- each value is squeezed: it has no white but single spaces
 abbrev pub AreSqueezed : Strings → Type 0

@@ -43,7 +43,7 @@ pub fn one_reading()
 
 /// The events of a text are those of the item behind its first `@` and of the rest after it, or those before the fault that is met in
 /// that item, the fault, and those from its place on. (An entry whose key is stored is a fault by itself.)
-pub fn items_are_told()
+pub fn items_are_read_so()
     ensures { (is_stored : List Event → List ℕ → Bool) (before : List Event) (text behind : List ℕ) →
         behind_at text ≡ Some behind → IsNew (is_stored before) (head_at behind) →
         GivesEvents (by_history is_stored) before wanted.Item text (read_events (whole_item_at behind)) }

@@ -8,7 +8,6 @@ use Rattle.btx_bst.specs.declared.token.Token.TheVariants.{Text, Quote, Run}
 use Rattle.btx_bst.specs.declared.token.Token.TheVariants as token
 use Rattle.btx_bst.specs.language.Places.{Place, size}
 use Rattle.btx_bst.specs.language.Complaints.{Complaint, Unknown, NoQuoteEnd, EndOfFile}
-use Rattle.btx_bst.specs.language.Bodies.{FunctionBody}
 use Rattle.btx_bst.specs.language.Items.{Item, Message}
 use Rattle.btx_bst.specs.language.Words.{BodyWord, Open, Close, String, Integer, Quoted, Name, Faulty, Unended, Ended, met_at}
 use Rattle.btx_bst.specs.language.Names.{Names, named}
@@ -18,9 +17,9 @@ use Rattle.btx_bst.specs.language.Turns.{Turn, Again, Ends, turns_within}
 -- style so far, the bodies of the functions that are defined, the strings and the items
 pub record Inside : Type 0 where
   pub place : Place
-  pub tokens : FunctionBody
-  pub around : List FunctionBody
-  pub bodies : List FunctionBody
+  pub tokens : List Token
+  pub around : List (List Token)
+  pub bodies : List (List Token)
   pub texts : List (List ℕ)
   pub items : List Item
 
@@ -38,7 +37,7 @@ abbrev pub with_message : Complaint → Inside → Inside
 with_message complaint inside = record inside { items = inside.items ++ Message complaint inside.place.number ∷ [] }
 
 -- a `}` ends the innermost function: a nameless one is defined, and stands as a literal in the one round it; the outermost one ends the body
-abbrev pub closed_inside : Inside → List FunctionBody → Turn Inside BodyEnd
+abbrev pub closed_inside : Inside → List (List Token) → Turn Inside BodyEnd
 closed_inside inside [] = Ends (Whole inside)
 closed_inside inside (outer ∷ around) =
     Again (record inside { tokens = outer ++ Quote (User (length inside.bodies)) ∷ []; around = around; bodies = inside.bodies ++ inside.tokens ∷ [] })

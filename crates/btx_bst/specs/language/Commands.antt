@@ -17,6 +17,7 @@ use Rattle.btx_bst.specs.language.BodyText.{BodyEnd, Whole, Broken, body_end}
 use Rattle.btx_bst.specs.language.Outcomes.{CommandOutcome, outcome, after_read, with_item}
 use Rattle.btx_bst.specs.language.Lists.{Listed, opening, closing, next_name, quoted_at, list_at}
 use Rattle.std.specs.Map.{lookup}
+use Rattle.std.specs.Option.{option_map_or}
 
 -- which of the ten commands a word in lower case is, if it is one
 unfoldable pub command_named : List ℕ → Option Command
@@ -35,14 +36,11 @@ command_named name =
 
 -- ---- ENTRY
 
--- goes on, unless there is a complaint, which ends the command
-abbrev pub after_listed : Option Complaint → Style → Place → (Style → Place → CommandOutcome) → CommandOutcome
-after_listed None style place go = go style place
-after_listed (Some complaint) style place go = outcome (Some complaint) style place
-
--- goes on after a list of names; the names that were declared stay declared, also after a complaint
+-- goes on after a list of names; a complaint ends the command. The names that were declared stay declared, also after a complaint
 abbrev pub after_list : Style → Listed → (Style → Place → CommandOutcome) → CommandOutcome
-after_list style list go = after_listed list.complaint (record style { names = list.listing.names }) list.listing.place go
+after_list style list go =
+    let declared : Style = record style { names = list.listing.names } in
+    option_map_or (λ (complaint : Complaint). outcome (Some complaint) declared list.listing.place) list.complaint (go declared list.listing.place)
 
 -- ENTRY declares the fields and the variables of entries, in three lists; it takes effect once (btxhak, section 5.2)
 unfoldable pub entry_command : Style → Place → CommandOutcome
@@ -66,10 +64,12 @@ function_ended style lowered (Whole inside) =
       items = inside.items ++ Function (length inside.bodies) ∷ [];
     }) inside.place
 
--- FUNCTION with the name `name`, given what has that already: an error if something does; else the `}` of the name and the body in braces follow
-abbrev pub function_of : Style → List ℕ → Place → Option Callee → CommandOutcome
-function_of style name place (Some other) = outcome (Some (Defined name)) style place
-function_of style name place None =
+-- FUNCTION gives a new name to a function: the name in braces, which must name nothing yet, and the body in braces (btxhak, section 5.2)
+unfoldable pub function_command : Style → Place → CommandOutcome
+function_command style place =
+    after_read style (opening place) (λ _ place.
+    after_read style (next_name place) (λ name place.
+    if is_some (named style.names name) then outcome (Some (Defined name)) style place else
     after_read style (closing place) (λ _ place.
     after_read style (opening place) (λ _ place.
     function_ended style (folded name) (body_end style.names (record {
@@ -79,14 +79,7 @@ function_of style name place None =
       bodies = style.bodies;
       texts = style.texts;
       items = style.items;
-    }))))
-
--- FUNCTION gives a new name to a function: the name in braces, and its body in braces (btxhak, section 5.2)
-unfoldable pub function_command : Style → Place → CommandOutcome
-function_command style place =
-    after_read style (opening place) (λ _ place.
-    after_read style (next_name place) (λ name place.
-    function_of style name place (named style.names name)))
+    }))))))
 
 -- ---- READ, EXECUTE, ITERATE, REVERSE and SORT
 
@@ -134,24 +127,19 @@ sort_command style place = if has_read style then outcome None (with_item Sort s
 unfoldable pub declare : Kind → Item → Style → Place → CommandOutcome
 declare kind item style place = after_list style (list_at kind style.names place) (λ style place. outcome None (with_item item style) place)
 
--- MACRO with the name `name`, given the text of the macro that has it already: an error if one does; else the `}` of the name follows, and the text in
--- quotes, in braces
-abbrev pub macro_of : Style → List ℕ → Place → Option (List ℕ) → CommandOutcome
-macro_of style name place (Some other) = outcome (Some (Defined name)) style place
-macro_of style name place None =
-    after_read style (closing place) (λ _ place.
-    after_read style (opening place) (λ _ place.
-    after_read style (quoted_at place) (λ text place.
-    after_read style (closing place) (λ _ place.
-    outcome None (with_item Macro (record style { macros = style.macros ++ (folded name, text) ∷ [] })) place))))
-
--- MACRO gives a string a name that databases may use, such as `jan`; it stands before READ (btxhak, section 5.2)
+-- MACRO gives a string a name that databases may use, such as `jan`: the name in braces, which must be no macro's yet, and the text in quotes, in
+-- braces. It stands before READ (btxhak, section 5.2)
 unfoldable pub macro_command : Style → Place → CommandOutcome
 macro_command style place =
     if has_read style then outcome (Some AfterRead) style place else
     after_read style (opening place) (λ _ place.
     after_read style (next_name place) (λ name place.
-    macro_of style name place (lookup (bytes_eq (folded name)) style.macros)))
+    if is_some (lookup (bytes_eq (folded name)) style.macros) then outcome (Some (Defined name)) style place else
+    after_read style (closing place) (λ _ place.
+    after_read style (opening place) (λ _ place.
+    after_read style (quoted_at place) (λ text place.
+    after_read style (closing place) (λ _ place.
+    outcome None (with_item Macro (record style { macros = style.macros ++ (folded name, text) ∷ [] })) place))))))
 
 -- what a command makes of a style, read from the place behind the command's word on
 abbrev pub command_at : Command → Style → Place → CommandOutcome

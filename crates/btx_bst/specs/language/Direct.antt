@@ -1,13 +1,12 @@
 -- Direct styles: each literal of a function of the style, quoted or nameless, is one of two literals side by side directly before an executed
 -- `if$` or `while$` (the other one may be any function, field or variable), and `call.type$` stands in no body, executed or as a literal. Most
 -- styles are direct (docs/STYLES.md), and a law bounds how many bodies such a style opens at once, by the number of its functions (`DirectLaw`).
-use Rattle.std.specs.Prelude.{◌≡◌, ℕ, ◌+◌, ◌-◌, ◌&&◌, ◌||◌, not, nat_lt, Bool, true, false, [], Option, Some, slice_get, slice_index_or}
+use Rattle.std.specs.Prelude.{◌≡◌, ℕ, ◌+◌, ◌-◌, ◌&&◌, ◌||◌, not, nat_lt, Bool, true, false, [], Option, Some, slice_get, slice_index_or, List}
 use Rattle.btx_bst.specs.declared.built_in.BuiltIn.TheVariants.{CallType, If, While}
 use Rattle.btx_bst.specs.declared.callee.Callee.TheVariants as callee
 use Rattle.btx_bst.specs.declared.callee.Callee.TheVariants.{User}
 use Rattle.btx_bst.specs.declared.token.Token.{Token}
 use Rattle.btx_bst.specs.declared.token.Token.TheVariants.{Quote, Run}
-use Rattle.btx_bst.specs.language.Bodies.{FunctionBody}
 use Rattle.btx_bst.specs.language.Style.{Style}
 
 -- `call.type$`, executed or as a literal. This test and the next three take the token at a place of a body; `None`, past the body's end, passes none
@@ -34,12 +33,12 @@ is_choice (Some (Run (callee.BuiltIn While))) = true
 is_choice _ = false
 
 -- at place `i` of a body two literals of functions, fields or variables stand side by side directly before an `if$` or a `while$` that is executed
-unfoldable pub begins_pair : FunctionBody → ℕ → Bool
+unfoldable pub begins_pair : List Token → ℕ → Bool
 begins_pair body i = is_literal (slice_get body i) && is_literal (slice_get body (i + 1)) && is_choice (slice_get body (i + 2))
 
 -- the token at place `i` of a body is no `call.type$`, and a literal of a function of the style only if it is one of two such literals before an
 -- `if$` or a `while$`
-unfoldable pub is_direct_at : FunctionBody → ℕ → Bool
+unfoldable pub is_direct_at : List Token → ℕ → Bool
 is_direct_at body i =
     not (is_call_type (slice_get body i))
     && (not (is_user_literal (slice_get body i)) || begins_pair body i || (nat_lt 0 i && begins_pair body (i - 1)))

@@ -1,7 +1,6 @@
 -- Arguments of commands: braces, names and lists of names.
-use Rattle.std.specs.Prelude.{ℕ, zero, suc, ◌==◌, List, [], ◌∷◌, take, drop, Option, None, Some, if◌then◌else◌, not}
+use Rattle.std.specs.Prelude.{ℕ, zero, suc, ◌==◌, List, [], ◌∷◌, take, drop, Option, None, Some, if◌then◌else◌, not, is_some}
 use Rattle.btx_text.specs.language.Keys.{folded}
-use Rattle.btx_bst.specs.declared.callee.Callee.{Callee}
 use Rattle.btx_bst.specs.declared.callee.Kind.{Kind}
 use Rattle.btx_bst.specs.language.Places.{Place, ink, further, size}
 use Rattle.btx_bst.specs.language.Complaints.{Complaint, NoOpen, NoClose, NoName, NoCommand, NoQuote, Defined, EndOfFile}
@@ -75,15 +74,11 @@ pub record Listed : Type 0 where
 abbrev pub listed : Option Complaint → Names → Place → Listed
 listed complaint names place = record { complaint = complaint; listing = listing names place }
 
--- declares a name of a list; if it names something already, that is an error and ends the list
-abbrev pub with_new : Kind → Names → List ℕ → Place → Option Callee → Turn Listing Listed
-with_new kind names name place None = Again (listing (with_name kind (folded name) names) place)
-with_new kind names name place (Some other) = Ends (listed (Some (Defined name)) names place)
-
--- declares the next name of a list, or ends the list with what is wrong
+-- declares the next name of a list, or ends the list with what is wrong: there is no name, or it names something already
 abbrev pub name_turn : Kind → Names → Read (List ℕ) → Turn Listing Listed
 name_turn kind names (Slip complaint place) = Ends (listed (Some complaint) names place)
-name_turn kind names (Took name place) = with_new kind names name place (named names name)
+name_turn kind names (Took name place) =
+    if is_some (named names name) then Ends (listed (Some (Defined name)) names place) else Again (listing (with_name kind (folded name) names) place)
 
 -- given whether a `}` stands next, which ends the list; else the next name is read, and if there is none its own complaint is logged
 abbrev pub list_turn_in : Kind → Names → Read (Unit {0}) → Turn Listing Listed

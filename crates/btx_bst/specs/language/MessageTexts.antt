@@ -1,50 +1,28 @@
 -- The texts of what is wrong in a style. Names stand as the style spells them, commands in capitals (the texts are this project's own).
-use Rattle.std.specs.Prelude.{ℕ, List, [], ◌++◌, codes}
+use Rattle.std.specs.Prelude.{ℕ, List, ◌++◌, codes}
 use Rattle.btx_text.specs.declared.log_line.LineKind.TheVariants.{Error}
 use Rattle.btx_text.specs.language.LogLines.{Line, message, place_text}
 use Rattle.btx_bst.specs.language.Complaints.{Complaint, NoCommand, NotCommand, NoOpen, NoClose, NoName, Defined, Unknown, BadInteger, TextAfter, NoQuoteEnd, Another, BeforeRead, BeforeEntry, AfterRead, NoQuote, EndOfFile}
 use Rattle.btx_bst.specs.language.CommandWords.{command_word_of}
 
--- what stands before the name or the command that is shown, or the whole text
-unfoldable pub before_shown : Complaint → List ℕ
-before_shown NoCommand = codes "I was expecting a command"
-before_shown (NotCommand name) = []
-before_shown NoOpen = codes "I was expecting a {"
-before_shown NoClose = codes "I was expecting a }"
-before_shown NoName = codes "I was expecting a name"
-before_shown (Defined name) = []
-before_shown (Unknown name) = []
-before_shown BadInteger = codes "Illegal integer"
-before_shown TextAfter = codes "Illegal text after a literal"
-before_shown NoQuoteEnd = codes "No \" to end string literal"
-before_shown (Another command) = codes "Illegal, another "
-before_shown (BeforeRead command) = codes "Illegal, "
-before_shown BeforeEntry = codes "Illegal, READ command before ENTRY"
-before_shown AfterRead = codes "Illegal, MACRO command after READ"
-before_shown NoQuote = codes "I was expecting a \""
-before_shown EndOfFile = codes "Illegal end of style file"
-
--- the name or the command that the text of a complaint shows; nothing if it shows none
-unfoldable pub shown_of : Complaint → List ℕ
-shown_of (NotCommand name) = name
-shown_of (Defined name) = name
-shown_of (Unknown name) = name
-shown_of (Another command) = command_word_of command
-shown_of (BeforeRead command) = command_word_of command
-shown_of _ = []
-
--- what stands behind the name or the command that is shown
-unfoldable pub after_shown : Complaint → List ℕ
-after_shown (NotCommand name) = codes " isn't a command"
-after_shown (Defined name) = codes " is already defined"
-after_shown (Unknown name) = codes " is an unknown function"
-after_shown (Another command) = codes " command"
-after_shown (BeforeRead command) = codes " command before READ"
-after_shown _ = []
-
 -- the text of a complaint, as the log shows it between the mark of an error and the place
-abbrev pub complaint_text : Complaint → List ℕ
-complaint_text complaint = before_shown complaint ++ (shown_of complaint ++ after_shown complaint)
+unfoldable pub complaint_text : Complaint → List ℕ
+complaint_text NoCommand = codes "I was expecting a command"
+complaint_text (NotCommand name) = name ++ codes " isn't a command"
+complaint_text NoOpen = codes "I was expecting a {"
+complaint_text NoClose = codes "I was expecting a }"
+complaint_text NoName = codes "I was expecting a name"
+complaint_text (Defined name) = name ++ codes " is already defined"
+complaint_text (Unknown name) = name ++ codes " is an unknown function"
+complaint_text BadInteger = codes "Illegal integer"
+complaint_text TextAfter = codes "Illegal text after a literal"
+complaint_text NoQuoteEnd = codes "No \" to end string literal"
+complaint_text (Another command) = codes "Illegal, another " ++ command_word_of command ++ codes " command"
+complaint_text (BeforeRead command) = codes "Illegal, " ++ command_word_of command ++ codes " command before READ"
+complaint_text BeforeEntry = codes "Illegal, READ command before ENTRY"
+complaint_text AfterRead = codes "Illegal, MACRO command after READ"
+complaint_text NoQuote = codes "I was expecting a \""
+complaint_text EndOfFile = codes "Illegal end of style file"
 
 -- the line of the log for what is wrong in a style: an error, with the number of its line and the name of the style's file
 abbrev pub complaint_line : Complaint → ℕ → List ℕ → Line

@@ -1,7 +1,7 @@
 -- The names that are known, each with what it names. Case is ignored (btxhak, section 5.1), so names are kept in lower case. Functions,
 -- fields and variables share one set of names; those of each kind are numbered from 0, in the order in which they are declared.
-use Rattle.std.specs.Prelude.{ℕ, ◌-◌, Bool, false, List, [], ◌∷◌, ◌++◌, length, Option, None, Some, option_map, slice_index_or, position, replicate, codes}
-use Rattle.std.specs.Option.{option_or}
+use Rattle.std.specs.Prelude.{ℕ, ◌-◌, false, List, [], ◌∷◌, ◌++◌, length, Option, None, Some, option_map, slice_index_or, position, replicate, codes, unwrap_or}
+use Rattle.std.specs.Option.{option_or, option_map_or}
 use Rattle.std.specs.Str.{bytes_eq}
 use Rattle.btx_text.specs.language.Keys.{folded}
 use Rattle.btx_bst.specs.declared.callee.Callee.{Callee}
@@ -21,16 +21,11 @@ pub record Names : Type 0 where
   pub global_integers : List (List ℕ)
   pub global_strings : List (List ℕ)
 
--- a function, given its name, if it has one, is called `name`
-abbrev pub has_name : List ℕ → Option (List ℕ) → Bool
-has_name name None = false
-has_name name (Some other) = bytes_eq name other
-
 -- what a name in lower case names, if it names anything: a built-in function, a function of the style, a field, or a variable
 unfoldable pub named_lower : Names → List ℕ → Option Callee
 named_lower names name =
     option_or (option_map callee.BuiltIn (built_in_of name))
-    (option_or (option_map User (position (has_name name) names.functions))
+    (option_or (option_map User (position (λ (other : Option (List ℕ)). option_map_or (bytes_eq name) other false) names.functions))
     (option_or (option_map Field (position (bytes_eq name) names.fields))
     (option_or (option_map EntryInteger (position (bytes_eq name) names.entry_integers))
     (option_or (option_map EntryString (position (bytes_eq name) names.entry_strings))
@@ -41,15 +36,10 @@ named_lower names name =
 abbrev pub named : Names → List ℕ → Option Callee
 named names name = named_lower names (folded name)
 
--- the name of a function as messages and `stack$` show it: `{}` if it is nameless
-abbrev pub shown_name : Option (List ℕ) → List ℕ
-shown_name None = codes "{}"
-shown_name (Some name) = name
-
--- the name of a built-in function, a function, a field or a variable; a nameless function is shown as `{}`
+-- the name of a built-in function, a function, a field or a variable, as messages and `stack$` show it; a nameless function is shown as `{}`
 abbrev pub name_of : Names → Callee → List ℕ
 name_of names (callee.BuiltIn built_in) = built_in_name built_in
-name_of names (User number) = shown_name (slice_index_or names.functions number None)
+name_of names (User number) = unwrap_or (slice_index_or names.functions number None) (codes "{}")
 name_of names (Field number) = slice_index_or names.fields number []
 name_of names (EntryInteger number) = slice_index_or names.entry_integers number []
 name_of names (EntryString number) = slice_index_or names.entry_strings number []
@@ -69,7 +59,3 @@ with_name kind.GlobalString name names = record names { global_strings = names.g
 abbrev pub with_function : ℕ → List ℕ → Names → Names
 with_function number name names =
     record names { functions = (names.functions ++ replicate (number - length names.functions) None) ++ Some name ∷ [] }
-
--- the macros: names in lower case, each with its text
-abbrev pub Macros : Type 0
-Macros = List (List ℕ × List ℕ)

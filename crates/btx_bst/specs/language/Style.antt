@@ -1,10 +1,10 @@
 -- A style.
 use Rattle.std.specs.Prelude.{ℕ, nat_lt, Bool, List, Option, None, Some, if◌then◌else◌}
+use Rattle.btx_bst.specs.declared.token.Token.{Token}
 use Rattle.btx_bst.specs.declared.callee.Callee.{Callee}
 use Rattle.btx_bst.specs.declared.callee.Callee.TheVariants.{User, Field}
-use Rattle.btx_bst.specs.language.Bodies.{FunctionBody}
 use Rattle.btx_bst.specs.language.Items.{Item}
-use Rattle.btx_bst.specs.language.Names.{Names, Macros, named_lower}
+use Rattle.btx_bst.specs.language.Names.{Names, named_lower}
 
 -- a style that was read: its commands and messages in order, and the names, macros, functions and strings that they use
 pub record Style : Type 0 where
@@ -14,10 +14,10 @@ pub record Style : Type 0 where
   pub items : List Item
   -- the names of functions, fields and variables
   pub names : Names
-  -- the macros, in order
-  pub macros : Macros
-  -- the bodies of the functions, by their numbers
-  pub bodies : List FunctionBody
+  -- the macros, in order: names in lower case, each with its text
+  pub macros : List (List ℕ × List ℕ)
+  -- the bodies of the functions, by their numbers: a body is its tokens, in the order in which they are executed
+  pub bodies : List (List Token)
   -- the strings that stand in bodies, by their numbers
   pub texts : List (List ℕ)
   -- whether an ENTRY took effect

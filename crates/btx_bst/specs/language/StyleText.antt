@@ -1,5 +1,5 @@
 -- The style of a text: its items, one after another.
-use Rattle.std.specs.Prelude.{ℕ, suc, false, List, [], ◌∷◌, Option, None, Some}
+use Rattle.std.specs.Prelude.{ℕ, suc, false, List, [], ◌∷◌, None, Some}
 use Rattle.btx_text.specs.language.Keys.{folded}
 use Rattle.btx_bst.specs.declared.command.Command.{Command}
 use Rattle.btx_bst.specs.language.Places.{Place, ink, size, skipped, place_at}
@@ -12,6 +12,7 @@ use Rattle.btx_bst.specs.language.Outcomes.{CommandOutcome, outcome, after_read,
 use Rattle.btx_bst.specs.language.Commands.{command_at, command_named}
 use Rattle.btx_bst.specs.language.Turns.{Turn, Again, Ends, turns_within}
 use Rattle.btx_text.specs.language.Lines.{lines_of}
+use Rattle.std.specs.Option.{option_map_or}
 
 -- how far the reading of a style has come: the style so far, and the place where it goes on
 pub record StyleState : Type 0 where
@@ -22,25 +23,20 @@ pub record StyleState : Type 0 where
 abbrev pub style_state : Style → Place → StyleState
 style_state style place = record { style = style; place = place }
 
--- how the reading of a style goes on after a command: at the place where that ends, or, if something was wrong, behind the next empty line, with a
--- message
-abbrev pub resumed : Option Complaint → Style → Place → StyleState
-resumed None style place = style_state style place
-resumed (Some complaint) style place = style_state (with_item (Message complaint place.number) style) (skipped place)
-
--- what a command comes to, given its word and which of the ten it is; an error if it is none of them
-abbrev pub word_outcome : Style → Place → List ℕ → Option Command → CommandOutcome
-word_outcome style place word None = outcome (Some (NotCommand word)) style place
-word_outcome style place word (Some command) = command_at command style place
-
--- reads a command, which begins with a word of letters
+-- reads a command, which begins with a word of letters; an error if the word is none of the ten
 abbrev pub command_outcome : Style → Place → CommandOutcome
-command_outcome style place = after_read style (letters_at place) (λ word behind. word_outcome style behind word (command_named (folded word)))
+command_outcome style place =
+    after_read style (letters_at place) (λ word behind.
+    option_map_or (λ (command : Command). command_at command style behind) (command_named (folded word)) (outcome (Some (NotCommand word)) style behind))
 
--- at a place that isn't in whitespace or a comment: reads a command; at the end of the text the style ends
+-- at a place that isn't in whitespace or a comment: reads a command; at the end of the text the style ends. Reading goes on where the command ends, or,
+-- if something was wrong, behind the next empty line, with a message
 abbrev pub item_in : Style → Place → List ℕ → Turn StyleState Style
 item_in style place [] = Ends style
-item_in style place (b ∷ bs) = let after = command_outcome style place in Again (resumed after.complaint after.style after.place)
+item_in style place (b ∷ bs) =
+    let after = command_outcome style place in
+    let faulty : Complaint → StyleState = λ complaint. style_state (with_item (Message complaint after.place.number) after.style) (skipped after.place) in
+    Again (option_map_or faulty after.complaint (style_state after.style after.place))
 
 -- the command that stands next is read, or the text ends and with it the style
 unfoldable pub item_turn : StyleState → Turn StyleState Style

@@ -1,11 +1,11 @@
 -- The names that every style begins with.
 use Rattle.std.specs.Prelude.{[], ℕ, List, Option}
-use Rattle.btx_bst.specs.language.Names.{Names, Macros}
+use Rattle.btx_bst.specs.language.Names.{Names}
 use Rattle.std.specs.Map.{lookup}
 use Rattle.std.specs.Str.{bytes_eq}
 
 -- the text of the macro of a name in lower case
-abbrev pub macro_lower : Macros → List ℕ → Option (List ℕ)
+abbrev pub macro_lower : List (List ℕ × List ℕ) → List ℕ → Option (List ℕ)
 macro_lower macros name = lookup (bytes_eq name) macros
 
 -- no function, field or variable has a name yet: only the built-in functions are known

@@ -8,7 +8,6 @@ use Rattle.btx_bst.specs.language.Complaints.{Complaint, Unknown, NoQuoteEnd, En
 use Rattle.btx_bst.specs.declared.token.Token.{Token}
 use Rattle.btx_bst.specs.declared.token.Token.TheVariants.{Text, Quote, Run}
 use Rattle.btx_bst.specs.declared.token.Token.TheVariants as token
-use Rattle.btx_bst.specs.language.Bodies.{FunctionBody}
 use Rattle.btx_bst.specs.language.Items.{Item, Message}
 use Rattle.btx_bst.specs.language.Words.{BodyWord, Open, Close, String, Integer, Quoted, Name, Faulty, Unended, Ended, met, met_at}
 use Rattle.btx_bst.specs.language.Names.{Names, named}
@@ -57,8 +56,8 @@ Breaks (Inner inside) from to = (first : Place) × (met_at from ≡ met Open fir
 
 -- what parts come to: the tokens of their function, and, of the whole style so far, the bodies of the functions, the strings and the items
 pub record Made : Type 0 where
-  pub tokens : FunctionBody
-  pub bodies : List FunctionBody
+  pub tokens : List Token
+  pub bodies : List (List Token)
   pub texts : List (List ℕ)
   pub items : List Item
 
@@ -81,7 +80,7 @@ abbrev pub nameless_begun : Made → Made
 nameless_begun made = record made { tokens = [] }
 
 -- a `}`: the nameless function is defined by the next number, and stands as a literal in the function round it
-abbrev pub nameless_defined : FunctionBody → Made → Made
+abbrev pub nameless_defined : List Token → Made → Made
 nameless_defined outer inner = record { tokens = outer ++ Quote (User (length inner.bodies)) ∷ []; bodies = inner.bodies ++ inner.tokens ∷ []; texts = inner.texts; items = inner.items }
 
 -- what parts of a body add to what is made of it so far
@@ -109,7 +108,7 @@ abbrev pub Division : Place → Type 0
 Division from = ((parts : Parts) × (to : Place) × Spells parts from to) ⊎ ((fragment : Fragment) × (to : Place) × Breaks fragment from to)
 
 -- the inside of a function at a place, with the functions round it
-abbrev pub inside_made : Place → List FunctionBody → Made → Inside
+abbrev pub inside_made : Place → List (List Token) → Made → Inside
 inside_made place around made = record { place = place; tokens = made.tokens; around = around; bodies = made.bodies; texts = made.texts; items = made.items }
 
 -- a body that is spelled is read as what its parts come to

@@ -1,5 +1,6 @@
 -- Worked styles: what short texts are read as, and the texts of the messages.
 use Rattle.std.specs.Prelude.{ℕ, ◌≡◌, pos, negsuc, List, [], ◌∷◌, ◌++◌, codes}
+use Rattle.btx_bst.specs.declared.token.Token.{Token}
 use Rattle.btx_bst.specs.declared.built_in.BuiltIn.{BuiltIn}
 use Rattle.btx_bst.specs.declared.built_in.BuiltIn.TheVariants.{If, NewLine, Pop, Skip}
 use Rattle.btx_bst.specs.declared.built_in.BuiltIn.TheVariants as built_in
@@ -7,7 +8,6 @@ use Rattle.btx_bst.specs.declared.callee.Callee.TheVariants as callee
 use Rattle.btx_bst.specs.declared.command.Command.TheVariants as command
 use Rattle.btx_bst.specs.declared.token.Token.TheVariants.{Text, Quote, Run}
 use Rattle.btx_bst.specs.declared.token.Token.TheVariants as token
-use Rattle.btx_bst.specs.language.Bodies.{FunctionBody}
 use Rattle.btx_bst.specs.language.Complaints.{Complaint, NoCommand, NotCommand, NoOpen, NoClose, NoName, Defined, Unknown, BadInteger, TextAfter, NoQuoteEnd, Another, BeforeRead, BeforeEntry, AfterRead, NoQuote, EndOfFile}
 use Rattle.btx_bst.specs.language.Items.{Item, Message}
 use Rattle.btx_bst.specs.language.Items as item
@@ -137,11 +137,11 @@ faults =
 -- a text, the bodies of its functions and its strings
 pub record WorkedBody : Type 0 where
   pub text : List ℕ
-  pub bodies : List FunctionBody
+  pub bodies : List (List Token)
   pub texts : List (List ℕ)
 
 -- a worked body: a style's text, the bodies of its functions by their numbers, and the strings that stand in them
-abbrev pub body_row : List ℕ → List FunctionBody → List (List ℕ) → WorkedBody
+abbrev pub body_row : List ℕ → List (List Token) → List (List ℕ) → WorkedBody
 body_row text bodies texts = record { text = text; bodies = bodies; texts = texts }
 
 -- bodies of functions: `FUNCTION {f} {"a"} FUNCTION {g} {""}` has two, which push the strings 0 and 1: `a`, and the empty one

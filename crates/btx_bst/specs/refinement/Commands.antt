@@ -1,17 +1,49 @@
 -- The arguments of commands, as proofs name them.
-use Rattle.std.specs.Prelude.{true, None, []}
+use Rattle.std.specs.Prelude.{true, None, [], Option, Some, ℕ, List, ◌∷◌, ◌++◌, is_some, if◌then◌else◌}
 use Rattle.btx_bst.specs.declared.callee.Kind.TheVariants as kind
 use Rattle.btx_bst.specs.language.Places.{Place}
-use Rattle.btx_bst.specs.language.Items.{Entry, Item}
+use Rattle.btx_bst.specs.language.Items.{Entry, Item, Macro}
 use Rattle.btx_bst.specs.language.Style.{Style}
 use Rattle.btx_bst.specs.language.Outcomes.{CommandOutcome, outcome, with_item, after_read}
-use Rattle.btx_bst.specs.language.Lists.{list_at, opening, next_name}
-use Rattle.btx_bst.specs.language.Commands.{after_list, function_in, run_of, macro_of}
+use Rattle.btx_bst.specs.language.Lists.{list_at, opening, next_name, closing, quoted_at}
+use Rattle.btx_bst.specs.language.Commands.{after_list, function_in, run_of, function_ended}
 use Rattle.btx_bst.specs.declared.callee.Callee.{Callee}
 use Rattle.btx_bst.specs.language.Names.{named}
 use Rattle.btx_text.specs.language.Keys.{folded}
-use Rattle.btx_bst.specs.language.BodyText.{Inside}
+use Rattle.btx_bst.specs.language.BodyText.{Inside, body_end}
 use Rattle.btx_bst.specs.laws.Names.{macro_lower}
+use Rattle.btx_bst.specs.language.Complaints.{Complaint, Defined}
+use Rattle.std.specs.Option.{option_map_or}
+
+-- goes on, unless there is a complaint, which ends the command
+abbrev pub after_listed : Option Complaint → Style → Place → (Style → Place → CommandOutcome) → CommandOutcome
+after_listed complaint style place go = option_map_or (λ (said : Complaint). outcome (Some said) style place) complaint (go style place)
+
+-- FUNCTION with the name `name`, given what has that already: an error if something does; else the `}` of the name and the body in braces follow
+abbrev pub function_of : Style → List ℕ → Place → Option Callee → CommandOutcome
+function_of style name place other =
+    if is_some other then outcome (Some (Defined name)) style place else
+    after_read style (closing place) (λ _ place.
+    after_read style (opening place) (λ _ place.
+    function_ended style (folded name) (body_end style.names (record {
+      place = place;
+      tokens = [];
+      around = [];
+      bodies = style.bodies;
+      texts = style.texts;
+      items = style.items;
+    }))))
+
+-- MACRO with the name `name`, given the text of the macro that has it already: an error if one does; else the `}` of the name follows, and the text in
+-- quotes, in braces
+abbrev pub macro_of : Style → List ℕ → Place → Option (List ℕ) → CommandOutcome
+macro_of style name place other =
+    if is_some other then outcome (Some (Defined name)) style place else
+    after_read style (closing place) (λ _ place.
+    after_read style (opening place) (λ _ place.
+    after_read style (quoted_at place) (λ text place.
+    after_read style (closing place) (λ _ place.
+    outcome None (with_item Macro (record style { macros = style.macros ++ (folded name, text) ∷ [] })) place))))
 
 -- the start of a body: nothing of it has been read
 abbrev pub inside_at : Style → Place → Inside

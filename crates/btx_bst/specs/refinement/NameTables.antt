@@ -10,7 +10,8 @@ use Rattle.btx_bst.specs.declared.built_in.BuiltIn.{BuiltIn}
 use Rattle.btx_bst.specs.declared.callee.Callee.{Callee}
 use Rattle.btx_bst.specs.declared.callee.Callee.TheVariants as callee
 use Rattle.btx_bst.specs.language.BuiltIns.{built_in_name}
-use Rattle.btx_bst.specs.language.Names.{Names, Macros, named_lower}
+use Rattle.btx_bst.specs.language.Names.{Names, named_lower}
+use Rattle.btx_bst.specs.refinement.Names.{Macros}
 
 -- the names of their parts
 abbrev pub known_in : List (Option (List ℕ)) → List (List ℕ) → List (List ℕ) → List (List ℕ) → List (List ℕ) → List (List ℕ) → Names

@@ -1,11 +1,20 @@
 -- The tables of names, a kind each.
-use Rattle.std.specs.Prelude.{ℕ, List, Option, position, ◌-◌, ◌++◌, length, None, replicate}
+use Rattle.std.specs.Prelude.{ℕ, List, Option, position, ◌-◌, ◌++◌, length, None, replicate, Bool, false}
 use Rattle.btx_bst.specs.declared.callee.Callee.{Callee}
 use Rattle.btx_bst.specs.declared.callee.Callee.TheVariants.{Field, EntryInteger, EntryString, GlobalInteger, GlobalString}
 use Rattle.btx_bst.specs.declared.callee.Kind.{Kind}
 use Rattle.btx_bst.specs.declared.callee.Kind.TheVariants as kind
 use Rattle.btx_bst.specs.language.Names.{Names}
 use Rattle.std.specs.Str.{bytes_eq}
+use Rattle.std.specs.Option.{option_map_or}
+
+-- the macros: names in lower case, each with its text
+abbrev pub Macros : Type 0
+Macros = List (List ℕ × List ℕ)
+
+-- a function, given its name, if it has one, is called `name`
+abbrev pub has_name : List ℕ → Option (List ℕ) → Bool
+has_name name other = option_map_or (bytes_eq name) other false
 
 -- the names of a kind
 abbrev pub names_of_kind : Kind → Names → List (List ℕ)

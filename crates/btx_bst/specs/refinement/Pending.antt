@@ -2,8 +2,8 @@
 -- innermost first.
 use Rattle.std.specs.Prelude.{ℕ, ◌≤◌, Bool, true, false, List, [], ◌∷◌, length, take, drop}
 use Rattle.btx_bst.specs.declared.token.Token.{Token}
-use Rattle.btx_bst.specs.language.Bodies.{FunctionBody}
 use Rattle.btx_bst.specs.refinement.Views.{OpenBodies, open_bodies}
+use Rattle.btx_bst.specs.refinement.Bodies.{FunctionBody}
 
 -- the tokens of the innermost function
 abbrev pub innermost : List Token → List ℕ → FunctionBody

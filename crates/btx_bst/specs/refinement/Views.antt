@@ -3,7 +3,6 @@ use Rattle.std.specs.Prelude.{ℕ, List, [], ◌∷◌, map, Option, None, Some,
 use Rattle.std.specs.Borrow.{Bor}
 use Rattle.btx_bst.specs.language.Complaints as spec
 use Rattle.btx_bst.specs.language.Items as items
-use Rattle.btx_bst.specs.language.Bodies.{FunctionBody}
 use Rattle.btx_bst.specs.language.Places.{Place}
 use Rattle.btx_bst.specs.language.Reads.{Read, Took, Slip}
 use Rattle.btx_bst.specs.language.Words as words
@@ -22,6 +21,7 @@ use Rattle.btx_bst.specs.declared.complaint.Complaint.{Complaint}
 use Rattle.btx_bst.specs.declared.complaint.Complaint.TheVariants as complaint
 use Rattle.btx_bst.specs.declared.item.Item.{Item}
 use Rattle.btx_bst.specs.declared.item.Item.TheVariants as item
+use Rattle.btx_bst.specs.refinement.Bodies.{FunctionBody}
 
 abbrev pub complaint_view : Complaint → spec.Complaint
 complaint_view complaint.NoCommand = spec.NoCommand

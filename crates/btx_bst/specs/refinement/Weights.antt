@@ -1,10 +1,10 @@
 -- How much a style may still hold. Each function, string and name of a style takes a byte of its text at least, so that their numbers
 -- never outgrow the text: what there is and what is left of the text weigh no more than the text did.
 use Rattle.std.specs.Prelude.{ℕ, ◌+◌, ◌<◌, ◌≤◌, ◌^◌, List, length}
-use Rattle.btx_bst.specs.language.Bodies.{FunctionBody}
 use Rattle.btx_bst.specs.language.Places.{Place, size}
 use Rattle.btx_bst.specs.language.Names.{Names}
 use Rattle.btx_bst.specs.language.Style.{Style}
+use Rattle.btx_bst.specs.refinement.Bodies.{FunctionBody}
 
 -- how many fields and variables there are
 abbrev pub names_weight : Names → ℕ

@@ -11,7 +11,7 @@ use Rattle.btx_machine.specs.declared.report.Report.{Report}
 use Rattle.btx_machine.specs.declared.report.LogCounts.{LogCounts}
 use Rattle.btx_machine.specs.language.States.{Out, State, state, Outcome, Done, Stopped, Limit}
 use Rattle.btx_machine.specs.language.Saying.{ended_line}
-use Rattle.btx_machine.specs.language.Reports.{end_as, log_counts, report_of, last_line}
+use Rattle.btx_machine.specs.language.Reports.{end_as, report_of, last_line}
 use Rattle.btx_machine.specs.language.Items.{do_items}
 
 -- the list of references, the log before its last line, and the report, which that line gives
@@ -30,13 +30,13 @@ abbrev pub bbl_at : ℕ → Ending → Out → List ℕ
 bbl_at line_length ending.Finished out = flat_map (wrap line_length) out.lines ++ written_at_end line_length out.pending
 bbl_at line_length _ out = written_of line_length out.lines out.pending
 
--- the report of a run that ended so in a state
-abbrev pub report_at : Ending → ℕ → State → Report
-report_at end steps s = report_of (end_as end) steps s.store.deepest (log_counts s.out.warnings s.out.errors)
-
 -- the product of a run that ended in a state after some steps: the list of references, the log before its last line, and the report
 abbrev pub product_at : ℕ → Ending → ℕ → State → Product
-product_at line_length end steps s = record { bbl = bbl_at line_length end s.out; log_so_far = s.out.log; report = report_at end steps s }
+product_at line_length end steps s = record {
+  bbl = bbl_at line_length end s.out;
+  log_so_far = s.out.log;
+  report = report_of (end_as end) steps s.store.deepest (record { warnings = s.out.warnings; errors = s.out.errors });
+}
 
 -- the product of an outcome, with a budget; a stopped run took all its steps
 abbrev pub product_of : ℕ → ℕ → Outcome → Product
@@ -44,18 +44,9 @@ product_of line_length budget (Done s left) = product_at line_length ending.Fini
 product_of line_length budget (Stopped s) = product_at line_length ending.Stopped budget s
 product_of line_length budget (Limit kind s left) = product_at line_length (ending.Limit kind) (budget - left) s
 
--- no output yet; the counts are those of the warnings and errors that were logged before
-abbrev pub no_out : LogCounts → Out
-no_out counts = record { lines = []; pending = []; log = []; warnings = counts.warnings; errors = counts.errors }
-
--- the state before the first command: nothing is written, and all variables have the values with which they begin
-abbrev pub first : Job → LogCounts → State
-first job counts = state (first_store job) (no_out counts)
-
--- the outcome of the style's commands and messages, one after another, from the first state on
-abbrev pub executed : Job → LogCounts → ℕ → Outcome
-executed job counts budget = do_items job job.style.items [] budget (first job counts)
-
--- the product of a style, in lines of at most `line_length` bytes, with a budget; `counts` are those of what was logged before
+-- the product of a style, in lines of at most `line_length` bytes, with a budget. Its commands and messages are executed one after another, from the first
+-- state on: nothing is written, and all variables have the values with which they begin. `counts` are those of what was logged before
 abbrev pub style_product : Job → LogCounts → ℕ → ℕ → Product
-style_product job counts line_length budget = product_of line_length budget (executed job counts budget)
+style_product job counts line_length budget =
+    let first = state (first_store job) (record { lines = []; pending = []; log = []; warnings = counts.warnings; errors = counts.errors }) in
+    product_of line_length budget (do_items job job.style.items [] budget first)

@@ -2,7 +2,7 @@
 use Rattle.std.specs.Prelude.{ℕ, ◌==◌, ◌++◌, List, if◌then◌else◌, codes, decimal}
 use Rattle.btx_machine.specs.declared.ending.Ending.{Ending}
 use Rattle.btx_machine.specs.declared.ending.Ending.TheVariants as ending
-use Rattle.btx_machine.specs.declared.ending.Limit.TheVariants.{Literals, Calls, Loops, String, File, Files}
+use Rattle.btx_text.specs.declared.limits.Limit.TheVariants.{Literals, Calls, Loops, String, File, Files}
 use Rattle.btx_machine.specs.declared.report.End.{End}
 use Rattle.btx_machine.specs.declared.report.End.TheVariants as ended
 use Rattle.btx_machine.specs.declared.report.Report.{Report}
@@ -32,10 +32,6 @@ status_of ended.Finished errors = if errors == 0 then 0 else 2
 status_of ended.Stopped errors = 4
 status_of (ended.Limit kind) errors = 3
 status_of ended.NoTopFile errors = 3
-
--- the counts of a log that has this number of warnings and this number of errors
-abbrev pub log_counts : ℕ → ℕ → LogCounts
-log_counts warnings errors = record { warnings = warnings; errors = errors }
 
 -- the report of a run: its status, its end, its steps, the most bodies that were open at once, and the counts of its log
 abbrev pub report_of : End → ℕ → ℕ → LogCounts → Report

@@ -1,13 +1,11 @@
--- Worked reports: the last line of the log, and the status, for each way in which a run ends; and the words for each limit of a step.
+-- Worked reports: the last line of the log, and the status, for each way in which a run ends.
 use Rattle.std.specs.Prelude.{◌≡◌, ℕ, List, [], ◌∷◌, codes}
-use Rattle.btx_step.specs.declared.next.Limit.{Limit}
-use Rattle.btx_step.specs.declared.next.Limit.TheVariants as step
-use Rattle.btx_machine.specs.declared.ending.Limit.TheVariants.{Calls, File, Files, Literals, Loops, String}
+use Rattle.btx_text.specs.declared.limits.Limit.TheVariants.{Calls, File, Files, Literals, Loops, String}
 use Rattle.btx_machine.specs.declared.report.End.{End}
 use Rattle.btx_machine.specs.declared.report.End.TheVariants as ended
 use Rattle.btx_machine.specs.declared.report.Report.{Report}
-use Rattle.btx_machine.specs.language.Meaning.{limit_kind}
-use Rattle.btx_machine.specs.language.Reports.{last_line, report_of, log_counts, end_word}
+use Rattle.btx_machine.specs.language.Reports.{last_line, report_of}
+use Rattle.btx_machine.specs.laws.Reports.{log_counts}
 
 -- how a run ended, its warnings, error messages and steps; and the last line of its log, and its status
 pub record WorkedReport : Type 0 where
@@ -49,26 +47,3 @@ report_in row = report_of row.end row.steps 1 (log_counts row.warnings row.error
 abbrev pub AreWritten : List WorkedReport → Type 0
 AreWritten [] = Unit {0}
 AreWritten (row ∷ rows) = (last_line (report_in row) ≡ row.line) × ((report_in row).status ≡ row.status) × AreWritten rows
-
--- a limit that a step meets, and the words of the log for it
-pub record WorkedLimit : Type 0 where
-  pub limit : Limit
-  pub words : List ℕ
-
--- a worked limit: where a step would push the 1,001st literal, the log says `limit literals`
-abbrev pub limit_row : Limit → List ℕ → WorkedLimit
-limit_row limit words = record { limit = limit; words = words }
-
--- each limit of a step
-abbrev pub limits : List WorkedLimit
-limits =
-    limit_row step.Literals (codes "limit literals")
-    ∷ limit_row step.Calls (codes "limit calls")
-    ∷ limit_row step.Loops (codes "limit loops")
-    ∷ limit_row step.String (codes "limit string")
-    ∷ []
-
--- the log has these words for each limit
-abbrev pub AreNamed : List WorkedLimit → Type 0
-AreNamed [] = Unit {0}
-AreNamed (row ∷ rows) = (end_word (ended.Limit (limit_kind row.limit)) ≡ row.words) × AreNamed rows

@@ -8,8 +8,8 @@ use Rattle.btx_machine.specs.language.States.{Out, state}
 use Rattle.btx_machine.specs.refinement.Written.{Start, StandsFor}
 use Rattle.btx_machine.specs.language.Saying.{ended_line}
 use Rattle.btx_machine.specs.language.Reports.{last_line}
-use Rattle.btx_machine.specs.language.Product.{bbl_at, report_at}
-use Rattle.btx_machine.specs.refinement.Product.{so_far}
+use Rattle.btx_machine.specs.language.Product.{bbl_at}
+use Rattle.btx_machine.specs.refinement.Product.{so_far, report_at}
 
 -- the list of references is written to its end
 abbrev pub FinishedAt : Outputs → Ending → Outputs → Type 0

@@ -6,7 +6,7 @@ use Rattle.btx_machine.specs.language.States.{Out, State, state, Stopped}
 use Rattle.btx_machine.specs.laws.States.{final_state}
 use Rattle.btx_machine.specs.laws.Goings.{Starts}
 use Rattle.btx_machine.specs.refinement.Written.{Start, StandsFor, Between, Within, Runs}
-use Rattle.btx_machine.specs.language.Commands.{Doing}
+use Rattle.btx_machine.specs.refinement.Commands.{Doing}
 
 -- with this number of steps the run is stopped, and what it wrote begins what stands now
 pub record StoppedAt (whole : Doing) (n : ℕ) (s t : State) : Type 0 where

@@ -11,12 +11,15 @@ use Rattle.btx_step.specs.language.Jobs.{Job}
 use Rattle.btx_machine.specs.declared.ending.Ending.{Ending}
 use Rattle.btx_machine.specs.declared.ending.Ending.TheVariants as endings
 use Rattle.btx_machine.specs.refinement.Outputs.{Outputs, Work}
-use Rattle.btx_machine.specs.language.States.{Out, State, state, effect, Outcome, Stopped}
-use Rattle.btx_machine.specs.laws.States.{final_state}
+use Rattle.btx_machine.specs.language.States.{Out, State, state, Outcome, Stopped}
+use Rattle.btx_machine.specs.laws.States.{final_state, effect}
 use Rattle.btx_machine.specs.refinement.States.{outcome_of}
 use Rattle.btx_machine.specs.language.Steps.{token_effect}
-use Rattle.btx_machine.specs.language.Written.{Received}
 use Rattle.btx_machine.specs.refinement.Product.{so_far}
+
+-- what the two sinks have received, that of the list first and that of the log second; nothing is known of a sink that doesn't show its bytes
+abbrev pub Received : Type 0
+Received = Option (List ℕ) × Option (List ℕ)
 
 -- what the sinks of both outputs have received
 abbrev pub received : Outputs → Received

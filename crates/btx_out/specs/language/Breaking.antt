@@ -20,38 +20,39 @@ written_line (b ∷ bs) = with_line_feed (trimmed (b ∷ bs))
 
 -- ---- where a text is broken
 
--- a text without the white at its front
+-- a text without the whitespace at its front
 unfoldable pub skip_white : List ℕ → List ℕ
 skip_white [] = []
 skip_white (b ∷ bs) = if is_white b then skip_white bs else b ∷ bs
 
--- a text up to its first white
+-- a text up to its first whitespace
 unfoldable pub till_white : List ℕ → List ℕ
 till_white [] = []
 till_white (b ∷ bs) = if is_white b then [] else b ∷ till_white bs
 
--- a text from its first white on
+-- a text from its first whitespace on
 unfoldable pub from_white : List ℕ → List ℕ
 from_white [] = []
 from_white (b ∷ bs) = if is_white b then b ∷ bs else from_white bs
 
--- given a number and a text: the greatest index below the number, and from 3 on, at which the text has whitespace; none if there is none
+-- the greatest index at which a text has whitespace, among those from 3 on and below the given number; none if there is none
 unfoldable pub last_white : ℕ → List ℕ → Option ℕ
 last_white zero text = None
 last_white (suc i) text = if nat_le 3 i && is_white (slice_index text i) then Some i else last_white i text
 
--- where a text is broken: whether past the line, what stands before the break (the head), and what stands after it (the rest)
+-- where a text is broken: whether the break lies past the line, what stands before it (the head), and what stands after it (the rest)
 pub data Break : Type 0 where
   Unbroken : Break
   Broken : Bool → List ℕ → List ℕ → Break
 
--- the break past the line, behind `head`, given the text from the next white on: the run of white there goes; without white there is no break
+-- the break past the line, after `head`, given the text from the next whitespace on: that run of whitespace is removed; without whitespace there is
+-- no break
 abbrev pub break_past : List ℕ → List ℕ → Break
 break_past head [] = Unbroken
 break_past head (b ∷ bs) = Broken true head (skip_white bs)
 
--- the break at the whitespace of index `i`, which alone is removed; without one, at the first run of whitespace past the line, which is removed
--- whole; without that, none
+-- the break at the whitespace of index `i`, which alone is removed. Without such an index, the break is at the first run of whitespace past the line,
+-- and all of the run is removed; without such a run there is no break
 abbrev pub break_at : ℕ → List ℕ → Option ℕ → Break
 break_at line_length text (Some i) = Broken false (take i text) (drop (i + 1) text)
 break_at line_length text None =
@@ -62,7 +63,7 @@ break_at line_length text None =
 unfoldable pub break_of : ℕ → List ℕ → Break
 break_of line_length text = break_at line_length text (last_white (line_length + 1) text)
 
--- what stands after a break goes on behind two spaces
+-- what stands after a break, after two spaces
 abbrev pub indented : List ℕ → List ℕ
 indented rest = 32 ∷ 32 ∷ rest
 
@@ -100,7 +101,7 @@ cut_within zero line_length text = only (Short text)
 cut_within (suc turns) line_length text =
     if nat_le (length text) line_length then only (Short text) else cut_at (cut_within turns line_length) text (break_of line_length text)
 
--- the pieces. A break takes four bytes at least and puts two before what follows, for every line length that can be asked for. So the text gets
+-- the pieces of a logical line. A break takes four bytes at least and puts two before what follows, for every line length that can be asked for. So the text gets
 -- shorter, and the bound is never reached
 unfoldable pub cut_of : ℕ → List ℕ → Cut
 cut_of line_length text = cut_within (length text) line_length text
@@ -113,7 +114,7 @@ written_last (Short text) = written_line text
 written_last (Long text) = text ++ 10 ∷ []
 written_last (Nothing past) = []
 
--- what of the last piece is certain to be written, whatever follows: all of a text that is longer than a line and has no break; else nothing
+-- what is certain to be written of the last piece, whatever follows: all of a text that is longer than a line and has no break; else nothing
 abbrev pub sure_last : Last → List ℕ
 sure_last (Long text) = text
 sure_last _ = []

@@ -1,5 +1,5 @@
 pub mod Counts
-pub mod Telling
+pub mod Logging
 pub mod Readings
 pub mod Asked
 pub mod Faults

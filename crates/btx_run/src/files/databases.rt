@@ -5,8 +5,7 @@ ghost use Rattle.btx_aux.specs.refinement.Entries.{texts_of};
 ghost use Rattle.btx_run.specs.refinement.Files.Asked.{AreAmong};
 ghost use Rattle.btx_run.specs.refinement.Files.Counts.{counts_at};
 ghost use Rattle.btx_run.specs.refinement.Files.Faults.{CountsOfReading};
-ghost use Rattle.btx_run.specs.language.Files.Readings.{database_logged, databases_read};
-ghost use Rattle.btx_run.specs.refinement.Files.Readings.{AddsAs, ReadsAs, database_read};
+ghost use Rattle.btx_run.specs.refinement.Files.Readings.{AddsAs, ReadsAs, database_read, database_logged, databases_read};
 
 use crate::files::found::{FoundFile, FoundFiles, fetch_file};
 use crate::files::lines::{database_line, no_database_line};
@@ -46,7 +45,7 @@ fn find_database<'a, F: Finder, L: Sink>(
 {
     let found = fetch_file(alloc, finder, name)?;
     let line = line_of(alloc, number, name, &found)?;
-    journal.tell(&line)?;
+    journal.log_one(&line)?;
     Ok(found)
 }
 
@@ -70,7 +69,7 @@ fn add_database<'a, F: Finder, L: Sink>(
     }
 }
 
-/// Looks for the databases of these names, each in turn.
+/// Fetches the databases of `names`, each in turn, and logs for each whether it was found. Answers those that were found.
 pub fn find_databases<'a, F: Finder, L: Sink>(
     alloc: Global,
     finder: &mut F,

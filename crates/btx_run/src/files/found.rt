@@ -27,21 +27,21 @@ impl<'a> Model for FoundFile<'a> {
 }
 
 impl<'a> FoundFile<'a> {
-    /// A file of this name and these bytes.
+    /// Makes a file of its name and its bytes.
     pub fn new(name: &'a [u8], bytes: Vec<u8>) -> Self
         ensures { result ≡ named_file name.now bytes.items }
     {
         FoundFile { name, bytes }
     }
 
-    /// The name.
+    /// Answers the name.
     pub fn name(&self) -> &'a [u8]
         ensures { result.now ≡ self.now.name }
     {
         self.name
     }
 
-    /// The bytes.
+    /// Answers the bytes.
     pub fn bytes(&self) -> &[u8]
         ensures { result.now ≡ self.now.bytes }
     {
@@ -65,7 +65,7 @@ impl<'a> Model for FoundFiles<'a> {
 }
 
 impl<'a> FoundFiles<'a> {
-    /// No file.
+    /// Makes an empty list of files.
     pub fn new(alloc: Global) -> Self
         ensures { result ≡ [] }
     {
@@ -74,7 +74,7 @@ impl<'a> FoundFiles<'a> {
         }
     }
 
-    /// Adds a file.
+    /// Adds a file at the end.
     pub fn push(&mut self, file: FoundFile<'a>) -> Result<(), AllocError>
         ensures { OnOk result (self.new ≡ self.old ++ file.entry ∷ []) }
     {
@@ -82,14 +82,14 @@ impl<'a> FoundFiles<'a> {
         Ok(())
     }
 
-    /// The number of the next file, from 1 up.
+    /// Answers the number that the next file will have, from 1 up.
     pub fn next_number(&self) -> u64
         ensures { result ≡ length self.now + 1 }
     {
         self.files.len() as u64 + 1
     }
 
-    /// All of them.
+    /// Answers all files, in the order in which they were found.
     pub fn as_slice(&self) -> &[FoundFile<'a>]
         ensures { result.now ≡ self.now }
     {
@@ -114,7 +114,7 @@ pub enum FilesRead<'a> {
     Found(JobFiles<'a>),
 }
 
-/// Fetches the file of a name, if it is there, into room of its size.
+/// Fetches the file `name`, if it is there, into memory of its size.
 pub fn fetch_file<'a, F: Finder>(
     alloc: Global,
     finder: &mut F,

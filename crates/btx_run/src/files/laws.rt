@@ -2,7 +2,7 @@
 ghost use Rattle.btx_run.specs.laws.Files.Laws.{FoundAreNumbered, MissingAreErrors, OneLineEach};
 
 /// The databases that are found are numbered from 1 up without a gap, each that isn't there is an error of its own, and each has one line.
-pub fn databases_are_told()
+pub fn databases_are_logged()
     ensures numbered { FoundAreNumbered }
     ensures missing { MissingAreErrors }
     ensures lines { OneLineEach }

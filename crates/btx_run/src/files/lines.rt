@@ -7,7 +7,7 @@ use btx_text::log_texts::{push_mark, push_number, push_two};
 use btx_text::{LineKind, LogLine};
 use std::alloc::{AllocError, Global};
 
-/// The style was found.
+/// Makes the log line for a style that was found.
 #[tactic(auto, unfolding(crate::specs::language::Files::Lines::style_line))]
 pub fn style_line(alloc: Global, name: &[u8]) -> Result<LogLine, AllocError>
     ensures { IfOk result (λ line. line ≡ style_line name.now) }
@@ -15,7 +15,7 @@ pub fn style_line(alloc: Global, name: &[u8]) -> Result<LogLine, AllocError>
     line_of_two(alloc, LineKind::Plain, b"The style file: ", name)
 }
 
-/// The style was not found.
+/// Makes the log line for a style that wasn't found.
 #[tactic(auto, unfolding(crate::specs::language::Files::Lines::no_style_line))]
 pub fn no_style_line(alloc: Global, name: &[u8]) -> Result<LogLine, AllocError>
     ensures { IfOk result (λ line. line ≡ no_style_line name.now) }
@@ -38,7 +38,7 @@ fn line_of_two(
     Ok(LogLine::new(text, kind))
 }
 
-/// A database was found, of those found the one of this number.
+/// Makes the log line for a database that was found; `number` counts those that were found, from 1 up.
 #[tactic(auto, unfolding(crate::specs::language::Files::Lines::database_line))]
 pub fn database_line(alloc: Global, number: u64, name: &[u8]) -> Result<LogLine, AllocError>
     ensures { IfOk result (λ line. line ≡ database_line number name.now) }
@@ -49,7 +49,7 @@ pub fn database_line(alloc: Global, number: u64, name: &[u8]) -> Result<LogLine,
     Ok(LogLine::new(text, LineKind::Plain))
 }
 
-/// A database was not found.
+/// Makes the log line for a database that wasn't found.
 #[tactic(auto, unfolding(crate::specs::language::Files::Lines::no_database_line))]
 pub fn no_database_line(alloc: Global, name: &[u8]) -> Result<LogLine, AllocError>
     ensures { IfOk result (λ line. line ≡ no_database_line name.now) }

@@ -6,7 +6,7 @@ ghost use Rattle.btx_run.specs.refinement.Files.Names.{top_name};
 use btx_text::GREATEST_FILE;
 use std::alloc::{AllocError, Global};
 
-/// The name of the top-level file: the job's name with `.aux`, unless it ends so.
+/// Makes the name of the top-level file: the job's name with `.aux`, unless it ends so.
 pub fn top_name(alloc: Global, job: &[u8]) -> Result<Vec<u8>, AllocError>
     ensures { IfOk result (λ name. name.items ≡ top_name job.now) }
 {
@@ -17,7 +17,7 @@ pub fn top_name(alloc: Global, job: &[u8]) -> Result<Vec<u8>, AllocError>
     Ok(name)
 }
 
-/// Whether a file is too long to be read.
+/// Answers whether a file is too long to be read: above 2,147,483,647 bytes.
 pub fn is_too_long(text: &[u8]) -> bool
     ensures { result ≡ is_too_long text.now }
 {

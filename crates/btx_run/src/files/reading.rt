@@ -6,7 +6,7 @@ ghost use Rattle.btx_aux.specs.language.Files.{Files};
 ghost use Rattle.btx_aux.specs.language.Job.{AuxJob};
 ghost use Rattle.btx_run.specs.refinement.Files.Asked.{AreAmong, names_in};
 ghost use Rattle.btx_run.specs.refinement.Files.Counts.{counts_at};
-ghost use Rattle.btx_run.specs.refinement.Files.Faults.{CountsOfReading, CountsOfTelling};
+ghost use Rattle.btx_run.specs.refinement.Files.Faults.{CountsOfReading, CountsOfLogging};
 ghost use Rattle.btx_run.specs.language.Files.Found.{file_at};
 ghost use Rattle.btx_run.specs.language.Files.Readings.{after_job, job_named, style_named, style_read};
 ghost use Rattle.btx_run.specs.refinement.Files.Readings.{ReadsAs, StyleFits, after_style, files_read};
@@ -15,15 +15,15 @@ ghost use Rattle.btx_run.specs.refinement.Files.Names.{top_name};
 use crate::files::databases::find_databases;
 use crate::files::found::{FilesRead, FoundFile, JobFiles, fetch_file};
 use crate::files::lines::{no_style_line, style_line};
+use crate::files::logging::log_all;
 use crate::files::names::{is_too_long, top_name};
-use crate::files::telling::tell_all;
 use btx_aux::{AuxJob, End as AuxEnd, Finder, read_aux};
-use btx_machine::{End, Journal, Limit};
+use btx_machine::{End, Journal};
 use btx_out::Sink;
-use btx_text::Fault;
+use btx_text::{Fault, Limit};
 use std::alloc::Global;
 
-/// Reads the `.aux` files of the job of this name, which may end in `.aux`.
+/// Reads the `.aux` files of the job `name`, which may end in `.aux`.
 pub fn read_job<F: Finder>(alloc: Global, finder: &mut F, name: &[u8]) -> Result<AuxJob, Fault>
     ensures job { IfOk result (λ job. IfSome (F.content finder.old) (λ files. job ≡ job_named files name.now)) }
     ensures answered { IfOk result (λ job. ByAnswers (F.content finder.old) (AsksTop (top_name name.now)) (λ files. job ≡ job_named files name.now)) }
@@ -56,7 +56,7 @@ fn with_style<'a, F: Finder, L: Sink>(
 }
 
 // Goes on from a style that was found.
-fn tell_style<'a, F: Finder, L: Sink>(
+fn log_style<'a, F: Finder, L: Sink>(
     alloc: Global,
     finder: &mut F,
     job: &'a AuxJob,
@@ -70,11 +70,11 @@ fn tell_style<'a, F: Finder, L: Sink>(
     ensures counts { CountsOfReading result (F.failures finder.old, F.failures finder.new) journal.old journal.new }
 {
     let line = style_line(alloc, style.name())?;
-    journal.tell(&line)?;
+    journal.log_one(&line)?;
     with_style(alloc, finder, job, style, journal)
 }
 
-// Tells that the style of this name wasn't found, which ends the run.
+// Logs that the style of this name wasn't found, which ends the run.
 fn without_style<'a, L: Sink>(
     alloc: Global,
     name: &[u8],
@@ -83,10 +83,10 @@ fn without_style<'a, L: Sink>(
     ensures reads { (files : Files) (job : AuxJob) → ReadsAs result (counts_at journal.old, counts_at journal.new) (journal.old.sink.received, journal.new.sink.received)
         (style_read files job name.now None) }
     ensures fits { IfOk result (λ read. StyleFits read) }
-    ensures counts { CountsOfTelling result journal.old journal.new }
+    ensures counts { CountsOfLogging result journal.old journal.new }
 {
     let line = no_style_line(alloc, name)?;
-    journal.tell(&line)?;
+    journal.log_one(&line)?;
     Ok(FilesRead::Ends(End::Finished))
 }
 
@@ -105,7 +105,7 @@ fn find_style<'a, F: Finder, L: Sink>(
     ensures counts { CountsOfReading result (F.failures finder.old, F.failures finder.new) journal.old journal.new }
 {
     match fetch_file(alloc, finder, name)? {
-        Some(style) => tell_style(alloc, finder, job, style, journal),
+        Some(style) => log_style(alloc, finder, job, style, journal),
         None => without_style(alloc, name, journal),
     }
 }
@@ -166,6 +166,6 @@ pub fn read_files<'a, F: Finder, L: Sink>(
     ensures stays { F.content finder.new ≡ F.content finder.old }
     ensures counts { CountsOfReading result (F.failures finder.old, F.failures finder.new) journal.old journal.new }
 {
-    tell_all(job.log(), journal)?;
+    log_all(job.log(), journal)?;
     after_job(alloc, finder, job, journal)
 }

@@ -1,6 +1,7 @@
 -- How literals lie in memory: small slots, top first, and one pool of bytes, in which the strings that were made lie one behind another, those of
 -- the top slot at the end.
 use Rattle.std.specs.Prelude.{◌≡◌, ◌≤◌, ◌-◌, ℕ, Bool, true, false, List, [], ◌∷◌, length, take, drop, if◌then◌else◌}
+use Rattle.btx_text.specs.declared.limits.TheConstants.{MOST_LITERALS}
 use Rattle.btx_text.specs.language.Limits.{greatest_string}
 use Rattle.btx_code.specs.refinement.Ops.{callee_of, Runs}
 use Rattle.btx_stack.specs.refinement.Content.{Content}
@@ -11,7 +12,7 @@ use Rattle.btx_stack.specs.declared.slot.Slot.{Slot}
 
 -- the greatest number of literals
 abbrev pub greatest_stack : ℕ
-greatest_stack = 1000
+greatest_stack = MOST_LITERALS
 
 -- the greatest length of a string that was made and whose bytes are in the pool
 abbrev pub greatest_short : ℕ

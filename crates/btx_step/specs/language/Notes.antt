@@ -1,6 +1,6 @@
 -- The lines of the log that a style's execution gives. Their texts are this project's own, but for `Warning--`, which is the original's (btxhak,
 -- section 5.3, at `warning$`).
-use Rattle.std.specs.Prelude.{ℕ, ℤ, Bool, true, false, List, [], ◌++◌, Option, None, Some, codes, decimal}
+use Rattle.std.specs.Prelude.{ℕ, Bool, true, false, List, [], ◌++◌, Option, None, Some, codes, decimal, if◌then◌else◌}
 use Rattle.std.specs.Fmt.{signed_decimal}
 use Rattle.btx_text.specs.declared.log_line.LineKind.{LineKind}
 use Rattle.btx_text.specs.declared.log_line.LineKind.TheVariants.{Plain, Warning, Error}
@@ -9,7 +9,6 @@ use Rattle.btx_bst.specs.language.Names.{name_of}
 use Rattle.btx_bst.specs.language.Style.{Style}
 use Rattle.btx_stack.specs.declared.literal.Literal.{Literal}
 use Rattle.btx_stack.specs.declared.literal.Literal.TheVariants as literal
-use Rattle.btx_step.specs.declared.literal.Wanted.{Wanted}
 use Rattle.btx_step.specs.declared.literal.Wanted.TheVariants as wanted
 use Rattle.btx_step.specs.declared.said.Note.{Note}
 use Rattle.btx_step.specs.declared.said.Note.TheVariants as note
@@ -23,17 +22,6 @@ form_of style (literal.Text text) = codes "\"" ++ text ++ codes "\""
 form_of style (literal.Function f) = codes "'" ++ name_of style.names f
 form_of style literal.Missing = codes "missing field"
 
--- the text behind a literal that isn't of the kind that a function wanted
-abbrev pub kind_text : Wanted → List ℕ
-kind_text wanted.Integer = codes " is not an integer"
-kind_text wanted.Text = codes " is not a string"
-kind_text wanted.Function = codes " is not a function"
-kind_text wanted.TextOrMissing = codes " is not a string or missing field"
-
--- the text for an integer that `int.to.chr$` can't make a character of
-unfoldable pub not_ascii_text : ℤ → List ℕ
-not_ascii_text n = signed_decimal n ++ codes " isn't an ASCII code"
-
 -- where a message is met: the name of what is executed, and the key of the current entry if there is one
 unfoldable pub place_of : List ℕ → Option (List ℕ) → List ℕ
 place_of executed None = codes " while executing " ++ executed
@@ -44,12 +32,15 @@ place_of executed (Some key) = codes " while executing " ++ executed ++ codes " 
 -- the text of a log line, without `Warning--` or `Error--` before it and without its place
 unfoldable pub note_text : Style → Note → List ℕ
 note_text style note.EmptyStack = codes "You can't pop an empty literal stack"
-note_text style (note.WrongKind v wanted) = form_of style v ++ kind_text wanted
+note_text style (note.WrongKind v wanted.Integer) = form_of style v ++ codes " is not an integer"
+note_text style (note.WrongKind v wanted.Text) = form_of style v ++ codes " is not a string"
+note_text style (note.WrongKind v wanted.Function) = form_of style v ++ codes " is not a function"
+note_text style (note.WrongKind v wanted.TextOrMissing) = form_of style v ++ codes " is not a string or missing field"
 note_text style note.Incomparable = codes "= needs two integers or two strings"
 note_text style note.Overflow = codes "Integer overflow"
 note_text style (note.NotAssignable f) = codes "You can't assign to " ++ name_of style.names f
 note_text style note.NoEntry = codes "You can't mess with entries here"
-note_text style (note.NotAscii n) = not_ascii_text n
+note_text style (note.NotAscii n) = signed_decimal n ++ codes " isn't an ASCII code"
 note_text style (note.NotOneCharacter text) = codes "\"" ++ text ++ codes "\" isn't a single character"
 note_text style (note.NoConversion text) = codes "\"" ++ text ++ codes "\" is an illegal case-conversion string"
 note_text style (note.NoSuchName n names) = codes "There is no name number " ++ signed_decimal n ++ codes " in \"" ++ names ++ codes "\""
@@ -74,11 +65,6 @@ has_place (note.Warning text) = false
 has_place (note.Shown v) = false
 has_place _ = true
 
--- the end of a message: the function that is executed and the key of the entry, if the message has a place
-abbrev pub place_if : Bool → List ℕ → Option (List ℕ) → List ℕ
-place_if true executed key = place_of executed key
-place_if false executed key = []
-
 -- a line of the log, met while a function is executed, in an entry of this key if there is one
 unfoldable pub note_line : Style → List ℕ → Option (List ℕ) → Note → Line
-note_line style executed key note = message (note_kind note) (note_text style note ++ place_if (has_place note) executed key)
+note_line style executed key note = message (note_kind note) (note_text style note ++ (if has_place note then place_of executed key else []))

@@ -3,10 +3,6 @@ use Rattle.std.specs.Prelude.{ℕ, Bool, List, [], ◌∷◌, if◌then◌else�
 use Rattle.std.specs.Ordering.{nat_cmp, is_lt}
 use Rattle.std.specs.Cmp.Lexicographic.{slice_cmp}
 
--- a key comes before another one: at the first byte that differs it has the smaller byte, or it is a proper prefix
-abbrev pub precedes : List ℕ → List ℕ → Bool
-precedes key other = is_lt (slice_cmp nat_cmp key other)
-
 module _ {X : Type 0} (lt : X → X → Bool) where
   -- inserts `x` before the first element that isn't less than it
   abbrev pub inserted : X → List X → List X
@@ -19,6 +15,7 @@ module _ {X : Type 0} (lt : X → X → Bool) where
   sorted_by (x ∷ xs) = inserted x (sorted_by xs)
 
 module _ {X : Type 0} where
-  -- the elements so that their keys ascend, and those of equal keys in the order in which they stood
+  -- the elements so that their keys ascend, and those of equal keys in the order in which they stood. A key comes before another one where at the first
+  -- byte that differs it has the smaller byte, and where it is a proper prefix
   abbrev pub sorted : (X → List ℕ) → List X → List X
-  sorted key = sorted_by (λ x y. precedes (key x) (key y))
+  sorted key = sorted_by (λ x y. is_lt (slice_cmp nat_cmp (key x) (key y)))

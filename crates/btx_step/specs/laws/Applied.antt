@@ -11,8 +11,9 @@ use Rattle.btx_step.specs.declared.said.Note.{Note}
 use Rattle.btx_step.specs.declared.said.Note.TheVariants as note
 use Rattle.btx_step.specs.language.Jobs.{Job}
 use Rattle.btx_step.specs.language.Stores.{Store}
-use Rattle.btx_step.specs.language.Answers.{Answer, with_literals}
-use Rattle.btx_step.specs.language.Operands.{Operand, Any, Of, Value, Does, by_default}
+use Rattle.btx_step.specs.declared.stand_in.StandIn.TheVariants as stand_in
+use Rattle.btx_step.specs.language.Answers.{Answer, with_literals, complained}
+use Rattle.btx_step.specs.language.Operands.{Operand, Any, Of, Value, Does, Default, Push, Back}
 use Rattle.btx_step.specs.language.Table.{row}
 use Rattle.btx_step.specs.language.Steps.{built_in_run}
 
@@ -70,6 +71,12 @@ pub record IsWrong (operands : List Operand) (xs : List Literal) (notes : List N
   pub above : OperandValues (take place operands)
   pub fit : take place xs ≡ operand_literals (take place operands) above
   pub logged : notes ≡ note.WrongKind x kind ∷ []
+
+-- what happens if operands are missing or don't fit: the notes are logged, and the default is pushed above the literals `below` the operands;
+-- or, for `swap$`, the literals `seen` stay
+abbrev pub by_default : Default → List Note → List Literal → List Literal → Store → Answer
+by_default (Push instead) notes seen below s = complained notes instead (with_literals below s)
+by_default Back notes seen below s = complained notes stand_in.Nothing (with_literals seen s)
 
 -- a built-in function wasn't done: the notes say what is wrong with its operands, and its default follows
 pub record IsReported (job : Job) (f : BuiltIn) (s : Store) : Type 0 where

@@ -2,7 +2,9 @@
 use Rattle.std.specs.Prelude.{◌≡◌, ◌↔◌, ℕ, Bool, true, false, List, [], ◌∷◌, nat_lt, if◌then◌else◌}
 use Rattle.std.specs.List.{filter}
 use Rattle.std.specs.Str.{bytes_eq}
-use Rattle.btx_step.specs.language.Sorting.{precedes, sorted}
+use Rattle.btx_step.specs.language.Sorting.{sorted}
+use Rattle.std.specs.Ordering.{nat_cmp, is_lt}
+use Rattle.std.specs.Cmp.Lexicographic.{slice_cmp}
 
 -- one key comes before another: at the first byte that differs it has the smaller one, or it is a proper prefix of the other
 abbrev pub comes_first : List ℕ → List ℕ → Bool
@@ -32,7 +34,11 @@ pub record IsInOrder (key : ℕ → List ℕ) (xs : List ℕ) (ys : List ℕ) : 
 
 -- ---- laws
 
--- `precedes`, by which `sorted` compares keys, is `comes_first`
+-- the test by which `sorted` compares two keys
+abbrev pub precedes : List ℕ → List ℕ → Bool
+precedes key other = is_lt (slice_cmp nat_cmp key other)
+
+-- this test is `comes_first`
 abbrev pub ComparesBytes : Type 0
 ComparesBytes = (key other : List ℕ) → precedes key other ≡ comes_first key other
 

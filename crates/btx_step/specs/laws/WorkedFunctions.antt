@@ -5,7 +5,7 @@ use Rattle.std.specs.Prelude.{ℕ, ◌≡◌, List, [], ◌∷◌, ◌++◌, rep
 use Rattle.btx_bst.specs.language.Names.{named_lower}
 use Rattle.btx_stack.specs.declared.literal.Literal.{Literal}
 use Rattle.btx_stack.specs.declared.literal.Literal.TheVariants as literal
-use Rattle.btx_step.specs.declared.next.Limit.TheVariants.{Literals}
+use Rattle.btx_text.specs.declared.limits.Limit.TheVariants.{Literals}
 use Rattle.btx_step.specs.declared.next.Next.{Next}
 use Rattle.btx_step.specs.declared.next.Next.TheVariants.{Nothing, End, Run, Open, Loop}
 use Rattle.btx_step.specs.language.Jobs.{Job}

@@ -2,7 +2,7 @@
 use Rattle.std.specs.Prelude.{ℕ, List, Bool}
 use Rattle.btx_step.specs.language.Stores.{Store}
 use Rattle.btx_step.specs.language.Variables.{string_of}
-use Rattle.btx_step.specs.language.Sorting.{precedes}
+use Rattle.btx_step.specs.laws.Orders.{precedes}
 
 -- the key by which SORT places an entry: the value of the entry's string variable of this number
 abbrev pub sort_key : Store → ℕ → ℕ → List ℕ

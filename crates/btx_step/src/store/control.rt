@@ -67,7 +67,7 @@ impl<'a> Store<'a> {
         }
     }
 
-    /// Looks at what a loop's test left: whether the body runs.
+    /// Pops what a loop's test left, and answers whether the body runs: if it is an integer above 0.
     pub fn test(&mut self, said: &mut Said<'a>) -> Result<bool, AllocError>
         requires { said.old ≡ silence }
         ensures { IfOk result (λ again. spec.tested_as again said.new self.new ≡ spec.tested self.old.literals self.old) }

@@ -11,11 +11,11 @@ ghost use Rattle.btx_text.specs.language.Lists.{only_if};
 use super::Store;
 use crate::job::Job;
 use crate::literal::{Literal, Wanted};
-use crate::next::{Limit, Next};
+use crate::next::Next;
 use crate::said::{Note, Notes, Said};
 use crate::stand_in::StandIn;
 use btx_strings::Complaints;
-use btx_text::{Fault, Text};
+use btx_text::{Fault, Limit, Text};
 use std::alloc::{AllocError, Global};
 
 impl<'a> Store<'a> {
@@ -106,7 +106,7 @@ fn name_said<'a>(
     number: i32,
     format: Text<'a>,
 ) -> Result<Said<'a>, AllocError>
-    ensures { IfOk result (λ said. said ≡ spec.name_said complaints names.entry number format.entry) }
+    ensures { IfOk result (λ said. said ≡ kept_spec.name_said complaints names.entry number format.entry) }
 {
     if !(complaints.no_such_name
         || complaints.comma_at_end

@@ -12,7 +12,7 @@ use btx_stack::{Literals, Variable};
 use std::alloc::{AllocError, Global};
 
 impl<'a> Store<'a> {
-    /// The store before the first command of a job.
+    /// Makes the store before the first command of a job.
     pub fn new(alloc: Global, job: &Job<'a>) -> Result<Self, AllocError>
         ensures { IfOk result (λ store. store ≡ first_store job.now) }
     {

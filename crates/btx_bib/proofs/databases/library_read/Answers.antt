@@ -4,7 +4,7 @@ use Rattle.btx_bib.specs.declared.gathering.Gathering.{Gathering}
 use Rattle.btx_bib.specs.declared.message.Message.{Message}
 use Rattle.btx_bib.specs.language.Databases.{library_of}
 use Rattle.btx_bib.specs.refinement.Sources.{source_databases}
-use Rattle.btx_bib.specs.refinement.Readings.{nothing_gathered, kept_by_all, kept_macros, told_by_all}
+use Rattle.btx_bib.specs.refinement.Readings.{nothing_gathered, kept_by_all, kept_macros, messages_of_all}
 use Rattle.btx_bib.specs.refinement.Requests.{wanted}
 use Rattle.btx_bib.specs.language.Wanted.{Request}
 use Rattle.btx_bib.proofs.WholeLemmas.{is-listed, library-is}
@@ -27,8 +27,8 @@ returns c =
     let kept = c.in_ok-read_all.ensures.state ∙ ap (λ (k : Gathering). kept_by_all w k databases) start in
     let tells =
     c.in_ok-read_all.ensures.told
-    ∙ ap (λ (ms : List Message). ms ++ told_by_all w c.define_macros.new.self databases) c.new-messages.ensures
-    ∙ ap (λ (k : Gathering). told_by_all w k databases) start in
+    ∙ ap (λ (ms : List Message). ms ++ messages_of_all w c.define_macros.new.self databases) c.new-messages.ensures
+    ∙ ap (λ (k : Gathering). messages_of_all w k databases) start in
     let whole =
     library-is w macros databases c.read_all.new.self kept c.read_all.new.messages tells
     ∙ ap (λ (asks : Request). library_of asks macros databases) c.in_ok-request.ensures in

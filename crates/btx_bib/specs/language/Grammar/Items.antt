@@ -1,7 +1,7 @@
 -- Items as they are read: what follows an `@`, then the fields of an entry one by one, and the end.
 use Rattle.std.specs.Prelude.{ℕ, Bool, false, zero, suc, ◌+◌, ◌*◌, ◌==◌, List, [], ◌∷◌, length, Option, None, Some, Ok, Err, if◌then◌else◌, codes}
 use Rattle.std.specs.Str.{bytes_eq, byte}
-use Rattle.std.specs.Option.{option_map}
+use Rattle.std.specs.Option.{option_map, option_map_or}
 use Rattle.btx_text.specs.language.Keys.{folded}
 use Rattle.btx_bib.specs.declared.grammar.byte_sets.Delimiter.{Delimiter}
 use Rattle.btx_bib.specs.declared.grammar.commands.Command.{Command}
@@ -98,15 +98,12 @@ is_repeated is_stored _ = false
 abbrev pub as_known : (List ℕ → Bool) → Event × Wanted → Event × Wanted
 as_known is_stored got = if is_repeated is_stored got.0 then (Wrong Repeated, Item) else got
 
--- what is read next, where some keys are stored: an entry that repeats one of them is a fault
-abbrev pub known_step : (List ℕ → Bool) → Option Step → Option Step
-known_step is_stored None = None
-known_step is_stored (Some step) =
-    let got = as_known is_stored (step.event, step.wanted) in Some (record { event = got.0; wanted = got.1; rest = step.rest })
-
--- the next event of a text, given what is expected there and which keys are stored
+-- the next event of a text, given what is expected there and which keys are stored: an entry that repeats one of them is a fault
 abbrev pub next_step : (List ℕ → Bool) → Wanted → List ℕ → Option Step
-next_step is_stored wanted text = known_step is_stored (expected_step wanted text)
+next_step is_stored wanted text =
+    option_map
+    (λ (step : Step). let got = as_known is_stored (step.event, step.wanted) in record { event = got.0; wanted = got.1; rest = step.rest })
+    (expected_step wanted text)
 
 -- how what is known of the items before is kept, where S is the type of all that is known: which keys are stored, and what is known after a
 -- further event
@@ -116,17 +113,13 @@ pub record Keeping (S : Type 0) : Type 0 where
 
 -- ---- the events of a text
 
--- the events of a text from the next step on, if there is one: its event, and those that `others` give of the rest
-abbrev pub events_by : {S : Type 0} → Keeping S → (S → Wanted → List ℕ → List Placed) → S → Option Step → List Placed
-events_by keeping others state None = []
-events_by keeping others state (Some step) =
-    record { event = step.event; rest = step.rest } ∷ others (keeping.after state step.event) step.wanted step.rest
-
 -- at most `turns` events of a text; the bound is that of `events_from`, and is never reached
 unfoldable pub events_within : {S : Type 0} → Keeping S → ℕ → S → Wanted → List ℕ → List Placed
 events_within keeping zero state wanted text = []
 events_within keeping (suc turns) state wanted text =
-    events_by keeping (events_within keeping turns) state (next_step (keeping.is_stored state) wanted text)
+    option_map_or
+    (λ (step : Step). record { event = step.event; rest = step.rest } ∷ events_within keeping turns (keeping.after state step.event) step.wanted step.rest)
+    (next_step (keeping.is_stored state) wanted text) []
 
 -- the events of a text, given what is known before it and what is expected first. The bound on their number is never reached, since each takes a
 -- byte or ends an item

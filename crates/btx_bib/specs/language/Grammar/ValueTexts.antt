@@ -7,12 +7,8 @@ use Rattle.btx_bib.specs.declared.grammar.value_ends.Ends.TheVariants.{Kept, Tri
 use Rattle.btx_bib.specs.language.Grammar.ByteSets.{is_gap, begins}
 use Rattle.btx_bib.specs.language.Grammar.Values.{Part, Braced, Quoted, Digits, Named}
 
--- the values of strings by their names, where they have one
-abbrev pub StringValues : Type 0
-StringValues = List ℕ → Option (List ℕ)
-
--- the text of a part: a name stands for its value, and for nothing where it has none
-abbrev pub text_of_part : StringValues → Part → List ℕ
+-- the text of a part, where `strings` has the values of names: a name stands for its value, and for nothing where it has none
+abbrev pub text_of_part : (List ℕ → Option (List ℕ)) → Part → List ℕ
 text_of_part strings (Braced text) = text
 text_of_part strings (Quoted text) = text
 text_of_part strings (Digits text) = text
@@ -38,5 +34,5 @@ shaped Kept text = squeezed text
 shaped Trimmed text = without_last_space (without_first_space (squeezed text))
 
 -- the text that a value stands for: its parts joined, its whitespace squeezed, and the space at each end trimmed or kept
-abbrev pub value_text : Ends → StringValues → List Part → List ℕ
+abbrev pub value_text : Ends → (List ℕ → Option (List ℕ)) → List Part → List ℕ
 value_text ends strings parts = shaped ends (flat_map (text_of_part strings) parts)

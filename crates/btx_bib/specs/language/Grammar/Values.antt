@@ -9,6 +9,7 @@ use Rattle.btx_bib.specs.language.Grammar.ByteSets.{longest_run, past, enclosed_
 use Rattle.btx_bib.specs.language.Grammar.Tokens.{Parsed, followed_by}
 use Rattle.std.specs.Char.{is_ascii_digit}
 use Rattle.std.specs.Str.{byte}
+use Rattle.std.specs.Option.{option_map_or}
 
 -- the name of a string where it stands in a value. `rest` is the text behind it, which tells its place: how much of the file is left.
 pub record StringName : Type 0 where
@@ -56,15 +57,12 @@ behind_hash (b ∷ bs) = if b == byte "#" then Some bs else None
 abbrev pub next_part : List ℕ → Option (List ℕ)
 next_part rest = behind_hash (past Gap rest)
 
--- the parts of a value from this one on: `others` reads those after a `#`
-abbrev pub joined : (List ℕ → Parsed (List Part)) → Part → List ℕ → Option (List ℕ) → Parsed (List Part)
-joined others part rest None = Ok (part ∷ [], rest)
-joined others part rest (Some text) = followed_by (others text) (λ parts end. Ok (part ∷ parts, end))
-
--- reads a value of at most `turns` parts. The bound is never reached, since each part takes a byte at least
+-- reads a value of at most `turns` parts: a part, and the others if a `#` stands behind it. The bound is never reached, since each part takes a byte at least
 unfoldable pub value_within : ℕ → List ℕ → Parsed (List Part)
 value_within zero text = Err (EndOfFile, [])
-value_within (suc turns) text = followed_by (part_at text) (λ part rest. joined (value_within turns) part rest (next_part rest))
+value_within (suc turns) text =
+    followed_by (part_at text) (λ part rest.
+    option_map_or (λ (behind : List ℕ). followed_by (value_within turns behind) (λ parts end. Ok (part ∷ parts, end))) (next_part rest) (Ok (part ∷ [], rest)))
 
 -- the value that stands next: its parts, which `#` joins, or what is wrong in it
 unfoldable pub value_at : List ℕ → Parsed (List Part)

@@ -13,8 +13,8 @@ use Rattle.btx_bib.specs.language.Grammar.Fields.{Field}
 use Rattle.btx_bib.specs.language.Grammar.Items.{FieldOf, Step}
 use Rattle.btx_bib.specs.refinement.Grammar.Squeezing.{stands}
 use Rattle.btx_bib.specs.language.Grammar.Values.{Part, Braced, Quoted, Digits, Named}
-use Rattle.btx_bib.specs.language.Grammar.ValueTexts.{StringValues}
 use Rattle.btx_bib.specs.laws.Grammar.Fields.{more_at}
+use Rattle.btx_bib.specs.refinement.Grammar.ValueTexts.{StringValues}
 
 -- a part of this kind and of this text, with the text from its end on
 abbrev pub part_of : PlainKind → List ℕ → List ℕ → Part

@@ -1,5 +1,5 @@
 -- What calls answer that make the text of a value.
-use Rattle.std.specs.Prelude.{◌≡◌, ◌<◌, ◌≤◌, ℕ, List, length, Result, Ok, Err}
+use Rattle.std.specs.Prelude.{◌≡◌, ◌<◌, ◌≤◌, ℕ, List, length, Result, Ok, Err, Option}
 use Rattle.std.specs.declared.alloc.Global.{Global}
 use Rattle.std.specs.declared.vec.Vec.{Vec}
 use Rattle.btx_text.specs.language.Limits.{greatest_string}
@@ -7,7 +7,11 @@ use Rattle.btx_text.specs.declared.fault.Fault.{Fault}
 use Rattle.btx_text.specs.declared.fault.Fault.TheVariants.{Memory, StringLimit}
 use Rattle.std.specs.List.{flat_map}
 use Rattle.btx_bib.specs.language.Grammar.Values.{Part}
-use Rattle.btx_bib.specs.language.Grammar.ValueTexts.{StringValues, text_of_part}
+use Rattle.btx_bib.specs.language.Grammar.ValueTexts.{text_of_part}
+
+-- the values of strings by their names, where they have one
+abbrev pub StringValues : Type 0
+StringValues = List ℕ → Option (List ℕ)
 
 -- this text, where it is within the limit of strings; the fault of the limit exactly where it is longer; want of memory says nothing
 abbrev pub MakesText : Result (List ℕ) Fault → List ℕ → Type 0

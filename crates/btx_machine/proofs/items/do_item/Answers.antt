@@ -9,15 +9,15 @@ use Rattle.btx_machine.proofs.items.do_item.Goals as goal
 pub returns-in_err-line-in-Message-clause-err : goal.returns-in_err-line-in-Message-clause-err
 returns-in_err-line-in-Message-clause-err g c = on_err c.from_residual.result (at_rest c.args.job.now c.args.list.now.items (item_view c.args.item.now) c.args.work.now c.args.left.now)
 
-pub returns-in_err-tell-in-Message-clause-err : goal.returns-in_err-tell-in-Message-clause-err
-returns-in_err-tell-in-Message-clause-err g c = on_err c.from_residual-in_err-tell-in-Message.result (message_fails c.args.job.now c.args.list.now.items (item_view c.args.item.now) c.args.work.now c.args.left.now c.tell.new.self.outputs (complaint_view c.in-Message.message.complaint) c.in-Message.message.line c.in_ok-line-in-Message.line (ap item_view c.in-Message.is)
-    (c.in_ok-line-in-Message.ensures ∙ ap (complaint_line (complaint_view c.in-Message.message.complaint) c.in-Message.message.line) (c.file_name.ensures ∙ ap (λ (style : Style). style.file) c.style.ensures)) c.in_err-tell-in-Message.ensures.err)
+pub returns-in_err-log_one-in-Message-clause-err : goal.returns-in_err-log_one-in-Message-clause-err
+returns-in_err-log_one-in-Message-clause-err g c = on_err c.from_residual-in_err-log_one-in-Message.result (message_fails c.args.job.now c.args.list.now.items (item_view c.args.item.now) c.args.work.now c.args.left.now c.log_one.new.self.outputs (complaint_view c.in-Message.message.complaint) c.in-Message.message.line c.in_ok-line-in-Message.line (ap item_view c.in-Message.is)
+    (c.in_ok-line-in-Message.ensures ∙ ap (complaint_line (complaint_view c.in-Message.message.complaint) c.in-Message.message.line) (c.file_name.ensures ∙ ap (λ (style : Style). style.file) c.style.ensures)) c.in_err-log_one-in-Message.ensures.err)
 
 pub returns-in_err-all-in-Read-clause-err : goal.returns-in_err-all-in-Read-clause-err
 returns-in_err-all-in-Read-clause-err g c = on_err c.from_residual-in_err-all-in-Read.result (at_rest c.args.job.now c.args.list.now.items (item_view c.args.item.now) c.args.work.now c.args.left.now)
 
-pub returns-in_err-tell_library-in-Read-clause-err : goal.returns-in_err-tell_library-in-Read-clause-err
-returns-in_err-tell_library-in-Read-clause-err g c = on_err c.from_residual-in_err-tell_library-in-Read.result (read_fails c.args.job.now c.args.list.now.items (item_view c.args.item.now) c.args.work.now c.args.left.now c.tell_library.new.self.outputs (ap item_view c.in-Read.is) c.in_err-tell_library-in-Read.ensures.err)
+pub returns-in_err-log_library-in-Read-clause-err : goal.returns-in_err-log_library-in-Read-clause-err
+returns-in_err-log_library-in-Read-clause-err g c = on_err c.from_residual-in_err-log_library-in-Read.result (read_fails c.args.job.now c.args.list.now.items (item_view c.args.item.now) c.args.work.now c.args.left.now c.log_library.new.self.outputs (ap item_view c.in-Read.is) c.in_err-log_library-in-Read.ensures.err)
 
 pub returns-in_err-reversed-in-Reverse-clause-err : goal.returns-in_err-reversed-in-Reverse-clause-err
 returns-in_err-reversed-in-Reverse-clause-err g c = on_err c.from_residual-in_err-reversed-in-Reverse.result (at_rest c.args.job.now c.args.list.now.items (item_view c.args.item.now) c.args.work.now c.args.left.now)

@@ -1,12 +1,12 @@
 use Rattle.std.proofs.Common.{◌-◌, ◌∙◌, ap, arith}
 use Rattle.btx_bst.specs.language.Style.{Style}
 use Rattle.btx_bst.specs.refinement.Views.{items_view}
-use Rattle.btx_machine.specs.language.Reports.{log_counts}
 use Rattle.btx_machine.specs.refinement.Written.{received}
 use Rattle.btx_machine.proofs.ComesLemmas.{on_err, err_map}
 use Rattle.btx_machine.proofs.DoLemmas.{ok_both}
 use Rattle.btx_machine.proofs.RunLemmas.{new_stands, items_fail, closes, close_fails}
 use Rattle.btx_machine.proofs.run.do_all.Goals as goal
+use Rattle.btx_machine.specs.laws.Reports.{log_counts}
 
 pub returns-in_err-end-clause-err : goal.returns-in_err-end-clause-err
 returns-in_err-end-clause-err g c = on_err c.from_residual.result (items_fail c.args.job.now (log_counts c.args.work.now.outputs.log.warnings c.args.work.now.outputs.log.errors) c.args.work.now.outputs.breaker.limit c.requires.range c.args.work.now (received c.args.work.now.outputs) c.requires.store (new_stands c.args.work.now.outputs.breaker.limit c.requires.range c.args.work.now.outputs c.requires.fresh) c.do_items.new.work.outputs c.args.budget (items_view c.items.result.now) (c.items.ensures ∙ ap (λ (style : Style). style.items) c.style.ensures) c.in_err-end.ensures.err)

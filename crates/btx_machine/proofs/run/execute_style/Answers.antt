@@ -1,14 +1,14 @@
 use Rattle.std.proofs.Common.{rules, ap, ◌∙◌, IfOk, OnErr}
 use Rattle.btx_out.specs.refinement.Breakers.{Held}
-use Rattle.btx_machine.specs.refinement.Faults.{CountsOfOutputs}
+use Rattle.btx_machine.specs.refinement.Faults.{CountsOfTwo}
 use Rattle.btx_machine.specs.language.KeepingStep.{AtFault, Completes}
 use Rattle.btx_machine.specs.refinement.Outputs.{Journal}
 use Rattle.btx_machine.specs.language.Product.{style_product}
-use Rattle.btx_machine.specs.language.Reports.{log_counts}
 use Rattle.btx_machine.proofs.ComesLemmas.{on_err}
 use Rattle.btx_machine.proofs.EdgeLemmas.{ends_as, of_equals, pair_is}
 use Rattle.btx_machine.proofs.RunLemmas.{nothing_written}
 use Rattle.btx_machine.proofs.run.execute_style.Goals as goal
+use Rattle.btx_machine.specs.laws.Reports.{log_counts}
 
 pub returns-in_err-store-clause-err : goal.returns-in_err-store-clause-err
 returns-in_err-store-clause-err g c = on_err c.from_residual.result (nothing_written (g.W.Sink.received c.args.bbl.now, g.L.Sink.received c.args.log.now) (style_product c.args.job.now c.args.counts c.args.line) c.args.budget)
@@ -31,7 +31,7 @@ returns-clause-err g c =
 
 pub returns-clause-counts : goal.returns-clause-counts
 returns-clause-counts g c =
-    of_equals (λ list list' log log'. CountsOfOutputs c.do_all-result.result (list, list') (log, log')) _ _ _ _ _ _ _ _
+    of_equals (λ list list' log log'. CountsOfTwo c.do_all-result.result (list, list') (log, log')) _ _ _ _ _ _ _ _
     c.new-outputs.ensures.failures
     (ends_as g.W.Sink.failures _ c.into_sinks-list.result.0 _ c.do_all-result.new.work.outputs.bbl.failures (c.into_sinks-list.ensures.bbl_name ∙ c.do_all-result.ensures.counts.0.0 ∙ c.new-outputs.ensures.name) c.into_sinks-list.ensures.bbl_failures (search rules))
     (ap (λ (log : Journal). log.sink.failures) c.new-outputs.ensures.log ∙ c.new-2.ensures.failures)

@@ -9,7 +9,7 @@ use Rattle.btx_names.proofs.formatted.push_kept.Goals as goal
 pub returns-then-is_empty-clause-text : goal.returns-then-is_empty-clause-text
 returns-then-is_empty-clause-text c =
     let piece = c.in-Name.piece in
-    let part = c.part_of-part.result in
+    let part = c.part_of-part.result.now in
     let none = no_tokens part.bytes.now part.tokens.now c.is_empty.result c.is_empty.ensures c.if-is_empty.true in
     rw c.in-Name.is
     (piece_of_none c.args.writer.now.mode (kept_piece_view piece) (tokens_of_part piece.part (parts_view c.args.parts.now)) c.args.writer.now.text.items

@@ -1,7 +1,7 @@
 use Rattle.std.proofs.Common.{◌≡◌, map, take}
 use Rattle.btx_bib.specs.refinement.Sources.{source_databases}
-use Rattle.btx_run.specs.language.Contents.{database_of}
 use Rattle.btx_run.proofs.contents.sources.Given as goal
+use Rattle.btx_run.specs.refinement.Contents.{database_of}
 
 -- the files so far are sources
 abbrev pub invariant-loop-file : goal.invariant-loop-file

@@ -1,21 +1,21 @@
 use Rattle.std.proofs.Common.{refl}
 use Rattle.btx_machine.proofs.ComesLemmas.{err_map, ok_map}
-use Rattle.btx_run.specs.language.Product.{work_in}
 use Rattle.btx_run.proofs.ProductLemmas.{completes_early, counts_of_end, fails_early, never_deeper, touched_with_top_file}
 use Rattle.btx_run.proofs.runner.after_files.Goals as goal
+use Rattle.btx_run.specs.refinement.Product.{work_in}
 
 pub returns-in-Ends-clause-ok : goal.returns-in-Ends-clause-ok
 returns-in-Ends-clause-ok g c =
-    rw c.in-Ends.is (completes_early (g.W.Sink.received c.args.bbl.now) (g.L.Sink.received c.args.log.now) (g.L.Sink.received c.tell_end.new.log) c.report_of.result _
-    c.report_of.ensures c.tell_end.result c.tell_end.ensures.report c.tell_end.ensures.ok)
+    rw c.in-Ends.is (completes_early (g.W.Sink.received c.args.bbl.now) (g.L.Sink.received c.args.log.now) (g.L.Sink.received c.log_end.new.log) c.report_of.result _
+    c.report_of.ensures c.log_end.result c.log_end.ensures.report c.log_end.ensures.ok)
 
 pub returns-in-Ends-clause-err : goal.returns-in-Ends-clause-err
 returns-in-Ends-clause-err g c =
-    rw c.in-Ends.is (err_map (fails_early (g.W.Sink.received c.args.bbl.now) (g.L.Sink.received c.args.log.now) (g.L.Sink.received c.tell_end.new.log) c.report_of.result _ c.args.options.now.budget
-    c.report_of.ensures) c.tell_end.result c.tell_end.ensures.err)
+    rw c.in-Ends.is (err_map (fails_early (g.W.Sink.received c.args.bbl.now) (g.L.Sink.received c.args.log.now) (g.L.Sink.received c.log_end.new.log) c.report_of.result _ c.args.options.now.budget
+    c.report_of.ensures) c.log_end.result c.log_end.ensures.err)
 
 pub returns-in-Ends-clause-counts : goal.returns-in-Ends-clause-counts
-returns-in-Ends-clause-counts g c = counts_of_end c.tell_end.result _ _ c.tell_end.ensures.counts
+returns-in-Ends-clause-counts g c = counts_of_end c.log_end.result _ _ c.log_end.ensures.counts
 
 pub returns-in-Found-clause-deep : goal.returns-in-Found-clause-deep
 returns-in-Found-clause-deep g c =
@@ -25,7 +25,7 @@ pub returns-in-Found-clause-err : goal.returns-in-Found-clause-err
 returns-in-Found-clause-err g c = rw c.in-Found.is c.execute_found.ensures.err
 
 pub returns-in-Ends-clause-untouched : goal.returns-in-Ends-clause-untouched
-returns-in-Ends-clause-untouched g c = ok_map (λ report same is. refl) c.tell_end.result c.tell_end.ensures.report
+returns-in-Ends-clause-untouched g c = ok_map (λ report same is. refl) c.log_end.result c.log_end.ensures.report
 
 pub returns-in-Found-clause-untouched : goal.returns-in-Found-clause-untouched
 returns-in-Found-clause-untouched g c =

@@ -1,16 +1,16 @@
 use Rattle.btx_run.proofs.DirectLemmas.{report_stays}
-use Rattle.btx_run.proofs.ReadingLemmas.{of_told}
+use Rattle.btx_run.proofs.ReadingLemmas.{of_logged}
 use Rattle.btx_run.proofs.runner.run.Goals as goal
 
 pub returns-in-Ok-clause-report : goal.returns-in-Ok-clause-report
-returns-in-Ok-clause-report g c = of_told (g.F.Finder.content c.args.finder.now) _ _ c.in-Ok.ensures.ok (λ files completes. completes.report_is)
+returns-in-Ok-clause-report g c = of_logged (g.F.Finder.content c.args.finder.now) _ _ c.in-Ok.ensures.ok (λ files completes. completes.report_is)
 
 pub returns-in-Ok-clause-bbl : goal.returns-in-Ok-clause-bbl
-returns-in-Ok-clause-bbl g c = of_told (g.F.Finder.content c.args.finder.now) _ _ c.in-Ok.ensures.ok (λ files completes. completes.bbl_whole)
+returns-in-Ok-clause-bbl g c = of_logged (g.F.Finder.content c.args.finder.now) _ _ c.in-Ok.ensures.ok (λ files completes. completes.bbl_whole)
 
 pub returns-in-Ok-clause-log : goal.returns-in-Ok-clause-log
-returns-in-Ok-clause-log g c = of_told (g.F.Finder.content c.args.finder.now) _ _ c.in-Ok.ensures.ok (λ files completes. completes.log_whole)
+returns-in-Ok-clause-log g c = of_logged (g.F.Finder.content c.args.finder.now) _ _ c.in-Ok.ensures.ok (λ files completes. completes.log_whole)
 
 pub returns-in-Ok-clause-direct : goal.returns-in-Ok-clause-direct
 returns-in-Ok-clause-direct g c =
-    of_told (g.F.Finder.content c.args.finder.now) _ _ c.in-Ok.ensures.ok (λ files completes. report_stays files c.args.name.now c.args.options.now _ completes.report_is)
+    of_logged (g.F.Finder.content c.args.finder.now) _ _ c.in-Ok.ensures.ok (λ files completes. report_stays files c.args.name.now c.args.options.now _ completes.report_is)

@@ -4,11 +4,12 @@ use Rattle.btx_machine.specs.language.KeepingStep.{AtFault, Completes}
 use Rattle.btx_machine.proofs.ComesLemmas.{err_map, ok_map, on_err}
 use Rattle.btx_machine.proofs.EdgeLemmas.{ends_as}
 use Rattle.btx_run.specs.language.Files.Counts.{counts_of}
-use Rattle.btx_run.specs.language.Product.{product_of_files, product_of_reading}
+use Rattle.btx_run.specs.language.Product.{product_of_files}
 use Rattle.btx_run.specs.refinement.Files.Counts.{counts_at}
 use Rattle.btx_run.specs.refinement.Files.Readings.{files_read}
 use Rattle.btx_run.proofs.ProductLemmas.{behind_ends, completes_reading, counts_are, counts_of_none, fails_in_lines, fails_reading}
 use Rattle.btx_run.proofs.runner.run_job.Goals as goal
+use Rattle.btx_run.specs.refinement.Product.{product_of_reading}
 
 pub returns-in_err-read-clause-err : goal.returns-in_err-read-clause-err
 returns-in_err-read-clause-err g c =

@@ -2,6 +2,7 @@
 -- then the databases that they name (btxdoc, section 2), each in turn. A database is judged when the style reads it, not here.
 use Rattle.std.specs.Prelude.{ℕ, ◌+◌, List, [], ◌∷◌, ◌++◌, length, Option, None, Some, if◌then◌else◌, option_to_list, codes}
 use Rattle.std.specs.List.{flat_map}
+use Rattle.std.specs.Option.{option_map_or}
 use Rattle.btx_aux.specs.language.Files.{Files}
 use Rattle.btx_aux.specs.language.Job.{AuxJob, job_of_files}
 use Rattle.btx_aux.specs.declared.end.End.{End as AuxEnd}
@@ -9,7 +10,7 @@ use Rattle.btx_aux.specs.declared.end.End.TheVariants as aux
 use Rattle.btx_text.specs.language.LogLines.{Line}
 use Rattle.btx_run.specs.declared.files.found.FilesRead.{FilesRead}
 use Rattle.btx_run.specs.declared.files.found.FilesRead.TheVariants.{Ends, Found}
-use Rattle.btx_machine.specs.declared.ending.Limit.TheVariants as kind
+use Rattle.btx_text.specs.declared.limits.Limit.TheVariants as kind
 use Rattle.btx_machine.specs.declared.report.End.TheVariants as ended
 use Rattle.btx_run.specs.language.Files.Lines.{database_line, no_style_line, style_line, no_database_line}
 use Rattle.btx_run.specs.language.Files.Found.{NamedFile, file_at}
@@ -35,32 +36,23 @@ behind lines part = logged (lines ++ part.lines) part.gives
 abbrev pub files_found : Files → List (List ℕ) → List NamedFile
 files_found files names = flat_map (λ name. option_to_list (file_at files name)) names
 
--- the log line of a database, which has this number if it is found
-abbrev pub database_logged : ℕ → List ℕ → Option NamedFile → Line
-database_logged number name None = no_database_line name
-database_logged number name (Some file) = database_line number name
-
 -- the log lines of the databases, which are numbered as they are found
 abbrev pub databases_logged : Files → List (List ℕ) → List (List ℕ) → List Line
 databases_logged files earlier [] = []
 databases_logged files earlier (name ∷ names) =
-    database_logged (length (files_found files earlier) + 1) name (file_at files name) ∷ databases_logged files (earlier ++ name ∷ []) names
-
--- the databases of these names: those that are there
-abbrev pub databases_read : Files → List (List ℕ) → Logged (List NamedFile)
-databases_read files names = logged (databases_logged files [] names) (files_found files names)
+    option_map_or (λ (file : NamedFile). database_line (length (files_found files earlier) + 1) name) (file_at files name) (no_database_line name)
+    ∷ databases_logged files (earlier ++ name ∷ []) names
 
 -- ---- the style
 
--- the reading after the style was found: a style that is too long ends the run, and no database is looked for
-abbrev pub style_found : NamedFile → Logged (List NamedFile) → Logged FilesRead
-style_found style databases = if is_too_long style.bytes then logged [] (Ends (ended.Limit kind.File)) else logged databases.lines (Found (record { style = style; databases = databases.gives }))
-
--- the style of this name, once it is looked for, and then the databases. If there is no such file that is an error, and the run ends as `finished`,
--- with the status 2
+-- the style of this name, once it is looked for, and then the databases: those that are there. If there is no such style that is an error, and the run
+-- ends as `finished`, with the status 2; a style that is too long ends the run too, and no database is looked for
 unfoldable pub style_read : Files → AuxJob → List ℕ → Option NamedFile → Logged FilesRead
 style_read files job name None = logged (no_style_line name ∷ []) (Ends ended.Finished)
-style_read files job name (Some style) = behind (style_line name ∷ []) (style_found style (databases_read files job.databases))
+style_read files job name (Some style) =
+    behind (style_line name ∷ [])
+    (if is_too_long style.bytes then logged [] (Ends (ended.Limit kind.File))
+    else logged (databases_logged files [] job.databases) (Found (record { style = style; databases = files_found files job.databases })))
 
 -- the style that the `.aux` files name, and then the databases. If they name none, which is an error of the `.aux` files, the run ends as `finished`
 unfoldable pub style_named : Files → AuxJob → Option (List ℕ) → Logged FilesRead
@@ -69,7 +61,7 @@ style_named files job (Some name) = style_read files job name (file_at files nam
 
 -- ---- the job
 
--- what follows the `.aux` files of a job, by how their reading ended: its style and its databases, only if all of them was read
+-- what follows the `.aux` files of a job, by how their reading ended: its style and its databases, only if these files were read to their end
 unfoldable pub after_job : Files → AuxJob → AuxEnd → Logged FilesRead
 after_job files job aux.Whole = style_named files job job.style
 after_job files job aux.TooManyOpen = logged [] (Ends (ended.Limit kind.Files))

@@ -1,21 +1,14 @@
 -- What a fault says of the finder and the outputs.
 use Rattle.std.specs.Prelude.{◌≡◌, Result, Ok, Err}
 use Rattle.btx_text.specs.language.Counts.{Change, Stays, OneOfThreeRises}
-use Rattle.btx_text.specs.refinement.Counts.{OneOfTwoRises}
 use Rattle.btx_text.specs.declared.fault.Fault.{Fault}
 use Rattle.btx_text.specs.declared.fault.Fault.TheVariants.{Memory, Device, FileLimit, StringLimit}
-use Rattle.btx_machine.specs.refinement.Faults.{CountsOfLog}
+use Rattle.btx_aux.specs.refinement.Faults.{CountsOfOne}
+use Rattle.btx_machine.specs.refinement.Faults.{CountsOfTwo}
 use Rattle.btx_machine.specs.refinement.Outputs.{Journal}
 
--- the answer is a value, want of memory or the device's fault, and exactly at the device's fault one of the two counts rose, by one
-abbrev pub CountsOfTwo : {T : Type 0} → Result T Fault → Change → Change → Type 0
-CountsOfTwo (Ok value) a b = Stays a × Stays b
-CountsOfTwo (Err Memory) a b = Stays a × Stays b
-CountsOfTwo (Err Device) a b = OneOfTwoRises a b
-CountsOfTwo (Err FileLimit) a b = ⊥
-CountsOfTwo (Err StringLimit) a b = ⊥
-
--- the same of a call over the finder and both outputs
+-- a call over the finder and both outputs: its answer is a value, want of memory or the device's fault, and exactly at the device's fault one of the three
+-- counts rose, by one
 abbrev pub CountsOfThree : {T : Type 0} → Result T Fault → Change → Change → Change → Type 0
 CountsOfThree (Ok value) a b c = Stays a × Stays b × Stays c
 CountsOfThree (Err Memory) a b c = Stays a × Stays b × Stays c
@@ -24,8 +17,8 @@ CountsOfThree (Err FileLimit) a b c = ⊥
 CountsOfThree (Err StringLimit) a b c = ⊥
 
 -- a call that writes to the log: it goes where it went, and what the answer says of its count is so
-abbrev pub CountsOfTelling : {T : Type 0} → Result T Fault → Journal → Journal → Type 0
-CountsOfTelling result old new = (new.sink.name ≡ old.sink.name) × CountsOfLog result (old.sink.failures, new.sink.failures)
+abbrev pub CountsOfLogging : {T : Type 0} → Result T Fault → Journal → Journal → Type 0
+CountsOfLogging result old new = (new.sink.name ≡ old.sink.name) × CountsOfOne result (old.sink.failures, new.sink.failures)
 
 -- the same of a call that asks the finder too
 abbrev pub CountsOfReading : {T : Type 0} → Result T Fault → Change → Journal → Journal → Type 0

@@ -12,8 +12,8 @@ returns-then-level-eq0-clause-draft c =
     let name = c.args.name.now in
     let files = c.in_ok-add.ensures ∙ ap (with_name_once draft.files) c.in_ok-copy.ensures.items in
     let opened = λ (files : List (List ℕ)). record draft { files = files; log = draft.log ++ aux_note_line (TopFile name) ∷ [] } in
-    on_ok_weaker c.tell.result (λ e. e ∙ ap opened files ∙ sym (learned-Opens_top draft name c.args.level c.if-level-eq0.true)) c.tell.ensures
+    on_ok_weaker c.log_note.result (λ e. e ∙ ap opened files ∙ sym (learned-Opens_top draft name c.args.level c.if-level-eq0.true)) c.log_note.ensures
 
 pub returns-clause-draft : goal.returns-clause-draft
 returns-clause-draft c =
-    on_ok_weaker c.tell-2.result (λ e. e ∙ sym (learned-Opens_level c.args.self.now c.args.name.now c.args.level c.if-level-eq0.false)) c.tell-2.ensures
+    on_ok_weaker c.log_note-2.result (λ e. e ∙ sym (learned-Opens_level c.args.self.now c.args.name.now c.args.level c.if-level-eq0.false)) c.log_note-2.ensures

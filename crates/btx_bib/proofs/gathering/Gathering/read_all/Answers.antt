@@ -2,7 +2,7 @@ use Rattle.std.proofs.Common.{◌≡◌, ◌∙◌, ◌++◌, ap, sym, drop, [],
 use Rattle.std.proofs.lemmas.List.{drop_all}
 use Rattle.btx_bib.specs.declared.databases.Source.{Source}
 use Rattle.btx_bib.specs.refinement.Sources.{source_databases}
-use Rattle.btx_bib.specs.refinement.Readings.{kept_by_all, told_by_all}
+use Rattle.btx_bib.specs.refinement.Readings.{kept_by_all, messages_of_all}
 use Rattle.btx_bib.specs.refinement.Requests.{wanted}
 use Rattle.btx_bib.proofs.AlongLemmas.{all-next, all-told-next}
 use Rattle.btx_bib.proofs.gathering.Gathering.read_all.Goals as goal
@@ -28,5 +28,5 @@ returns-clause-told c =
     let asked = wanted c.args.request.now in
     let none : drop c.loop-source.source-index c.args.sources.now ≡ [] = drop_all c.loop-source.source-index c.args.sources.now c.loop-source-test.false in
     sym (append-nil c.loop-source.messages)
-    ∙ ap (λ (ss : List Source). c.loop-source.messages ++ told_by_all asked c.loop-source.self (source_databases ss)) (sym none)
+    ∙ ap (λ (ss : List Source). c.loop-source.messages ++ messages_of_all asked c.loop-source.self (source_databases ss)) (sym none)
     ∙ c.loop-source.invariant.told

@@ -1,5 +1,5 @@
 use Rattle.std.proofs.Common.{◌≡◌, ◌++◌, true, length}
-use Rattle.btx_bib.specs.refinement.Gatherings.{events_with, kept_along, kept_told}
+use Rattle.btx_bib.specs.refinement.Gatherings.{events_with, kept_along, kept_messages}
 use Rattle.btx_bib.specs.language.Known.{goes_on}
 use Rattle.btx_bib.specs.refinement.Requests.{wanted}
 use Rattle.btx_bib.specs.refinement.Sites.{site_database}
@@ -15,7 +15,7 @@ invariant-loop-placed l =
     record {
       whole : goes_on l.self.ending ≡ true;
       state : kept_along asked l.self others ≡ kept_along asked l.initial.self first;
-      told : l.messages ++ kept_told asked (site_database l.initial.site) l.self others ≡ l.initial.messages ++ kept_told asked (site_database l.initial.site) l.initial.self first;
+      told : l.messages ++ kept_messages asked (site_database l.initial.site) l.self others ≡ l.initial.messages ++ kept_messages asked (site_database l.initial.site) l.initial.self first;
       same : l.site ≡ l.initial.site;
     }
 

@@ -1,7 +1,7 @@
 use Rattle.std.proofs.Common.{◌∙◌, ◌++◌, List, ℕ, length, ap, sym, arith}
 use Rattle.btx_bib.specs.declared.grammar.commands.Wanted.{Wanted as Next}
 use Rattle.btx_bib.specs.declared.message.Message.{Message}
-use Rattle.btx_bib.specs.refinement.Gatherings.{all_kept, all_told, is_kept}
+use Rattle.btx_bib.specs.refinement.Gatherings.{all_kept, all_messages, is_kept}
 use Rattle.btx_bib.specs.refinement.Grammar.PlainFields.{plain_step}
 use Rattle.btx_bib.specs.language.Known.{goes_on}
 use Rattle.btx_bib.specs.refinement.Requests.{wanted}
@@ -26,8 +26,8 @@ loop-field-preserved c =
       whole = ap goes_on c.in_ok-taken.ensures.same ∙ inv.whole;
       state = ap (all_kept asked after) c.pass.ensures ∙ turn-along asked kept place.0 place.1 (plain_step place.0 field) after inv.whole next taken ∙ inv.state;
       told = λ database.
-          ap (all_told asked database after) c.pass.ensures
-          ∙ ap (λ (ms : List Message). ms ++ all_told asked database after (place.0, field.value.rest.now)) (sym (silent database field.value.rest.now))
+          ap (all_messages asked database after) c.pass.ensures
+          ∙ ap (λ (ms : List Message). ms ++ all_messages asked database after (place.0, field.value.rest.now)) (sym (silent database field.value.rest.now))
           ∙ turn-told asked kept place.0 place.1 (plain_step place.0 field) after inv.whole next taken database
           ∙ inv.told database;
       next = ap (λ (r : Next × List ℕ). r.0) c.pass.ensures ∙ inv.next;

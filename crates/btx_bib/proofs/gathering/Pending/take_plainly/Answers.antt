@@ -1,6 +1,6 @@
 use Rattle.std.proofs.Common.{◌∙◌, refl, sym}
 use Rattle.btx_bib.specs.refinement.Grammar.PlainFields.{part_in_view, plain_field_view}
-use Rattle.btx_bib.proofs.ToldLemmas.{silent-none, silent-some}
+use Rattle.btx_bib.proofs.MessageLemmas.{silent-none, silent-some}
 use Rattle.btx_bib.proofs.gathering.Pending.take_plainly.Goals as goal
 
 pub returns-in_default-clause-told : goal.returns-in_default-clause-told

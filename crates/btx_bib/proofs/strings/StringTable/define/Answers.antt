@@ -1,8 +1,7 @@
 use Rattle.std.proofs.Common.{◌∙◌, sym, subst, ap, ℕ, List}
 use Rattle.std.specs.Str.{bytes_eq}
 use Rattle.indexmap.specs.IndexMap.{insert_entry}
-use Rattle.btx_bib.specs.language.Strings.{Strings}
-use Rattle.btx_bib.specs.refinement.Strings.{AreSqueezed, pairs_of}
+use Rattle.btx_bib.specs.refinement.Strings.{AreSqueezed, pairs_of, Strings}
 use Rattle.btx_bib.proofs.StringLemmas.{insert-squeezed, pairs-insert}
 use Rattle.btx_bib.proofs.strings.StringTable.define.Goals as goal
 

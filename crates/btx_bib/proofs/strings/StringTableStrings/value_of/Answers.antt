@@ -1,8 +1,7 @@
 use Rattle.std.proofs.Common.{◌∙◌, ap, ℕ, List}
 use Rattle.std.specs.Str.{bytes_eq}
 use Rattle.std.specs.Map.{lookup}
-use Rattle.btx_bib.specs.language.Strings.{Strings}
-use Rattle.btx_bib.specs.refinement.Strings.{pairs_of}
+use Rattle.btx_bib.specs.refinement.Strings.{pairs_of, Strings}
 use Rattle.btx_bib.proofs.StringLemmas.{found-squeezed, lookup-pairs, lookup-squeezed}
 use Rattle.btx_bib.proofs.strings.StringTableStrings.value_of.Goals as goal
 

@@ -1,11 +1,11 @@
 use Rattle.std.proofs.Common.{◌∙◌, ap, ◌∷◌, ◌++◌, [], ℕ, List}
 use Rattle.std.proofs.lemmas.List.{map-append}
 use Rattle.indexmap.proofs.CallerLemmas.{insert_entry-new}
-use Rattle.btx_bst.specs.language.Names.{Macros}
 use Rattle.btx_bst.specs.refinement.NameTables.{macros_view}
 use Rattle.btx_bst.proofs.TableLemmas.{lookup-macros, unmapped, same_name}
 use Rattle.btx_bst.proofs.macros.Macros.add.Goals as goal
 use Rattle.btx_bst.specs.laws.Names.{macro_lower}
+use Rattle.btx_bst.specs.refinement.Names.{Macros}
 
 pub returns : goal.returns
 returns c =

@@ -1,8 +1,8 @@
 use Rattle.std.proofs.Common.{◌∙◌, ap, option_copied}
-use Rattle.btx_bst.specs.language.Names.{Macros}
 use Rattle.btx_bst.proofs.TableLemmas.{lookup-macros}
 use Rattle.btx_bst.proofs.macros.Macros.text.Goals as goal
 use Rattle.btx_bst.specs.laws.Names.{macro_lower}
+use Rattle.btx_bst.specs.refinement.Names.{Macros}
 
 pub returns : goal.returns
 returns c =

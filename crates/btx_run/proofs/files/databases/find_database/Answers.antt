@@ -2,7 +2,7 @@ use Rattle.std.proofs.Common.{rules, ◌∷◌, []}
 use Rattle.btx_aux.proofs.AnswerLemmas.{by_map, by_none}
 use Rattle.btx_run.proofs.AskedLemmas.{among-none, among-one}
 use Rattle.btx_run.proofs.ReadingLemmas.{database_is_begun, database_is_read, reads_nothing}
-use Rattle.btx_run.proofs.TellingLemmas.{line_begun, tells_line}
+use Rattle.btx_run.proofs.LoggingLemmas.{line_begun, logs_line}
 use Rattle.btx_run.proofs.files.databases.find_database.Goals as goal
 
 pub returns-in_err-found-clause-reads : goal.returns-in_err-found-clause-reads
@@ -13,13 +13,13 @@ pub returns-in_err-line-clause-reads : goal.returns-in_err-line-clause-reads
 returns-in_err-line-clause-reads g c =
     by_none (among-none (c.args.name.now ∷ [])) (λ files. reads_nothing c.from_residual-in_err-line.result _ _ _ _ (search rules))
 
-pub returns-in_err-tell-clause-reads : goal.returns-in_err-tell-clause-reads
-returns-in_err-tell-clause-reads g c =
+pub returns-in_err-log_one-clause-reads : goal.returns-in_err-log_one-clause-reads
+returns-in_err-log_one-clause-reads g c =
     by_map c.in_ok-found.ensures.answered (among-one c.args.name.now)
-    (λ files is. database_is_begun files c.args.number c.args.name.now c.in_ok-found.found c.in_ok-line.line c.from_residual-in_err-tell.result _ _ _ _ (search rules) is c.in_ok-line.ensures (line_begun c.in_ok-line.line _ _ c.in_err-tell.ensures.err))
+    (λ files is. database_is_begun files c.args.number c.args.name.now c.in_ok-found.found c.in_ok-line.line c.from_residual-in_err-log_one.result _ _ _ _ (search rules) is c.in_ok-line.ensures (line_begun c.in_ok-line.line _ _ c.in_err-log_one.ensures.err))
 
 pub returns-clause-reads : goal.returns-clause-reads
 returns-clause-reads g c =
     by_map c.in_ok-found.ensures.answered (among-one c.args.name.now)
     (λ files is. database_is_read files c.args.number c.args.name.now c.in_ok-found.found c.in_ok-line.line _ _ _ _ is c.in_ok-line.ensures
-    (tells_line c.in_ok-line.line c.args.journal.now c.tell.new.self c.in_ok-tell.ensures.ok c.tell.ensures.warnings c.tell.ensures.errors))
+    (logs_line c.in_ok-line.line c.args.journal.now c.log_one.new.self c.in_ok-log_one.ensures.ok c.log_one.ensures.warnings c.log_one.ensures.errors))

@@ -5,8 +5,7 @@ use Rattle.btx_aux.specs.refinement.Entries.{Bytes, texts_of}
 use Rattle.btx_aux.proofs.AnswerLemmas.{by_both, by_none}
 use Rattle.btx_run.specs.refinement.Files.Counts.{counts_at}
 use Rattle.btx_run.specs.refinement.Files.Asked.{AreAmong}
-use Rattle.btx_run.specs.language.Files.Readings.{databases_read}
-use Rattle.btx_run.specs.refinement.Files.Readings.{IsRead}
+use Rattle.btx_run.specs.refinement.Files.Readings.{IsRead, databases_read}
 use Rattle.btx_run.proofs.AskedLemmas.{among-all, among-more, among-none}
 use Rattle.btx_run.proofs.ReadingLemmas.{databases_begin, databases_more, no_database, reads_failing}
 use Rattle.btx_run.proofs.files.databases.find_databases.Goals as goal

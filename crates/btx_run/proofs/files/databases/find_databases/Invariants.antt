@@ -3,8 +3,7 @@ use Rattle.btx_aux.specs.refinement.Answers.{ByAnswers}
 use Rattle.btx_aux.specs.refinement.Entries.{texts_of}
 use Rattle.btx_run.specs.refinement.Files.Counts.{counts_at}
 use Rattle.btx_run.specs.refinement.Files.Asked.{AreAmong}
-use Rattle.btx_run.specs.language.Files.Readings.{databases_read}
-use Rattle.btx_run.specs.refinement.Files.Readings.{IsRead}
+use Rattle.btx_run.specs.refinement.Files.Readings.{IsRead, databases_read}
 use Rattle.btx_run.proofs.files.databases.find_databases.Given as goal
 
 -- the databases of the names so far were looked for, the log goes where it went, and no fetch and no write has failed

@@ -9,8 +9,8 @@ returns-in_err-style-clause-reads g c = by_none (among-none (c.args.name.now ∷
 
 pub returns-in-Some-clause-reads : goal.returns-in-Some-clause-reads
 returns-in-Some-clause-reads g c =
-    by_both c.in_ok-style.ensures.stays c.in_ok-style.ensures.answered c.tell_style.ensures.reads (among-first c.args.name.now c.args.job.now.databases)
-    (λ files is read. style_is_found c.tell_style.result files c.args.job.now c.args.name.now c.in_ok-style.field-0 c.in-Some.style _ _ c.in-Some.is is read)
+    by_both c.in_ok-style.ensures.stays c.in_ok-style.ensures.answered c.log_style.ensures.reads (among-first c.args.name.now c.args.job.now.databases)
+    (λ files is read. style_is_found c.log_style.result files c.args.job.now c.args.name.now c.in_ok-style.field-0 c.in-Some.style _ _ c.in-Some.is is read)
 
 pub returns-in-None-clause-reads : goal.returns-in-None-clause-reads
 returns-in-None-clause-reads g c =

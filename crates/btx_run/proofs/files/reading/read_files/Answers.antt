@@ -3,27 +3,28 @@ use Rattle.btx_aux.proofs.AnswerLemmas.{by_map, by_none, shown_by}
 use Rattle.btx_out.specs.language.Pieces.{AppendsBeginning}
 use Rattle.btx_run.specs.refinement.Files.Counts.{counts_at}
 use Rattle.btx_run.specs.refinement.Files.Asked.{names_in}
-use Rattle.btx_run.specs.language.Files.Telling.{bytes_of_lines}
-use Rattle.btx_run.specs.refinement.Files.Telling.{Tells}
+use Rattle.btx_run.specs.language.Files.Logging.{bytes_of_lines}
+use Rattle.btx_run.specs.refinement.Files.Logging.{Logs}
+use Rattle.btx_run.specs.refinement.Files.Logging.{bytes_of_lines}
 use Rattle.btx_run.proofs.AskedLemmas.{among-none}
 use Rattle.btx_run.proofs.ReadingLemmas.{reads_behind, reads_part}
 use Rattle.btx_run.proofs.files.reading.read_files.Goals as goal
 
-pub returns-in_err-tell_all-clause-answered : goal.returns-in_err-tell_all-clause-answered
-returns-in_err-tell_all-clause-answered g c =
-    let part : AppendsBeginning c.args.journal.now.sink.received c.tell_all.new.journal.sink.received (bytes_of_lines c.args.job.now.log) =
-    subst (λ lines. AppendsBeginning c.args.journal.now.sink.received c.tell_all.new.journal.sink.received (bytes_of_lines lines)) c.log.ensures c.in_err-tell_all.ensures.err in
+pub returns-in_err-log_all-clause-answered : goal.returns-in_err-log_all-clause-answered
+returns-in_err-log_all-clause-answered g c =
+    let part : AppendsBeginning c.args.journal.now.sink.received c.log_all.new.journal.sink.received (bytes_of_lines c.args.job.now.log) =
+    subst (λ lines. AppendsBeginning c.args.journal.now.sink.received c.log_all.new.journal.sink.received (bytes_of_lines lines)) c.log.ensures c.in_err-log_all.ensures.err in
     by_none (among-none (names_in c.args.job.now)) (λ files. reads_part c.from_residual.result _ _ _ _ c.args.job.now.log _ (search rules) part)
 
-pub returns-in_err-tell_all-clause-reads : goal.returns-in_err-tell_all-clause-reads
-returns-in_err-tell_all-clause-reads g c = shown_by (returns-in_err-tell_all-clause-answered g c)
+pub returns-in_err-log_all-clause-reads : goal.returns-in_err-log_all-clause-reads
+returns-in_err-log_all-clause-reads g c = shown_by (returns-in_err-log_all-clause-answered g c)
 
 pub returns-clause-answered : goal.returns-clause-answered
 returns-clause-answered g c =
-    let told : Tells (counts_at c.args.journal.now, counts_at c.tell_all.new.journal) (c.args.journal.now.sink.received, c.tell_all.new.journal.sink.received) c.args.job.now.log =
-    subst (λ lines. Tells (counts_at c.args.journal.now, counts_at c.tell_all.new.journal) (c.args.journal.now.sink.received, c.tell_all.new.journal.sink.received) lines) c.log.ensures c.in_ok-tell_all.ensures.ok in
+    let told : Logs (counts_at c.args.journal.now, counts_at c.log_all.new.journal) (c.args.journal.now.sink.received, c.log_all.new.journal.sink.received) c.args.job.now.log =
+    subst (λ lines. Logs (counts_at c.args.journal.now, counts_at c.log_all.new.journal) (c.args.journal.now.sink.received, c.log_all.new.journal.sink.received) lines) c.log.ensures c.in_ok-log_all.ensures.ok in
     by_map c.after_job.ensures.reads (λ names among. among)
-    (λ files read. reads_behind c.after_job.result (counts_at c.args.journal.now) (counts_at c.tell_all.new.journal) (counts_at c.after_job.new.journal) c.args.journal.now.sink.received c.tell_all.new.journal.sink.received c.after_job.new.journal.sink.received
+    (λ files read. reads_behind c.after_job.result (counts_at c.args.journal.now) (counts_at c.log_all.new.journal) (counts_at c.after_job.new.journal) c.args.journal.now.sink.received c.log_all.new.journal.sink.received c.after_job.new.journal.sink.received
     c.args.job.now.log _ told read)
 
 pub returns-clause-reads : goal.returns-clause-reads

@@ -1,18 +1,19 @@
 use Rattle.std.proofs.Common.{rules, ◌∷◌, [], subst}
 use Rattle.btx_out.specs.language.Pieces.{AppendsBeginning}
 use Rattle.btx_run.specs.language.Files.Lines.{no_style_line}
-use Rattle.btx_run.specs.language.Files.Telling.{bytes_of_lines}
+use Rattle.btx_run.specs.language.Files.Logging.{bytes_of_lines}
 use Rattle.btx_run.proofs.ReadingLemmas.{reads_is, reads_part, style_is_missed, style_missed}
-use Rattle.btx_run.proofs.TellingLemmas.{line_begun, tells_line}
+use Rattle.btx_run.proofs.LoggingLemmas.{line_begun, logs_line}
 use Rattle.btx_run.proofs.files.reading.without_style.Goals as goal
+use Rattle.btx_run.specs.refinement.Files.Logging.{bytes_of_lines}
 
-pub returns-in_err-tell-clause-reads : goal.returns-in_err-tell-clause-reads
-returns-in_err-tell-clause-reads g c = λ files job.
-    let part : AppendsBeginning c.args.journal.now.sink.received c.tell.new.self.sink.received (bytes_of_lines (no_style_line c.args.name.now ∷ [])) =
-    subst (λ line. AppendsBeginning c.args.journal.now.sink.received c.tell.new.self.sink.received (bytes_of_lines (line ∷ []))) c.in_ok-line.ensures (line_begun c.in_ok-line.line _ _ c.in_err-tell.ensures.err) in
-    reads_is c.from_residual-in_err-tell.result _ _ _ _ (style_is_missed files job c.args.name.now)
-    (reads_part c.from_residual-in_err-tell.result _ _ _ _ (no_style_line c.args.name.now ∷ []) _ (search rules) part)
+pub returns-in_err-log_one-clause-reads : goal.returns-in_err-log_one-clause-reads
+returns-in_err-log_one-clause-reads g c = λ files job.
+    let part : AppendsBeginning c.args.journal.now.sink.received c.log_one.new.self.sink.received (bytes_of_lines (no_style_line c.args.name.now ∷ [])) =
+    subst (λ line. AppendsBeginning c.args.journal.now.sink.received c.log_one.new.self.sink.received (bytes_of_lines (line ∷ []))) c.in_ok-line.ensures (line_begun c.in_ok-line.line _ _ c.in_err-log_one.ensures.err) in
+    reads_is c.from_residual-in_err-log_one.result _ _ _ _ (style_is_missed files job c.args.name.now)
+    (reads_part c.from_residual-in_err-log_one.result _ _ _ _ (no_style_line c.args.name.now ∷ []) _ (search rules) part)
 
 pub returns-clause-reads : goal.returns-clause-reads
 returns-clause-reads g c = λ files job. style_missed files job c.args.name.now c.in_ok-line.line _ _ _ _ c.in_ok-line.ensures
-    (tells_line c.in_ok-line.line c.args.journal.now c.tell.new.self c.in_ok-tell.ensures.ok c.tell.ensures.warnings c.tell.ensures.errors)
+    (logs_line c.in_ok-line.line c.args.journal.now c.log_one.new.self c.in_ok-log_one.ensures.ok c.log_one.ensures.warnings c.log_one.ensures.errors)

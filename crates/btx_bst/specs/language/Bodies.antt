@@ -1,7 +1,0 @@
--- A function's body is its tokens.
-use Rattle.std.specs.Prelude.{List}
-use Rattle.btx_bst.specs.declared.token.Token.{Token}
-
--- the body of a function: its tokens, in the order in which they are executed
-abbrev pub FunctionBody : Type 0
-FunctionBody = List Token

@@ -1,0 +1,15 @@
+use Rattle.std.proofs.Common.{◌≡◌, drop, map}
+use Rattle.btx_bib.specs.language.MessageTexts.{message_line}
+use Rattle.btx_machine.specs.refinement.Outputs.{SameSinks}
+use Rattle.btx_machine.proofs.SayLemmas.{Logs}
+use Rattle.btx_machine.proofs.outputs.Outputs.log_messages.Given as goal
+
+-- the lines of the messages that are left are still to be written
+abbrev pub invariant-loop-message : goal.invariant-loop-message
+invariant-loop-message g l = record {
+  breaker : l.self.breaker ≡ l.fn.self.breaker;
+  sinks : SameSinks l.fn.self l.self;
+  bbl_counts : l.self.bbl.failures ≡ l.fn.self.bbl.failures;
+  log_counts : l.self.log.sink.failures ≡ l.fn.self.log.sink.failures;
+  same : Logs l.fn.self l.self (map message_line (drop l.message-index l.messages)) (map message_line l.messages);
+}
