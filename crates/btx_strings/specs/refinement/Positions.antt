@@ -1,6 +1,6 @@
 -- Names of parts of the definitions of positions.
 use Rattle.std.specs.Prelude.{ℕ, ◌==◌, not, List, find, reverse, Option}
-use Rattle.std.specs.Str.{byte}
+use Rattle.btx_text.specs.laws.Bytes.{close_brace}
 
 -- `.`
 abbrev pub period : ℕ
@@ -8,4 +8,4 @@ period = 46
 
 -- the last byte of a string that is no `}`, if there is one
 abbrev pub last_mark : List ℕ → Option ℕ
-last_mark string = let brace = byte "}" in find (λ b. not (b == brace)) (reverse string)
+last_mark string = find (λ b. not (b == close_brace)) (reverse string)
