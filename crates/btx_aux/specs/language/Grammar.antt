@@ -78,7 +78,8 @@ words_of_command (Some Input) argument = Includes (first_piece (pieces_of false 
 -- what a line of an `.aux` file says, in order: nothing, unless the text before its first `{` is one of the four commands
 unfoldable pub words_of : List ℕ → List EventKind
 words_of line =
-    option_map_or (λ (brace : ℕ). words_of_command (aux_command_named (take brace line)) (drop (brace + 1) line)) (position (λ b. b == 123) line) []
+    let brace = byte "{" in
+    option_map_or (λ (place : ℕ). words_of_command (aux_command_named (take place line)) (drop (place + 1) line)) (position (λ b. b == brace) line) []
 
 -- how the reading ends at a word, if that ends it: 20 files are open, a file is too long, or there is no top file; after any other word the reading
 -- goes on, which is `Whole`

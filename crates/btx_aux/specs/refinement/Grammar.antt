@@ -5,7 +5,7 @@ use Rattle.btx_aux.specs.language.Grammar.{Piece, pieces_of, first_piece, aux_co
 
 -- what a line says, given the place of its first `{`; a line without `{` says nothing
 abbrev pub words_at : Option ℕ → List ℕ → List EventKind
-words_at place line = option_map_or (λ (brace : ℕ). words_of_command (aux_command_named (take brace line)) (drop (brace + 1) line)) place []
+words_at brace line = option_map_or (λ (place : ℕ). words_of_command (aux_command_named (take place line)) (drop (place + 1) line)) brace []
 
 -- the one piece of an argument that is no list
 abbrev pub piece_of : List ℕ → Piece
