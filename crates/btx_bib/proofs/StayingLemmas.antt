@@ -16,7 +16,7 @@ use Rattle.btx_bib.specs.language.Entries.{Given, body_of}
 use Rattle.btx_bib.specs.language.Stored.{entry_with_key, parents_in}
 use Rattle.btx_bib.specs.language.Requests.{asked}
 use Rattle.btx_bib.specs.language.Listing.{list_keys, slot_of, slots_of}
-use Rattle.btx_bib.specs.language.Passes.{passed, inherited, inherited_from, checked, without_crossref, is_parent, slot_at, parent_at, after_first, after_second, entries_of, entry_at}
+use Rattle.btx_bib.specs.language.Passes.{passed, inherited, inherited_from, checked, without_crossref, is_parent, slot_at, parent_at, after_first, after_second, entries_of, entry_at, inherited_values, without_parent, body_values}
 use Rattle.btx_bib.specs.language.Known.{Known}
 use Rattle.btx_bib.specs.language.Databases.{library_of, library_by}
 use Rattle.btx_bib.specs.laws.Laws.{ListIsKept, StarredCitedOrReferred, keeps_entry, list_of}
@@ -61,7 +61,7 @@ same-body key enough (Some body) values = refl
 
 view-from : (parent : Option Slot) (slot : Slot) → view (inherited_from parent slot) ≡ view slot
 view-from None slot = refl
-view-from (Some parent) slot = same-body slot.key slot.stays slot.body _
+view-from (Some parent) slot = same-body slot.key slot.stays slot.body (inherited_values parent.key (body_values slot.body) (body_values parent.body))
 
 pub view-inherited : (slots : List Slot) (slot : Slot) → view (inherited slots slot) ≡ view slot
 unfolding inherited
@@ -72,7 +72,7 @@ view-checked_by None slots slot = refl
 view-checked_by (Some key) slots slot = by_test (is_parent (slot_at slots key)) where
   by_test : (b : Bool) → view (if b then slot else without_crossref slot) ≡ view slot
   by_test true = refl
-  by_test false = same-body slot.key slot.stays slot.body _
+  by_test false = same-body slot.key slot.stays slot.body (without_parent (body_values slot.body))
 
 pub view-checked : (slots : List Slot) (slot : Slot) → view (checked slots slot) ≡ view slot
 unfolding checked

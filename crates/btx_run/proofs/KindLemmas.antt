@@ -14,7 +14,7 @@ use Rattle.btx_bib.specs.language.Entries.{Given, body_of}
 use Rattle.btx_bib.specs.language.Known.{Known}
 use Rattle.btx_bib.specs.language.Library.{entry_type}
 use Rattle.btx_bib.specs.language.Listing.{slot_of, slots_of, list_keys}
-use Rattle.btx_bib.specs.language.Passes.{passed, slot_at, parent_at, inherited_from, inherited, is_parent, without_crossref, checked, entry_at, after_first, after_second, entries_of}
+use Rattle.btx_bib.specs.language.Passes.{passed, slot_at, parent_at, inherited_from, inherited, is_parent, without_crossref, checked, entry_at, after_first, after_second, entries_of, inherited_values, without_parent, body_values}
 use Rattle.btx_bib.specs.language.Stored.{entry_with_key}
 use Rattle.btx_bib.specs.language.Messages.{Database}
 use Rattle.btx_bib.specs.language.Wanted.{Request}
@@ -60,7 +60,7 @@ module _ (n : ℕ) where
     where
       by : (parent : Option Slot) → BodyFits (inherited_from parent slot).body
       by None = h
-      by (Some parent) = values_fit slot.body _ h
+      by (Some parent) = values_fit slot.body (inherited_values parent.key (body_values slot.body) (body_values parent.body)) h
 
   checked_fits : (slots : List Slot) (slot : Slot) → BodyFits slot.body → BodyFits (checked slots slot).body
   unfolding checked
@@ -68,7 +68,7 @@ module _ (n : ℕ) where
     where
       one_of : (b : Bool) → BodyFits (cond b slot (without_crossref slot)).body
       one_of true = h
-      one_of false = values_fit slot.body _ h
+      one_of false = values_fit slot.body (without_parent (body_values slot.body)) h
 
       by : (key : Option (List ℕ)) → BodyFits (checked_by key slots slot).body
       by None = h
