@@ -15,7 +15,7 @@ use crate::strings::StringTable;
 use btx_text::same_key;
 use std::alloc::{AllocError, Global};
 
-/// A database whose lines are counted where messages are told.
+/// A database whose lines are counted where messages are made.
 #[derive(Drop)]
 pub struct Site<'a> {
     /// The name of the file.
