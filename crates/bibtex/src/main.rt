@@ -49,7 +49,7 @@ fn words(alloc: Global, args: io::Result<Args>) -> io::Result<Vec<String>>
     Ok(words)
 }
 
-// Tells a fault, and gives the program's end.
+// Reports a fault, and gives the program's end.
 fn report_fault<O: Outputs>(outputs: &mut O, fault: RunFault) -> Exit
     ensures exit { result ≡ Exit.Failed fault }
     ensures acts { WereDone (O.acts outputs.old) (O.acts outputs.new) (ReportedFault fault ∷ []) }
@@ -76,7 +76,7 @@ fn report_refusal<O: Outputs>(outputs: &mut O, refusal: &Refusal, hint: &str) ->
     }
 }
 
-// Tells the fault of a job that failed, and gives the program's end.
+// Reports the fault of a job that failed, and gives the program's end.
 fn report_answer<O: Outputs>(outputs: &mut O, answer: Result<Report, RunFault>) -> Exit
     ensures exit { result ≡ exit_of answer }
     ensures acts { WereDone (O.acts outputs.old) (O.acts outputs.new) (reporting answer) }
@@ -105,7 +105,7 @@ fn answer<S: System + Drop, O: Outputs>(
     }
 }
 
-// Tells why the words of the command line couldn't be read, and gives the program's end.
+// Reports why the words of the command line couldn't be read, and gives the program's end.
 fn report_unread<O: Outputs>(outputs: &mut O, error: &io::Error) -> Exit
     ensures { IsUnread (error_kind error.now) (O.acts outputs.old) (O.acts outputs.new) result }
 {

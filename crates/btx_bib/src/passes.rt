@@ -60,7 +60,7 @@ fn is_parent(parent: Option<&Slot<'_>>) -> bool
     }
 }
 
-// Tells of a parent that has no entry, or has a parent.
+// Reports a parent that has no entry, or has a parent.
 fn report_parent<'a>(
     alloc: Global,
     child: &Spelling<'a>,
