@@ -2,7 +2,7 @@
 ghost use Rattle.std.specs.Prelude.{◌≡◌, ◌≤◌, length};
 ghost use Rattle.std.specs.List.{All};
 ghost use Rattle.btx_names.specs.language.NameParts as spec;
-ghost use Rattle.btx_names.specs.refinement.NameParts as part;
+ghost use Rattle.btx_names.specs.refinement.NameParts as kept;
 ghost use Rattle.btx_names.specs.refinement.NameTokens.{Hold};
 ghost use Rattle.btx_names.specs.refinement.PartViews.{part_tokens};
 
@@ -44,7 +44,7 @@ impl Ranges {
 
     // Where von and Last begin in a name without commas.
     fn without_commas(name: Part<'_>) -> Ranges
-        ensures von_start { result.von_start ≡ part.von_start (part_tokens name.entry) }
+        ensures von_start { result.von_start ≡ kept.von_start (part_tokens name.entry) }
         ensures last_start { result.last_start ≡ spec.last_start (part_tokens name.entry) }
     {
         let end = von_end(name);

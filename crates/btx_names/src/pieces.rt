@@ -4,7 +4,7 @@ ghost use Rattle.std.specs.List.{flat_map};
 ghost use Rattle.btx_text.specs.language.Limits.{greatest_string};
 ghost use Rattle.btx_names.specs.refinement.Becomes.{Becomes};
 ghost use Rattle.btx_names.specs.language.FormattedNames as spec;
-ghost use Rattle.btx_names.specs.laws.FormattedNames as part;
+ghost use Rattle.btx_names.specs.laws.FormattedNames as laws;
 ghost use Rattle.btx_names.specs.refinement.ItemViews.{has_nothing_between, piece_view};
 ghost use Rattle.btx_names.specs.refinement.NameTokens.{Hold};
 ghost use Rattle.btx_names.specs.refinement.PartViews.{part_tokens};
@@ -104,7 +104,7 @@ fn push_shown(
     is_full: bool,
 ) -> Result<(), Fault>
     requires { Hold bytes.now token.now }
-    ensures text { Becomes (greatest_string + 1) result writer.new.text.items (writer.old.text.items ++ part.shown writer.old.mode is_full (bytes_at bytes.now token.now.text)) }
+    ensures text { Becomes (greatest_string + 1) result writer.new.text.items (writer.old.text.items ++ laws.shown writer.old.mode is_full (bytes_at bytes.now token.now.text)) }
     ensures start { writer.new.start ≡ writer.old.start }
     ensures mode { writer.new.mode ≡ writer.old.mode }
 {

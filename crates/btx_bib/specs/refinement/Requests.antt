@@ -4,7 +4,7 @@ use Rattle.btx_bib.specs.declared.request.Request.{Request}
 use Rattle.btx_bst.specs.language.Style.{field_of, type_of}
 use Rattle.btx_bib.specs.language.Wanted.{Request as Wanted}
 
--- how many stored entries have to name an uncited parent for it to stay in the list: `least`, which is `--min-crossrefs`, or 0 if `*` is cited
+-- how many stored entries have to name an uncited parent for it to stay in the list: `least`, or 0 if `*` is cited
 abbrev pub fewest_of : Option ℕ → ℕ → ℕ
 fewest_of all least = if is_some all then 0 else least
 

@@ -17,7 +17,6 @@ use Rattle.btx_bst.specs.language.BodyText.{BodyEnd, Whole, Broken, body_end}
 use Rattle.btx_bst.specs.language.Outcomes.{CommandOutcome, outcome, after_read, with_item}
 use Rattle.btx_bst.specs.language.Lists.{Listed, opening, closing, next_name, quoted_at, list_at}
 use Rattle.std.specs.Map.{lookup}
-use Rattle.std.specs.Option.{option_map_or}
 
 -- which of the ten commands a word in lower case is, if it is one
 unfoldable pub command_named : List ℕ → Option Command
@@ -36,11 +35,14 @@ command_named name =
 
 -- ---- ENTRY
 
--- goes on after a list of names; a complaint ends the command. The names that were declared stay declared, also after a complaint
+-- goes on, unless there is a complaint, which ends the command
+abbrev pub after_listed : Option Complaint → Style → Place → (Style → Place → CommandOutcome) → CommandOutcome
+after_listed None style place go = go style place
+after_listed (Some complaint) style place go = outcome (Some complaint) style place
+
+-- goes on after a list of names; the names that were declared stay declared, also after a complaint
 abbrev pub after_list : Style → Listed → (Style → Place → CommandOutcome) → CommandOutcome
-after_list style list go =
-    let declared : Style = record style { names = list.listing.names } in
-    option_map_or (λ (complaint : Complaint). outcome (Some complaint) declared list.listing.place) list.complaint (go declared list.listing.place)
+after_list style list go = after_listed list.complaint (record style { names = list.listing.names }) list.listing.place go
 
 -- ENTRY declares the fields and the variables of entries, in three lists; it takes effect once (btxhak, section 5.2)
 unfoldable pub entry_command : Style → Place → CommandOutcome

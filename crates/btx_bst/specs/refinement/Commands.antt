@@ -12,12 +12,7 @@ use Rattle.btx_bst.specs.language.Names.{named}
 use Rattle.btx_text.specs.language.Keys.{folded}
 use Rattle.btx_bst.specs.language.BodyText.{Inside, body_end}
 use Rattle.btx_bst.specs.laws.Names.{macro_lower}
-use Rattle.btx_bst.specs.language.Complaints.{Complaint, Defined}
-use Rattle.std.specs.Option.{option_map_or}
-
--- goes on, unless there is a complaint, which ends the command
-abbrev pub after_listed : Option Complaint → Style → Place → (Style → Place → CommandOutcome) → CommandOutcome
-after_listed complaint style place go = option_map_or (λ (said : Complaint). outcome (Some said) style place) complaint (go style place)
+use Rattle.btx_bst.specs.language.Complaints.{Defined}
 
 -- FUNCTION with the name `name`, given what has that already: an error if something does; else the `}` of the name and the body in braces follow
 abbrev pub function_of : Style → List ℕ → Place → Option Callee → CommandOutcome
