@@ -34,12 +34,12 @@ IsReported hint (refusal.Mistake text) before after end = WereDone before after 
 IsReported hint refusal.Memory before after end = WereDone before after (ReportedFault run_fault.Memory ∷ []) × (end ≡ refused_memory)
 
 -- Words that are run come to this end, over a system of these files and lists' files of these contents: their job is done, and then its fault is
--- told, if its answer is one.
+-- reported, if its answer is one.
 pub record RunEnds {W : Type 0} (files : Option Files) (contents : W → Held) (settings : Settings) (before after : Done W) (end : Exit) : Type 0 where
   pub answer : Result Report RunFault
   pub done : Done W
   pub does : DoesJob files contents settings before done answer
-  pub tells : WereDone done after (reporting answer)
+  pub reports : WereDone done after (reporting answer)
   pub ends : end ≡ exit_of answer
 
 -- the settings that were read are run; a refusal, or a text that was asked for, is printed

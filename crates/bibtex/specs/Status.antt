@@ -47,7 +47,7 @@ fault_exit _ = Refused
 
 -- a refusal comes to its own end, unless a text that was asked for can't be printed; then it comes to that of a fault
 abbrev pub reported_by : Exit → Exit → Type 0
-reported_by own told = (told ≡ own) ⊎ ((own ≡ Shown) × (fault : RunFault) × (told ≡ Failed fault))
+reported_by own end = (end ≡ own) ⊎ ((own ≡ Shown) × (fault : RunFault) × (end ≡ Failed fault))
 
 -- ---- the status of each end
 

@@ -38,7 +38,7 @@ use std::rt::Files;
 use std::{env, fs, io};
 use system::{RealSystem, System};
 
-// What is told of words that are no text.
+// What is reported of words that are no text.
 const NO_TEXT: &str = "error: invalid UTF-8 was detected in one or more arguments\n";
 
 // The words of the command line, the program's name first, from the system's answer when it was asked for them.
@@ -49,7 +49,7 @@ fn words(alloc: Global, args: io::Result<Args>) -> io::Result<Vec<String>>
     Ok(words)
 }
 
-// Tells a fault, and gives the program's end.
+// Reports a fault, and gives the program's end.
 fn report_fault<O: Outputs>(outputs: &mut O, fault: RunFault) -> Exit
     ensures exit { result ≡ Exit.Failed fault }
     ensures acts { WereDone (O.acts outputs.old) (O.acts outputs.new) (ReportedFault fault ∷ []) }
@@ -58,7 +58,7 @@ fn report_fault<O: Outputs>(outputs: &mut O, fault: RunFault) -> Exit
     Exit::Failed(fault)
 }
 
-// Prints or tells why words are not run, a mistake with a hint, and gives the program's end: the refusal's, unless its text can't be printed.
+// Prints or reports why words are not run, a mistake with a hint, and gives the program's end: the refusal's, unless its text can't be printed.
 fn report_refusal<O: Outputs>(outputs: &mut O, refusal: &Refusal, hint: &str) -> Exit
     ensures exit { reported_by (refusal_exit refusal.now) result }
     ensures reported { IsReported hint.now refusal.now (O.acts outputs.old) (O.acts outputs.new) result }
@@ -76,7 +76,7 @@ fn report_refusal<O: Outputs>(outputs: &mut O, refusal: &Refusal, hint: &str) ->
     }
 }
 
-// Tells the fault of a job that failed, and gives the program's end.
+// Reports the fault of a job that failed, and gives the program's end.
 fn report_answer<O: Outputs>(outputs: &mut O, answer: Result<Report, RunFault>) -> Exit
     ensures exit { result ≡ exit_of answer }
     ensures acts { WereDone (O.acts outputs.old) (O.acts outputs.new) (reporting answer) }
@@ -105,7 +105,7 @@ fn answer<S: System + Drop, O: Outputs>(
     }
 }
 
-// Tells why the words of the command line couldn't be read, and gives the program's end.
+// Reports why the words of the command line couldn't be read, and gives the program's end.
 fn report_unread<O: Outputs>(outputs: &mut O, error: &io::Error) -> Exit
     ensures { IsUnread (error_kind error.now) (O.acts outputs.old) (O.acts outputs.new) result }
 {
@@ -118,7 +118,7 @@ fn report_unread<O: Outputs>(outputs: &mut O, error: &io::Error) -> Exit
     }
 }
 
-// Does what the words ask for, or tells why they couldn't be read, and gives the program's end.
+// Does what the words ask for, or reports why they couldn't be read, and gives the program's end.
 fn end_of<S: System + Drop, O: Outputs>(
     alloc: Global,
     system: S,

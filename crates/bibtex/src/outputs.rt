@@ -39,11 +39,11 @@ pub trait Outputs {
     fn print(&mut self, text: &[u8]) -> Result<(), RunFault>
         ensures { WereDone (acts self.old) (acts self.new) (Printed text.now result ∷ []) };
 
-    /// Tells a text on standard error, and a hint behind it. Where that can't be done, nothing is said.
+    /// Prints a text on standard error, and a hint behind it. Where that can't be done, nothing is said.
     fn report_text(&mut self, text: &str, hint: &str)
         ensures { WereDone (acts self.old) (acts self.new) (ReportedText text.now hint.now ∷ []) };
 
-    /// Tells a fault on standard error. Where that can't be done, nothing is said.
+    /// Reports a fault on standard error. Where that can't be done, nothing is said.
     fn report_fault(&mut self, fault: RunFault)
         ensures { WereDone (acts self.old) (acts self.new) (ReportedFault fault ∷ []) };
 }

@@ -2,7 +2,7 @@
 ghost use Rattle.std.specs.Prelude.{◌≡◌};
 ghost use Rattle.bibtex.specs.Spelling.{hint_of, is_of_original, spells_as_original};
 
-// What is told where an option is spelt so.
+// What is reported where an option is spelt so.
 const HINT: &str =
     "bibtex: options have two hyphens here, as in '--min-crossrefs'; the script bibtex-search takes the original's\n";
 

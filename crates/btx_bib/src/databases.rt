@@ -139,7 +139,7 @@ impl<'a> Gathering<'a> {
         Ok(())
     }
 
-    // The library of what is kept and told, where all databases were read.
+    // The library of what is kept and reported, where all databases were read.
     fn whole_library(
         self,
         alloc: Global,
@@ -168,7 +168,7 @@ impl<'a> Gathering<'a> {
         })
     }
 
-    /// The library of what is kept and told.
+    /// The library of what is kept and reported.
     pub fn library(
         self,
         alloc: Global,

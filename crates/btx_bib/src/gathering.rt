@@ -158,7 +158,7 @@ impl<'a> Gathering<'a> {
         Ok(())
     }
 
-    // An entry begins that is stored. A type that the style doesn't have is told of.
+    // An entry begins that is stored. A type that the style doesn't have is reported.
     fn begin_messages(
         &mut self,
         alloc: Global,

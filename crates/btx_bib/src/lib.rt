@@ -1,4 +1,4 @@
-//! What databases give to a job: its entries with their values and cross-references, the preamble, and what is told.
+//! What databases give to a job: its entries with their values and cross-references, the preamble, and the messages.
 #![tactic(auto)]
 
 pub mod databases;

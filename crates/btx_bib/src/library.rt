@@ -5,8 +5,8 @@ use crate::message::{Message, Messages};
 use btx_text::Text;
 use std::marker::Model;
 
-/// What the databases give to a job: the entries in the order of the list, the preamble, and what is told. Where the
-/// reading ended at a limit there is only what was told until then.
+/// What the databases give to a job: the entries in the order of the list, the preamble, and the messages. Where the
+/// reading ended at a limit there are only the messages until then.
 #[derive(Drop)]
 pub struct Library<'a> {
     pub(crate) entries: Vec<Entry<'a>>,
@@ -100,7 +100,7 @@ impl<'a> Library<'a> {
         &self.preamble
     }
 
-    /// What is told, in order.
+    /// The messages, in order.
     pub fn messages(&self) -> &[Message<'a>]
         ensures { result.now ≡ self.now.messages }
     {

@@ -1,4 +1,4 @@
-//! What is told of databases.
+//! The messages of databases.
 use crate::grammar::slip::Slip;
 use crate::spelling::{Spelling, Word};
 use std::alloc::{AllocError, Global};

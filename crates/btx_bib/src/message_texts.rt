@@ -1,4 +1,4 @@
-//! The lines of the log that tell messages.
+//! The lines of the log for messages.
 ghost use Rattle.btx_bib.specs.language.MessageTexts.{message_kind, message_line, message_text, slip_text, spot_of};
 ghost use Rattle.std.specs.Prelude.{IfOk, OnOk, codes, option_copied, ◌++◌, ◌≡◌};
 ghost use Rattle.btx_bib.specs.refinement.Wordings.{wording_text};
@@ -23,7 +23,7 @@ struct Wording<'m> {
 }
 
 impl<'a> Message<'a> {
-    /// The line of the log that tells it.
+    /// The line of the log for it.
     #[tactic(auto, using(crate::proofs::LineLemmas::line_steps))]
     pub fn log_line(&self, alloc: Global) -> Result<LogLine, AllocError>
         ensures { IfOk result (λ line. line ≡ message_line self.now) }

@@ -60,7 +60,7 @@ fn is_parent(parent: Option<&Slot<'_>>) -> bool
     }
 }
 
-// Tells of a parent that has no entry, or has a parent.
+// Reports a parent that has no entry, or has a parent.
 fn report_parent<'a>(
     alloc: Global,
     child: &Spelling<'a>,
@@ -113,7 +113,7 @@ fn check_at<'a>(
     Ok(())
 }
 
-// The second pass: parents that don't stay are told of and taken away.
+// The second pass: parents that don't stay are reported and taken away.
 fn check<'a>(
     slots: &mut Slots<'a>,
     alloc: Global,
@@ -130,7 +130,7 @@ fn check<'a>(
     Ok(())
 }
 
-// Adds the entry of a place, if it has one that stays. A key without an entry is told of.
+// Adds the entry of a place, if it has one that stays. A key without an entry is reported.
 fn close<'a>(
     slot: Slot<'a>,
     entries: &mut Vec<Entry<'a>>,
@@ -152,7 +152,7 @@ fn close<'a>(
     Ok(())
 }
 
-// The entries that stay. Keys without an entry are told of.
+// The entries that stay. Keys without an entry are reported.
 fn staying<'a>(
     slots: Slots<'a>,
     alloc: Global,
@@ -185,7 +185,7 @@ fn passed<'a>(
     Ok(slots)
 }
 
-/// The entries of a list that stay, with what they inherit; what the passes tell is added to the messages.
+/// The entries of a list that stay, with what they inherit; what the passes report is added to the messages.
 #[tactic(auto, unfolding(crate::specs::language::Passes::entries_of, crate::specs::language::Passes::reference_messages))]
 pub fn entries_of<'a>(
     slots: Slots<'a>,

@@ -15,7 +15,7 @@ use crate::strings::StringTable;
 use btx_text::same_key;
 use std::alloc::{AllocError, Global};
 
-/// A database whose lines are counted where messages are told.
+/// A database whose lines are counted where messages are made.
 #[derive(Drop)]
 pub struct Site<'a> {
     /// The name of the file.
@@ -62,7 +62,7 @@ fn is_own(own: Option<&[u8]>, name: &[u8]) -> bool
     }
 }
 
-// Tells of a part that is a name which stands for no string.
+// Reports a part that is a name which stands for no string.
 fn report_part<'a>(
     alloc: Global,
     part: Part<'a>,
@@ -91,7 +91,7 @@ fn report_part<'a>(
     Ok(())
 }
 
-/// Tells of the names of a value that stand for no string, where this string is being defined or none.
+/// Reports the names of a value that stand for no string, where this string is being defined or none.
 #[inline(always)]
 #[tactic(auto, using(crate::proofs::MessageLemmas::one_name))]
 pub fn report_names<'a>(
@@ -130,7 +130,7 @@ fn report_parts<'a>(
     Ok(())
 }
 
-/// Tells of the type of the entry of a key, if the style doesn't have it.
+/// Reports the type of the entry of a key, if the style doesn't have it.
 pub fn report_kind<'a>(
     kind: Option<u32>,
     key: &'a [u8],

@@ -163,27 +163,27 @@ fails_in_lines lines b l m make budget part = record { beginnings = begins budge
 -- what was logged, by the counts of its lines
 pub counts_of_lines : (warnings errors : ℕ) (first counts : LogCounts) (log : Received) (lines : List Line)
     → warnings ≡ counts.warnings → errors ≡ counts.errors → first ≡ counts_of [] → Logs (first, counts) log lines → log_counts warnings errors ≡ counts_of lines
-counts_of_lines warnings errors first counts log lines is_warnings is_errors new tells =
+counts_of_lines warnings errors first counts log lines is_warnings is_errors new logs =
     ap (λ warnings. log_counts warnings errors) is_warnings
     ∙ ap (log_counts counts.warnings) is_errors
-    ∙ ap (λ (counts : LogCounts). log_counts counts.warnings counts.errors) (tells.counts [] new)
+    ∙ ap (λ (counts : LogCounts). log_counts counts.warnings counts.errors) (logs.counts [] new)
 
 module _ (job : AuxJob) (options : Options) (read : FilesRead) (given : LogCounts) (first counts : LogCounts) (b c l m n : Option (List ℕ)) (is_given : given ≡ log_counts counts.warnings counts.errors) (new : first ≡ counts_of []) where
   -- what follows is what follows the reading
   follows : (part : Logged FilesRead) → IsRead read (first, counts) (l, m) part → product_of_files job read options given ≡ product_of_files job part.gives options (counts_of part.lines)
   follows part is_read =
       ap (λ read. product_of_files job read options given) is_read.gives
-      ∙ ap (product_of_files job part.gives options) (is_given ∙ counts_of_lines counts.warnings counts.errors first counts (l, m) part.lines refl refl new is_read.tells)
+      ∙ ap (product_of_files job part.gives options) (is_given ∙ counts_of_lines counts.warnings counts.errors first counts (l, m) part.lines refl refl new is_read.logs)
 
   pub completes_reading : (report : Report) (budget : ℕ) (part : Logged FilesRead) → IsRead read (first, counts) (l, m) part
       → Completes report (b, m) (c, n) (product_of_files job read options given budget) → Completes report (b, l) (c, n) (product_of_reading job part options budget)
   completes_reading report budget part is_read completes =
-      completes_behind part.lines b c l m n is_read.tells.received report _ (subst (λ (make : ℕ → Product). Completes report (b, m) (c, n) (make budget)) (follows part is_read) completes)
+      completes_behind part.lines b c l m n is_read.logs.received report _ (subst (λ (make : ℕ → Product). Completes report (b, m) (c, n) (make budget)) (follows part is_read) completes)
 
   pub fails_reading : (budget : ℕ) (part : Logged FilesRead) → IsRead read (first, counts) (l, m) part
       → AtFault (b, m) (c, n) (product_of_files job read options given) budget → AtFault (b, l) (c, n) (product_of_reading job part options) budget
   fails_reading budget part is_read fault =
-      fails_behind part.lines b c l m n is_read.tells.received _ budget (subst (λ (make : ℕ → Product). AtFault (b, m) (c, n) make budget) (follows part is_read) fault)
+      fails_behind part.lines b c l m n is_read.logs.received _ budget (subst (λ (make : ℕ → Product). AtFault (b, m) (c, n) make budget) (follows part is_read) fault)
 
 -- what holds from one end of a log to another holds between equal ones
 pub behind_ends : {A : Type 0} (P : A → A → Type 0) (l l' n n' : A) → l ≡ l' → n ≡ n' → P l n → P l' n'

@@ -84,7 +84,7 @@ reads_failing (Err fault) a b x y part err begins = begins
 -- lines, and then a part
 pub reads_behind : {T : Type 0} (r : Result T Fault) (a b c : LogCounts) (x y z : Option (List ℕ)) (lines : List Line) (part : Logged T)
     → Logs (a, b) (x, y) lines → ReadsAs r (b, c) (y, z) part → ReadsAs r (a, c) (x, z) (behind lines part)
-reads_behind (Ok value) a b c x y z lines part told read = record { gives = read.gives; tells = logs_both a b c x y z _ _ told read.tells }
+reads_behind (Ok value) a b c x y z lines part told read = record { gives = read.gives; logs = logs_both a b c x y z _ _ told read.logs }
 reads_behind (Err fault) a b c x y z lines part told read = rest_begins x y z a b _ _ told read
 
 -- a fault while the lines before a part were written
@@ -95,7 +95,7 @@ reads_part (Err fault) a b x y lines part err told = part_begins x y _ _ told
 
 -- a part without a line
 pub reads_at_once : {T : Type 0} (value : T) (a : LogCounts) (x : Option (List ℕ)) → IsRead value (a, a) (x, x) (logged [] value)
-reads_at_once value a x = record { gives = refl; tells = logs_nothing a x }
+reads_at_once value a x = record { gives = refl; logs = logs_nothing a x }
 
 -- ---- databases
 
@@ -134,7 +134,7 @@ pub database_is_read : (files : Files) (number : ℕ) (name : List ℕ) (found :
     → line ≡ database_logged number name found → Logs (a, b) (x, y) (line ∷ []) → IsRead found (a, b) (x, y) (database_read files number name)
 database_is_read files number name found line a b x y is is_line told = record {
   gives = is;
-  tells = subst (λ line. Logs (a, b) (x, y) (line ∷ [])) (is_line ∙ ap (database_logged number name) is) told;
+  logs = subst (λ line. Logs (a, b) (x, y) (line ∷ [])) (is_line ∙ ap (database_logged number name) is) told;
 }
 
 -- a beginning of it
@@ -149,7 +149,7 @@ pub adds_found : (files : Files) (before after : List NamedFile) (number : ℕ) 
     → IsAdded before after (a, b) (x, y) (database_read files (length before + 1) name)
 adds_found files before after number name found a b x y next kept read = record {
   kept = kept ∙ ap (λ found. before ++ option_to_list found) read.gives;
-  tells = subst (λ number. Logs (a, b) (x, y) (database_read files number name).lines) next read.tells;
+  logs = subst (λ number. Logs (a, b) (x, y) (database_read files number name).lines) next read.logs;
 }
 
 -- a fault at a database
@@ -166,10 +166,10 @@ pub databases_more : (files : Files) (names : List Bytes) (i : ℕ) (name : Byte
     → IsRead later (a, c) (x, z) (databases_read files (texts_of (take (i + 1) names)))
 databases_more files names i name text found later a b c x y z lt is same read added = record {
   gives = added.kept ∙ ap (λ l. found ++ option_to_list (file_at files l)) same ∙ ap (λ l. l ++ option_to_list (file_at files name.items)) read.gives ∙ sym (found_more files names i name lt is);
-  tells =
-      let here = subst (λ text. Logs (b, c) (y, z) (database_logged (length found + 1) text (file_at files text) ∷ [])) same added.tells in
+  logs =
+      let here = subst (λ text. Logs (b, c) (y, z) (database_logged (length found + 1) text (file_at files text) ∷ [])) same added.logs in
       let next = subst (λ l. Logs (b, c) (y, z) (database_logged (length l + 1) name.items (file_at files name.items) ∷ [])) read.gives here in
-      subst (Logs (a, c) (x, z)) (sym (logged_more files names i name lt is)) (logs_both a b c x y z _ _ read.tells next);
+      subst (Logs (a, c) (x, z)) (sym (logged_more files names i name lt is)) (logs_both a b c x y z _ _ read.logs next);
 }
 
 -- a fault at a database
@@ -181,7 +181,7 @@ pub databases_begin : (files : Files) (names : List Bytes) (i : ℕ) (name : Byt
 databases_begin files names i name text found a b x y z lt is same read part =
     let here = subst (λ text. AppendsBeginning y z (bytes_of_lines (database_logged (length found + 1) text (file_at files text) ∷ []))) same part in
     let next = subst (λ l. AppendsBeginning y z (bytes_of_lines (database_logged (length l + 1) name.items (file_at files name.items) ∷ []))) read.gives here in
-    let first = rest_begins x y z a b _ _ read.tells next in
+    let first = rest_begins x y z a b _ _ read.logs next in
     let so_far = subst (λ l. AppendsBeginning x z (bytes_of_lines l)) (sym (logged_more files names i name lt is)) first in
     let whole : texts_of names ≡ texts_of (take (i + 1) names) ++ texts_of (drop (i + 1) names) =
     ap texts_of (sym (take-append-drop (i + 1) names)) ∙ map-append (λ (name : Bytes). name.items) (take (i + 1) names) (drop (i + 1) names) in
@@ -206,7 +206,7 @@ pub databases_found : (files : Files) (job : AuxJob) (style : NamedFile) (names 
 unfolding after_style
 databases_found files job style names found a b x y short is read =
     let here = subst (λ names. IsRead found (a, b) (x, y) (databases_read files names)) is read in
-    rw short (record { gives = ap (λ l. Found (record { style = style; databases = l })) here.gives; tells = here.tells })
+    rw short (record { gives = ap (λ l. Found (record { style = style; databases = l })) here.gives; logs = here.logs })
 
 pub databases_fail : (r : Result FilesRead Fault) (files : Files) (job : AuxJob) (style : NamedFile) (names : List (List ℕ)) (a b : LogCounts) (x y : Option (List ℕ))
     → IsErr r → is_too_long style.bytes ≡ false → names ≡ job.databases → AppendsBeginning x y (bytes_of_lines (databases_logged files [] names))
@@ -227,7 +227,7 @@ style_is_missed files job name = refl
 pub style_missed : (files : Files) (job : AuxJob) (name : List ℕ) (line : Line) (a b : LogCounts) (x y : Option (List ℕ))
     → line ≡ no_style_line name → Logs (a, b) (x, y) (line ∷ []) → IsRead (Ends ended.Finished) (a, b) (x, y) (style_read files job name None)
 unfolding style_read
-style_missed files job name line a b x y is told = record { gives = refl; tells = subst (λ line. Logs (a, b) (x, y) (line ∷ [])) is told }
+style_missed files job name line a b x y is told = record { gives = refl; logs = subst (λ line. Logs (a, b) (x, y) (line ∷ [])) is told }
 
 -- the same answer for the same part
 pub reads_is : {T : Type 0} (r : Result T Fault) (counted : Counted) (log : LogReceived) (part same : Logged T) → part ≡ same → ReadsAs r counted log same → ReadsAs r counted log part

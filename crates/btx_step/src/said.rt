@@ -1,4 +1,4 @@
-//! What a step writes and tells.
+//! What a step writes and logs.
 ghost use Rattle.std.specs.Prelude.{◌≡◌, [], ◌∷◌, ◌++◌, OnOk, IfOk, replicate};
 ghost use Rattle.btx_step.specs.declared.said.Note.TheVariants as note;
 

@@ -11,7 +11,7 @@ returns-in-Ok g c = record {
     answer = c.run_job-answer.result;
     done = g.O.Outputs.acts c.run_job-answer.new.outputs;
     does = c.run_job-answer.ensures.does;
-    tells = c.report_answer.ensures.acts;
+    reports = c.report_answer.ensures.acts;
     ends = c.report_answer.ensures.exit;
   };
 }

@@ -17,11 +17,11 @@ abbrev pub passed : (List Slot → Slot → Slot) → List Slot → List Slot �
 passed judge done [] = done
 passed judge done (slot ∷ slots) = passed judge (done ++ judge (done ++ slot ∷ slots) slot ∷ []) slots
 
--- the messages of a pass, in the order of the places: `tell` sees a place before `judge` changes it, so that a message can name a parent that the
+-- the messages of a pass, in the order of the places: `report` sees a place before `judge` changes it, so that a message can name a parent that the
 -- pass takes away
 abbrev pub pass_messages : (List Slot → Slot → Slot) → (List Slot → Slot → List Message) → List Slot → List Slot → List Message
-pass_messages judge tell done [] = []
-pass_messages judge tell done (slot ∷ slots) = tell (done ++ slot ∷ slots) slot ++ pass_messages judge tell (done ++ judge (done ++ slot ∷ slots) slot ∷ []) slots
+pass_messages judge report done [] = []
+pass_messages judge report done (slot ∷ slots) = report (done ++ slot ∷ slots) slot ++ pass_messages judge report (done ++ judge (done ++ slot ∷ slots) slot ∷ []) slots
 
 -- the values of an entry of the list; none if the place has no entry
 abbrev pub body_values : Option Body → List (Option (List ℕ))

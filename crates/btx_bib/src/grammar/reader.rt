@@ -52,7 +52,7 @@ impl<'a> Reader<'a> {
         }
     }
 
-    /// What stands at the next place, if anything does: an entry whose key is stored is told as a repeated one, and left. Where
+    /// What stands at the next place, if anything does: an entry whose key is stored is reported as a repeated one, and left. Where
     /// memory is refused, the reader stays where it is.
     pub fn read<K: StoredKeys>(
         &mut self,

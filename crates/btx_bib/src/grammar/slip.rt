@@ -20,6 +20,6 @@ pub enum Slip {
     Unbalanced,
     /// The file ends inside an item.
     EndOfFile,
-    /// An entry has the key of one that is stored. The reader never tells this by itself: it takes who knows the stored keys.
+    /// An entry has the key of one that is stored. The reader never reports this by itself: it takes who knows the stored keys.
     Repeated,
 }

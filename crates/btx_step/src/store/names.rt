@@ -98,7 +98,7 @@ impl<'a> Store<'a> {
     }
 }
 
-// What is told of a name.
+// What is logged of a name.
 fn name_said<'a>(
     alloc: Global,
     complaints: Complaints,

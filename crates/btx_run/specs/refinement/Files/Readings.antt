@@ -50,7 +50,7 @@ StyleFits (Found found) = length found.style.bytes ≤ greatest_file
 -- the part was read: the answer is what it gives, and its lines were logged
 pub record IsRead {T : Type 0} (value : T) (counted : Counted) (log : LogReceived) (part : Logged T) : Type 0 where
   pub gives : value ≡ part.gives
-  pub tells : Logs counted log part.lines
+  pub logs : Logs counted log part.lines
 
 -- a part that was read, or at a fault a prefix of its lines
 abbrev pub ReadsAs : {T : Type 0} → Result T Fault → Counted → LogReceived → Logged T → Type 0
@@ -60,7 +60,7 @@ ReadsAs (Err fault) counted log part = AppendsBeginning log.0 log.1 (bytes_of_li
 -- a database was logged, and is kept behind those before it if it was found
 pub record IsAdded (before after : List NamedFile) (counted : Counted) (log : LogReceived) (part : Logged (Option NamedFile)) : Type 0 where
   pub kept : after ≡ before ++ option_to_list part.gives
-  pub tells : Logs counted log part.lines
+  pub logs : Logs counted log part.lines
 
 -- a database that was added so, or at a fault a prefix of what is logged of it
 abbrev pub AddsAs : {T : Type 0} → Result T Fault → List NamedFile → List NamedFile → Counted → LogReceived → Logged (Option NamedFile) → Type 0

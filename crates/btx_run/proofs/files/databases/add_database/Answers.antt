@@ -22,7 +22,7 @@ pub returns-in_err-push-in-Some-clause-adds : goal.returns-in_err-push-in-Some-c
 returns-in_err-push-in-Some-clause-adds g c =
     by_map c.in_ok-database.ensures.reads (λ names among. among)
     (λ files read. adds_begun files c.args.found.now c.push.new.self c.next_number-number.result c.args.name.now c.from_residual-in_err-push-in-Some.result _ _ _ _ (search rules) c.next_number-number.ensures
-    (logged_begins _ _ _ _ (database_read files c.next_number-number.result c.args.name.now).lines [] read.tells))
+    (logged_begins _ _ _ _ (database_read files c.next_number-number.result c.args.name.now).lines [] read.logs))
 
 pub returns-in_ok-push-in-Some-clause-adds : goal.returns-in_ok-push-in-Some-clause-adds
 returns-in_ok-push-in-Some-clause-adds g c =

@@ -6,7 +6,7 @@ use Rattle.btx_run.proofs.files.logging.log_all.Given as goal
 -- the lines so far were logged, where the log goes, and no write has failed
 abbrev pub invariant-loop-line : goal.invariant-loop-line
 invariant-loop-line g l = record {
-  tells : Logs (counts_at l.initial.journal, counts_at l.journal) (l.initial.journal.sink.received, l.journal.sink.received) (take l.line-index l.lines);
+  logs : Logs (counts_at l.initial.journal, counts_at l.journal) (l.initial.journal.sink.received, l.journal.sink.received) (take l.line-index l.lines);
   sink : l.journal.sink.name ≡ l.initial.journal.sink.name;
   failures : l.journal.sink.failures ≡ l.initial.journal.sink.failures;
 }
