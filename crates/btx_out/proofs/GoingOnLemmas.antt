@@ -121,14 +121,6 @@ goes_full limit kept full bytes first rest next before after short cut room is s
       received = received;
     }
 
--- or its writing fails
-pub fails_full : (limit : ℕ) (kept full bytes first rest : List ℕ) (before after : Option (List ℕ)) → length kept ≤ limit → bytes ≡ first ++ rest → length first ≡ limit + 1 - length kept → full ≡ kept ++ first →
-    AppendsBeginning before after (break_full full (last_white (length full) full)).1 → AppendsBeginning before after (sure_after limit (Collecting kept) bytes)
-fails_full limit kept full bytes first rest before after short cut room is begins =
-    let len : length full ≡ limit + 1 = rw is (omega (arith, length-append kept first)) in
-    let all = rw (← is, ← len) at (collect_full limit kept first short (omega arith)) in
-    rw (cut, sure_after-append limit (Collecting kept) first rest, all.1) (beginning-longer before after _ _ begins)
-
 -- ---- passing
 
 abbrev PassesOn : ℕ → List ℕ → Type 0

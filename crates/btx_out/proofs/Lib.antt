@@ -6,3 +6,4 @@ pub mod BreakerLemmas
 pub mod BreakingRows
 pub mod PlaceLemmas
 pub mod WrittenLemmas
+pub mod TogetherLemmas

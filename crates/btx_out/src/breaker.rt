@@ -1,9 +1,10 @@
 //! The breaker of long lines.
-ghost use Rattle.std.specs.Prelude.{◌≡◌, ◌+◌, ◌<◌, ◌≤◌, [], ℕ, List, Option, length, drop, take, Some, None, IfOk, IfErr, IfSome, IsSome, OnOk, OnErr, Err, is_err, take_while};
+ghost use Rattle.std.specs.Prelude.{◌≡◌, ◌++◌, ◌+◌, ◌<◌, ◌≤◌, [], ℕ, List, Option, length, drop, take, Some, None, IfOk, IfErr, IfSome, IsSome, IsTrue, OnOk, OnErr, Err, is_err, take_while};
 ghost use Rattle.std.specs.Io.KnownBytes.{Appends};
 ghost use Rattle.arrayvec.specs.ArrayVec.{array_vec_len};
 ghost use Rattle.btx_text.specs.language.Class.{is_white};
 ghost use Rattle.btx_text.specs.language.Counts.{count_after};
+ghost use Rattle.btx_out.specs.declared.breaker.State.TheVariants as states;
 ghost use Rattle.btx_out.specs.refinement.Breakers.{Ends, EndsPart, Finishes, FinishesPart, Puts, PutsPart, failed, holding, is_fresh};
 ghost use Rattle.btx_out.specs.language.Breaking.{from_white, indented, last_white, written_line as line_of, skip_white, till_white};
 ghost use Rattle.btx_out.specs.laws.Breaking.{Collecting, Passing, Swallowing};
@@ -24,6 +25,9 @@ use std::marker::Model;
 
 // The bytes of a line that may still be broken. The longest line is one byte shorter: byte 10 stands behind it when it is written.
 type Kept = ArrayVec<u8, 1001>;
+
+// The lines that become sure by one call, gathered so that one write takes them. There is room for the longest line.
+type Gathered = ArrayVec<u8, 1024>;
 
 // The first index at which a line is broken: a shorter head isn't worth a line, and a line is never broken at the two spaces before it.
 const FIRST_BREAK: usize = 3;
@@ -92,30 +96,29 @@ fn last_white(text: &[u8]) -> Option<usize>
     None
 }
 
-// Breaks a line of one byte more than fits at its last white. One without such white is passed on.
-fn break_full<W: Sink>(line: &mut Kept, sink: &mut W) -> Result<State, Fault>
-    ensures state { IfOk result (λ after. left_of after line.new.items
-        ≡ (break_full line.old.items (last_white (array_vec_len line.old) line.old.items)).0) }
-    ensures fits { OnOk result (0 < array_vec_len line.old → array_vec_len line.new < array_vec_len line.old) }
-    ensures ok { OnOk result (Appends (W.received sink.old) (W.received sink.new)
-        (break_full line.old.items (last_white (array_vec_len line.old) line.old.items)).1) }
-    ensures err { OnErr result (AppendsBeginning (W.received sink.old) (W.received sink.new)
-        (break_full line.old.items (last_white (array_vec_len line.old) line.old.items)).1) }
-    ensures fault { IfErr result (λ fault. fault ≡ Fault.Device) }
-    ensures counts { W.failures sink.new ≡ count_after (is_err result) (W.failures sink.old) }
+// Breaks a line of one byte more than fits at its last white, and gathers what becomes sure. One without such white is passed on.
+fn break_full(line: &mut Kept, gathered: &mut Gathered) -> State
+    requires room { array_vec_len gathered.old + array_vec_len line.old ≤ 1024 }
+    ensures state { left_of result line.new.items
+        ≡ (break_full line.old.items (last_white (array_vec_len line.old) line.old.items)).0 }
+    ensures fits { 0 < array_vec_len line.old → array_vec_len line.new < array_vec_len line.old }
+    ensures sure { gathered.new.items
+        ≡ gathered.old.items ++ (break_full line.old.items (last_white (array_vec_len line.old) line.old.items)).1 }
 {
     match last_white(line.as_slice()) {
         Some(at) => {
             let end = end_line(line.as_mut_slice(), at);
-            write_whole(&line.as_slice()[..end], sink)?;
+            gathered
+                .try_extend_from_slice(&line.as_slice()[..end])
+                .unwrap();
             let next = carry_over(line.as_mut_slice(), at);
             line.truncate(next);
-            Ok(State::Collecting)
+            State::Collecting
         }
         None => {
-            write_whole(line.as_slice(), sink)?;
+            gathered.try_extend_from_slice(line.as_slice()).unwrap();
             line.clear();
-            Ok(State::Passing)
+            State::Passing
         }
     }
 }
@@ -149,8 +152,62 @@ fn after_white(bytes: &[u8]) -> &[u8]
     bytes.split_at(white_len(bytes)).1
 }
 
-// Keeps bytes up to one more than fits a line, where the line is broken. Answers what is done with the bytes that are left.
-fn collect<'a, W: Sink>(
+// Keeps bytes up to one more than fits a line, where the line is broken and what becomes sure is gathered. Answers what is done with the bytes
+// that are left.
+fn collect<'a>(limit: usize, line: &mut Kept, bytes: &'a [u8], gathered: &mut Gathered) -> Next<'a>
+    requires some { 0 < length bytes.now }
+    requires kept { array_vec_len line.old ≤ limit }
+    requires range { IsLineLength limit }
+    requires room { array_vec_len gathered.old + limit < 1024 }
+    ensures goes_on { Advances limit (Collecting line.old.items) bytes.now (left_of result.state line.new.items) result.rest.now
+        (Some gathered.old.items) (Some gathered.new.items) }
+    ensures fewer { length result.rest.now < length bytes.now }
+    ensures fits { array_vec_len line.new ≤ limit }
+{
+    // One byte more than a line has room.
+    let room = limit + 1 - line.len();
+    if bytes.len() < room {
+        line.try_extend_from_slice(bytes).unwrap();
+        return Next {
+            state: State::Collecting,
+            rest: &[],
+        };
+    }
+    let (first, rest) = bytes.split_at(room);
+    line.try_extend_from_slice(first).unwrap();
+    let state = break_full(line, gathered);
+    Next { state, rest }
+}
+
+// Whether more bytes are collected: there are some, the line may still be broken, and there is room to gather another.
+fn gathers_more(limit: usize, next: Next<'_>, gathered: &Gathered) -> bool
+    ensures { IsTrue result → (next.entry.state ≡ states.Collecting) × (0 < length next.entry.rest.now) × (array_vec_len gathered.now + limit < 1024) }
+{
+    matches!(next.state, State::Collecting)
+        && !next.rest.is_empty()
+        && gathered.remaining_capacity() > limit
+}
+
+// Collects bytes, and gathers the lines that become sure, as many as there is room for. Answers what is done with the bytes that are left.
+fn gather<'a>(limit: usize, line: &mut Kept, bytes: &'a [u8], gathered: &mut Gathered) -> Next<'a>
+    requires some { 0 < length bytes.now }
+    requires kept { array_vec_len line.old ≤ limit }
+    requires range { IsLineLength limit }
+    requires room { array_vec_len gathered.old + limit < 1024 }
+    ensures goes_on { Advances limit (Collecting line.old.items) bytes.now (left_of result.state line.new.items) result.rest.now
+        (Some gathered.old.items) (Some gathered.new.items) }
+    ensures fewer { length result.rest.now < length bytes.now }
+    ensures fits { array_vec_len line.new ≤ limit }
+{
+    let mut next = collect(limit, line, bytes, gathered);
+    while gathers_more(limit, next, gathered) {
+        next = collect(limit, line, next.rest, gathered);
+    }
+    next
+}
+
+// Collects bytes, and writes the lines that become sure, those that can be gathered at once. Answers what is done with the bytes that are left.
+fn collect_lines<'a, W: Sink>(
     limit: usize,
     line: &mut Kept,
     bytes: &'a [u8],
@@ -168,19 +225,18 @@ fn collect<'a, W: Sink>(
     ensures fault { IfErr result (λ fault. fault ≡ Fault.Device) }
     ensures counts { W.failures sink.new ≡ count_after (is_err result) (W.failures sink.old) }
 {
-    // One byte more than a line has room.
-    let room = limit + 1 - line.len();
-    if bytes.len() < room {
+    // Most bytes fit the line, and nothing becomes sure.
+    if bytes.len() <= limit - line.len() {
         line.try_extend_from_slice(bytes).unwrap();
         return Ok(Next {
             state: State::Collecting,
             rest: &[],
         });
     }
-    let (first, rest) = bytes.split_at(room);
-    line.try_extend_from_slice(first).unwrap();
-    let state = break_full(line, sink)?;
-    Ok(Next { state, rest })
+    let mut gathered = Gathered::new();
+    let next = gather(limit, line, bytes, &mut gathered);
+    write_whole(gathered.as_slice(), sink)?;
+    Ok(next)
 }
 
 // Passes on what stands before the first white, which ends the line. Answers what is done with the bytes that are left.
@@ -253,7 +309,7 @@ fn take_some<'a, W: Sink>(
     ensures counts { W.failures sink.new ≡ count_after (is_err result) (W.failures sink.old) }
 {
     match state {
-        State::Collecting => collect(limit, line, bytes, sink),
+        State::Collecting => collect_lines(limit, line, bytes, sink),
         State::Passing => pass(bytes, sink),
         State::Swallowing => Ok(swallow(line, bytes)),
     }

@@ -269,14 +269,14 @@ fn count_writes(
     Ok([lines, pieces, sink.writer.writes])
 }
 
-// A write for each line, a long line in pieces, and its last piece and its end.
+// A write for the two lines that become sure at once and one for the third, a long line in pieces, and its last piece and its end.
 #[test]
 fn whole_lines(rt: HostRuntime) -> Result<(), Fail> {
     let long = text_of(rt.alloc(), &[(b'a', 500)])?;
     let mut breaker = breaker_of(&rt, 20);
     let mut sink = Over::new(FakeWriter::new(rt.alloc(), 1000, Failing::Never, 0));
     let counts = count_writes(&mut breaker, &long, &mut sink);
-    assert!(rt; counts == Ok([3, 6, 8]));
+    assert!(rt; counts == Ok([2, 5, 7]));
     let lines = b"aaa bbb ccc ddd eee\n  fff ggg hhh iii\n  jjj\n";
     assert!(rt; sink.writer.bytes.starts_with(lines));
     Ok(())
