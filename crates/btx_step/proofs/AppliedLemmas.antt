@@ -178,7 +178,7 @@ by_table job f s e = decided (verdict (row f).operands ((row f).does job) s.lite
     decided (inr h) = inr (record {
       notes = complaints (row f).operands s.literals;
       why = h.why;
-      is = e ∙ ap answered h.is ∙ defaulted (row f).default _ s.literals (drop (length (row f).operands) s.literals) s;
+      is = e ∙ ap answered h.is ∙ defaulted (row f).default (complaints (row f).operands s.literals) s.literals (drop (length (row f).operands) s.literals) s;
     })
 
 missing_by_table : (job : Job) (s : Store) (current : Option ℕ) → s.current ≡ current → FollowsRule built_in.Missing current → IsApplied job built_in.Missing s ⊎ IsReported job built_in.Missing s
