@@ -30,7 +30,7 @@ product_of_files job (Found found) options counts budget =
     let work : Job = record {
       style = style;
       library = library_of (asked style job options.min_crossrefs) style.macros
-        (map (λ (file : NamedFile). record { file = file.name; text = file.bytes }) found.databases);
+          (map (λ (file : NamedFile). record { file = file.name; text = file.bytes }) found.databases);
       mode = options.text;
       entry_max = options.entry_max;
       global_max = options.global_max;

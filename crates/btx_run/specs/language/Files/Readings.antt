@@ -53,8 +53,8 @@ unfoldable pub style_read : Files → AuxJob → List ℕ → Option NamedFile �
 style_read files job name None = logged (no_style_line name ∷ []) (Ends ended.Finished)
 style_read files job name (Some style) =
     behind (style_line name ∷ [])
-      (if is_too_long style.bytes then logged [] (Ends (ended.Limit kind.File))
-      else logged (databases_logged files [] job.databases) (Found (record { style = style; databases = files_found files job.databases })))
+    (if is_too_long style.bytes then logged [] (Ends (ended.Limit kind.File))
+    else logged (databases_logged files [] job.databases) (Found (record { style = style; databases = files_found files job.databases })))
 
 -- the style that the `.aux` files name, and then the databases. If they name none, which is an error of the `.aux` files, the run ends as `finished`
 unfoldable pub style_named : Files → AuxJob → Option (List ℕ) → Logged FilesRead
