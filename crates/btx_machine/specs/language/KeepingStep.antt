@@ -1,12 +1,14 @@
--- What a run has written when it ends, and where a write or a request for memory failed. `before` and `after` are what the two sinks had received then, that
--- of the list first and that of the log second. Of a sink that doesn't show its bytes nothing is known, and nothing is said.
+-- What a run has written when it ends, and where a write or a request for memory failed. `before` and `after` are what the two sinks had received
+-- before the run and after it, that of the list first and that of the log second. Of a sink that doesn't show its bytes nothing is known (`None`), and
+-- nothing is said.
 use Rattle.std.specs.Prelude.{◌≡◌, ℕ, ◌+◌, ◌<◌, ◌⊎◌, List, Option}
 use Rattle.std.specs.Io.KnownBytes.{Appends}
 use Rattle.btx_out.specs.language.Pieces.{AppendsBeginning, AppendsAtLeast}
 use Rattle.btx_machine.specs.declared.report.Report.{Report}
 use Rattle.btx_machine.specs.language.Product.{Product, log_of}
 
--- the report is the product's, and both outputs received its bytes
+-- the report is the product's, and both outputs received its bytes. `before` and `after` are what the two sinks had received before the run and after
+-- it: the sink of the list first, that of the log second. A sink that doesn't show its bytes has `None`, and of it nothing is said
 pub record Completes (report : Report) (before after : Option (List ℕ) × Option (List ℕ)) (product : Product) : Type 0 where
   pub report_is : report ≡ product.report
   pub bbl_whole : Appends before.0 after.0 product.bbl

@@ -44,8 +44,9 @@ product_of line_length budget (Done s left) = product_at line_length ending.Fini
 product_of line_length budget (Stopped s) = product_at line_length ending.Stopped budget s
 product_of line_length budget (Limit kind s left) = product_at line_length (ending.Limit kind) (budget - left) s
 
--- the product of a style, in lines of at most `line_length` bytes, with a budget. Its commands and messages are executed one after another, from the first
--- state on: nothing is written, and all variables have the values with which they begin. `counts` are those of what was logged before
+-- the product of a style, in lines of at most `line_length` bytes, with a budget. Its commands and messages are executed one after another, from the
+-- state `first`: there nothing is written, and all variables have the values with which they begin. `counts` are the numbers of warnings and errors
+-- that were logged before
 abbrev pub style_product : Job → LogCounts → ℕ → ℕ → Product
 style_product job counts line_length budget =
     let first = state (first_store job) (record { lines = []; pending = []; log = []; warnings = counts.warnings; errors = counts.errors }) in

@@ -1,5 +1,5 @@
 -- What a run writes and answers over any finder, also one that doesn't show its content, as one over the files of a disk: it is the product of the job of
--- this name, over some files. `before` and `after` are what the two sinks had received then, that of the list first and that of the log second.
+-- this name, over some files.
 use Rattle.std.specs.Prelude.{ℕ, List, Option}
 use Rattle.btx_aux.specs.language.Files.{Files}
 use Rattle.btx_machine.specs.declared.report.Report.{Report}
@@ -7,7 +7,8 @@ use Rattle.btx_machine.specs.language.KeepingStep.{AtFault, Completes}
 use Rattle.btx_run.specs.declared.options.Options.{Options}
 use Rattle.btx_run.specs.language.Product.{product, product_with}
 
--- there are files such that the report is that of their product, and both outputs received its bytes
+-- there are files such that the report is that of their product, and both outputs received its bytes. `before` and `after` are what the two sinks had
+-- received before the run and after it: the sink of the list first, that of the log second. A sink that doesn't show its bytes has `None`
 pub record CompletesAsAnswered (name : List ℕ) (options : Options) (before after : Option (List ℕ) × Option (List ℕ)) (report : Report) : Type 0 where
   pub files : Files
   pub completes : Completes report before after (product files name options)

@@ -20,22 +20,25 @@ use Rattle.btx_run.specs.language.Contents.{style_in}
 use Rattle.btx_run.specs.language.Files.Found.{NamedFile}
 use Rattle.btx_run.specs.language.Files.Readings.{job_named, reading_of}
 
--- what follows the reading of the files, with a budget: the run ends at once, or the style is executed, with the library of the databases that were found
--- and with what was asked. `counts` are those of what was logged before
+-- what follows the reading of the files, with a budget: the run ends at once, or the style is executed, with the library of the databases that were
+-- found and with the options. In that library an entry that isn't cited needs at least `options.min_crossrefs` references to stay. `counts` are the
+-- numbers of warnings and errors that were logged before
 abbrev pub product_of_files : AuxJob → FilesRead → Options → LogCounts → ℕ → Product
 product_of_files job (Ends ending) options counts budget = record { bbl = []; log_so_far = []; report = report_of ending 0 0 counts }
 product_of_files job (Found found) options counts budget =
     let style = style_in found in
     let work : Job = record {
       style = style;
-      library = library_of (asked style job options.min_crossrefs) style.macros (map (λ (file : NamedFile). record { file = file.name; text = file.bytes }) found.databases);
+      library = library_of (asked style job options.min_crossrefs) style.macros
+          (map (λ (file : NamedFile). record { file = file.name; text = file.bytes }) found.databases);
       mode = options.text;
       entry_max = options.entry_max;
       global_max = options.global_max;
     } in
     style_product work counts options.line budget
 
--- the product of the job of this name, with a budget: what follows the reading of its files, with the lines that this logged before its own
+-- the product of the job of this name, with a budget: what follows the reading of its files, with the log lines of the
+-- reading before its own
 abbrev pub product_with : Files → List ℕ → Options → ℕ → Product
 product_with files name options budget =
     let read = reading_of files name in

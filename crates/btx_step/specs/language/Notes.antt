@@ -29,7 +29,8 @@ place_of executed (Some key) = codes " while executing " ++ executed ++ codes " 
 
 -- ---- the lines
 
--- the text of a log line, without `Warning--` or `Error--` before it and without its place
+-- the text of a log line, without `Warning--` or `Error--` before it and without its place. `WrongKind` is about a literal that isn't of the kind
+-- that a function wanted, and `NotAscii` about an integer that `int.to.chr$` can't make a character of
 unfoldable pub note_text : Style → Note → List ℕ
 note_text style note.EmptyStack = codes "You can't pop an empty literal stack"
 note_text style (note.WrongKind v wanted.Integer) = form_of style v ++ codes " is not an integer"
@@ -65,6 +66,7 @@ has_place (note.Warning text) = false
 has_place (note.Shown v) = false
 has_place _ = true
 
--- a line of the log, met while a function is executed, in an entry of this key if there is one
+-- the log line of a note that is met while `executed` is executed, in the entry of this key if there is one. A message that has a place ends with
+-- it: with the name of what is executed, and the key of the entry
 unfoldable pub note_line : Style → List ℕ → Option (List ℕ) → Note → Line
 note_line style executed key note = message (note_kind note) (note_text style note ++ (if has_place note then place_of executed key else []))

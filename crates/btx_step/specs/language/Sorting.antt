@@ -15,7 +15,7 @@ module _ {X : Type 0} (lt : X → X → Bool) where
   sorted_by (x ∷ xs) = inserted x (sorted_by xs)
 
 module _ {X : Type 0} where
-  -- the elements so that their keys ascend, and those of equal keys in the order in which they stood. A key comes before another one where at the first
-  -- byte that differs it has the smaller byte, and where it is a proper prefix
+  -- the elements so that their keys ascend, and those of equal keys in the order in which they stood. A key comes before another one if it has the
+  -- smaller byte at the first byte that differs, or if it is a proper prefix of the other
   abbrev pub sorted : (X → List ℕ) → List X → List X
   sorted key = sorted_by (λ x y. is_lt (slice_cmp nat_cmp (key x) (key y)))

@@ -36,7 +36,8 @@ behind lines part = logged (lines ++ part.lines) part.gives
 abbrev pub files_found : Files → List (List ℕ) → List NamedFile
 files_found files names = flat_map (λ name. option_to_list (file_at files name)) names
 
--- the log lines of the databases, which are numbered as they are found
+-- the log lines of the databases, which are numbered as they are found; a database that isn't there has a line too, but no number. `earlier` are the
+-- names before these
 abbrev pub databases_logged : Files → List (List ℕ) → List (List ℕ) → List Line
 databases_logged files earlier [] = []
 databases_logged files earlier (name ∷ names) =
@@ -45,8 +46,9 @@ databases_logged files earlier (name ∷ names) =
 
 -- ---- the style
 
--- the style of this name, once it is looked for, and then the databases: those that are there. If there is no such style that is an error, and the run
--- ends as `finished`, with the status 2; a style that is too long ends the run too, and no database is looked for
+-- the style of this name, once it is looked for, and then the databases of the job: those that are there. If there is no such style, that is an
+-- error, and the run ends as `finished`, with the status 2. A style that is too long ends the run at its limit. In both cases no database is looked
+-- for
 unfoldable pub style_read : Files → AuxJob → List ℕ → Option NamedFile → Logged FilesRead
 style_read files job name None = logged (no_style_line name ∷ []) (Ends ended.Finished)
 style_read files job name (Some style) =
