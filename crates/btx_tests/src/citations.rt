@@ -11,7 +11,7 @@ use std::test::Fail;
 // How many lines, errors and keys a job has, and how its reading ended.
 type Counts = (usize, usize, usize, End);
 
-// A top file's first lines, before one for a database and one for a style; its keys, its log and its counts, in the form of `Logged`.
+// A top file's first lines, before one for a database and one for a style; its keys, its log and its counts, in the form of `JobTexts`.
 #[derive(Clone, Copy)]
 struct Row {
     lines: &'static [u8],
@@ -115,7 +115,7 @@ const FOUND_TOP: &[u8] = b"The top-level auxiliary file: job.aux\n";
 // and the databases, each with a semicolon, with the style behind a colon. A test that holds a job or a finder itself takes long to
 // prove, since each `?` is a way out on which all of it is dropped.
 #[derive(Drop)]
-struct Logged {
+struct JobTexts {
     log: Vec<u8>,
     keys: Vec<u8>,
     files: Vec<u8>,
@@ -162,8 +162,8 @@ fn counts_of(job: &AuxJob) -> Counts {
 }
 
 // What a job says.
-fn logged(alloc: Global, job: &AuxJob) -> Result<Logged, AllocError> {
-    Ok(Logged {
+fn texts_of(alloc: Global, job: &AuxJob) -> Result<JobTexts, AllocError> {
+    Ok(JobTexts {
         log: log_of(alloc, job.log())?,
         keys: listed(alloc, job.keys())?,
         files: files_of(alloc, job)?,
@@ -173,27 +173,27 @@ fn logged(alloc: Global, job: &AuxJob) -> Result<Logged, AllocError> {
 }
 
 // What the job of a name says, over a finder.
-fn read_from<F: Finder>(alloc: Global, finder: &mut F, name: &[u8]) -> Result<Logged, Fault> {
+fn read_from<F: Finder>(alloc: Global, finder: &mut F, name: &[u8]) -> Result<JobTexts, Fault> {
     let job = read_aux(alloc, finder, name)?;
-    logged(alloc, &job).map_err(Fault::from)
+    texts_of(alloc, &job).map_err(Fault::from)
 }
 
 // A file's name and bytes.
 type File<'a> = (&'a [u8], &'a [u8]);
 
 // What the job of a name says, over files in memory.
-fn read_named(alloc: Global, files: &[File<'_>], name: &[u8]) -> Result<Logged, Fault> {
+fn read_named(alloc: Global, files: &[File<'_>], name: &[u8]) -> Result<JobTexts, Fault> {
     let mut finder = MemoryFinder::new(alloc, files)?;
     read_from(alloc, &mut finder, name)
 }
 
 // What the job `job.aux` says, over files in memory.
-fn read(alloc: Global, files: &[File<'_>]) -> Result<Logged, Fault> {
+fn read(alloc: Global, files: &[File<'_>]) -> Result<JobTexts, Fault> {
     read_named(alloc, files, b"job.aux")
 }
 
 // What a job says whose top file ends in one line for a database and one for a style.
-fn read_lines(alloc: Global, lines: &[u8]) -> Result<Logged, Fault> {
+fn read_lines(alloc: Global, lines: &[u8]) -> Result<JobTexts, Fault> {
     let top = joined(alloc, &[lines, b"\n\\bibdata{d}\n\\bibstyle{s}\n"])?;
     read(alloc, &[(b"job.aux", &top)])
 }
@@ -213,28 +213,28 @@ fn same(rt: &impl Abort, found: &[u8], wanted: &[u8]) {
 // Asserts a job's keys, its log and its counts.
 fn says(
     rt: &impl Abort,
-    told: Result<Logged, Fault>,
+    found: Result<JobTexts, Fault>,
     keys: &[u8],
     log: &[u8],
     counts: Counts,
 ) -> Result<(), Fail> {
-    let told = told?;
-    same(rt, &told.keys, keys);
-    same(rt, &told.log, log);
-    assert!(rt; told.counts == counts);
+    let found = found?;
+    same(rt, &found.keys, keys);
+    same(rt, &found.log, log);
+    assert!(rt; found.counts == counts);
     Ok(())
 }
 
 // Asserts a job's files, and the place of `*`.
 fn uses(
     rt: &impl Abort,
-    told: Result<Logged, Fault>,
+    found: Result<JobTexts, Fault>,
     files: &[u8],
     all: Option<usize>,
 ) -> Result<(), Fail> {
-    let told = told?;
-    same(rt, &told.files, files);
-    assert!(rt; told.all == all);
+    let found = found?;
+    same(rt, &found.files, files);
+    assert!(rt; found.all == all);
     Ok(())
 }
 
@@ -252,14 +252,14 @@ fn stands(
 // Asserts how long the text of a job's keys is and how it ends, and the job's counts.
 fn ends(
     rt: &impl Abort,
-    told: Result<Logged, Fault>,
+    found: Result<JobTexts, Fault>,
     size: usize,
     last: &[u8],
     counts: Counts,
 ) -> Result<(), Fail> {
-    let told = told?;
-    assert!(rt; told.keys.len() == size && told.keys.ends_with(last));
-    assert!(rt; told.counts == counts);
+    let found = found?;
+    assert!(rt; found.keys.len() == size && found.keys.ends_with(last));
+    assert!(rt; found.counts == counts);
     Ok(())
 }
 
@@ -303,8 +303,8 @@ const CHAIN: [File<'static>; 21] = [
 #[test]
 fn logs_what_is_wrong(rt: HostRuntime) -> Result<(), Fail> {
     for row in &ROWS {
-        let told = read_lines(rt.alloc(), row.lines);
-        says(&rt, told, row.keys, row.log, row.counts)?;
+        let found = read_lines(rt.alloc(), row.lines);
+        says(&rt, found, row.keys, row.log, row.counts)?;
     }
     Ok(())
 }
@@ -318,10 +318,10 @@ fn two_bibdata() -> &'static [u8] {
 
 #[test]
 fn gives_each_part(rt: HostRuntime) -> Result<(), Fail> {
-    let told = read_lines(rt.alloc(), PARTS);
-    says(&rt, told, b"a;B;c;", two_bibdata(), (2, 1, 3, End::Whole))?;
-    let told = read_lines(rt.alloc(), PARTS);
-    uses(&rt, told, b"x.bib;y.bib;:s.bst", Some(2))
+    let found = read_lines(rt.alloc(), PARTS);
+    says(&rt, found, b"a;B;c;", two_bibdata(), (2, 1, 3, End::Whole))?;
+    let found = read_lines(rt.alloc(), PARTS);
+    uses(&rt, found, b"x.bib;y.bib;:s.bst", Some(2))
 }
 
 #[test]
@@ -341,12 +341,12 @@ const EMPTY: [File<'static>; 1] = [(b"job.aux", b"")];
 
 #[test]
 fn logs_what_is_missing(rt: HostRuntime) -> Result<(), Fail> {
-    let told = read(rt.alloc(), &EMPTY);
-    says(&rt, told, b"", all_missing(), (4, 3, 0, End::Whole))?;
-    let told = read_named(rt.alloc(), &EMPTY, b"other.aux");
-    says(&rt, told, b"", b"", (0, 0, 0, End::TopMissing))?;
-    let told = read_named(rt.alloc(), &EMPTY, b"other.aux");
-    uses(&rt, told, b"", None)
+    let found = read(rt.alloc(), &EMPTY);
+    says(&rt, found, b"", all_missing(), (4, 3, 0, End::Whole))?;
+    let found = read_named(rt.alloc(), &EMPTY, b"other.aux");
+    says(&rt, found, b"", b"", (0, 0, 0, End::TopMissing))?;
+    let found = read_named(rt.alloc(), &EMPTY, b"other.aux");
+    uses(&rt, found, b"", None)
 }
 
 // The log of files that input one another.
@@ -356,8 +356,8 @@ fn through_log() -> &'static [u8] {
 
 #[test]
 fn reads_no_file_twice(rt: HostRuntime) -> Result<(), Fail> {
-    let told = read(rt.alloc(), &through());
-    says(&rt, told, b"k;", through_log(), (3, 1, 1, End::Whole))
+    let found = read(rt.alloc(), &through());
+    says(&rt, found, b"k;", through_log(), (3, 1, 1, End::Whole))
 }
 
 // A text once for each of these numbers, which stands there in the place of each `#`.
@@ -385,8 +385,8 @@ fn chain_log(alloc: Global, lines: &[u8]) -> Result<Vec<u8>, Fail> {
 #[test]
 fn opens_twenty_files(rt: HostRuntime) -> Result<(), Fail> {
     let log = chain_log(rt.alloc(), b"")?;
-    let told = read(rt.alloc(), &CHAIN);
-    says(&rt, told, b"", &log, (20, 0, 0, End::TooManyOpen))
+    let found = read(rt.alloc(), &CHAIN);
+    says(&rt, found, b"", &log, (20, 0, 0, End::TooManyOpen))
 }
 
 // The log's last lines for a chain of twenty files, the last of which inputs one that isn't there.
@@ -402,8 +402,8 @@ fn twenty_keys() -> &'static [u8] {
 #[test]
 fn goes_on_behind_the_twentieth(rt: HostRuntime) -> Result<(), Fail> {
     let log = chain_log(rt.alloc(), missing_file())?;
-    let told = read(rt.alloc(), &CHAIN[..20]);
-    says(&rt, told, twenty_keys(), &log, (23, 3, 20, End::Whole))
+    let found = read(rt.alloc(), &CHAIN[..20]);
+    says(&rt, found, twenty_keys(), &log, (23, 3, 20, End::Whole))
 }
 
 // How a read ended whose finder fails: its fault, and how often the finder was asked and failed.
@@ -460,9 +460,9 @@ fn stops_at_a_refused_fetch(rt: HostRuntime) -> Result<(), Fail> {
 #[test]
 fn reads_many_citations(rt: HostRuntime) -> Result<(), Fail> {
     let top = numbered(rt.alloc(), 0..100_000, b"\\citation{Key#,key#,Key#}\n")?;
-    let told = read(rt.alloc(), &[(b"job.aux", &top)]);
+    let found = read(rt.alloc(), &[(b"job.aux", &top)]);
     let counts = (100_003, 100_002, 100_000, End::Whole);
-    ends(&rt, told, 888_890, b";Key99999;", counts)
+    ends(&rt, found, 888_890, b";Key99999;", counts)
 }
 
 // Each line inputs a file of its own.
@@ -474,8 +474,8 @@ fn reads_many_files(rt: HostRuntime) -> Result<(), Fail> {
         bytes: &top,
         others: b"\\citation{k}",
     };
-    let told = read_from(rt.alloc(), &mut finder, b"job.aux");
-    ends(&rt, told, 2, b"k;", (5_003, 2, 1, End::Whole))
+    let found = read_from(rt.alloc(), &mut finder, b"job.aux");
+    ends(&rt, found, 2, b"k;", (5_003, 2, 1, End::Whole))
 }
 
 // A line that cites a key of 10,000,000 bytes.
@@ -492,8 +492,8 @@ fn long_line(alloc: Global) -> Result<Vec<u8>, AllocError> {
 #[test]
 fn reads_a_long_line(rt: HostRuntime) -> Result<(), Fail> {
     let top = long_line(rt.alloc())?;
-    let told = read(rt.alloc(), &[(b"job.aux", &top)]);
-    ends(&rt, told, 10_000_001, b"K;", (3, 2, 1, End::Whole))
+    let found = read(rt.alloc(), &[(b"job.aux", &top)]);
+    ends(&rt, found, 10_000_001, b"K;", (3, 2, 1, End::Whole))
 }
 
 // Fetches one of the files that input one another.
@@ -525,8 +525,8 @@ fn says_what_failed(rt: HostRuntime) -> Result<(), Fail> {
         (FetchFault::Device, "device error"),
         (FetchFault::Memory, "out of memory"),
     ] {
-        let told = fault.to_string(rt.alloc())?;
-        same(&rt, told.as_bytes(), text.as_bytes());
+        let found = fault.to_string(rt.alloc())?;
+        same(&rt, found.as_bytes(), text.as_bytes());
     }
     Ok(())
 }
