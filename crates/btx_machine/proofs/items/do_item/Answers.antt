@@ -3,7 +3,7 @@ use Rattle.btx_bst.specs.refinement.Views.{complaint_view, item_view}
 use Rattle.btx_bst.specs.language.MessageTexts.{complaint_line}
 use Rattle.btx_bst.specs.language.Style.{Style}
 use Rattle.btx_machine.proofs.ComesLemmas.{on_err, err_map, ok_map}
-use Rattle.btx_machine.proofs.DoLemmas.{at_rest, read_fails, message_fails, execute_fails, iterate_fails, reverse_fails, reverse_runs}
+use Rattle.btx_machine.proofs.DoLemmas.{at_rest, read_fails, message_fails, execute_fails, iterate_fails, iterate_runs, reverse_fails, reverse_runs}
 use Rattle.btx_machine.proofs.items.do_item.Goals as goal
 
 pub returns-in_err-line-in-Message-clause-err : goal.returns-in_err-line-in-Message-clause-err
@@ -27,6 +27,9 @@ returns-in_err-sort-in-Sort-clause-err g c = on_err c.from_residual-in_err-sort-
 
 pub returns-in-Execute-clause-err : goal.returns-in-Execute-clause-err
 returns-in-Execute-clause-err g c = err_map (execute_fails c.args.job.now c.args.list.now.items c.in-Execute.function (item_view c.args.item.now) c.args.work.now c.args.left.now c.visit.new.work.outputs (ap item_view c.in-Execute.is)) c.visit.result c.visit.ensures.err
+
+pub returns-in-Iterate-clause-outcome : goal.returns-in-Iterate-clause-outcome
+returns-in-Iterate-clause-outcome g c = ok_map (λ end comes. iterate_runs c.args.job.now c.args.list.now.items c.in-Iterate.function (item_view c.args.item.now) c.args.work.now c.args.left.now c.visit_all.new.work.outputs (ap item_view c.in-Iterate.is) c.as_slice.result.now c.as_slice.ensures.value c.visit_all.new.work (c.args.left.now - c.visit_all.new.left) end comes) c.visit_all.result c.visit_all.ensures.outcome
 
 pub returns-in-Iterate-clause-err : goal.returns-in-Iterate-clause-err
 returns-in-Iterate-clause-err g c = err_map (iterate_fails c.args.job.now c.args.list.now.items c.in-Iterate.function (item_view c.args.item.now) c.args.work.now c.args.left.now c.visit_all.new.work.outputs (ap item_view c.in-Iterate.is) c.as_slice.result.now c.as_slice.ensures.value) c.visit_all.result c.visit_all.ensures.err
