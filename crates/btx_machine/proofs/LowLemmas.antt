@@ -1,6 +1,6 @@
 -- Where no function of the style stands on the stack, a step leaves none there; and what it opens or executes comes of its token alone.
 use Rattle.std.proofs.Common.{◌≡◌, ℕ, ℤ, pos, ◌<◌, Bool, true, false, cond, nat_lt, List, [], ◌∷◌, ◌++◌, length, take, Option, Some, None, refl, arith, sym, subst, negsuc}
-use Rattle.std.specs.Prelude.{◌+ℤ◌, ◌-ℤ◌, int_lt, slice_get, slice_index_or}
+use Rattle.std.specs.Prelude.{◌+ℤ◌, ◌-ℤ◌, int_lt, slice_get, slice_index_or, codes}
 use Rattle.std.specs.List.{list_all}
 use Rattle.std.specs.Ordering.{int_eq}
 use Rattle.std.specs.Str.{bytes_eq}
@@ -314,7 +314,7 @@ module _ (r : ℕ) where
   row_low job built_in.Pop c = λ x u s h. (tt, h)
   row_low job built_in.Preamble c = λ s h. string_low said.Nothing job.library.preamble s h
   row_low job built_in.Purify c = λ text u s h. text_low said.Nothing (purify_of text) s h
-  row_low job built_in.Quote c = λ s h. string_low said.Nothing (34 ∷ []) s h
+  row_low job built_in.Quote c = λ s h. string_low said.Nothing (codes "\"") s h
   row_low job built_in.Skip c = λ s h. (tt, h)
   row_low job built_in.Stack c = λ s h. (tt, tt)
   row_low job built_in.Substring c = λ length u start v text w s h. text_low said.Nothing (substring_of text start length) s h
