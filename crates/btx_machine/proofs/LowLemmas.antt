@@ -226,7 +226,7 @@ module _ (r : ℕ) where
 
   entry_integer_low : (i : ℕ) (current : Option ℕ) (s : Store) → Free s.literals → Low r (kept_variables.entry_integer i current s)
   entry_integer_low i None s h = outside_low s h
-  entry_integer_low i (Some entry) s h = integer_low said.Nothing (kept_variables.integer_of s.entries entry i) s h
+  entry_integer_low i (Some entry) s h = integer_low said.Nothing (variables.integer_of s.entries entry i) s h
 
   entry_string_low : (i : ℕ) (current : Option ℕ) (s : Store) → Free s.literals → Low r (kept_variables.entry_string i current s)
   entry_string_low i None s h = outside_low s h

@@ -5,8 +5,8 @@ use Rattle.std.proofs.Math.Seq.{take-set-lt}
 use Rattle.std.proofs.lemmas.Option.{unwrap_or-slice_get, slice_get-get_or, slice_get_past}
 use Rattle.std.proofs.lemmas.Int.{to_z-of_z}
 use Rattle.btx_step.specs.language.Stores.{EntryVariables}
-use Rattle.btx_step.specs.language.Variables.{values_of, string_of}
-use Rattle.btx_step.specs.refinement.Variables.{rows, integer_set, string_set, integer_of}
+use Rattle.btx_step.specs.language.Variables.{values_of, integer_of, string_of}
+use Rattle.btx_step.specs.refinement.Variables.{rows, integer_set, string_set}
 
 -- ---- places
 

@@ -1,8 +1,8 @@
 //! The values of variables, by number.
 ghost use Rattle.std.specs.Prelude.{◌≡◌, ◌<◌, ◌≤◌, ◌+◌, ◌*◌, ◌^◌, ◌⊎◌, pos, [], length, replicate, slice_get, slice_set};
 ghost use Rattle.std.specs.Prelude.{IfOk, IfSome, IfNone};
-ghost use Rattle.btx_step.specs.language.Variables.{string_of, values_of};
-ghost use Rattle.btx_step.specs.refinement.Variables.{integer_in, integer_set, string_set, integer_of};
+ghost use Rattle.btx_step.specs.language.Variables.{integer_of, string_of, values_of};
+ghost use Rattle.btx_step.specs.refinement.Variables.{integer_in, integer_set, string_set};
 
 use crate::list::item;
 use btx_text::Text;
