@@ -216,8 +216,8 @@ module _ (r : ℕ) where
   in_entry_low go (Some entry) s h each = each entry
 
   assigned_low : (job : Job) (f : Callee) (v : Literal) (s : Store) → Free s.literals → Low r (variables.assigns job f v s)
-  assigned_low job (callee.GlobalInteger i) v s h = stored_integer_low (kept_variables.with_integer i) (λ n s. refl) v s h
-  assigned_low job (callee.GlobalString i) v s h = stored_string_low job.global_max (kept_variables.with_string i) (λ text s. refl) v s h
+  assigned_low job (callee.GlobalInteger i) v s h = stored_integer_low (variables.with_global_integer i) (λ n s. refl) v s h
+  assigned_low job (callee.GlobalString i) v s h = stored_string_low job.global_max (variables.with_global_string i) (λ text s. refl) v s h
   assigned_low job (callee.EntryInteger i) v s h =
       in_entry_low (λ entry. variables.stores_integer (variables.with_entry_integer entry i) v) s.current s h (λ entry. stored_integer_low (variables.with_entry_integer entry i) (λ n s. refl) v s h)
   assigned_low job (callee.EntryString i) v s h =
