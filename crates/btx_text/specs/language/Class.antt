@@ -22,7 +22,8 @@ is_sep b = b == byte "~" || b == byte "-"
 abbrev pub is_name_byte : ℕ → Bool
 is_name_byte b =
     nat_le 33 b
-    && not (b == byte "\"" || b == byte "#" || b == byte "%" || b == byte "'" || b == byte "(" || b == byte ")" || b == byte "," || b == byte "=" || b == byte "{" || b == byte "}")
+    && not (b == byte "\"" || b == byte "#" || b == byte "%" || b == byte "'" || b == byte "(" || b == byte ")"
+    || b == byte "," || b == byte "=" || b == byte "{" || b == byte "}")
 
 -- a byte that a name begins with, in styles and in databases: no digit
 abbrev pub begins_name : ℕ → Bool
