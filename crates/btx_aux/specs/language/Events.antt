@@ -64,8 +64,8 @@ expanded files reading earlier (event ∷ events) =
     let more = followed files reading with_event event (asked_of (files_named earlier) event.word) in
     (event ∷ more) ++ expanded files reading (with_event ++ more) events
 
--- the events of a file from its opening on, given how many of the 20 files that may be open at once aren't open yet; if there are none, that too
--- many are open. A file that is too long says just that
+-- the events of a file from its opening on, given how many of the 20 files that may be open at once aren't open yet. If there are none, the only
+-- event is that too many are open. After its opening a file that is too long has only the event that it is; any other has those of its lines
 abbrev pub opened : Files → ℕ → FileEvents
 opened files zero earlier name text = event_at name 0 Full ∷ []
 opened files (suc room) earlier name text =

@@ -96,9 +96,9 @@ abbrev pub slip_complaints : Piece → List AuxComplaint
 slip_complaints (Taken name) = []
 slip_complaints (Cut slip) = Slipped slip ∷ []
 
--- what is wrong with an event, given the keys, the place of `*`, whether there were a `\bibdata` and a `\bibstyle` line, and the file names, all as
--- they stand before it: an error in a piece, a second `*`, a key that is listed in another spelling (`earlier`), a second line of its kind, an `\@input`
--- of another ending than `.aux` or of a file that is named already, and a file that isn't there
+-- what is wrong with an event, given what the events before it come to: the keys, the place of `*`, whether there were a `\bibdata` and a `\bibstyle`
+-- line, and the file names. Each of these is wrong: an error in a piece; a second `*`; a key that is listed in another spelling (`earlier`); a second
+-- line of its kind; an `\@input` of another ending than `.aux`, or of a file that is named already; and a file that isn't there
 abbrev pub event_complaints : List (List ℕ) → Option ℕ → Bool → Bool → List (List ℕ) → EventKind → List AuxComplaint
 event_complaints keys all bibdata bibstyle files (Cites (Taken key)) =
     if is_star key then only_if (is_some all) SecondStar
@@ -121,7 +121,8 @@ notes_by keys all bibdata bibstyle files event word =
 
 -- the notes of an event, given the events before it
 abbrev pub notes_at : List AuxEvent → AuxEvent → List AuxNote
-notes_at earlier event = notes_by (cited_keys earlier) (all_of earlier) (is_some (bibdata_of earlier)) (is_some (bibstyle_of earlier)) (files_named earlier) event event.word
+notes_at earlier event =
+    notes_by (cited_keys earlier) (all_of earlier) (is_some (bibdata_of earlier)) (is_some (bibstyle_of earlier)) (files_named earlier) event event.word
 
 -- ---- the end
 
@@ -135,8 +136,8 @@ abbrev pub is_empty : List (List ℕ) → Bool
 is_empty [] = true
 is_empty (key ∷ keys) = false
 
--- the notes at the end: after a whole reading, what is missing, which is any key and `*`; a `\bibdata` line, unless `bibdata` is true; and a
--- `\bibstyle` line, unless `bibstyle` is true
+-- the notes at the end. After a whole reading they say what is missing: citations, if no key is listed and no `*` was cited; a `\bibdata` line, unless
+-- `bibdata` is true; a `\bibstyle` line, unless `bibstyle` is true. After any other end there are none
 abbrev pub closing_notes : End → List (List ℕ) → Option ℕ → Bool → Bool → List AuxNote
 closing_notes end.Whole keys all bibdata bibstyle =
     only_if (is_empty keys && is_none all) NoCitations ++ only_if (not bibdata) NoBibdata ++ only_if (not bibstyle) NoBibstyle
@@ -144,7 +145,9 @@ closing_notes _ keys all bibdata bibstyle = []
 
 -- all notes: of each event in turn, and then at the end
 abbrev pub notes_of : List AuxEvent → List AuxNote
-notes_of events = gathered notes_at [] events ++ closing_notes (end_of events) (cited_keys events) (all_of events) (is_some (bibdata_of events)) (is_some (bibstyle_of events))
+notes_of events =
+    gathered notes_at [] events
+    ++ closing_notes (end_of events) (cited_keys events) (all_of events) (is_some (bibdata_of events)) (is_some (bibstyle_of events))
 
 -- ---- the job
 
@@ -158,7 +161,8 @@ pub record AuxJob : Type 0 where
   pub log : List Line
   pub ending : End
 
--- the job whose top file is `top`, read from `files`
+-- the job whose top file is `top`, read from `files`. The databases are those that the first `\bibdata` line names. The style is the one that the first
+-- `\bibstyle` line names, with `.bst`; there is none without such a line, or if its piece is faulty
 unfoldable pub job_of_files : Files → List ℕ → AuxJob
 job_of_files files top = let events = job_events files top in record {
   keys = cited_keys events;
