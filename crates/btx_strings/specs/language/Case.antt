@@ -65,7 +65,7 @@ abbrev pub is_white_text : List ℕ → Bool
 is_white_text (b ∷ []) = is_white b
 is_white_text _ = false
 
--- the elements before, nearest first, are a depth-0 colon with nothing but white after it
+-- of the elements before, which stand nearest first, the nearest that isn't whitespace is a colon at depth 0
 abbrev pub after_colon : List Element → Bool
 after_colon [] = false
 after_colon (part ∷ before) = if is_white_text part.text then after_colon before else part.depth == 0 && bytes_eq part.text (codes ":")
@@ -80,7 +80,8 @@ abbrev pub is_title : Conversion → Bool
 is_title Title = true
 is_title _ = false
 
--- an element in another case, given its kind, depth and text: bytes at depth 0 and special characters change, others stay
+-- an element in another case, given its kind, depth and text. A byte at depth 0 changes. A special character changes glyph by glyph; the whitespace
+-- directly after a control sequence that becomes letters is removed. Any other element stays as it is
 abbrev pub cased_as : Conversion → Kind → ℕ → List ℕ → List ℕ
 cased_as conversion Byte depth text = if depth == 0 then map (case_of conversion) text else text
 cased_as conversion Special depth text = flat_map (cased_glyph conversion) (without_white (becomes_letters conversion) [] (glyphs_of text))
@@ -97,7 +98,8 @@ cased_parts conversion before (part ∷ parts) = cased_part conversion (begins_t
 
 -- ---- `change.case$`
 
--- `change.case$`: the string in the case that the conversion names; unchanged if it is none
+-- `change.case$`: the string in the case that the conversion names; unchanged if it names none. The string is read as bytes in either mode: bytes
+-- from 128 up have no case
 abbrev pub change_case_of : List ℕ → List ℕ → List ℕ
 change_case_of string conversion =
     option_map_or (λ (to : Conversion). cased_parts to [] (elements_of Bytes string)) (conversion_of conversion) string
