@@ -14,7 +14,7 @@ use Rattle.btx_names.specs.language.VonTokens.{is_von}
 
 -- ---- commas
 
--- the texts before and after the first comma at depth 0, if a token follows it: a comma that no token follows says nothing
+-- the texts before and after the first comma at depth 0, if a token follows it. A comma that only whitespace, `~`, `-` and commas follow says nothing
 unfoldable pub split_at_comma : List ℕ → Option (List ℕ × List ℕ)
 split_at_comma text =
     let size = run_len Comma 0 text in
@@ -94,7 +94,8 @@ pub record NameParts : Type 0 where
   pub last : List NameToken
   pub jr : List NameToken
 
--- the parts of a name without commas, First von Last, given its tokens. von begins with the first von token; where there is none, Last begins there
+-- the parts of a name without commas, First von Last, given its tokens. First ends before `start`: that is the index of the first von token, or,
+-- where there is no von, of the first token of Last
 abbrev pub unsplit : List NameToken → NameParts
 unsplit tokens =
     let start = if nat_lt 0 (von_end tokens) then before_first (λ (token : NameToken). is_von token.text) tokens else last_start tokens in
