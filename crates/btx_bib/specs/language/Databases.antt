@@ -47,8 +47,8 @@ library_by end.Whole wanted known messages = record {
 library_by end.FileLimit wanted known messages = record { entries = []; preamble = []; messages = messages; ending = end.FileLimit }
 library_by end.StringLimit wanted known messages = record { entries = []; preamble = []; messages = messages; ending = end.StringLimit }
 
--- what databases give to a job, where `macros` are those of its style: at the start no strings, no entries and no preamble are known, then each macro is
--- a string, and the databases are read one after the other
+-- what databases give to a job, where `macros` are those of its style. At the start no strings, no entries and no preamble are known. Then each macro
+-- is a string, and the databases are read one after the other
 unfoldable pub library_of : Request → List (List ℕ × List ℕ) → List Database → Library
 library_of wanted macros databases =
     let start : Known = record { strings = []; stored = []; current = None; preamble = []; ending = end.Whole } in

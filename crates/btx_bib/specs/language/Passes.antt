@@ -21,7 +21,8 @@ passed judge done (slot ∷ slots) = passed judge (done ++ judge (done ++ slot �
 -- pass takes away
 abbrev pub pass_messages : (List Slot → Slot → Slot) → (List Slot → Slot → List Message) → List Slot → List Slot → List Message
 pass_messages judge report done [] = []
-pass_messages judge report done (slot ∷ slots) = report (done ++ slot ∷ slots) slot ++ pass_messages judge report (done ++ judge (done ++ slot ∷ slots) slot ∷ []) slots
+pass_messages judge report done (slot ∷ slots) =
+    report (done ++ slot ∷ slots) slot ++ pass_messages judge report (done ++ judge (done ++ slot ∷ slots) slot ∷ []) slots
 
 -- the values of an entry of the list; none if the place has no entry
 abbrev pub body_values : Option Body → List (Option (List ℕ))
@@ -85,7 +86,7 @@ parent_messages child key None = BadReference child key ∷ []
 parent_messages child key (Some parent) =
     if is_some parent.body then (if is_some (parent_at parent) then NestedReference child key ∷ [] else []) else BadReference child key ∷ []
 
--- what the second pass logs of a place: that the parent has no entry, or that it has a parent itself
+-- what the second pass logs of a place: that the parent which the entry there names has no entry, or that it has a parent itself; else nothing
 unfoldable pub check_messages : List Slot → Slot → List Message
 check_messages slots slot = option_map_or (λ (key : List ℕ). parent_messages slot.key key (slot_at slots key)) (parent_at slot) []
 

@@ -7,7 +7,7 @@ use Rattle.btx_bib.specs.declared.grammar.value_ends.Ends.TheVariants.{Kept, Tri
 use Rattle.btx_bib.specs.language.Grammar.ByteSets.{is_gap, begins}
 use Rattle.btx_bib.specs.language.Grammar.Values.{Part, Braced, Quoted, Digits, Named}
 
--- the text of a part, where `strings` has the values of names: a name stands for its value, and for nothing where it has none
+-- the text of a part, where `strings` gives the value of each name that has one: a name stands for its value, and for nothing where it has none
 abbrev pub text_of_part : (List ℕ → Option (List ℕ)) → Part → List ℕ
 text_of_part strings (Braced text) = text
 text_of_part strings (Quoted text) = text

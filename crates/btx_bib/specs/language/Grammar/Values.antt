@@ -57,7 +57,8 @@ behind_hash (b ∷ bs) = if b == byte "#" then Some bs else None
 abbrev pub next_part : List ℕ → Option (List ℕ)
 next_part rest = behind_hash (past Gap rest)
 
--- reads a value of at most `turns` parts: a part, and the others if a `#` stands behind it. The bound is never reached, since each part takes a byte at least
+-- reads a value of at most `turns` parts: a part, and the others if a `#` stands behind it. The bound is never reached, since each part takes a byte
+-- at least
 unfoldable pub value_within : ℕ → List ℕ → Parsed (List Part)
 value_within zero text = Err (EndOfFile, [])
 value_within (suc turns) text =
