@@ -74,7 +74,7 @@ pub record Listed : Type 0 where
 abbrev pub listed : Option Complaint → Names → Place → Listed
 listed complaint names place = record { complaint = complaint; listing = listing names place }
 
--- declares the next name of a list, or ends the list with what is wrong: there is no name, or it names something already
+-- declares the next name of a list. If there is no name, or it names something already, that is an error, which ends the list
 abbrev pub name_turn : Kind → Names → Read (List ℕ) → Turn Listing Listed
 name_turn kind names (Slip complaint place) = Ends (listed (Some complaint) names place)
 name_turn kind names (Took name place) =

@@ -27,9 +27,9 @@ pub record Front : Type 0 where
 abbrev pub front : BodyWord → List ℕ → Front
 front word rest = record { word = word; rest = rest }
 
--- the string whose text is `text`, up to the next quote; what is left of the line then begins with that quote. Without a quote the string has no
--- end, and `line` is left. Behind the quote whitespace, `}`, `%` or the end of the line must follow, else everything up to one of these is skipped and
--- the string is an error
+-- the string whose text is `text`, up to the next quote; the third argument is what is left of the line, which begins with that quote. Without a quote
+-- the string has no end, and `line` is left. Behind the quote whitespace, `}`, `%` or the end of the line must follow. Else the string is an error, and
+-- everything up to one of these is skipped
 abbrev pub string_ended : List ℕ → List ℕ → List ℕ → Front
 string_ended line text [] = front Unended line
 string_ended line text (quote ∷ rest) =
