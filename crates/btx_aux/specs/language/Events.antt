@@ -12,7 +12,7 @@ use Rattle.btx_aux.specs.language.Names.{has_ending, distinct}
 use Rattle.btx_aux.specs.language.Grammar.{Taken, EventKind, Includes, Opens, Absent, Full, TooLong, NoTop, words_of, end_by, is_whole}
 use Rattle.btx_text.specs.language.Lists.{is_among}
 
--- an event, with its place: a file and a line of it, from 1 up, or 0 for the file as a whole
+-- an event: what is said or happens (`word`), and its place, which is a file and a line of it, from 1 up, or 0 for the file as a whole
 pub record AuxEvent : Type 0 where
   pub file : List ℕ
   pub line : ℕ
@@ -65,7 +65,8 @@ expanded files reading earlier (event ∷ events) =
     (event ∷ more) ++ expanded files reading (with_event ++ more) events
 
 -- the events of a file from its opening on, given how many of the 20 files that may be open at once aren't open yet. If there are none, the only
--- event is that too many are open. After its opening a file that is too long has only the event that it is; any other has those of its lines
+-- event is that too many are open. Else the file is opened: `19 - room` files are open before it. A file that is too long then has only the event that
+-- it is; any other has those of its lines
 abbrev pub opened : Files → ℕ → FileEvents
 opened files zero earlier name text = event_at name 0 Full ∷ []
 opened files (suc room) earlier name text =
