@@ -11,7 +11,8 @@ use Rattle.btx_bst.specs.language.Turns.{Turn, Again, Ends, turns_within}
 use Rattle.std.specs.Char.{is_ascii_alphabetic}
 use Rattle.std.specs.Str.{byte}
 
--- reads the byte `brace` at a place that isn't in whitespace or a comment, or says what is wrong: `complaint`, or that the file ends
+-- reads the byte `brace` at a place that isn't in whitespace or a comment, or says what is wrong: `complaint`, or that the file ends. What is read has
+-- no value of its own, so it is `tt`
 abbrev pub brace_in : ℕ → Complaint → Place → List ℕ → Read (Unit {0})
 brace_in brace complaint place [] = Slip EndOfFile place
 brace_in brace complaint place (b ∷ bs) = if b == brace then Took tt (further place bs) else Slip complaint place
