@@ -71,7 +71,9 @@ abbrev pub opened : Files → ℕ → FileEvents
 opened files zero earlier name text = event_at name 0 Full ∷ []
 opened files (suc room) earlier name text =
     let opening = event_at name 0 (Opens (19 - room)) in
-    opening ∷ (if is_too_long text then event_at name 0 TooLong ∷ [] else expanded files (opened files room) (earlier ++ opening ∷ []) (said name text))
+    opening
+    ∷ (if is_too_long text then event_at name 0 TooLong ∷ []
+    else expanded files (opened files room) (earlier ++ opening ∷ []) (said name text))
 
 -- the events up to the first that ends the reading
 abbrev pub until_end : List AuxEvent → List AuxEvent
@@ -80,4 +82,6 @@ until_end (event ∷ events) = if is_whole (end_by event.word) then event ∷ un
 
 -- the events of a job whose top file is `top`: those of that file and of the files that it opens, or that it is missing
 unfoldable pub job_events : Files → List ℕ → List AuxEvent
-job_events files top = until_end (option_map_or (opened files MOST_OPEN [] top) (files top) (event_at top 0 NoTop ∷ []))
+job_events files top =
+    until_end (option_map_or (opened files MOST_OPEN [] top)
+    (files top) (event_at top 0 NoTop ∷ []))

@@ -48,7 +48,11 @@ star_by _ count = []
 
 -- where `*` stands, if it is cited: how many keys the events before the first `*` list
 abbrev pub all_of : List AuxEvent → Option ℕ
-all_of events = first_of (gathered (λ (earlier : List AuxEvent) (event : AuxEvent). star_by event.word (length (cited_keys earlier))) [] events)
+all_of events =
+    first_of (gathered
+    (λ (earlier : List AuxEvent) (event : AuxEvent).
+    star_by event.word (length (cited_keys earlier)))
+    [] events)
 
 -- ---- databases and the style
 
@@ -117,12 +121,15 @@ abbrev pub notes_by : List (List ℕ) → Option ℕ → Bool → Bool → List 
 notes_by keys all bibdata bibstyle files event (Opens zero) = TopFile event.file ∷ []
 notes_by keys all bibdata bibstyle files event (Opens (suc level)) = LevelFile (suc level) event.file ∷ []
 notes_by keys all bibdata bibstyle files event word =
-    map (λ (complaint : AuxComplaint). Wrong complaint event.line event.file) (event_complaints keys all bibdata bibstyle files word)
+    map (λ (complaint : AuxComplaint). Wrong complaint event.line event.file)
+    (event_complaints keys all bibdata bibstyle files word)
 
 -- the notes of an event, given the events before it
 abbrev pub notes_at : List AuxEvent → AuxEvent → List AuxNote
 notes_at earlier event =
-    notes_by (cited_keys earlier) (all_of earlier) (is_some (bibdata_of earlier)) (is_some (bibstyle_of earlier)) (files_named earlier) event event.word
+    notes_by (cited_keys earlier) (all_of earlier)
+    (is_some (bibdata_of earlier)) (is_some (bibstyle_of earlier))
+    (files_named earlier) event event.word
 
 -- ---- the end
 
@@ -147,7 +154,8 @@ closing_notes _ keys all bibdata bibstyle = []
 abbrev pub notes_of : List AuxEvent → List AuxNote
 notes_of events =
     gathered notes_at [] events
-    ++ closing_notes (end_of events) (cited_keys events) (all_of events) (is_some (bibdata_of events)) (is_some (bibstyle_of events))
+    ++ closing_notes (end_of events) (cited_keys events) (all_of events)
+    (is_some (bibdata_of events)) (is_some (bibstyle_of events))
 
 -- ---- the job
 
@@ -168,7 +176,11 @@ job_of_files files top = let events = job_events files top in record {
   keys = cited_keys events;
   all = all_of events;
   databases = databases_in (bibdata_of events);
-  style = option_and_then (λ (piece : Piece). first_of (taken_with (codes ".bst") piece)) (bibstyle_of events);
-  log = map (λ (note : AuxNote). message (aux_note_kind note) (aux_note_text note)) (notes_of events);
+  style = option_and_then
+      (λ (piece : Piece). first_of (taken_with (codes ".bst") piece))
+      (bibstyle_of events);
+  log = map
+      (λ (note : AuxNote). message (aux_note_kind note) (aux_note_text note))
+      (notes_of events);
   ending = end_of events;
 }

@@ -29,8 +29,12 @@ with_macro known macro =
 abbrev pub read_one : Request → Reading → Database → Reading
 read_one wanted reading database =
     if goes_on reading.known.ending then
-    (if is_too_long database.text then record reading { known = record reading.known { ending = end.FileLimit } } else
-    (let last = fold (read_next wanted database) reading (events_from (keeping wanted) reading.known Item database.text) in
+    (if is_too_long database.text then
+    record reading { known = record reading.known { ending = end.FileLimit } }
+    else
+    (let last =
+    fold (read_next wanted database) reading
+    (events_from (keeping wanted) reading.known Item database.text) in
     record last { known = with_current_stored last.known }))
     else reading
 

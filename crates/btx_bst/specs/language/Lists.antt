@@ -93,7 +93,9 @@ list_turn kind listing = list_turn_in kind listing.names (closing listing.place)
 -- the names up to the `}` of a list. The bound on turns is never reached, since each turn reads a byte at least
 unfoldable pub list_end : Kind → Listing → Listed
 list_end kind listing =
-    turns_within (list_turn kind) (λ (so_far : Listing). listed (Some EndOfFile) so_far.names so_far.place) (suc (size listing.place)) listing
+    turns_within (list_turn kind)
+    (λ (so_far : Listing). listed (Some EndOfFile) so_far.names so_far.place)
+    (suc (size listing.place)) listing
 
 -- a list of names in braces
 abbrev pub list_read : Kind → Names → Read (Unit {0}) → Listed

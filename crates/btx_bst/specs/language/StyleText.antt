@@ -27,7 +27,9 @@ style_state style place = record { style = style; place = place }
 abbrev pub command_outcome : Style → Place → CommandOutcome
 command_outcome style place =
     after_read style (letters_at place) (λ word behind.
-    option_map_or (λ (command : Command). command_at command style behind) (command_named (folded word)) (outcome (Some (NotCommand word)) style behind))
+    option_map_or (λ (command : Command). command_at command style behind)
+    (command_named (folded word))
+    (outcome (Some (NotCommand word)) style behind))
 
 -- reads a command at a place that isn't in whitespace or a comment; at the end of the text the style ends. After the command reading goes on where it
 -- ends. If something was wrong, it goes on behind the next empty line, with a message
@@ -35,7 +37,9 @@ abbrev pub item_in : Style → Place → List ℕ → Turn StyleState Style
 item_in style place [] = Ends style
 item_in style place (b ∷ bs) =
     let after = command_outcome style place in
-    let faulty : Complaint → StyleState = λ complaint. style_state (with_item (Message complaint after.place.number) after.style) (skipped after.place) in
+    let faulty : Complaint → StyleState = λ complaint.
+    style_state (with_item (Message complaint after.place.number) after.style)
+    (skipped after.place) in
     Again (option_map_or faulty after.complaint (style_state after.style after.place))
 
 -- the command that stands next is read, or the text ends and with it the style

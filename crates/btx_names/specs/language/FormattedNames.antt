@@ -52,7 +52,9 @@ period_of is_full = if is_full then [] else byte "." ∷ []
 unfoldable pub between_text : TextMode → FormatPiece → List ℕ → Joint → ℕ → List ℕ
 between_text mode piece so_far joint left =
     if left == 0 then []
-    else unwrap_or piece.between (period_of piece.is_full ++ tie_of mode (so_far ++ period_of piece.is_full) joint (left == 1) ∷ [])
+    else unwrap_or piece.between
+    (period_of piece.is_full
+    ++ tie_of mode (so_far ++ period_of piece.is_full) joint (left == 1) ∷ [])
 
 -- the text of a piece, `so_far`, with further tokens appended: each in full or abbreviated, as the piece asks, and after it the text between tokens
 unfoldable pub with_tokens : TextMode → FormatPiece → List ℕ → List NameToken → List ℕ

@@ -45,7 +45,9 @@ sections_of name = cut_first name (split_at_comma name)
 unfoldable pub ends_in_comma : List ℕ → Bool
 ends_in_comma name =
     let comma = byte "," in
-    option_map_or (λ b. b == comma) (find (λ b. not (is_white b || is_sep b)) (reverse name)) false && depth_of name == 0
+    option_map_or (λ b. b == comma)
+    (find (λ b. not (is_white b || is_sep b)) (reverse name)) false
+    && depth_of name == 0
 
 -- a name has a third comma that a token follows
 abbrev pub has_third_comma : Sections → Bool
@@ -83,7 +85,10 @@ von_end tokens = up_to_last (λ (token : NameToken). is_von token.text) (before_
 -- the index of the first token of Last in a name without commas: the one after von; without von the final token, or the first of those that `-`
 -- joins to it
 abbrev pub last_start : List NameToken → ℕ
-last_start tokens = if nat_lt 0 (von_end tokens) then von_end tokens else up_to_last (λ (token : NameToken). not (is_hyphen token.joint)) (before_final tokens)
+last_start tokens =
+    if nat_lt 0 (von_end tokens) then von_end tokens
+    else up_to_last (λ (token : NameToken). not (is_hyphen token.joint))
+    (before_final tokens)
 
 -- ---- the parts
 
@@ -98,7 +103,10 @@ pub record NameParts : Type 0 where
 -- where there is no von, of the first token of Last
 abbrev pub unsplit : List NameToken → NameParts
 unsplit tokens =
-    let start = if nat_lt 0 (von_end tokens) then before_first (λ (token : NameToken). is_von token.text) tokens else last_start tokens in
+    let start =
+    if nat_lt 0 (von_end tokens) then
+    before_first (λ (token : NameToken). is_von token.text) tokens
+    else last_start tokens in
     record {
       first = take start tokens;
       von = take (last_start tokens - start) (drop start tokens);

@@ -84,7 +84,9 @@ is_title _ = false
 -- directly after a control sequence that becomes letters is removed. Any other element stays as it is
 abbrev pub cased_as : Conversion → Kind → ℕ → List ℕ → List ℕ
 cased_as conversion Byte depth text = if depth == 0 then map (case_of conversion) text else text
-cased_as conversion Special depth text = flat_map (cased_glyph conversion) (without_white (becomes_letters conversion) [] (glyphs_of text))
+cased_as conversion Special depth text =
+    flat_map (cased_glyph conversion)
+    (without_white (becomes_letters conversion) [] (glyphs_of text))
 cased_as conversion _ depth text = text
 
 -- an element in another case; in a title it stays as it is if it begins the title or a part of it, which `begins` says
@@ -102,9 +104,11 @@ cased_parts conversion before (part ∷ parts) = cased_part conversion (begins_t
 -- from 128 up have no case
 abbrev pub change_case_of : List ℕ → List ℕ → List ℕ
 change_case_of string conversion =
-    option_map_or (λ (to : Conversion). cased_parts to [] (elements_of Bytes string)) (conversion_of conversion) string
+    option_map_or (λ (to : Conversion). cased_parts to [] (elements_of Bytes string))
+    (conversion_of conversion) string
 
 -- the errors of `change.case$` with the string `conversion` on top: one, if that isn't `t`, `l` or `u`
 abbrev pub case_complaints : List ℕ → Complaints
 case_complaints conversion =
-    option_map_or (λ (to : Conversion). no_complaints) (conversion_of conversion) (record no_complaints { illegal_conversion = true })
+    option_map_or (λ (to : Conversion). no_complaints) (conversion_of conversion)
+    (record no_complaints { illegal_conversion = true })

@@ -103,7 +103,9 @@ as_known is_stored got = if is_repeated is_stored got.0 then (Wrong Repeated, It
 abbrev pub next_step : (List ℕ → Bool) → Wanted → List ℕ → Option Step
 next_step is_stored wanted text =
     option_map
-    (λ (step : Step). let got = as_known is_stored (step.event, step.wanted) in record { event = got.0; wanted = got.1; rest = step.rest })
+    (λ (step : Step).
+    let got = as_known is_stored (step.event, step.wanted) in
+    record { event = got.0; wanted = got.1; rest = step.rest })
     (expected_step wanted text)
 
 -- how what is known of the items before is kept, where S is the type of all that is known: which keys are stored, and what is known after a
@@ -120,7 +122,9 @@ unfoldable pub events_within : {S : Type 0} → Keeping S → ℕ → S → Want
 events_within keeping zero state wanted text = []
 events_within keeping (suc turns) state wanted text =
     option_map_or
-    (λ (step : Step). record { event = step.event; rest = step.rest } ∷ events_within keeping turns (keeping.after state step.event) step.wanted step.rest)
+    (λ (step : Step).
+    record { event = step.event; rest = step.rest }
+    ∷ events_within keeping turns (keeping.after state step.event) step.wanted step.rest)
     (next_step (keeping.is_stored state) wanted text) []
 
 -- the events of a text, given what is known before it and what is expected first. The bound on their number is never reached, since each takes a
