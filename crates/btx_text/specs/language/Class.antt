@@ -1,5 +1,5 @@
 -- The classes of bytes. Alpha is `A-Z`, `a-z` and the bytes from 128 up, which have no case (this project's own rule);
--- separators are `~` and `-` (btxhak, section 5.3, at `purify$`); white is space, tab and, this project's own, carriage return.
+-- separators are `~` and `-` (btxhak, section 5.3, at `purify$`); whitespace is space, tab and, this project's own, carriage return.
 use Rattle.std.specs.Prelude.{ℕ, ◌==◌, ◌||◌, ◌&&◌, nat_le, Bool, not, if◌then◌else◌}
 use Rattle.btx_text.specs.declared.byte_class.Class.{Class}
 use Rattle.btx_text.specs.declared.byte_class.Class.TheVariants.{White, Alpha, Digit, Sep, Other}
