@@ -9,7 +9,7 @@ use Rattle.std.specs.Str.{byte}
 
 -- ---- separators
 
--- a text begins with a white byte, `and` in any case, and a white byte
+-- a text begins with a byte of whitespace, `and` in any case, and a byte of whitespace
 unfoldable pub is_separator : List ℕ → Bool
 is_separator text =
     nat_le 5 (length text) && is_white (slice_index text 0)
