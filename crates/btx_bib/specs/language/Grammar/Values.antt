@@ -44,7 +44,7 @@ part_in (b ∷ bs) =
     else if begins_name b then Ok (Named (record { name = longest_run NameByte (b ∷ bs); rest = past NameByte (b ∷ bs) }), past NameByte (b ∷ bs))
     else Err (NoValue, b ∷ bs)
 
--- the part of a value that stands next, behind white
+-- the part of a value that stands next, behind whitespace
 abbrev pub part_at : List ℕ → Parsed Part
 part_at text = part_in (past Gap text)
 
@@ -53,7 +53,7 @@ abbrev pub behind_hash : List ℕ → Option (List ℕ)
 behind_hash [] = None
 behind_hash (b ∷ bs) = if b == byte "#" then Some bs else None
 
--- the text after the `#` that joins another part, where one stands after white
+-- the text after the `#` that joins another part, where one stands after whitespace
 abbrev pub next_part : List ℕ → Option (List ℕ)
 next_part rest = behind_hash (past Gap rest)
 
