@@ -19,7 +19,7 @@ pub data AuxComplaint : Type 0 where
   NotOpened : (name : List ℕ) → AuxComplaint
   RepeatedDatabase : (name : List ℕ) → AuxComplaint
 
--- the text of a complaint, without `Error--` before it and without its place
+-- the text of a complaint, without `Error--` before it and without its place; `Slipped` is an error in the argument of a line
 unfoldable pub aux_complaint_text : AuxComplaint → List ℕ
 aux_complaint_text (Slipped WhiteSpace) = codes "White space in argument"
 aux_complaint_text (Slipped Unclosed) = codes "No \"}\""

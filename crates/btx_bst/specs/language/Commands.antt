@@ -136,7 +136,8 @@ macro_command style place =
     if has_read style then outcome (Some AfterRead) style place else
     after_read style (opening place) (λ _ place.
     after_read style (next_name place) (λ name place.
-    if is_some (lookup (bytes_eq (folded name)) style.macros) then outcome (Some (Defined name)) style place else
+    if is_some (lookup (bytes_eq (folded name)) style.macros) then
+    outcome (Some (Defined name)) style place else
     after_read style (closing place) (λ _ place.
     after_read style (opening place) (λ _ place.
     after_read style (quoted_at place) (λ text place.

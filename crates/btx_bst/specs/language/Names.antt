@@ -25,7 +25,9 @@ pub record Names : Type 0 where
 unfoldable pub named_lower : Names → List ℕ → Option Callee
 named_lower names name =
     option_or (option_map callee.BuiltIn (built_in_of name))
-    (option_or (option_map User (position (λ (other : Option (List ℕ)). option_map_or (bytes_eq name) other false) names.functions))
+    (option_or (option_map User
+    (position (λ (other : Option (List ℕ)). option_map_or (bytes_eq name) other false)
+    names.functions))
     (option_or (option_map Field (position (bytes_eq name) names.fields))
     (option_or (option_map EntryInteger (position (bytes_eq name) names.entry_integers))
     (option_or (option_map EntryString (position (bytes_eq name) names.entry_strings))

@@ -23,19 +23,23 @@ pub record StyleState : Type 0 where
 abbrev pub style_state : Style → Place → StyleState
 style_state style place = record { style = style; place = place }
 
--- reads a command, which begins with a word of letters; an error if the word is none of the ten
+-- reads a command, which begins with a word of letters; it is an error if that word is none of the ten commands
 abbrev pub command_outcome : Style → Place → CommandOutcome
 command_outcome style place =
     after_read style (letters_at place) (λ word behind.
-    option_map_or (λ (command : Command). command_at command style behind) (command_named (folded word)) (outcome (Some (NotCommand word)) style behind))
+    option_map_or (λ (command : Command). command_at command style behind)
+    (command_named (folded word))
+    (outcome (Some (NotCommand word)) style behind))
 
--- at a place that isn't in whitespace or a comment: reads a command; at the end of the text the style ends. Reading goes on where the command ends, or,
--- if something was wrong, behind the next empty line, with a message
+-- reads a command at a place that isn't in whitespace or a comment; at the end of the text the style ends. After the command reading goes on where it
+-- ends. If something was wrong, it goes on behind the next empty line, with a message
 abbrev pub item_in : Style → Place → List ℕ → Turn StyleState Style
 item_in style place [] = Ends style
 item_in style place (b ∷ bs) =
     let after = command_outcome style place in
-    let faulty : Complaint → StyleState = λ complaint. style_state (with_item (Message complaint after.place.number) after.style) (skipped after.place) in
+    let faulty : Complaint → StyleState = λ complaint.
+    style_state (with_item (Message complaint after.place.number) after.style)
+    (skipped after.place) in
     Again (option_map_or faulty after.complaint (style_state after.style after.place))
 
 -- the command that stands next is read, or the text ends and with it the style

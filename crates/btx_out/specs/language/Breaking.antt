@@ -101,8 +101,8 @@ cut_within zero line_length text = only (Short text)
 cut_within (suc turns) line_length text =
     if nat_le (length text) line_length then only (Short text) else cut_at (cut_within turns line_length) text (break_of line_length text)
 
--- the pieces of a logical line. A break takes four bytes at least and puts two before what follows, for every line length that can be asked for. So the text gets
--- shorter, and the bound is never reached
+-- the pieces of a logical line. A break takes four bytes at least and puts two before what follows, for every line length that can be asked for. So
+-- the text gets shorter, and the bound is never reached
 unfoldable pub cut_of : ℕ → List ℕ → Cut
 cut_of line_length text = cut_within (length text) line_length text
 

@@ -34,8 +34,9 @@ abbrev pub is_utf8 : TextMode → Bool
 is_utf8 Bytes = false
 is_utf8 Utf8 = true
 
--- the kind of the element with which `rest`, which has a byte, begins at brace depth `depth`. A special character begins at depth 0, with a `{` directly
--- before a backslash
+-- the kind of the element with which `rest`, which has a byte, begins at brace depth `depth`. A special character begins at depth 0, with a `{`
+-- directly before a backslash. A wide element, which only UTF-8 has, begins with a well-formed sequence of bytes. Any other element is one byte: a
+-- brace or a plain byte
 unfoldable pub kind_at : TextMode → ℕ → List ℕ → Kind
 kind_at mode depth rest =
     if depth == 0 && starts_with nat_eq rest (codes "{\\") then Special
