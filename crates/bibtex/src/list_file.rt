@@ -5,9 +5,10 @@ ghost use Rattle.bibtex.specs.ListFiles.{FinishesList, emptied, keeps_old, recei
 
 use crate::outcome::output_fault;
 use btx_run::{End, Report, RunFault, Sink, SinkFault};
+use std::alloc::Global;
 use std::fs::OpenFile;
 use std::io;
-use std::io::{ErrorKind, Write};
+use std::io::{BufWriter, ErrorKind, Write};
 
 /// A file that can be emptied as long as nothing is written to it.
 pub trait EmptiedFile: Write {
@@ -72,31 +73,43 @@ impl<W: EmptiedFile> ListFile<W> {
         self.file.write(bytes)
     }
 
-    /// Ends the file after the run's `answer`: removes what an earlier run left in it, unless the job had no top file.
+    // Writes what is held back to the file, which is emptied first.
+    fn flush_emptied(&mut self) -> io::Result<()>
+        ensures { OnOk result (Keeps (received_by W.contents self.old) (W.contents self.new.file)) }
+    {
+        self.empty()?;
+        self.file.flush()
+    }
+
+    /// Ends the file after the run's `answer`: removes what an earlier run left in it and writes what is held back, unless the job had no top file.
     pub fn finish(&mut self, answer: &Result<Report, RunFault>) -> Result<(), RunFault>
         ensures { FinishesList W.contents answer.now self.old self.new result }
     {
         if keeps_old(answer) {
             return Ok(());
         }
-        self.empty().map_err(|error| output_fault(&error))
+        self.flush_emptied().map_err(|error| output_fault(&error))
     }
 }
 
-/// A file of the real system. It doesn't tell what it holds.
+// How many bytes of a list are held back before they are written.
+const HELD_BACK: usize = 65536;
+
+/// A file of the real system, which is written to in large pieces: what is shorter is held back until it is flushed. It doesn't tell what it holds.
 #[derive(Drop)]
-pub struct SystemFile<F> {
-    file: F,
+pub struct SystemFile<F: Write + Drop> {
+    file: BufWriter<F>,
 }
 
-impl<F> SystemFile<F> {
+impl<F: Write + Drop> SystemFile<F> {
     /// Makes a file of the real system from one that is open.
-    pub fn new(file: F) -> Self {
-        SystemFile { file }
+    pub fn new(alloc: Global, file: F) -> io::Result<Self> {
+        let file = BufWriter::with_capacity(alloc, HELD_BACK, file)?;
+        Ok(SystemFile { file })
     }
 }
 
-impl<F: Write> Write for SystemFile<F> {
+impl<F: Write + Drop> Write for SystemFile<F> {
     ghost contents = { λ _. None };
 
     fn write(&mut self, bytes: &[u8]) -> io::Result<usize> {
@@ -108,10 +121,10 @@ impl<F: Write> Write for SystemFile<F> {
     }
 }
 
-impl<F: Write + OpenFile> EmptiedFile for SystemFile<F> {
+impl<F: Write + OpenFile + Drop> EmptiedFile for SystemFile<F> {
     // What has no length, as a device or a pipe, is refused as an invalid input: there is nothing to throw away.
     fn empty(&mut self) -> io::Result<()> {
-        match self.file.set_len(0) {
+        match self.file.get_mut().set_len(0) {
             Err(error) if error.kind() == ErrorKind::InvalidInput => Ok(()),
             answer => answer,
         }

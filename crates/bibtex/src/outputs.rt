@@ -59,7 +59,7 @@ impl<R> Drop for SystemOutputs<'_, R> {
     }
 }
 
-impl<'a, R: Files + Print + Eprint> SystemOutputs<'a, R> {
+impl<'a, R: Files + Print + Eprint + AllocGlobal> SystemOutputs<'a, R> {
     /// Makes the outputs of the real system, over the runtime `rt`.
     pub fn new(rt: &'a R) -> Self {
         SystemOutputs { rt }
@@ -74,7 +74,7 @@ fn is_ordinary(files: &impl Files, path: &str) -> bool {
     }
 }
 
-impl<R: Files + Print + Eprint> Outputs for SystemOutputs<'_, R> {
+impl<R: Files + Print + Eprint + AllocGlobal> Outputs for SystemOutputs<'_, R> {
     type List = SystemFile<R::File>;
 
     ghost acts = { λ _. None };
@@ -85,7 +85,7 @@ impl<R: Files + Print + Eprint> Outputs for SystemOutputs<'_, R> {
             .create(true)
             .open(self.rt, path)
             .map_err(|error| output_fault(&error))?;
-        Ok(SystemFile::new(file))
+        SystemFile::new(self.rt.alloc(), file).map_err(|error| output_fault(&error))
     }
 
     fn close_list(&mut self, file: SystemFile<R::File>) {
