@@ -33,15 +33,25 @@ wants_error "$device_error"
 wants_files d.bib job.aux job.bbl s.bst
 end
 
-# The `.bbl` takes no byte: the log so far is written.
+# The `.bbl` takes no byte, which the end of the run tells: the log is written.
 begin references_that_cannot_be_written
 ln -s /dev/full job.bbl
 run_program job
-begun=${first_log%Ended*}
 wants_status 6
-wants_output "$begun"
+wants_output "$first_log"
 wants_error "$device_error"
-wants_text job.blg "$begun"
+wants_text job.blg "$first_log"
+end
+
+# The `.bbl` takes no byte of a list that is too long to be held back: the log so far is written.
+begin long_references_that_cannot_be_written
+use_style 'FUNCTION {f} {{#1} {"aaa bbb ccc ddd" write$ newline$} while$} EXECUTE {f}'
+ln -s /dev/full job.bbl
+run_program job
+wants_status 6
+wants_output "$found_log"
+wants_error "$device_error"
+wants_text job.blg "$found_log"
 end
 
 # log_is_printed_all_the_same: runs the job whose log's file takes nothing.
@@ -79,7 +89,7 @@ ln -s /dev/full job.bbl
 mkdir job.blg
 run_program job
 wants_status 6
-wants_output "${first_log%Ended*}"
+wants_output "$first_log"
 wants_error "$device_error"
 end
 
@@ -146,7 +156,7 @@ status=0
     exec timeout 60 "$program" job </dev/null 2>&1
 ) | cat >"$folder/both" || status=$?
 wants_status 6
-wants_text "$folder/both" "${first_log%Ended*}$device_error"
+wants_text "$folder/both" "$first_log$device_error"
 wants_text job.bbl ''
 wants_text job.blg ''
 end

@@ -184,7 +184,7 @@ run_program --terse job
 wants_status 6
 wants_output ''
 wants_error $'bibtex: device error\n'
-wants_text job.blg "$found_log"
+wants_text job.blg "$first_log"
 end
 
 # All options at once.

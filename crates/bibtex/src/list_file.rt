@@ -93,7 +93,7 @@ impl<W: EmptiedFile> ListFile<W> {
 }
 
 // How many bytes of a list are held back before they are written.
-const HELD_BACK: usize = 65536;
+const HELD_BACK: usize = 16384;
 
 /// A file of the real system, which is written to in large pieces: what is shorter is held back until it is flushed. It doesn't tell what it holds.
 #[derive(Drop)]
