@@ -5,8 +5,10 @@ import re
 WIDE = 88
 # More lines than this are a table.
 LONG_TABLE = 12
+# Between the elements of a list.
+ELEMENTS = r" (?=∷ )"
 # Where a long line may be broken, outside parentheses, the loosest sign first; and whether what follows is indented.
-JOINTS = [(r"(?<= in) ", False), (r" (?=else )", True), (r" (?=→ )", True), (r" (?=\|\| |&& )", True), (r" (?=∷ )", True), (r" (?=\+\+ )", True)]
+JOINTS = [(r"(?<= in) ", False), (r" (?=else )", True), (r" (?=→ )", True), (r" (?=\|\| |&& )", True), (ELEMENTS, True), (r" (?=\+\+ )", True)]
 CODES = re.compile(r'\(codes ("(?:[^"\\]|\\.)*")\)|codes (?=")')
 
 
@@ -54,9 +56,22 @@ def broken(line, pad):
         places = [found.start() for found in re.finditer(joint, text) if is_outside(text[:found.start()])]
         if places:
             parts = [text[start:end].strip() for start, end in zip([0, *places], [*places, len(text)])]
+            if joint == ELEMENTS and all(len(part.split()) < 3 for part in parts):
+                return [pad + line for line in filled(parts, WIDE - len(pad))]
             inner = "    " if is_indented and not text.startswith(("if ", "else ", "∷ ")) else ""
             return [pad + parts[0]] + [pad + inner + part for part in parts[1:]]
     return [line]
+
+
+def filled(parts, width):
+    """The parts of a list of single words, as many on each line as it has room for."""
+    lines = parts[:1]
+    for part in parts[1:]:
+        if len(lines[-1]) + 1 + len(part) <= width:
+            lines[-1] += f" {part}"
+        else:
+            lines.append(part)
+    return lines
 
 
 def is_outside(text):

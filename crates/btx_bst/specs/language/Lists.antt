@@ -1,4 +1,6 @@
--- Arguments of commands: braces, names and lists of names.
+-- Arguments of commands: braces, names and lists of names. A list of names, as ENTRY and INTEGERS have, is read in turns, a name each time:
+-- `Listing` is what is known before a turn, `Listed` what the whole list came to, and `listing` and `listed` make the two of their parts.
+-- `list_turn` is one turn, `list_end` all turns, `list_read` begins them behind the `{`, and `list_at`, which commands use, reads the `{` too.
 use Rattle.std.specs.Prelude.{ℕ, zero, suc, ◌==◌, List, [], ◌∷◌, take, drop, Option, None, Some, if◌then◌else◌, not, is_some}
 use Rattle.btx_text.specs.language.Keys.{folded}
 use Rattle.btx_bst.specs.declared.callee.Kind.{Kind}

@@ -21,7 +21,8 @@ pub record Names : Type 0 where
   pub global_integers : List (List ℕ)
   pub global_strings : List (List ℕ)
 
--- what a name in lower case names, if it names anything: a built-in function, a function of the style, a field, or a variable
+-- what a name names, if it names anything: a built-in function, a function of the style, a field, or a variable. The name is given in lower case, as
+-- names are kept; nothing is converted here
 unfoldable pub named_lower : Names → List ℕ → Option Callee
 named_lower names name =
     option_or (option_map callee.BuiltIn (built_in_of name))

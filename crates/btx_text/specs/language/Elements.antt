@@ -12,7 +12,8 @@ use Rattle.btx_text.specs.language.Sequences.{sequence_size, begins_sequence}
 
 -- ---- depth
 
--- the brace depth after a byte: one more after `{`, one less after `}`, but never below 0 (this project's own rule)
+-- the brace depth after a byte: one more after `{`, one less after `}`, but never below 0, since `0 - 1` is 0 for natural numbers (this project's own
+-- rule)
 abbrev pub depth_after : ℕ → ℕ → ℕ
 depth_after depth b = if b == byte "{" then depth + 1 else if b == byte "}" then depth - 1 else depth
 
@@ -20,7 +21,7 @@ depth_after depth b = if b == byte "{" then depth + 1 else if b == byte "}" then
 abbrev pub depth_of : List ℕ → ℕ
 depth_of text = fold depth_after 0 text
 
--- ---- the division, stated
+-- ---- elements and their kinds
 
 -- an element of a string: its kind, its text, the index of its first byte, and the brace depth before it
 pub record Element : Type 0 where
