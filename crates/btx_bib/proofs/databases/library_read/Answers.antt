@@ -26,7 +26,7 @@ returns c =
     let start = c.in_ok-define_macros.ensures ∙ ap (λ (k : Gathering). kept_macros k c.macros.result.now) c.in_ok-gathering.ensures ∙ ap (kept_macros (nothing_gathered w)) c.macros.ensures in
     let kept = c.in_ok-read_all.ensures.state ∙ ap (λ (k : Gathering). kept_by_all w k databases) start in
     let tells =
-    c.in_ok-read_all.ensures.told
+    c.in_ok-read_all.ensures.logged
     ∙ ap (λ (ms : List Message). ms ++ messages_of_all w c.define_macros.new.self databases) c.new-messages.ensures
     ∙ ap (λ (k : Gathering). messages_of_all w k databases) start in
     let whole =

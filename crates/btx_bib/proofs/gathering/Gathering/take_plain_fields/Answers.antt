@@ -19,7 +19,7 @@ loop-field-preserved c =
     let after = c.take_plainly.new.self in
     let stands = rw c.in-Some.is at c.plain_field.ensures.field in
     let taken = rw c.if-not-taken.false at c.in_ok-taken.ensures.state in
-    let silent = c.in_ok-taken.ensures.told c.if-not-taken.false in
+    let silent = c.in_ok-taken.ensures.logged c.if-not-taken.false in
     let next = plain-next (is_kept kept) place.0 place.1 field stands in
     let le = left-shorter place.0 (length field.value.rest.now) (length place.1) (plain-shorter (is_kept kept) place.0 place.1 field stands) in
     record {
