@@ -42,8 +42,8 @@ def rust_lines(lines):
 
 
 def broken(line, pad):
-    """A long line, broken at the first sort of joint that it has outside parentheses."""
-    if len(line) <= WIDE:
+    """A long line, broken at the first sort of joint that it has outside parentheses; a comment stays one line."""
+    if len(line) <= WIDE or line.lstrip().startswith("-- "):
         return [line]
     text = line.strip()
     if "record {" in text and text.count("; ") > 1:

@@ -62,7 +62,8 @@ after_field wanted known (Some given) field =
     else known
 
 -- what is known after an event: a `@preamble` is appended, and a `@string` defined. An entry's key first stores the entry that was being read, and a
--- wanted entry becomes the one that is being read, without a field yet; a field goes to that entry. `Close` is the end of an item
+-- wanted entry becomes the one that is being read, without a field yet; a field goes to that entry. `Close`, which the grammar calls `End`, is the end
+-- of an item
 abbrev pub after_event : Request → Known → Event → Known
 after_event wanted known Comment = known
 after_event wanted known (Preamble value) =

@@ -28,14 +28,15 @@ pub record BothExtend (before after : Received) (product : Product) : Type 0 whe
   pub log_extends : AppendsAtLeast before.1 after.1 product.log_so_far
 
 -- there is a number of steps n below the budget such that each output begins with what a run of n steps writes, the log's last line aside, and
--- is a prefix of what a run of n + 1 steps writes
+-- is a prefix of what a run of n + 1 steps writes. `make` gives the product of the run for each budget
 pub record WithinOneStep (before after : Received) (make : ℕ → Product) (budget : ℕ) : Type 0 where
   pub steps : ℕ
   pub within : steps < budget
   pub extends : BothExtend before after (make steps)
   pub begins : BothBegin before after (make (steps + 1))
 
--- after a fault both outputs are prefixes of the product's and keep step, and nothing of the log's last line is written before the whole list
+-- after a fault both outputs are prefixes of the product's and keep step, and nothing of the log's last line is written before the whole list.
+-- `make` gives the product of the run for each budget, and `budget` is that of this run
 pub record AtFault (before after : Received) (make : ℕ → Product) (budget : ℕ) : Type 0 where
   pub beginnings : BothBegin before after (make budget)
   -- nothing of the log's last line was written, or the list was written to its end

@@ -54,7 +54,7 @@ pub record IsRun (set : ByteSet) (text rest : List ℕ) : Type 0 where
   pub all : AllIn set text
   pub longest : begins (is_in set) rest ≡ false
 
--- all the whitespace that stands here, which may be none
+-- all the whitespace that stands here, possibly of no byte. It has no value of its own: `none` is `tt`, and not the `None` of an option
 abbrev pub White : Grammar (Unit {0})
 White (Ok none) front rest = IsRun Gap front rest
 White (Err slip) front rest = ⊥
@@ -79,7 +79,7 @@ abbrev pub NameHere : Grammar (List ℕ)
 NameHere (Ok name) front rest = IsWord NameByte begins_name name front rest
 NameHere (Err slip) front rest = (begins begins_name rest ≡ false) × IsWrongHere NoName slip front rest
 
--- the byte `sign`, or the error `wrong` where another byte stands
+-- the byte `sign`, or the error `wrong` where another byte stands; a sign has no value of its own, so `none` is `tt`
 abbrev pub SignHere : ℕ → Slip → Grammar (Unit {0})
 SignHere sign wrong (Ok none) front rest = front ≡ sign ∷ []
 SignHere sign wrong (Err slip) front rest = (begins (λ b. b == sign) rest ≡ false) × IsWrongHere wrong slip front rest
