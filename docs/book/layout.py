@@ -46,9 +46,9 @@ def broken(line, pad):
     if len(line) <= WIDE or line.lstrip().startswith("-- "):
         return [line]
     text = line.strip()
-    if "record {" in text and text.count("; ") > 1:
+    if "record {" in text and text.count("; ") > 1 and re.search(r"\}\)*(;| in)?$", text):
         head, fields = text.split("{", 1)
-        return [f"{pad}{head}{{"] + [f"{pad}    {field}" for field in re.split(r"(?<=;) ", fields.strip())]
+        return [f"{pad}{head}{{"] + [f"{pad}    {field}" for field in fields_of(fields.strip())]
     head, equals, rest = text.partition(" = ")
     if not pad and equals and is_outside(head) and not text.startswith(("record ", "data ")):
         return [f"{head} ="] + broken("    " + rest, "    ")
@@ -61,6 +61,17 @@ def broken(line, pad):
             inner = "    " if is_indented and not text.startswith(("if ", "else ", "∷ ")) else ""
             return [pad + parts[0]] + [pad + inner + part for part in parts[1:]]
     return [line]
+
+
+def fields_of(text):
+    """The fields of a record, with what ends it behind the last one; a record inside a field stays whole."""
+    fields = [""]
+    for part in re.split(r"(?<=;) ", text):
+        if fields[-1] and is_outside(fields[-1]):
+            fields.append(part)
+        else:
+            fields[-1] += " " * bool(fields[-1]) + part
+    return fields
 
 
 def filled(parts, width):
