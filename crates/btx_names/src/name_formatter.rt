@@ -114,7 +114,8 @@ impl NameFormatter {
         self.writer.text()
     }
 
-    // Goes to a name of a string, by its number from 1 on. Where there is none, none is kept.
+    // Goes to a name of a string, by its number from 1 on. Where there is none, none is kept. Mostly the name is the one that is kept.
+    #[inline(always)]
     #[tactic(auto, using(crate::proofs::FormattedLemmas::nth_steps))]
     fn go_to(&mut self, names: &[u8], number: i32) -> Result<(), AllocError>
         ensures { OnOk result (MatchOption self.new.name (spec.nth_name names.now number ≡ None) (λ kept. spec.nth_name names.now number ≡ Some (kept_bytes kept))) }
@@ -130,6 +131,7 @@ impl NameFormatter {
     }
 
     // Whether the name that is kept is the one of a list that `before` others precede.
+    #[inline(always)]
     fn is_at(&self, names: &[u8], before: usize) -> bool
         ensures { IsTrue result → IsSomeAnd self.now.name (λ kept. slice_get (names_of names.now) before ≡ Some (kept_bytes kept)) }
     {
@@ -140,6 +142,7 @@ impl NameFormatter {
     }
 
     // Keeps the name of a list that `before` others precede, if there is one, in the memory of the one that was kept.
+    #[inline(never)]
     fn find(&mut self, names: &[u8], before: usize) -> Result<(), AllocError>
         ensures { OnOk result (IsFound names.now before self.new.name) }
     {
