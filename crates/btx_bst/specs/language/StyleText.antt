@@ -35,7 +35,9 @@ command_outcome style place =
 -- message
 abbrev pub resumed : Option Complaint → Style → Place → StyleState
 resumed complaint style place =
-    option_map_or (λ (said : Complaint). style_state (with_item (Message said place.number) style) (skipped place)) complaint (style_state style place)
+    option_map_or
+    (λ (said : Complaint). style_state (with_item (Message said place.number) style) (skipped place))
+    complaint (style_state style place)
 
 -- reads a command at a place that isn't in whitespace or a comment; at the end of the text the style ends. After the command reading goes on where it
 -- ends. If something was wrong, it goes on behind the next empty line, with a message
