@@ -64,13 +64,13 @@ expanded files reading earlier (event ∷ events) =
     let more = followed files reading with_event event (asked_of (files_named earlier) event.word) in
     (event ∷ more) ++ expanded files reading (with_event ++ more) events
 
--- the events of a file from its opening on, given how many of the 20 files that may be open at once aren't open yet. If there are none, the only
--- event is that too many are open. Else the file is opened: `19 - room` files are open before it. A file that is too long then has only the event that
--- it is; any other has those of its lines
+-- the events of a file from its opening on, given how many of the 20 files that may be open at once, `MOST_OPEN`, aren't open yet. If there are none,
+-- the only event is that too many are open. Else the file is opened, while all but `suc room` of the 20 are open. A file that is too long then has only
+-- the event that it is; any other has those of its lines
 abbrev pub opened : Files → ℕ → FileEvents
 opened files zero earlier name text = event_at name 0 Full ∷ []
 opened files (suc room) earlier name text =
-    let opening = event_at name 0 (Opens (19 - room)) in
+    let opening = event_at name 0 (Opens (MOST_OPEN - 1 - room)) in
     opening
     ∷ (if is_too_long text then event_at name 0 TooLong ∷ []
     else expanded files (opened files room) (earlier ++ opening ∷ []) (said name text))

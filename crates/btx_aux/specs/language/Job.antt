@@ -49,10 +49,9 @@ star_by _ count = []
 -- where `*` stands, if it is cited: how many keys the events before the first `*` list
 abbrev pub all_of : List AuxEvent → Option ℕ
 all_of events =
-    first_of (gathered
-    (λ (earlier : List AuxEvent) (event : AuxEvent).
-    star_by event.word (length (cited_keys earlier)))
-    [] events)
+    let star_at : List AuxEvent → AuxEvent → List ℕ = λ earlier event.
+    star_by event.word (length (cited_keys earlier)) in
+    first_of (gathered star_at [] events)
 
 -- ---- databases and the style
 

@@ -1,5 +1,5 @@
 -- What some databases give to a job, read one after the other.
-use Rattle.std.specs.Prelude.{ℕ, List, [], ◌++◌, fold, None, if◌then◌else◌}
+use Rattle.std.specs.Prelude.{ℕ, List, [], ◌++◌, fold, None, not, if◌then◌else◌}
 use Rattle.btx_text.specs.language.Limits.{is_too_long}
 use Rattle.btx_bib.specs.declared.end.End.{End}
 use Rattle.btx_bib.specs.declared.end.End.TheVariants as end
@@ -28,15 +28,13 @@ with_macro known macro =
 -- being read is at its end too
 abbrev pub read_one : Request → Reading → Database → Reading
 read_one wanted reading database =
-    if goes_on reading.known.ending then
-    (if is_too_long database.text then
-    record reading { known = record reading.known { ending = end.FileLimit } }
+    if not (goes_on reading.known.ending) then reading
+    else if is_too_long database.text then record reading { known = record reading.known { ending = end.FileLimit } }
     else
-    (let last =
+    let last =
     fold (read_next wanted database) reading
     (events_from (keeping wanted) reading.known Item database.text) in
-    record last { known = with_current_stored last.known }))
-    else reading
+    record last { known = with_current_stored last.known }
 
 -- ---- all databases
 

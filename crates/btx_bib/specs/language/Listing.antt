@@ -36,14 +36,15 @@ list_keys wanted stored =
 -- stays in the list if it was cited, or if at least `wanted.fewest` stored entries name it as their `crossref`. With `*` that number is 0, so every key
 -- stays
 unfoldable pub slot_of : Request → List Given → List ℕ → Slot
-slot_of wanted stored key = record {
-  key = unwrap_or
-      (option_or (listed_as wanted.cited key)
-      (option_map (λ (given : Given). given.key) (entry_with_key stored key))) key;
-  stays = is_some (listed_as wanted.cited key)
-      || nat_le wanted.fewest (count_by (is_same_key key) (references wanted stored));
-  body = option_map (body_of wanted) (entry_with_key stored key);
-}
+slot_of wanted stored key =
+    let listed = listed_as wanted.cited key in
+    let entry = entry_with_key stored key in
+    let namings = count_by (is_same_key key) (references wanted stored) in
+    record {
+      key = unwrap_or (option_or listed (option_map (λ (given : Given). given.key) entry)) key;
+      stays = is_some listed || nat_le wanted.fewest namings;
+      body = option_map (body_of wanted) entry;
+    }
 
 -- the list, with a place for each of its keys, before the two passes of cross-references
 abbrev pub slots_of : Request → List Given → List Slot

@@ -123,5 +123,5 @@ unfoldable pub reference_messages : List Slot → List Message
 reference_messages slots =
     pass_messages checked check_messages [] (after_first slots)
     ++ flat_map
-    (λ (slot : Slot). option_map_or (λ (body : Body). []) slot.body (NoEntry slot.key ∷ []))
+    (λ (slot : Slot). if is_some slot.body then [] else NoEntry slot.key ∷ [])
     (after_second (after_first slots))

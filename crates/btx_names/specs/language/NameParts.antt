@@ -99,17 +99,17 @@ pub record NameParts : Type 0 where
   pub last : List NameToken
   pub jr : List NameToken
 
--- the parts of a name without commas, First von Last, given its tokens. First ends before `start`: that is the index of the first von token, or,
+-- the parts of a name without commas, First von Last, given its tokens. First ends before `von_start`: that is the index of the first von token, or,
 -- where there is no von, of the first token of Last
 abbrev pub unsplit : List NameToken → NameParts
 unsplit tokens =
-    let start =
+    let von_start =
     if nat_lt 0 (von_end tokens) then
     before_first (λ (token : NameToken). is_von token.text) tokens
     else last_start tokens in
     record {
-      first = take start tokens;
-      von = take (last_start tokens - start) (drop start tokens);
+      first = take von_start tokens;
+      von = take (last_start tokens - von_start) (drop von_start tokens);
       last = drop (last_start tokens) tokens;
       jr = [];
     }

@@ -16,9 +16,10 @@ use Rattle.std.specs.Char.{is_ascii_alphabetic, is_ascii_lowercase}
 unfoldable pub is_lower_special : List ℕ → Bool
 is_lower_special text =
     let name = take_while is_alpha (drop 2 text) in
-    if nat_lt 0 (length (letters_of name)) then is_ascii_lowercase (slice_index name 0)
-    else option_map_or is_ascii_lowercase
-    (find is_ascii_alphabetic (drop (length name) (drop 2 text))) false
+    let after = drop (length name) (drop 2 text) in
+    let is_foreign = nat_lt 0 (length (letters_of name)) in
+    if is_foreign then is_ascii_lowercase (slice_index name 0)
+    else option_map_or is_ascii_lowercase (find is_ascii_alphabetic after) false
 
 -- what an element says of its token: `Some true` for lower case, `Some false` for upper case, and nothing where it doesn't decide. Special
 -- characters and the letters at depth 0 decide.

@@ -18,10 +18,10 @@ is_alpha b = is_ascii_uppercase b || is_ascii_lowercase b || nat_le 128 b
 abbrev pub is_sep : ℕ → Bool
 is_sep b = b == byte "~" || b == byte "-"
 
--- a byte that can stand in a name, in styles and in databases: from 33 (`!`, the first behind the space) up, and none of `" # % ' ( ) , = { }`
+-- a byte that can stand in a name, in styles and in databases: from `!` (`!`, the first behind the space) up, and none of `" # % ' ( ) , = { }`
 abbrev pub is_name_byte : ℕ → Bool
 is_name_byte b =
-    nat_le 33 b
+    nat_le (byte "!") b
     && not (b == byte "\"" || b == byte "#" || b == byte "%" || b == byte "'" || b == byte "(" || b == byte ")"
     || b == byte "," || b == byte "=" || b == byte "{" || b == byte "}")
 

@@ -63,10 +63,9 @@ unfoldable pub value_within : ℕ → List ℕ → Parsed (List Part)
 value_within zero text = Err (EndOfFile, [])
 value_within (suc turns) text =
     followed_by (part_at text) (λ part rest.
-    option_map_or
-    (λ (behind : List ℕ).
-    followed_by (value_within turns behind) (λ parts end. Ok (part ∷ parts, end)))
-    (next_part rest) (Ok (part ∷ [], rest)))
+    let others : List ℕ → Parsed (List Part) = λ behind.
+    followed_by (value_within turns behind) (λ parts end. Ok (part ∷ parts, end)) in
+    option_map_or others (next_part rest) (Ok (part ∷ [], rest)))
 
 -- the value that stands next: its parts, which `#` joins, or what is wrong in it
 unfoldable pub value_at : List ℕ → Parsed (List Part)
