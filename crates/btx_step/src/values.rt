@@ -166,7 +166,7 @@ fn product(entries: usize, each: usize) -> Result<usize, AllocError>
     entries.checked_mul(each).ok_or(AllocError)
 }
 
-// The empty string, so many times.
+// Makes `count` empty strings.
 #[tactic(auto, using(crate::proofs::Replicas::one_more))]
 fn empty_strings<'a>(alloc: Global, count: usize) -> Result<Vec<Text<'a>>, AllocError>
     ensures { IfOk result (λ strings. strings.items ≡ replicate count []) }
