@@ -9,14 +9,17 @@ use std::alloc::{AllocError, Global};
 // How many names are kept at most.
 const MOST_NAMES: usize = 4;
 
-// How many bytes a list has at most of which several names are kept. A longer one is gone through name by name.
-const LONGEST_OF_SEVERAL: usize = 1_024;
+// How many bytes a list has at most of which several names are kept.
+const LONGEST_SHORT_LIST: usize = 1_024;
 
-/// The names that were asked for last, with their lists: a list that is gone through again finds its first names here.
+// The index of all names of longer lists: such a list is gone through name by name.
+const OF_LONG_LISTS: usize = 0;
+
+/// The names that were asked for last, with their lists: a list of at most four names that is gone through again finds them here.
 #[derive(Debug, Drop)]
 pub struct KeptNames {
     alloc: Global,
-    // Which index a name has follows from its number.
+    // Which index a name has follows from its number and from the length of its list.
     names: [Option<KeptName>; MOST_NAMES],
 }
 
@@ -44,7 +47,7 @@ impl KeptNames {
 
     /// Doesn't keep the name of a long list any more.
     pub fn forget_long(&mut self) {
-        self.names[0] = None;
+        self.names[OF_LONG_LISTS] = None;
     }
 
     // Whether the name that is kept at an index is the one of a list that `before` others precede.
@@ -77,8 +80,8 @@ impl KeptNames {
 fn index_of(names: &[u8], before: usize) -> usize
     ensures { result < MOST_NAMES }
 {
-    if names.len() > LONGEST_OF_SEVERAL {
-        return 0;
+    if names.len() > LONGEST_SHORT_LIST {
+        return OF_LONG_LISTS;
     }
     before % MOST_NAMES
 }

@@ -58,7 +58,7 @@ impl NameFormatter {
     ) -> Result<Answer, Fault>
         ensures { Answers result (spec.format_name_text mode names.now number format.now) (spec.format_name_complaints names.now number format.now) }
     {
-        let answer = match numbered(&mut self.names, names, number)? {
+        let answer = match name_numbered(&mut self.names, names, number)? {
             Some(name) => format_one(
                 self.alloc,
                 name,
@@ -96,7 +96,7 @@ impl NameFormatter {
         if names.len() > LONGEST_LIST {
             return Ok(false);
         }
-        let Some(name) = numbered(&mut self.names, names, number)? else {
+        let Some(name) = name_numbered(&mut self.names, names, number)? else {
             return Ok(false);
         };
         if !write_one(name, &mut self.formats, &mut self.writer, format, mode)? {
@@ -140,7 +140,7 @@ fn names_before(number: i32) -> Option<usize>
 // A name of a string, by its number from 1 on, if there is one.
 #[inline(always)]
 #[tactic(auto, using(crate::proofs::FormattedLemmas::nth_steps))]
-fn numbered<'k>(
+fn name_numbered<'k>(
     kept: &'k mut KeptNames,
     names: &[u8],
     number: i32,

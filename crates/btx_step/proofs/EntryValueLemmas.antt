@@ -129,7 +129,7 @@ integer_put n i s xs ts e j p v fits lt l at = (λ k. rows n i s (slice_set xs (
 pub string_put : (n i s : ℕ) (xs : List ℤ) (ts : List (List ℕ)) (e j p : ℕ) (v : List ℕ) → e < n → j < s → p ≡ e * s + j → let all = rows n i s xs ts in rows n i s xs (slice_set ts p v) ≡ slice_set all e (string_set j v (values_of all e))
 string_put n i s xs ts e j p v lt l at = ap (λ q. rows n i s xs (slice_set ts q v)) at ∙ string-put n i s xs ts e j v lt l
 
--- (where the empty string, or another, was put there first)
+-- the same, where another string was put there first
 pub string_put_again : (n i s : ℕ) (xs : List ℤ) (ts : List (List ℕ)) (e j p : ℕ) (u v : List ℕ) → e < n → j < s → p ≡ e * s + j → let all = rows n i s xs ts in rows n i s xs (slice_set (slice_set ts p u) p v) ≡ slice_set all e (string_set j v (values_of all e))
 string_put_again n i s xs ts e j p u v lt l at = ap (λ (strings : List (List ℕ)). rows n i s xs strings) (set-set ts p u v) ∙ string_put n i s xs ts e j p v lt l at
 

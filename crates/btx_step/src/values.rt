@@ -119,8 +119,9 @@ impl<'a> EntryValues<'a> {
         }
     }
 
-    /// Copies `bytes` into the memory of the string variable `number` of the entry `entry` and answers true; or answers false and changes nothing, where
-    /// there is no such variable or its value stands in a file.
+    /// Makes `bytes` the value of the string variable `number` of the entry `entry` and answers true: in the memory that its value had, unless that is
+    /// shared. Or answers false and changes nothing, where there is no such variable or its value stands in a file. Where memory is refused the variable
+    /// may be left empty.
     #[tactic(auto, using(crate::proofs::EntryValueLemmas::string_put_again))]
     pub fn write_string(
         &mut self,

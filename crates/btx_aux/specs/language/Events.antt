@@ -65,8 +65,8 @@ expanded files reading earlier (event ∷ events) =
     (event ∷ more) ++ expanded files reading (with_event ++ more) events
 
 -- the events of a file from its opening on, given how many of the 20 files that may be open at once, `MOST_OPEN`, aren't open yet. If there are none,
--- the only event is that too many are open. Else the file is opened, while all but `suc room` of the 20 are open. A file that is too long then has only
--- the event that it is; any other has those of its lines
+-- the only event is that too many are open. Else the file is opened, while all but `suc room` of the 20 are open. Then follows, for a
+-- file that is too long, only that (`TooLong`), and for any other what its lines say, with the events of the files that they open
 abbrev pub opened : Files → ℕ → FileEvents
 opened files zero earlier name text = event_at name 0 Full ∷ []
 opened files (suc room) earlier name text =

@@ -101,7 +101,7 @@ slip_complaints (Cut slip) = Slipped slip ∷ []
 
 -- what is wrong with an event, given what the events before it come to: the keys, the place of `*`, whether there were a `\bibdata` and a `\bibstyle`
 -- line, and the file names. Each of these is wrong: an error in a piece; a second `*`; a key that is listed in another spelling (`earlier`); a second
--- line of its kind; an `\@input` of another ending than `.aux`, or of a file that is named already; and a file that isn't there
+-- line of its kind; a database that is named already; an `\@input` of another ending than `.aux`, or of a file that is named already; and a file that isn't there
 abbrev pub event_complaints : List (List ℕ) → Option ℕ → Bool → Bool → List (List ℕ) → EventKind → List AuxComplaint
 event_complaints keys all bibdata bibstyle files (Cites (Taken key)) =
     if is_star key then only_if (is_some all) SecondStar

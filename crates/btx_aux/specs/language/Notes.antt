@@ -33,8 +33,8 @@ aux_complaint_text (AlreadyMet name) = codes "Already encountered file " ++ name
 aux_complaint_text (NotOpened name) = codes "I couldn't open auxiliary file " ++ name
 aux_complaint_text (RepeatedDatabase name) = codes "This database file appears more than once: " ++ name
 
--- what a line of the log is about: a file was found, something is wrong at a place, or something is missing in the whole. (Later chapters have a case
--- `Wrong` in types of their own; each time it means that something is wrong)
+-- what a line of the log is about: a file was found, something is wrong at a place, or something is missing in the whole. (Other types have a case
+-- `Wrong` of their own, as the events of a database do: each time it means that something is wrong)
 pub data AuxNote : Type 0 where
   TopFile : (name : List ℕ) → AuxNote
   LevelFile : (level : ℕ) (name : List ℕ) → AuxNote

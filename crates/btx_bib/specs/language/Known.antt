@@ -51,7 +51,7 @@ has_value wanted given name =
     (wanted.field (folded name)))
 
 -- what is known after a field: it is kept, behind the entry's other fields, if its entry is stored, the style declares the field, and the entry has no
--- value for it yet. Any other field changes nothing
+-- value for it yet; a value that is too long ends the reading. Any other field changes nothing
 abbrev pub after_field : Request → Known → Option Given → Field → Known
 after_field wanted known None field = known
 after_field wanted known (Some given) field =

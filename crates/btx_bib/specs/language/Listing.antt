@@ -32,17 +32,17 @@ list_keys wanted stored =
     ++ added wanted.all wanted stored))
     (last_cited wanted.all wanted.cited)
 
--- the place of the list for a key, with its entry, if one is stored. It is spelled as it was cited; else as its entry has it; else as it is given. It
--- stays in the list if it was cited, or if at least `wanted.fewest` stored entries name it as their `crossref`. With `*` that number is 0, so every key
--- stays
+-- the place of the list for a key, with its entry, if one is stored. The key is spelled as it was cited; else as its entry has it; else as it is given.
+-- The place stays in the list if its key was cited, or if at least `wanted.fewest` stored entries name it as their `crossref`. With `*` that number is 0,
+-- so every place stays
 unfoldable pub slot_of : Request → List Given → List ℕ → Slot
 slot_of wanted stored key =
     let listed = listed_as wanted.cited key in
     let entry = entry_with_key stored key in
-    let namings = count_by (is_same_key key) (references wanted stored) in
+    let children = count_by (is_same_key key) (references wanted stored) in
     record {
       key = unwrap_or (option_or listed (option_map (λ (given : Given). given.key) entry)) key;
-      stays = is_some listed || nat_le wanted.fewest namings;
+      stays = is_some listed || nat_le wanted.fewest children;
       body = option_map (body_of wanted) entry;
     }
 

@@ -4,8 +4,8 @@ use Rattle.btx_aux.specs.language.Job.{AuxJob}
 use Rattle.btx_bst.specs.language.Style.{Style, field_of, type_of}
 use Rattle.btx_bib.specs.language.Wanted.{Request}
 
--- what a job and its style ask. An uncited parent stays in the list if at least `least` stored entries name it; that number is `--min-crossrefs`, but 0
--- if `*` is cited
+-- what a job and its style ask. An uncited parent stays in the list if at least `fewest` stored entries name it: `least`, which is `--min-crossrefs`, or
+-- 0 if `*` is cited
 abbrev pub asked : Style → AuxJob → ℕ → Request
 asked style job least = record {
   cited = job.keys;

@@ -44,8 +44,8 @@ resumed complaint style place =
 abbrev pub item_in : Style → Place → List ℕ → Turn StyleState Style
 item_in style place [] = Ends style
 item_in style place (b ∷ bs) =
-    let outcome = command_outcome style place in
-    Again (resumed outcome.complaint outcome.style outcome.place)
+    let after = command_outcome style place in
+    Again (resumed after.complaint after.style after.place)
 
 -- the command that stands next is read, or the text ends and with it the style
 unfoldable pub item_turn : StyleState → Turn StyleState Style

@@ -10,7 +10,7 @@ use Rattle.btx_text.specs.language.Elements.{Element, elements_of}
 use Rattle.btx_strings.specs.language.Controls.{letters_of}
 use Rattle.std.specs.Char.{is_ascii_alphabetic, is_ascii_lowercase}
 
--- a special character counts as lower case. Its first control sequence is a foreign letter if it stands for one or two letters when a string is
+-- whether a special character counts as lower case. Its first control sequence is a foreign letter if it stands for one or two letters when a string is
 -- purified, as `\oe` and `\L` do. If it is one, its own first letter has to be in lower case, as in `{\oe}`. If it is none, the first letter after it
 -- has to be there and in lower case, as in `{\'e}`. Letters of later control sequences count too.
 unfoldable pub is_lower_special : List ℕ → Bool

@@ -75,8 +75,8 @@ unfoldable pub behind_at : List ℕ → Option (List ℕ)
 behind_at [] = None
 behind_at (b ∷ bs) = if b == byte "@" then Some bs else behind_at bs
 
--- the next event of a text, given what is expected there; none if an item is expected and no `@` is left. In an item the whitespace before it is
--- passed over
+-- the next event of a text, given what is expected there; none if an item is expected and no `@` is left. Inside an item whitespace is
+-- passed over first
 unfoldable pub expected_step : Wanted → List ℕ → Option Step
 expected_step Item text = option_map (λ rest. step_by (head_at rest)) (behind_at text)
 expected_step (Closing delimiter) text =
