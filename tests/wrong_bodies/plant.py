@@ -7,8 +7,8 @@ lines 'old:' and 'new:'; each old text stands in that file once. Further lines '
 definition and the code alike, with what lemmas say of it, and a law must refuse it; such a body is planted alone. A function is proved from the contracts of those that it calls, never from
 their bodies: so the wrong bodies of one crate are planted together, in as few rounds as have each function once, only their functions are
 checked, and all others have stand-ins (stand_ins.py), whose proofs are holes: a round costs what its own functions cost. What isn't refused so for a reason of its own
-(the check may only report that a function is called that isn't proved, since that one is planted too) is planted once more so with the others that are left, then among the
-functions' own bodies and proofs, and at last alone. For each it prints the goal that refused: its name and what it says, where the check reports it; and for each crate how many rounds there were,
+(the check may only report that a function is called that isn't proved, since that one is planted too) is planted so again with the others that are left, as long as some
+more are refused; then among the functions' own bodies and proofs, and at last alone. For each it prints the goal that refused: its name and what it says, where the check reports it; and for each crate how many rounds there were,
 and how long they took.
 
 With --alone each is planted alone from the beginning. With --kept the first round stands on what `rt check` kept in the crate's folder out/: for work on a crate, never for the gate.
@@ -162,17 +162,19 @@ def try_round(kit, crate, bodies, kept, over_stand_ins):
 
 
 def try_bodies(kit, crate, bodies, kept, alone):
-    """What becomes of each body: over stand-ins, then those that are left once more so, then together among the functions' own bodies, and at last alone; and how
-    many rounds that took each time."""
+    """What becomes of each body: over stand-ins, as long as some more are refused; then together among the functions' own bodies, and at last alone; and how many
+    rounds that took each time."""
     refused, taken = [], []
-    for over_stand_ins, is_alone in ((True, alone), (True, alone), (False, alone), (False, True)):
+    ways = [(True, alone), (False, alone), (False, True)]
+    while bodies and ways:
+        over_stand_ins, is_alone = ways[0]
         rounds = in_rounds(bodies, is_alone)
         tried = [it for some in rounds for it in try_round(kit, crate, some, kept, over_stand_ins)]
         refused += [it for it in tried if not it.why]
-        bodies = [it.body for it in tried if it.why]
         taken.append(len(rounds))
-        if not bodies:
-            break
+        if not over_stand_ins or all(it.why for it in tried):
+            ways.pop(0)
+        bodies = [it.body for it in tried if it.why]
     return refused + [it for it in tried if it.why], taken
 
 
