@@ -151,8 +151,8 @@ run_group() {
     [ -f "$room/ended" ] || miss "$group" 'it ended before its last line'
 }
 
-# tell_counts: the last line of all checks, and the status that goes with it.
-tell_counts() {
+# print_counts: the last line of all checks, and the status that goes with it.
+print_counts() {
     echo "$passed passed, $failed failed"
     [ "$failed" -eq 0 ] && [ "$passed" -gt 0 ]
 }

@@ -51,9 +51,9 @@ def advised_rows():
             head = cells(line)
         elif head[-1].startswith("what to do") and not line.startswith("|-"):
             row = cells(line)
-            told = row[1] if head[0] == "lines" else row[0]
+            cell = row[1] if head[0] == "lines" else row[0]
             # (what stands in parentheses behind a message is no message)
-            yield SECTIONS[section], re.findall(r"`([^`]+)`", re.split(r"(?<=`) \(", told)[0]), row[-1]
+            yield SECTIONS[section], re.findall(r"`([^`]+)`", re.split(r"(?<=`) \(", cell)[0]), row[-1]
 
 
 def complaints_of_tables():

@@ -59,7 +59,7 @@ def code_of(text):
 
 WORDS = {
     "zero": 0, "true": True, "false": False, "None": NONE, "tt": TT,
-    "MOST_LITERALS": 1000, "MOST_BODIES": 4096, "MOST_LOOPS": 4096, "MOST_OPEN": 20, "GREATEST_STRING": 1000000, "GREATEST_FILE": 2147483647,
+    "MOST_LITERALS": 1000, "MOST_BODIES": 4096, "MOST_LOOPS": 4096, "MOST_OPEN": 20, "FIRST_BREAK": 3, "GREATEST_STRING": 1000000, "GREATEST_FILE": 2147483647,
     **{name: curried(function) for name, function in {
         "pos": lambda n: n, "negsuc": lambda n: -n - 1, "neg_ℤ": lambda n: -n, "suc": lambda n: n + 1, "min": lambda a, b: min(a, b), "max": lambda a, b: max(a, b),
         "length": lambda xs: len(xs), "take": lambda n, xs: xs[:n], "drop": lambda n, xs: xs[n:], "take_while": taken_while, "reverse": lambda xs: xs[::-1],

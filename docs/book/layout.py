@@ -5,8 +5,10 @@ import re
 WIDE = 88
 # More lines than this are a table.
 LONG_TABLE = 12
+# Between the elements of a list.
+ELEMENTS = r" (?=∷ )"
 # Where a long line may be broken, outside parentheses, the loosest sign first; and whether what follows is indented.
-JOINTS = [(r"(?<= in) ", False), (r" (?=else )", True), (r" (?=→ )", True), (r" (?=\|\| |&& )", True), (r" (?=∷ )", True), (r" (?=\+\+ )", True)]
+JOINTS = [(r"(?<= in) ", False), (r" (?=else )", True), (r" (?=→ )", True), (r" (?=\|\| |&& )", True), (ELEMENTS, True), (r" (?=\+\+ )", True)]
 CODES = re.compile(r'\(codes ("(?:[^"\\]|\\.)*")\)|codes (?=")')
 
 
@@ -40,13 +42,13 @@ def rust_lines(lines):
 
 
 def broken(line, pad):
-    """A long line, broken at the first sort of joint that it has outside parentheses."""
-    if len(line) <= WIDE:
+    """A long line, broken at the first sort of joint that it has outside parentheses; a comment stays one line."""
+    if len(line) <= WIDE or line.lstrip().startswith("-- "):
         return [line]
     text = line.strip()
-    if "record {" in text and text.count("; ") > 1:
+    if "record {" in text and text.count("; ") > 1 and re.search(r"\}\)*(;| in)?$", text):
         head, fields = text.split("{", 1)
-        return [f"{pad}{head}{{"] + [f"{pad}    {field}" for field in re.split(r"(?<=;) ", fields.strip())]
+        return [f"{pad}{head}{{"] + [f"{pad}    {field}" for field in fields_of(fields.strip())]
     head, equals, rest = text.partition(" = ")
     if not pad and equals and is_outside(head) and not text.startswith(("record ", "data ")):
         return [f"{head} ="] + broken("    " + rest, "    ")
@@ -54,9 +56,33 @@ def broken(line, pad):
         places = [found.start() for found in re.finditer(joint, text) if is_outside(text[:found.start()])]
         if places:
             parts = [text[start:end].strip() for start, end in zip([0, *places], [*places, len(text)])]
+            if joint == ELEMENTS and all(len(part.split()) < 3 for part in parts):
+                return [pad + line for line in filled(parts, WIDE - len(pad))]
             inner = "    " if is_indented and not text.startswith(("if ", "else ", "∷ ")) else ""
             return [pad + parts[0]] + [pad + inner + part for part in parts[1:]]
     return [line]
+
+
+def fields_of(text):
+    """The fields of a record, with what ends it behind the last one; a record inside a field stays whole."""
+    fields = [""]
+    for part in re.split(r"(?<=;) ", text):
+        if fields[-1] and is_outside(fields[-1]):
+            fields.append(part)
+        else:
+            fields[-1] += " " * bool(fields[-1]) + part
+    return fields
+
+
+def filled(parts, width):
+    """The parts of a list of single words, as many on each line as it has room for."""
+    lines = parts[:1]
+    for part in parts[1:]:
+        if len(lines[-1]) + 1 + len(part) <= width:
+            lines[-1] += f" {part}"
+        else:
+            lines.append(part)
+    return lines
 
 
 def is_outside(text):

@@ -30,6 +30,8 @@ toc-depth: 2
 
 # How many characters of code stand side by side on a page of these measures.
 PAGE = 98
+# A text in quotes, which stays on one line unless it is long.
+STRING = re.compile(r'"(?:[^"\\]|\\.)*"')
 
 
 def anchor(definition):
@@ -42,10 +44,15 @@ def references(found, most=8):
 
 
 def on_page(line):
-    """A line of code as the lines that it takes on a page: what follows its first one is indented, and a comment stays one."""
+    """A line of code as the lines that it takes on a page: what follows its first one, or an equation's sign, is indented, and a comment stays one."""
     pad = re.match(r"\s*", line)[0]
+    left, sign, right = line.partition(" = ")
+    if len(line) > PAGE and sign and not pad and layout.is_outside(left):
+        return [f"{left} ="] + on_page(f"    {right}")
     after = f"{pad}-- " if line.startswith(f"{pad}-- ") else f"{pad}    "
-    return textwrap.wrap(line, PAGE, subsequent_indent=after, break_on_hyphens=False) or [line]
+    whole = STRING.sub(lambda found: found[0].replace(" ", "\0") if len(found[0]) < 80 else found[0], line)
+    parts = textwrap.wrap(whole, PAGE, subsequent_indent=after, break_on_hyphens=False)
+    return [part.replace("\0", " ") for part in parts] or [line]
 
 
 def code(definition):

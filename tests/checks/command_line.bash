@@ -14,7 +14,7 @@ refuses() {
 # An option of the original with its one hyphen, also one with a value behind it: a line behind the library's text says how it is spelt here.
 hint="bibtex: options have two hyphens here, as in '--min-crossrefs'; the script bibtex-search takes the original's"
 
-# is_hinted YES_OR_NO WORD..: these words are refused, and that line is told last, or not at all.
+# is_hinted YES_OR_NO WORD..: these words are refused, and that line is printed last, or not at all.
 is_hinted() {
     begin "hint_for_$(printf '%s' "${@:2}" | tr -c 'a-z0-9\n' _)"
     run_program "${@:2}"

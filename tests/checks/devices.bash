@@ -10,7 +10,7 @@ wants_error "$device_error"
 wants_files d.bib job.aux s.bst
 end
 
-# The second database can't be read: all that was found before it is told.
+# The second database can't be read: all that was found before it is logged.
 begin second_database_that_cannot_be_read
 printf '%s\n' '\citation{k}' '\bibdata{d,e}' '\bibstyle{s}' >job.aux
 mkdir e.bib
@@ -73,7 +73,7 @@ wants_text job.bbl $'a\n'
 wants_text job.blg "$first_log"
 end
 
-# Both fail: one fault is told.
+# Both fail: one fault is reported.
 begin two_failures
 ln -s /dev/full job.bbl
 mkdir job.blg
@@ -109,7 +109,7 @@ cannot_be_printed() {
 cannot_be_printed help_that_cannot_be_printed --help
 cannot_be_printed version_that_cannot_be_printed --version
 
-# A folder can be opened and not be read: the log has what was told before.
+# A folder can be opened and not be read: the log has what was logged before.
 # cannot_be_read FILE LOG: this file is a folder.
 cannot_be_read() {
     begin "${1//./_}_that_cannot_be_read"

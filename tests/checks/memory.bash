@@ -9,7 +9,7 @@ most_requests=20000
 # run_refused N WORD..: runs the program with the Nth request for memory refused.
 run_refused() {
     status=0
-    timeout 60 env LD_PRELOAD="$refuse" REFUSE_AT="$1" REFUSE_TOLD="$folder/told" "$program" "${@:2}" \
+    timeout 60 env LD_PRELOAD="$refuse" REFUSE_AT="$1" REFUSE_TOLD="$folder/refused" "$program" "${@:2}" \
         </dev/null >"$folder/stdout" 2>"$folder/stderr" || status=$?
 }
 
@@ -30,14 +30,14 @@ wants_fault_or_answer() {
 refuses_each() {
     local at before refused=0
     for ((at = 1; at <= most_requests; at++)); do
-        rm -f job.bbl job.blg "$folder/told"
+        rm -f job.bbl job.blg "$folder/refused"
         run_refused "$at" "${@:2}"
-        [ -f "$folder/told" ] || break
+        [ -f "$folder/refused" ] || break
         refused=$at
         before=${#complaints[@]}
         "$1"
         [ ${#complaints[@]} -eq "$before" ] || complaints+=("so at request $at")
-        # One bad run tells enough.
+        # One bad run is enough.
         [ ${#complaints[@]} -lt 20 ] || break
     done
     [ "$refused" -gt 0 ] && [ "$refused" -lt "$most_requests" ] || complaints+=("$refused requests were refused")
@@ -85,9 +85,9 @@ first_of_two_faults() {
     begin first_of_two_faults
     local at first
     for ((at = 1; at <= most_requests; at++)); do
-        rm -rf job.bbl job.blg "$folder/told"
+        rm -rf job.bbl job.blg "$folder/refused"
         run_refused "$at" job
-        [ -f "$folder/told" ] || break
+        [ -f "$folder/refused" ] || break
         first=$status
         rm -rf job.bbl job.blg
         mkdir job.blg
@@ -114,26 +114,26 @@ wants_memory_or_text() {
         wants_output ''
         wants_error $'bibtex: out of memory\n'
     else
-        wants_status "$told_status"
-        wants_output "$told_output"
-        wants_error "$told_error"
+        wants_status "$wanted_status"
+        wants_output "$wanted_output"
+        wants_error "$wanted_error"
     fi
     wants_files d.bib job.aux s.bst
 }
 
-# tells_all_or_nothing NAME WORD..: a command line that isn't run, with one request for memory after another refused.
-tells_all_or_nothing() {
+# prints_all_or_nothing NAME WORD..: a command line that isn't run, with one request for memory after another refused.
+prints_all_or_nothing() {
     begin "refused_memory_in_$1"
     run_program "${@:2}"
-    told_status=$status
-    keep "$folder/stdout" told_output
-    keep "$folder/stderr" told_error
-    [ -n "$told_output$told_error" ] || complaints+=('nothing is told')
+    wanted_status=$status
+    keep "$folder/stdout" wanted_output
+    keep "$folder/stderr" wanted_error
+    [ -n "$wanted_output$wanted_error" ] || complaints+=('nothing is printed')
     refuses_each wants_memory_or_text "${@:2}"
     end
 }
 
-tells_all_or_nothing help --help
-tells_all_or_nothing version --version
-tells_all_or_nothing a_mistake --nope
-tells_all_or_nothing a_value_out_of_range --line 19 job
+prints_all_or_nothing help --help
+prints_all_or_nothing version --version
+prints_all_or_nothing a_mistake --nope
+prints_all_or_nothing a_value_out_of_range --line 19 job

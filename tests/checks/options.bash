@@ -96,7 +96,7 @@ breaks "$(letters 500 a) $(letters 499 b)" "$(letters 500 a) $(letters 499 b)"$'
 breaks "$(letters 500 a) $(letters 500 b)" "$(letters 500 a)"$'\n  '"$(letters 500 b)"$'\n' --line 1000
 
 # How many bytes of a string a variable keeps: one of an entry, and a global one.
-# keeps TEXT KEPT WARNING VARIABLE COMMAND WORD..: the variable is given this text and has this one then; the warning is told, if there is one.
+# keeps TEXT KEPT WARNING VARIABLE COMMAND WORD..: the variable is given this text and has this one then; the warning is logged, if there is one.
 keeps() {
     begin "kept_$((passed + failed))"
     use_style "STRINGS {s} FUNCTION {f} {\"$1\" '$4 := $4 write\$ newline\$} $5 {f}"
@@ -169,7 +169,7 @@ Ended: finished, warnings 0, errors 1, steps 4
 " job
 end
 
-# A log that isn't printed can't fail on standard output; a fault is told all the same.
+# A log that isn't printed can't fail on standard output; a fault is reported all the same.
 begin terse_without_an_output
 status=0
 timeout 60 "$program" --terse job </dev/null >/dev/full 2>"$folder/stderr" || status=$?

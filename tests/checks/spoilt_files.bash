@@ -21,7 +21,7 @@ ends() {
     0 | 2 | 3 | 4) ;;
     *) complaints+=("the exit status is $status $1: $(printf '%q' "$(cat "$folder/stderr")")") ;;
     esac
-    [[ $(tail -n 1 job.blg 2>/dev/null) == Ended:* ]] || complaints+=("the log does not tell the end $1")
+    [[ $(tail -n 1 job.blg 2>/dev/null) == Ended:* ]] || complaints+=("the log has no line of its end $1")
 }
 
 # spoils FILE: this file, cut and changed at each byte.
@@ -46,7 +46,7 @@ spoils() {
             } >"$file"
             ends "where byte $place is $byte"
         done
-        # One bad file tells enough.
+        # One bad file is enough.
         [ ${#complaints[@]} -lt 20 ] || break
     done
     end

@@ -4,7 +4,7 @@
 
 It reads README.md and the .md files of docs/, .ci/, crates/, tests/, examples/ and contrib/. A table says what its columns hold by their heads. Each
 failure is a line; the last line is 'N passed, M failed', of citations, and the exit status is 0 only where M is 0. The user's reference also has the
-words that people search for, and README the right sizes, and the version of the kit that `rt version` tells, where there is `rt`.
+words that people search for, and README the right sizes, and the version of the kit that `rt version` prints, where there is `rt`.
 
 Each crate has a README with the parts that one looks for. It names each wrong body of its crate, and its examples of Rattle are lines of the file that it
 says, in the file's order (a line `..` stands for what is left out). docs/PROOFS.md has an index of the promises of each crate with wrong bodies.
@@ -264,7 +264,7 @@ def wrong_kit():
         return []
     version = subprocess.run(["rt", "version"], capture_output=True, text=True, check=True).stdout.strip()
     said = f"Proved with `{version}`" in (ROOT / "README.md").read_text(encoding="utf-8")
-    return [None if said else f"README.md: it doesn't say that the program is proved with `{version}`, which `rt version` tells"]
+    return [None if said else f"README.md: it doesn't say that the program is proved with `{version}`, which `rt version` prints"]
 
 
 def main():

@@ -8,7 +8,7 @@ COMMANDS = (b"\\citation", b"\\bibdata", b"\\bibstyle", b"\\@input")
 
 
 class EndsEarly(Exception):
-    """The reading ends with the end that is told: "no top file", "limit files" or "limit file"."""
+    """The reading ends with the end that it names: "no top file", "limit files" or "limit file"."""
 
 
 class AuxJob:
@@ -21,7 +21,7 @@ class AuxJob:
         self.has_data_line = self.has_style_line = False
         self.named = []
 
-    def tell(self, text):
+    def log_error(self, text):
         self.log.append(("error", text))
 
 
@@ -42,11 +42,11 @@ def read_aux(files, top):
         job.end = str(end)
         return job
     if not job.keys and job.star is None:
-        job.tell(b"I found no \\citation commands")
+        job.log_error(b"I found no \\citation commands")
     if not job.has_data_line:
-        job.tell(b"I found no \\bibdata command")
+        job.log_error(b"I found no \\bibdata command")
     if not job.has_style_line:
-        job.tell(b"I found no \\bibstyle command")
+        job.log_error(b"I found no \\bibstyle command")
     return job
 
 
@@ -67,15 +67,15 @@ def read_file(job, files, name, level):
 def read_line(job, files, level, command, argument, place):
     if command == b"\\bibdata":
         if job.has_data_line:
-            return job.tell(b"Illegal, another \\bibdata command" + place)
+            return job.log_error(b"Illegal, another \\bibdata command" + place)
         job.has_data_line = True
     if command == b"\\bibstyle":
         if job.has_style_line:
-            return job.tell(b"Illegal, another \\bibstyle command" + place)
+            return job.log_error(b"Illegal, another \\bibstyle command" + place)
         job.has_style_line = True
     for is_piece, text in pieces(argument, command in (b"\\citation", b"\\bibdata")):
         if not is_piece:
-            job.tell(text + place)
+            job.log_error(text + place)
         elif command == b"\\citation":
             take_key(job, text, place)
         elif command == b"\\bibdata":
@@ -108,33 +108,33 @@ def pieces(argument, is_list):
 def take_key(job, key, place):
     if key == b"*":
         if job.star is not None:
-            job.tell(b"Multiple inclusions of entire database" + place)
+            job.log_error(b"Multiple inclusions of entire database" + place)
         else:
             job.star = len(job.keys)
         return
     for earlier in job.keys:
         if lowered(earlier) == lowered(key):
             if earlier != key:
-                job.tell(b"Case mismatch error between cite keys %s and %s" % (earlier, key) + place)
+                job.log_error(b"Case mismatch error between cite keys %s and %s" % (earlier, key) + place)
             return
     job.keys.append(key)
 
 
 def take_database(job, name, place):
     if name in job.databases:
-        job.tell(b"This database file appears more than once: " + name + place)
+        job.log_error(b"This database file appears more than once: " + name + place)
     else:
         job.databases.append(name)
 
 
 def take_file(job, files, name, level, place):
     if not name.endswith(b".aux"):
-        return job.tell(name + b" has a wrong extension" + place)
+        return job.log_error(name + b" has a wrong extension" + place)
     if name in job.named:
-        return job.tell(b"Already encountered file " + name + place)
+        return job.log_error(b"Already encountered file " + name + place)
     job.named.append(name)
     if name not in files:
-        return job.tell(b"I couldn't open auxiliary file " + name + place)
+        return job.log_error(b"I couldn't open auxiliary file " + name + place)
     if level + 1 == MOST_OPEN_FILES:
         raise EndsEarly("limit files")
     read_file(job, files, name, level + 1)

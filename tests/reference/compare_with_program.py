@@ -39,15 +39,15 @@ def compare(program, files, given):
     options = Options(**given)
     there = by_program(program, files, options)
     here = run(files, b"job", options)
-    told = (here.list, here.log, here.report.status)
-    if there != told:
+    expected = (here.list, here.log, here.report.status)
+    if there != expected:
         print("---- differs", words_of(options))
         for name, text in files.items():
             print(name, text[:2000])
-        for what, left, right in zip(("list", "log", "status"), there, told):
+        for what, left, right in zip(("list", "log", "status"), there, expected):
             if left != right:
                 print(what, "\n  program:  ", str(left)[:3000], "\n  reference:", str(right)[:3000])
-    return there == told
+    return there == expected
 
 
 def seed_of_commit():

@@ -27,7 +27,7 @@ class Fault(Exception):
 
 
 class TooLong(Exception):
-    """The reading ends at the limit that is told: "limit string" or "limit file"."""
+    """The reading ends at the limit that it names: "limit string" or "limit file"."""
 
 
 class Entry:

@@ -36,9 +36,9 @@ PROGRAM_TOKENS = [b"#0", b"#0", b"#1", b"#1", b"#2", b"#2", b"#3", b"#-1", b"#65
                   b"'skip$", b"'title", b"'misc", b"{}", b"i", b"i", b"s", b"n", b"t", b"title", b"author", b"note", b"misc", b":=",
                   b"duplicate$", b"*", *BUILT_IN]
 PROGRAM_STYLE = (b"ENTRY {title author note}{n}{t} INTEGERS {i} STRINGS {s}\nFUNCTION {misc} {\"m\" write$}\nREAD\n"
-                 b"FUNCTION {told} {stack$ i s newline$ write$ newline$ int.to.str$ write$ newline$}\n"
-                 b"FUNCTION {of.entry} {told t write$ newline$ n int.to.str$ write$ newline$}\nFUNCTION {program} {")
-PROGRAM_ENDS = [b"}\nEXECUTE {program}\nEXECUTE {told}\n", b"}\nITERATE {program}\nITERATE {of.entry}\n"]
+                 b"FUNCTION {show} {stack$ i s newline$ write$ newline$ int.to.str$ write$ newline$}\n"
+                 b"FUNCTION {of.entry} {show t write$ newline$ n int.to.str$ write$ newline$}\nFUNCTION {program} {")
+PROGRAM_ENDS = [b"}\nEXECUTE {program}\nEXECUTE {show}\n", b"}\nITERATE {program}\nITERATE {of.entry}\n"]
 PROGRAM_DATABASE = b'@misc{a, title = {A {\\ss}tory of: Two}, author = "Ann {\\"O}z and de la Tour, Jr, B"}\n@book{b, note = {n} # " o"}\n'
 
 
@@ -119,7 +119,7 @@ class Maker:
         return files, options
 
     def program(self):
-        """A style whose one body has 50 tokens; then the stack and the variables are told, outside entries or in two of them."""
+        """A style whose one body has 50 tokens; then the stack is logged and the variables are written, outside entries or in two of them."""
         style = PROGRAM_STYLE + self.some(PROGRAM_TOKENS, [50]) + self.pick(PROGRAM_ENDS)
         files = {b"job.aux": b"\\citation{a,b}\n\\bibdata{d}\n\\bibstyle{s}\n", b"d.bib": PROGRAM_DATABASE, b"s.bst": style}
         return files, {"budget": 5000, "utf8": self.random.random() < 0.3}

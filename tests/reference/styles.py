@@ -84,7 +84,7 @@ class Style:
 
 
 class Fault(Exception):
-    """Ends the command; the text of the message is told with the line of the place."""
+    """Ends the command; the message's text is logged with the line of the place."""
 
 
 class Reader:
@@ -135,7 +135,7 @@ class Reader:
 
     # ---- messages ----
 
-    def tell(self, text):
+    def log_error(self, text):
         number = min(self.line + 1, len(self.lines))
         self.style.items.append(Message(text + b"--line %d of file %s" % (number, self.name)))
 
@@ -170,7 +170,7 @@ class Reader:
             try:
                 self.read_command()
             except Fault as fault:
-                self.tell(fault.args[0])
+                self.log_error(fault.args[0])
                 self.skip_to_empty_line()
             self.skip_white()
         return self.style
@@ -312,7 +312,7 @@ class Reader:
         name = self.skip_token()
         meaning = self.style.known.get(lowered(name))
         if meaning is None:
-            self.tell(name + b" is an unknown function")
+            self.log_error(name + b" is an unknown function")
             return []
         return [kind(meaning)]
 
@@ -332,7 +332,7 @@ class Reader:
         value = int(significant or b"0") if len(significant) <= 10 else 1 << 40
         value = -value if start == 2 else value
         if end == start or not -2**31 <= value < 2**31:
-            self.tell(b"Illegal integer")
+            self.log_error(b"Illegal integer")
             self.skip_token()
             return []
         self.column += end
@@ -340,7 +340,7 @@ class Reader:
 
     def literal_ended(self, token):
         if self.skip_token():
-            self.tell(b"Illegal text after a literal")
+            self.log_error(b"Illegal text after a literal")
             return []
         return [token]
 

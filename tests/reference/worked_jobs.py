@@ -1,4 +1,4 @@
-"""Worked jobs: small jobs with what they give, told as a table. Running this file compares each with the reference.
+"""Worked jobs: small jobs with what they give, as a table. Running this file compares each with the reference.
 
     python3 worked_jobs.py
 
@@ -335,7 +335,7 @@ LIBRARIES = [
      [b"Repeated entry--line 2 of file d.bib"]),
     ("a field twice", DECLARED, b"k", 2, b"@misc{k, title={A}, TITLE={B},}", [(b"k", {b"title": b"A"})],
      [b'I\'m ignoring k\'s extra "TITLE" field--line 1 of file d.bib']),
-    ("what isn't cited isn't told of", DECLARED, b"k", 2, b"@misc{j, title = zz} @misc{k}",
+    ("what isn't cited isn't logged", DECLARED, b"k", 2, b"@misc{j, title = zz} @misc{k}",
      [(b"k", {b"title": MISSING})], []),
     ("a chain of parents, two references wanted", CROSSING, b"c", 2,
      b"@misc{c, crossref={p}}\n@misc{p, title={P}, crossref={g}}\n@book{g, booktitle={G}}",
@@ -374,7 +374,7 @@ def files_of(job):
 
 
 def differences(job):
-    """What a job's product has that isn't as told."""
+    """For each part of a job's product: its name, what is wanted and what is found."""
     found = run(files_of(job), b"job", Options(**job.options))
     log = found.log.split(b"\n")[:-1]
     report = found.report
@@ -396,29 +396,29 @@ def differences(job):
 
 def compare_jobs():
     for job in JOBS:
-        for what, told, found in differences(job):
-            yield f"{job.name}: {what}", told, found
+        for what, wanted, found in differences(job):
+            yield f"{job.name}: {what}", wanted, found
     nothing = run({}, b"job")
     yield "no top file", (b"", NO_TOP_FILE, 3), (nothing.list, nothing.log, nothing.report.status)
 
 
 def compare_calls():
-    for name, given, told in STRING_CALLS:
-        yield f"{name}{given}", told, getattr(texts, name)(*given)
-    for all_names, number, format_text, utf8, told, complaints in NAME_CALLS:
+    for name, given, wanted in STRING_CALLS:
+        yield f"{name}{given}", wanted, getattr(texts, name)(*given)
+    for all_names, number, format_text, utf8, wanted, complaints in NAME_CALLS:
         found = names.format_name(all_names, number, format_text, utf8)
-        yield f"format_name of {all_names}", (told, complaints), (
+        yield f"format_name of {all_names}", (wanted, complaints), (
             found.text, tuple(name for name in found._fields[1:] if getattr(found, name)))
 
 
 def compare_libraries():
-    for title, declared, keys, least, text, told, messages in LIBRARIES:
+    for title, declared, keys, least, text, wanted, messages in LIBRARIES:
         job = read_aux({b"job.aux": citing(keys)}, b"job")
         library = read_databases(read_style(b"s.bst", declared), job, [(b"d.bib", text)], least)
         yield title, messages, [text for _, text in library.messages]
         found = [(place.key, {name: place.entry.values.get(name) for name in fields})
-                 for place, (_, fields) in zip(library.list, told)]
-        yield title, (len(told), told), (len(library.list), found)
+                 for place, (_, fields) in zip(library.list, wanted)]
+        yield title, (len(wanted), wanted), (len(library.list), found)
 
 
 def compare_styles():
@@ -437,11 +437,11 @@ def compare_lines():
                 yield "sure", begun, wrapped(piece, 79)[:len(begun)]
 
 
-def is_wrong(what, told, found):
+def is_wrong(what, wanted, found):
     """Whether two values differ; then they are printed."""
-    if told != found:
-        print(f"{what}\n  told:  {str(told)[:400]}\n  found: {str(found)[:400]}")
-    return told != found
+    if wanted != found:
+        print(f"{what}\n  wanted: {str(wanted)[:400]}\n  found:  {str(found)[:400]}")
+    return wanted != found
 
 
 def main():

@@ -56,18 +56,18 @@ WRONG = [
     ("styles.py", "return all(body_is_direct(body) for body in style.bodies)", "return False", "no style is direct"),
     ("styles.py", "isinstance(body[first], Quoted) and isinstance(body[second], Quoted)", "True", "any token beside a literal"),
     ("databases.py", "            return\n        self.library.keep_field", "        self.library.keep_field", "the last of two equal fields stands"),
-    ("aux_files.py", "if earlier != key:\n                job.tell", "if False:\n                job.tell", "case mismatches aren't told"),
+    ("aux_files.py", "if earlier != key:\n                job.log_error", "if False:\n                job.log_error", "case mismatches aren't logged"),
     ("interpreter.py", "return int(lower > top)", "return int(top > lower)", "> compares the other way"),
     ("interpreter.py", "lower - top", "top - lower", "- the other way"),
     ("interpreter.py", "return lower + top\n", "return top + lower\n", "* the other way"),
     ("interpreter.py", "return texts.substring(text, start, length)", "return texts.substring(text, length, start)", "start and length exchanged"),
     ("interpreter.py", "        if any(literal is None for literal in popped):\n            return None\n        return popped if",
      "        if any(literal is None for literal in popped):\n            self.are_of(executed, [x for x in popped if x is not None], kinds)\n            return None\n        return popped if",
-     "the kind of an operand is told where another is missing"),
+     "the kind of an operand is logged where another is missing"),
     ("interpreter.py", "if not isinstance(variable, Variable):", "if not is_string(value) and not is_integer(value):\n            return\n        if not isinstance(variable, Variable):",
      "the value's kind is asked before the variable"),
     ("interpreter.py", "value = value[:most]", "value = value[-most:]", "a cut of the wrong end"),
-    ("interpreter.py", "if len(value) > most:", "if len(value) >= most:", "a cut is told one byte early"),
+    ("interpreter.py", "if len(value) > most:", "if len(value) >= most:", "a cut is logged one byte early"),
     ("interpreter.py", "if not machine.has_entry(b\"missing$\"):\n        return", "if not machine.has_entry(b\"missing$\"):\n        machine.push(0)\n        return",
      "missing$ outside an entry pushes"),
     ("interpreter.py", "self.style.types.get(self.current.kind or b\"default.type\")", "self.style.types.get(self.current.kind or b\"\")",
@@ -81,16 +81,16 @@ WRONG = [
     ("interpreter.py", "    if -2**31 <= value < 2**31:\n        return value", "    return (value + 2**31) % 2**32 - 2**31", "+ wraps"),
     ("interpreter.py", "machine.complain(b\"= needs", "return 1\n    machine.complain(b\"= needs", "two functions are equal"),
     ("interpreter.py", "        if self.stack:\n            self.complain(b\"The literal", "        if self.stack and word == b\"EXECUTE\":\n            self.complain(b\"The literal",
-     "literals left after ITERATE aren't told"),
+     "literals left after ITERATE aren't logged"),
     ("interpreter.py", "            self.current = None\n", "            pass\n", "the last entry stays the current one"),
     ("interpreter.py", "self.entries[::-1]:", "self.entries:", "REVERSE goes forward"),
     ("interpreter.py", "popped[0] <= 0", "popped[0] < 0", "while$ runs on at 0"),
     ("databases.py", "place.count < min_crossrefs", "place.count <= min_crossrefs", "one reference more is wanted"),
     ("databases.py", "return not self.takes_all and not place.cited", "return not place.cited", "parents leave with * too"),
     ("databases.py", "        self.judge_parents(min_crossrefs)\n        self.remove(min_crossrefs)",
-     "        self.remove(min_crossrefs)\n        self.judge_parents(min_crossrefs)", "missing entries are told before parents"),
+     "        self.remove(min_crossrefs)\n        self.judge_parents(min_crossrefs)", "missing entries are logged before parents"),
     ("databases.py", "text, self.place = fault.args", "text, self.place = fault.args\n                self.place += 1", "the search goes on behind the fault"),
-    ("databases.py", "self.where(self.place - 1)", "self.where(front(self.text, self.place, is_blank))", "an extra field is told behind the white"),
+    ("databases.py", "self.where(self.place - 1)", "self.where(front(self.text, self.place, is_blank))", "an extra field is logged at the place behind the white"),
     ("styles.py", "and self.lines[self.line] != b\"\":", "and self.lines[self.line].strip() != b\"%\":", "recovery isn't at the empty line"),
     ("styles.py", "            del self.style.bodies[before:]\n", "", "a faulty function leaves its nameless ones"),
     ("styles.py", "        self.style.has_entry = True\n", "", "ENTRY isn't seen"),
@@ -120,10 +120,10 @@ def seen_by_random_jobs(folder, number):
     script = ("import sys; from product import *; from random_jobs import *\n"
               "for f, o in random_jobs(%d, 1): print(hash((run(f, b'job', Options(**o)))))" % number)
     environment = {"PYTHONHASHSEED": "0", "PATH": "/usr/bin:/bin"}
-    told = [subprocess.run([sys.executable, "-c", script], cwd=place, capture_output=True, env=environment).stdout.split()
-            for place in (HERE, folder)]
-    differ = [place for place, (left, right) in enumerate(zip(*told)) if left != right]
-    return differ[0] if differ else None if len(told[0]) == len(told[1]) else len(told[1])
+    hashes = [subprocess.run([sys.executable, "-c", script], cwd=place, capture_output=True, env=environment).stdout.split()
+              for place in (HERE, folder)]
+    differ = [place for place, (left, right) in enumerate(zip(*hashes)) if left != right]
+    return differ[0] if differ else None if len(hashes[0]) == len(hashes[1]) else len(hashes[1])
 
 
 def try_one(file, old, new, jobs):

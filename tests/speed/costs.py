@@ -143,7 +143,7 @@ def entries(size):
 
 @cost("memory", "bytes a key", 100_000, 400_000)
 def keys(size):
-    """None has an entry, so each is told."""
+    """None has an entry, so each has a message."""
     return Job({"job.aux": "\\citation{%s}\n" % ",".join(names_of(size)) + AUX, "s.bst": style("")}, size)
 
 

@@ -34,14 +34,14 @@ def measured_shape(shape, tools, runs, room):
     return measured
 
 
-def print_job(job, figures):
-    for name, told in figures.items():
+def print_job(job, figures_by_tool):
+    for name, figures in figures_by_tool.items():
         size = f"{job.entries:,} {job.shape.unit}"
-        if told.failure:
-            row([job.shape.name, size, name, told.failure, *[""] * 3])
+        if figures.failure:
+            row([job.shape.name, size, name, figures.failure, *[""] * 3])
         else:
-            row([job.shape.name, size, name, millions(told.instructions), f"{told.cpu:.3f}", f"{told.wall:.3f}",
-                 f"{told.megabytes:.1f}"])
+            row([job.shape.name, size, name, millions(figures.instructions), f"{figures.cpu:.3f}", f"{figures.wall:.3f}",
+                 f"{figures.megabytes:.1f}"])
 
 
 def measure_all(shapes, tools, runs, room):

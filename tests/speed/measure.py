@@ -96,7 +96,7 @@ class Tool:
         return int(found[1].replace(",", "")) if found and self.can_run(status) else None
 
     def steps(self, folder):
-        """The steps that the log tells; the original's tells none."""
+        """The number of steps in the log's last line; the original's log has none."""
         found = re.search(rb"^Ended: finished,.* steps (\d+)$", (folder / "job.blg").read_bytes(), re.MULTILINE)
         return int(found[1]) if found else None
 
@@ -146,28 +146,28 @@ def row(cells):
     print("| " + " | ".join(str(cell) for cell in cells) + " |", flush=True)
 
 
-def print_job(job, figures, seed):
-    steps = next((told.steps for told in figures.values() if told.steps), None) or jobs.few_steps(job, seed)
-    for name, told in figures.items():
-        if told.failure:
-            row([job.name, f"{job.entries:,}", name, told.failure, *[""] * 6])
+def print_job(job, figures_by_tool, seed):
+    steps = next((figures.steps for figures in figures_by_tool.values() if figures.steps), None) or jobs.few_steps(job, seed)
+    for name, figures in figures_by_tool.items():
+        if figures.failure:
+            row([job.name, f"{job.entries:,}", name, figures.failure, *[""] * 6])
             continue
-        a_second = millions(steps / told.cpu) if steps and told.cpu else ""
-        row([job.name, f"{job.entries:,}", name, millions(told.instructions), f"{told.cpu:.3f}", f"{told.wall:.3f}",
-             f"{told.megabytes:.1f}", f"{steps:,}" if steps else "", a_second, same_list(figures, name)])
+        a_second = millions(steps / figures.cpu) if steps and figures.cpu else ""
+        row([job.name, f"{job.entries:,}", name, millions(figures.instructions), f"{figures.cpu:.3f}", f"{figures.wall:.3f}",
+             f"{figures.megabytes:.1f}", f"{steps:,}" if steps else "", a_second, same_list(figures_by_tool, name)])
 
 
-def same_list(figures, name):
+def same_list(figures_by_tool, name):
     """Whether this program's list is the original's."""
-    original = figures.get("original")
+    original = figures_by_tool.get("original")
     if name == "original" or original is None or original.failure:
         return ""
-    return "same" if figures[name].references == original.references else "DIFFERS"
+    return "same" if figures_by_tool[name].references == original.references else "DIFFERS"
 
 
 def print_loop(loop, a_step):
-    for name, told in a_step.items():
-        row([loop.name, name, told if isinstance(told, str) else f"{told:.1f}"])
+    for name, figure in a_step.items():
+        row([loop.name, name, figure if isinstance(figure, str) else f"{figure:.1f}"])
 
 
 # ---- bars ----
@@ -184,8 +184,8 @@ class Bars:
             return
         is_met = not isinstance(found, str) and found <= most
         self.met, self.missed = self.met + is_met, self.missed + (not is_met)
-        told = found if isinstance(found, str) else shown(found)
-        print(f"{'met      ' if is_met else 'NOT MET  '} {what}: {told}, at most {shown(most)}")
+        printed = found if isinstance(found, str) else shown(found)
+        print(f"{'met      ' if is_met else 'NOT MET  '} {what}: {printed}, at most {shown(most)}")
 
 
 def of_original(measured, job):
@@ -198,16 +198,16 @@ def of_original(measured, job):
 
 def print_bars(measured, bars):
     for job in measured:
-        told = measured[job]["program"]
+        figures = measured[job]["program"]
         if job.name == jobs.START:
-            bars.judge("instructions at the start", told.failure or told.instructions, MOST_AT_START, millions)
+            bars.judge("instructions at the start", figures.failure or figures.instructions, MOST_AT_START, millions)
         elif job.entries >= 10_000 and job.name not in (READING_ALONE, MESSAGES):
             instructions, megabytes = of_original(measured, job)
             what = f"{job.name}, {job.entries:,} entries"
-            if told.instructions or told.failure:
-                bars.judge(f"{what}, instructions of the original", told.failure or told.instructions, instructions, millions)
+            if figures.instructions or figures.failure:
+                bars.judge(f"{what}, instructions of the original", figures.failure or figures.instructions, instructions, millions)
             if job.entries <= MOST_ENTRIES_OF_ORIGINAL:
-                bars.judge(f"{what}, memory of the original", told.failure or told.megabytes, megabytes,
+                bars.judge(f"{what}, memory of the original", figures.failure or figures.megabytes, megabytes,
                            lambda size: f"{size:.1f} MB")
 
 
@@ -255,9 +255,9 @@ def exponent(smaller, larger, start):
 
 
 def print_growth(measured, tool, bars):
-    told = [(job, figures[tool.name]) for job, figures in measured.items() if not figures[tool.name].failure]
-    starts = [figures for job, figures in told if job.name == jobs.START]
-    for smaller, larger in zip(told, told[1:]):
+    jobs_with_figures = [(job, figures[tool.name]) for job, figures in measured.items() if not figures[tool.name].failure]
+    starts = [figures for job, figures in jobs_with_figures if job.name == jobs.START]
+    for smaller, larger in zip(jobs_with_figures, jobs_with_figures[1:]):
         if not starts or smaller[0].name != larger[0].name:
             continue
         found = exponent(smaller, larger, starts[0])
@@ -322,7 +322,7 @@ def measure_all(tools, arguments, room):
 
 
 def has_commands():
-    """Whether all is there that measuring needs; what is missing is told."""
+    """Whether all is there that measuring needs; what is missing is printed."""
     missing = [name for name in ("valgrind", "gcc", "timeout") if shutil.which(name) is None]
     if missing:
         print(f"{' and '.join(missing)} not found: nothing is measured")

@@ -125,7 +125,7 @@ def numbered(text, size):
 
 @shape("bytes", 1_000_000, 10_000_000)
 def unknown_names(size):
-    """A body of names alone, one on each line; an error is told of each."""
+    """A body of names alone, one on each line; each has an error."""
     return style_job(READING + "FUNCTION {f} {\n" + numbered(NAME, size) + "}\n")
 
 

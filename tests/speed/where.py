@@ -55,7 +55,7 @@ def functions_in(profile):
 
 
 def plain_name(name):
-    """A function's name without what tells its forms for several types apart: they count as one."""
+    """A function's name without what distinguishes its forms for several types: they count as one."""
     return re.sub(r"'\d+$|::<#[0-9a-f]+>", "", name)
 
 

@@ -7,8 +7,8 @@ lines 'old:' and 'new:'; each old text stands in that file once. Further lines '
 definition and the code alike, with what lemmas say of it, and a law must refuse it; such a body is planted alone. A function is proved from the contracts of those that it calls, never from
 their bodies: so the wrong bodies of one crate are planted together, in as few rounds as have each function once, only their functions are
 checked, and all others have stand-ins (stand_ins.py), whose proofs are holes: a round costs what its own functions cost. What isn't refused so for a reason of its own
-(the check may only tell that a function is called that isn't proved) is planted once more among the functions' own bodies and proofs, together with the others of its kind,
-and at last alone. For each it prints the goal that refused: its name and what it says, where the check tells; and for each crate how many rounds there were,
+(the check may only report that a function is called that isn't proved, since that one is planted too) is planted so again with the others that are left, as long as some
+more are refused; then among the functions' own bodies and proofs, and at last alone. For each it prints the goal that refused: its name and what it says, where the check reports it; and for each crate how many rounds there were,
 and how long they took.
 
 With --alone each is planted alone from the beginning. With --kept the first round stands on what `rt check` kept in the crate's folder out/: for work on a crate, never for the gate.
@@ -16,7 +16,7 @@ With --unplanted nothing is planted, and the prover must take each function over
 on the stand-ins.
 
 One that changes a definition too, a file of specs/, has a round of its own behind the others, which are to be judged by the definitions that stand. Two of
-these in one round could not be told apart: a law that the one breaks may be refused for the other's definition.
+these in one round could not be distinguished: a law that the one breaks may be refused for the other's definition.
 
 Each file also has a line 'witness:', which witnesses.py checks; here it must only be there.
 
@@ -41,7 +41,7 @@ from witnesses import FOLDERS, ROOT, report_lacking, witness_of
 
 # How much of a goal is printed.
 LONGEST_GOAL = 300
-# An error that tells only that a name is gone says nothing of a contract.
+# An error that reports only that a name is gone says nothing of a contract.
 GONE = re.compile(r"is not in scope|has no field|has no `|was not admitted")
 # What the check says of a function that is proved, but for holes that stand in.
 TAKEN = re.compile(r"proved$|no holes|depends on a hole")
@@ -103,7 +103,7 @@ def judged(crate, body, said):
     name = re.escape(f"{crate}::{body.function}")
     verdict = re.search(rf"(?m)^fn {name}: (.*)$", said)
     if not verdict or TAKEN.match(verdict[1]):
-        return Judged(body, "NOT REFUSED: its function is still proved" if verdict else "nothing is told of its function")
+        return Judged(body, "NOT REFUSED: its function is still proved" if verdict else "nothing is reported of its function")
     open_goal = re.search(r"did not prove `([^`]*)`", verdict[1])
     if open_goal:
         return Judged(body, goal=goal_of(body, said, open_goal[1]))
@@ -155,23 +155,26 @@ def try_round(kit, crate, bodies, kept, over_stand_ins):
         except (OSError, ValueError) as error:
             results.append(Judged(body, str(error)))
     said = checked(kit, crate, texts, [body.function for body in planted], kept, over_stand_ins)
-    told = re.search(r"^only=\d+ (proved|holes)=\d+", said.rstrip("\n").rpartition("\n")[2])
+    reported = re.search(r"^only=\d+ (proved|holes)=\d+", said.rstrip("\n").rpartition("\n")[2])
     for body in planted:
-        results.append(judged(crate.name, body, said) if told else Judged(body, "the check came to no end: " + said[:400]))
+        results.append(judged(crate.name, body, said) if reported else Judged(body, "the check came to no end: " + said[:400]))
     return results
 
 
 def try_bodies(kit, crate, bodies, kept, alone):
-    """What becomes of each body, first over stand-ins, then together among the functions' own bodies, and at last alone; and how many rounds that took each time."""
+    """What becomes of each body: over stand-ins, as long as some more are refused; then together among the functions' own bodies, and at last alone; and how many
+    rounds that took each time."""
     refused, taken = [], []
-    for over_stand_ins, is_alone in ((True, alone), (False, alone), (False, True)):
+    ways = [(True, alone), (False, alone), (False, True)]
+    while bodies and ways:
+        over_stand_ins, is_alone = ways[0]
         rounds = in_rounds(bodies, is_alone)
         tried = [it for some in rounds for it in try_round(kit, crate, some, kept, over_stand_ins)]
         refused += [it for it in tried if not it.why]
-        bodies = [it.body for it in tried if it.why]
         taken.append(len(rounds))
-        if not bodies:
-            break
+        if not over_stand_ins or all(it.why for it in tried):
+            ways.pop(0)
+        bodies = [it.body for it in tried if it.why]
     return refused + [it for it in tried if it.why], taken
 
 
@@ -181,7 +184,7 @@ def take_unplanted(kit, crate, bodies, kept):
     verdicts = dict(re.findall(rf"(?m)^fn {crate.name}::(\S+): (.*)$", said))
     results = []
     for body in bodies:
-        verdict = verdicts.get(body.function, "nothing is told of its function")
+        verdict = verdicts.get(body.function, "nothing is reported of its function")
         results.append(Judged(body, None if TAKEN.match(verdict) else verdict[:LONGEST_GOAL], "unplanted: " + verdict[:40]))
     return results
 

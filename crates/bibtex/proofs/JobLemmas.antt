@@ -14,7 +14,7 @@ use Rattle.bibtex.specs.Status.{first_fault}
 use Rattle.bibtex.specs.declared.given.Settings.{Settings}
 use Rattle.bibtex.specs.declared.list_file.ListFile.{ListFile}
 use Rattle.bibtex.proofs.GrowthLemmas.{one_after_another}
-use Rattle.btx_machine.specs.refinement.Written.{Received}
+use Rattle.btx_machine.specs.language.KeepingStep.{Received}
 
 -- ---- an old list that is kept
 

@@ -15,9 +15,9 @@ pub data Act (W : Type 0) : Type 0 where
   StoredLog : (path log : List ℕ) (stored : Result (Unit {0}) RunFault) → Act W
   -- a text was printed to standard output, or that failed
   Printed : (text : List ℕ) (printed : Result (Unit {0}) RunFault) → Act W
-  -- a text and a hint behind it, which may be empty, were told on standard error
+  -- a text and a hint behind it, which may be empty, were reported on standard error
   ReportedText : (text hint : List ℕ) → Act W
-  -- a fault was told on standard error
+  -- a fault was reported on standard error
   ReportedFault : (fault : RunFault) → Act W
 
 -- what was done so far; of the real system's outputs nothing is known
@@ -28,7 +28,7 @@ Done W = Option (List (Act W))
 abbrev pub WereDone : {W : Type 0} → Done W → Done W → List (Act W) → Type 0
 WereDone before after acts = after ≡ option_map (λ done. done ++ acts) before
 
--- the fault of an answer is told
+-- the fault of an answer is reported
 abbrev pub reporting : {W : Type 0} {T : Type 0} → Result T RunFault → List (Act W)
 reporting (Ok value) = []
 reporting (Err fault) = ReportedFault fault ∷ []

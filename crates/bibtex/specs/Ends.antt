@@ -25,8 +25,8 @@ use Rattle.bibtex.specs.declared.given.Settings.{Settings}
 use Rattle.bibtex.specs.declared.outcome.Exit.{Exit}
 use Rattle.bibtex.specs.declared.outcome.Exit.TheVariants as exit
 
--- words that are not run come to this end: a text that was asked for is printed, and if that fails, the fault is told; of a mistake its
--- text is told, with this hint; of refused memory that fault
+-- words that are not run come to this end: a text that was asked for is printed, and if that fails, the fault is reported; of a mistake its
+-- text is reported, with this hint; of refused memory that fault
 abbrev pub IsReported : {W : Type 0} → List ℕ → Refusal → Done W → Done W → Exit → Type 0
 IsReported hint (refusal.Shown text) before after end =
     (printed : Result (Unit {0}) RunFault) × WereDone before after (Printed (string_bytes text) printed ∷ reporting printed) × (end ≡ exit_shown printed)
@@ -48,7 +48,7 @@ IsAnswered files contents hint (Ok settings) before after end = RunEnds files co
 IsAnswered files contents hint (Err refusal) before after end = IsReported hint refusal before after end
 
 -- the words of a command line, the program's name first, come to this end: the job of their settings is done, once, and nothing else is, or they
--- are refused as they are read; a mistake is told with this hint
+-- are refused as they are read; a mistake is reported with this hint
 pub record ComesTo {W : Type 0} (files : Option Files) (contents : W → Held) (words : List (List ℕ)) (hint : List ℕ) (before after : Done W) (end : Exit) : Type 0 where
   pub read : Result Settings Refusal
   pub settings : IfOk read (IsSettingsOf words)
@@ -69,14 +69,14 @@ AreWordsOf (Ok args) (Ok words) = words.items ≡ into_iter_items args
 AreWordsOf (Ok args) (Err error) = error_kind error ≡ OutOfMemory
 AreWordsOf (Err error) words = words ≡ Err error
 
--- words that can't be read, by the kind of the error, come to this end: where memory was refused, that fault is told; else it is told that they
--- are no text
+-- words that can't be read, by the kind of the error, come to this end: where memory was refused, that fault is reported; else the report
+-- is that they are no text
 abbrev pub IsUnread : {W : Type 0} → ErrorKind → Done W → Done W → Exit → Type 0
 IsUnread OutOfMemory before after end = WereDone before after (ReportedFault run_fault.Memory ∷ []) × (end ≡ refused_memory)
 IsUnread _ before after end =
     WereDone before after (ReportedText (codes "error: invalid UTF-8 was detected in one or more arguments\n") [] ∷ []) × (end ≡ exit.Refused)
 
--- words that were read come to the end of their command line; of others it is told why, and nothing else is done
+-- words that were read come to the end of their command line; of others the reason is reported, and nothing else is done
 abbrev pub EndsFor : {W : Type 0} → Option Files → (W → Held) → Words → Done W → Done W → Exit → Type 0
 EndsFor files contents (Ok words) before after end =
     ComesTo files contents (map (λ word. string_bytes word) words.items) (hint_of words.items) before after end

@@ -3,7 +3,7 @@ use Rattle.std.specs.Prelude.{◌≡◌, ◌≤◌, ℕ, true, List, [], ◌∷�
 use Rattle.std.specs.Io.KnownBytes.{Appends}
 use Rattle.std.specs.Option.{option_map}
 use Rattle.btx_aux.specs.language.Files.{Files}
-use Rattle.btx_machine.specs.language.KeepingStep.{AtFault}
+use Rattle.btx_machine.specs.language.KeepingStep.{Received, AtFault}
 use Rattle.btx_machine.specs.language.Product.{log_of}
 use Rattle.btx_machine.specs.declared.report.Report.{Report}
 use Rattle.btx_run.specs.language.Answered.{CompletesAsAnswered, FailsAsAnswered}
@@ -18,7 +18,6 @@ use Rattle.bibtex.specs.Printing.{printed_log}
 use Rattle.bibtex.specs.Status.{first_fault}
 use Rattle.bibtex.specs.declared.given.Settings.{Settings}
 use Rattle.bibtex.specs.declared.list_file.ListFile.{ListFile}
-use Rattle.btx_machine.specs.refinement.Written.{Received}
 
 -- The job that was asked for is run, with all that was asked of it, over a finder of this content, if it tells one: its report, list and
 -- log are the product's, and after a fault the two outputs are beginnings of them. Whatever the finder is, also one over the files of a disk,

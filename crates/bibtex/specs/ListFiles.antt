@@ -35,7 +35,7 @@ keeps_old (Ok report) = is_without_top_file report.end
 keeps_old (Err fault) = false
 
 -- At the end of a run its list's file stays as it is where there is no top file; else it holds what it received in this run and nothing else,
--- or it couldn't be emptied, which is told.
+-- or it couldn't be emptied, which is reported.
 abbrev pub FinishesList : {W : Type 0} → (W → Held) → Result Report RunFault → ListFile W → ListFile W → Result (Unit {0}) RunFault → Type 0
 FinishesList contents answer old new result =
     MatchBool (keeps_old answer) ((new ≡ old) × (result ≡ Ok tt)) (OnOk result (Keeps (received_by contents old) (contents new.file)))

@@ -73,7 +73,7 @@ unclosed_before_white : alone (codes "\\citation{k ") ≡ alone (codes "\\citati
 unfolding job_events said words_of aux_command_named pieces_of line_pieces trimmed
 unclosed_before_white = refl
 
--- a line without a brace is ignored; braces in a piece aren't matched; a second `*` is told
+-- a line without a brace is ignored; braces in a piece aren't matched; a second `*` is logged
 no_brace : alone (codes "\\citation\n\\citation{k} x\n\\citation{*,a{b,*}") ≡ base_with (codes "a{b" ∷ []) (Some 0) (error_at 2 (Slipped StuffAfter) ∷ error_at 3 SecondStar ∷ [])
 unfolding job_events said words_of aux_command_named pieces_of line_pieces trimmed
 no_brace = refl
@@ -83,7 +83,7 @@ empty_pieces : alone (codes "\\citation{k,,*}") ≡ base_with (codes "k" ∷ [] 
 unfolding job_events said words_of aux_command_named pieces_of line_pieces trimmed
 empty_pieces = refl
 
--- each repetition of another spelling is told again
+-- each repetition of another spelling is logged again
 repeated_spelling : alone (codes "\\citation{k,K,k,K}") ≡ base_with (codes "k" ∷ []) None (error_at 1 (CaseMismatch (codes "k") (codes "K")) ∷ error_at 1 (CaseMismatch (codes "k") (codes "K")) ∷ [])
 unfolding job_events said words_of aux_command_named pieces_of line_pieces trimmed
 repeated_spelling = refl
@@ -117,7 +117,7 @@ database_twice : alone (codes "\\citation{*}\n\\bibdata{e,e.bib,,f}") ≡ (
 unfolding job_events said words_of aux_command_named pieces_of line_pieces trimmed
 database_twice = refl
 
--- a comma is part of the one piece of a `\bibstyle` and of an `\@input`; of a second `\bibstyle` line nothing else is told
+-- a comma is part of the one piece of a `\bibstyle` and of an `\@input`; of a second `\bibstyle` line nothing else is logged
 one_piece : shown (job_events (files_of_pairs ((top, codes "\\citation{k}\n\\bibdata{d.bib}\n\\bibstyle{s,t.bst}\n\\@input{a,b.aux}\n\\bibstyle{u u}") ∷ [])) top) ≡ (
   codes "k" ∷ [],
   None,

@@ -84,7 +84,7 @@ fn close(alloc: Global, draft: Draft) -> Result<AuxJob, AllocError>
     })
 }
 
-// Tells what is missing: keys and `*`, a `\bibdata` line, a `\bibstyle` line.
+// Logs what is missing: keys and `*`, a `\bibdata` line, a `\bibstyle` line.
 fn log_missing(alloc: Global, draft: &mut Draft) -> Result<(), AllocError>
     ensures { OnOk result (draft.new ≡ record draft.old { log = draft.old.log ++ map aux_note_line (missing_notes draft.old.keys draft.old.all draft.old.has_bibdata draft.old.has_bibstyle) }) }
 {
@@ -96,7 +96,7 @@ fn log_missing(alloc: Global, draft: &mut Draft) -> Result<(), AllocError>
     log_unless(alloc, draft, has_bibstyle, Note::NoBibstyle)
 }
 
-// Tells that something is missing, unless it is there.
+// Logs that something is missing, unless it is there.
 fn log_unless(
     alloc: Global,
     draft: &mut Draft,

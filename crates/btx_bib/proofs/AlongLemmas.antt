@@ -1,4 +1,4 @@
--- What is kept and told along databases is what is known and told of them.
+-- What is kept and logged along databases is what is known and logged of them.
 use Rattle.std.proofs.Common.{◌≡◌, ℕ, zero, suc, ◌+◌, ◌<◌, arith, Bool, true, false, if◌then◌else◌, List, [], ◌∷◌, ◌++◌, drop, get_or, length, Option, None, Some, is_some, refl, sym, ap, subst, ◌∙◌, append_assoc}
 use Rattle.std.proofs.lemmas.List.{at_drop_more}
 use Rattle.btx_bib.specs.declared.databases.Source.{Source}
@@ -19,7 +19,7 @@ use Rattle.btx_bib.specs.refinement.Sources.{source_database, source_databases}
 use Rattle.btx_bib.specs.refinement.Readings.{kept_by_all, kept_one, messages_of_all, messages_of_one}
 use Rattle.btx_bib.proofs.ApartLemmas.{known_all, known_one, messages_from_all, messages_along, messages_one}
 use Rattle.btx_bib.proofs.GrammarLemmas.LengthLemmas.{events-none, events-some, events-less, left}
-use Rattle.btx_bib.proofs.GatheringLemmas.{ended-along, ended-told, none-along, none-told, turn-along, turn-told}
+use Rattle.btx_bib.proofs.GatheringLemmas.{ended-along, ended-logged, none-along, none-logged, turn-along, turn-logged}
 use Rattle.btx_bib.proofs.KeptLemmas.{IsFresh, Sound, closed-kept, closed-sound, event-kept, event-said, event-sound, kept_of, stored-kept}
 use Rattle.btx_text.specs.language.Limits.{is_too_long}
 use Rattle.btx_bib.specs.refinement.Grammar.Items.{known_step}
@@ -32,14 +32,14 @@ module _ (wanted : Request) (sources : List Source) (place : ℕ) (d : Source) (
       ap (λ (k : Gathering). kept_by_all wanted k (source_databases (drop (place + 1) sources))) is
       ∙ sym (at_drop_more (λ (ss : List Source). kept_by_all wanted before (source_databases ss)) sources place d within)
 
-  pub all-told-next : (told telling : List Message) → telling ≡ told ++ messages_of_one wanted before (source_database (get_or sources place d))
-      → telling ++ messages_of_all wanted now (source_databases (drop (place + 1) sources)) ≡ told ++ messages_of_all wanted before (source_databases (drop place sources))
-  all-told-next told telling tells =
+  pub all-logged-next : (messages messages' : List Message) → messages' ≡ messages ++ messages_of_one wanted before (source_database (get_or sources place d))
+      → messages' ++ messages_of_all wanted now (source_databases (drop (place + 1) sources)) ≡ messages ++ messages_of_all wanted before (source_databases (drop place sources))
+  all-logged-next messages messages' logs =
       let one = messages_of_one wanted before (source_database (get_or sources place d)) in
-      ap (λ (ms : List Message). ms ++ messages_of_all wanted now (source_databases (drop (place + 1) sources))) tells
-      ∙ append_assoc told one (messages_of_all wanted now (source_databases (drop (place + 1) sources)))
-      ∙ ap (λ (k : Gathering). told ++ (one ++ messages_of_all wanted k (source_databases (drop (place + 1) sources)))) is
-      ∙ ap (λ (ms : List Message). told ++ ms) (sym (at_drop_more (λ (ss : List Source). messages_of_all wanted before (source_databases ss)) sources place d within))
+      ap (λ (ms : List Message). ms ++ messages_of_all wanted now (source_databases (drop (place + 1) sources))) logs
+      ∙ append_assoc messages one (messages_of_all wanted now (source_databases (drop (place + 1) sources)))
+      ∙ ap (λ (k : Gathering). messages ++ (one ++ messages_of_all wanted k (source_databases (drop (place + 1) sources)))) is
+      ∙ ap (λ (ms : List Message). messages ++ ms) (sym (at_drop_more (λ (ss : List Source). messages_of_all wanted before (source_databases ss)) sources place d within))
 
 -- ---- repeated entries
 
@@ -72,7 +72,7 @@ next-fresh f w s step e = by_step (expected_step w s) e where
     at false is h = let same : step ≡ record { event = read.event; wanted = read.wanted; rest = read.rest } = cc in ap (λ (x : Step). is_repeated f x.event) same ∙ is
 
 module _ (wanted : Request) where
-  -- ---- at a limit nothing more is known or told
+  -- ---- at a limit nothing more is known or logged
 
   next-ended : (known : Known) (event : Event) → goes_on known.ending ≡ false → known_after wanted known event ≡ known
   next-ended known event ended = ap (λ (b : Bool). if b then after_event wanted known event else known) ended
@@ -81,12 +81,12 @@ module _ (wanted : Request) where
   all-ended known [] ended = refl
   all-ended known (p ∷ ps) ended = ap (λ (k : Known). after_all wanted k ps) (next-ended known p.event ended) ∙ all-ended known ps ended
 
-  told-ended : (database : Database) (known : Known) (events : List Placed) → goes_on known.ending ≡ false → messages_along wanted database known events ≡ []
-  told-ended database known [] ended = refl
-  told-ended database known (p ∷ ps) ended =
+  logged-ended : (database : Database) (known : Known) (events : List Placed) → goes_on known.ending ≡ false → messages_along wanted database known events ≡ []
+  logged-ended database known [] ended = refl
+  logged-ended database known (p ∷ ps) ended =
       ap (λ (b : Bool). (if b then event_messages wanted database known p.event p.rest else []) ++ messages_along wanted database (known_after wanted known p.event) ps) ended
       ∙ ap (λ (k : Known). messages_along wanted database k ps) (next-ended known p.event ended)
-      ∙ told-ended database known ps ended
+      ∙ logged-ended database known ps ended
 
   -- ---- along a database
 
@@ -94,7 +94,7 @@ module _ (wanted : Request) where
     abbrev known_events : Known → Next → List ℕ → List Placed
     known_events known w s = events_from (keeping wanted) known w s
 
-    -- what is kept and told of a text is what is known and told of it
+    -- what is kept and logged of a text is what is known and logged of it
     abbrev Agrees : Known → Next → List ℕ → Type 0
     Agrees known w s =
         (kept_along wanted (kept_of wanted known) (events_with wanted (kept_of wanted known) w s) ≡ kept_of wanted (after_all wanted known (known_events known w s))) ×
@@ -104,7 +104,7 @@ module _ (wanted : Request) where
     ended-agrees : (known : Known) (w : Next) (s : List ℕ) → Sound wanted known → goes_on known.ending ≡ false → Agrees known w s
     ended-agrees known w s sound ended = (
       ended-along wanted (kept_of wanted known) (events_with wanted (kept_of wanted known) w s) ended ∙ ap (kept_of wanted) (sym (all-ended known (known_events known w s) ended)),
-      ended-told wanted database (kept_of wanted known) (events_with wanted (kept_of wanted known) w s) ended ∙ sym (told-ended database known (known_events known w s) ended),
+      ended-logged wanted database (kept_of wanted known) (events_with wanted (kept_of wanted known) w s) ended ∙ sym (logged-ended database known (known_events known w s) ended),
       subst (Sound wanted) (sym (all-ended known (known_events known w s) ended)) sound,
     )
 
@@ -117,7 +117,7 @@ module _ (wanted : Request) where
         let kept : next_step (is_kept (kept_of wanted known)) w s ≡ None = next-same (is_kept (kept_of wanted known)) (stored known) (λ key. stored-kept wanted known key sound) w s ∙ e in
         let none : known_events known w s ≡ [] = events-none (keeping wanted) known w s e in (
           none-along wanted (kept_of wanted known) w s kept ∙ ap (λ (es : List Placed). kept_of wanted (after_all wanted known es)) (sym none),
-          none-told wanted (kept_of wanted known) w s database kept ∙ ap (messages_along wanted database known) (sym none),
+          none-logged wanted (kept_of wanted known) w s database kept ∙ ap (messages_along wanted database known) (sym none),
           subst (λ (es : List Placed). Sound wanted (after_all wanted known es)) (sym none) sound,
         )
     step-agrees known w s (Some step) e sound whole others =
@@ -132,7 +132,7 @@ module _ (wanted : Request) where
         ap (λ (k : Known). after_all wanted k (known_events k step.wanted step.rest)) goes ∙ ap (after_all wanted known) some in
         let said = event_messages wanted database known step.event step.rest in (
           sym (turn-along wanted (kept_of wanted known) w s step (kept_of wanted next) whole kept same) ∙ rest.0 ∙ ap (kept_of wanted) all,
-          sym (turn-told wanted (kept_of wanted known) w s step (kept_of wanted next) whole kept same database)
+          sym (turn-logged wanted (kept_of wanted known) w s step (kept_of wanted next) whole kept same database)
               ∙ ap (λ (ms : List Message). ms ++ kept_messages wanted database (kept_of wanted next) (events_with wanted (kept_of wanted next) step.wanted step.rest)) (event-said wanted database known step.event step.rest sound fresh)
               ∙ ap (λ (ms : List Message). said ++ ms) rest.1
               ∙ ap (λ (k : Known). said ++ messages_along wanted database k (known_events k step.wanted step.rest)) goes
@@ -164,8 +164,8 @@ module _ (wanted : Request) where
       at true true = refl
       at true false = ap (closed wanted) along.0 ∙ closed-kept wanted (after_all wanted known (known_events known Item database.text)) along.2
 
-    pub one-told : (known : Known) → Sound wanted known → messages_of_one wanted (kept_of wanted known) database ≡ messages_one wanted known database
-    one-told known sound = ap (λ (ms : List Message). if goes_on known.ending then (if is_too_long database.text then [] else ms) else []) (agrees known Item database.text sound).1
+    pub one-logged : (known : Known) → Sound wanted known → messages_of_one wanted (kept_of wanted known) database ≡ messages_one wanted known database
+    one-logged known sound = ap (λ (ms : List Message). if goes_on known.ending then (if is_too_long database.text then [] else ms) else []) (agrees known Item database.text sound).1
 
     pub one-sound : (known : Known) → Sound wanted known → Sound wanted (known_one wanted known database)
     one-sound known sound = at (goes_on known.ending) (is_too_long database.text) where
@@ -180,12 +180,12 @@ module _ (wanted : Request) where
   all-kept [] known sound = refl
   all-kept (d ∷ ds) known sound = ap (λ (k : Gathering). kept_by_all wanted k ds) (one-kept d known sound) ∙ all-kept ds (known_one wanted known d) (one-sound d known sound)
 
-  pub all-told : (databases : List Database) (known : Known) → Sound wanted known → messages_of_all wanted (kept_of wanted known) databases ≡ messages_from_all wanted known databases
-  all-told [] known sound = refl
-  all-told (d ∷ ds) known sound =
-      ap (λ (ms : List Message). ms ++ messages_of_all wanted (kept_one wanted (kept_of wanted known) d) ds) (one-told d known sound)
+  pub all-logged : (databases : List Database) (known : Known) → Sound wanted known → messages_of_all wanted (kept_of wanted known) databases ≡ messages_from_all wanted known databases
+  all-logged [] known sound = refl
+  all-logged (d ∷ ds) known sound =
+      ap (λ (ms : List Message). ms ++ messages_of_all wanted (kept_one wanted (kept_of wanted known) d) ds) (one-logged d known sound)
       ∙ ap (λ (k : Gathering). messages_one wanted known d ++ messages_of_all wanted k ds) (one-kept d known sound)
-      ∙ ap (λ (ms : List Message). messages_one wanted known d ++ ms) (all-told ds (known_one wanted known d) (one-sound d known sound))
+      ∙ ap (λ (ms : List Message). messages_one wanted known d ++ ms) (all-logged ds (known_one wanted known d) (one-sound d known sound))
 
   pub all-sound : (databases : List Database) (known : Known) → Sound wanted known → Sound wanted (known_all wanted known databases)
   all-sound [] known sound = sound

@@ -1,5 +1,5 @@
 -- What is known of databases and the messages of them, each by itself: a reading gives both.
-use Rattle.std.proofs.Common.{◌≡◌, ℕ, Bool, true, false, if◌then◌else◌, List, [], ◌∷◌, ◌++◌, fold, sym, ap, ◌∙◌, append_assoc, append-nil}
+use Rattle.std.proofs.Common.{◌≡◌, ℕ, Bool, true, false, not, if◌then◌else◌, List, [], ◌∷◌, ◌++◌, fold, sym, ap, ◌∙◌, append_assoc, append-nil}
 use Rattle.btx_bib.specs.declared.end.End.TheVariants as end
 use Rattle.btx_bib.specs.declared.message.Message.{Message}
 use Rattle.btx_bib.specs.language.Databases.{read_one}
@@ -63,11 +63,11 @@ module _ (wanted : Request) where
     abbrev along : Known
     along = after_all wanted reading.known (database_events wanted reading.known database)
 
-    abbrev told : List Message
-    told = messages_along wanted database reading.known (database_events wanted reading.known database)
+    abbrev logged : List Message
+    logged = messages_along wanted database reading.known (database_events wanted reading.known database)
 
-    one-by : (b long : Bool) → (if b then (if long then record reading { known = limited } else read_whole wanted reading database) else reading)
-        ≡ going_on reading (if b then (if long then limited else with_current_stored along) else reading.known) (if b then (if long then [] else told) else [])
+    one-by : (b long : Bool) → (if not b then reading else if long then record reading { known = limited } else read_whole wanted reading database)
+        ≡ going_on reading (if b then (if long then limited else with_current_stored along) else reading.known) (if b then (if long then [] else logged) else [])
     one-by false long = none-further reading reading.known
     one-by true true = none-further reading limited
     one-by true false = ap (λ (last : Reading). record last { known = with_current_stored last.known }) (along-apart database (database_events wanted reading.known database) reading)

@@ -228,7 +228,7 @@ closed-fits text known next = by_test (nat_lt greatest_string (length text)) whe
 abbrev Alike : Request → Known → List Event → Type 0
 Alike wanted known events = with_current_stored (fold (known_after wanted) (with_current_stored known) events) ≡ with_current_stored (fold (known_after wanted) known events)
 
--- a known state, its reading's going on told apart
+-- a known state at which a reading ends
 alike-stuck : (wanted : Request) (known : Known) (events : List Event) → goes_on known.ending ≡ false → Alike wanted known events
 alike-stuck wanted known events ended = ap with_current_stored (stuck wanted (with_current_stored known) events ended) ∙ closed-closed known ∙ sym (ap with_current_stored (stuck wanted known events ended))
 

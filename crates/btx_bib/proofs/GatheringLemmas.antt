@@ -10,7 +10,7 @@ use Rattle.btx_bib.specs.language.Wanted.{Request}
 use Rattle.btx_bib.specs.refinement.Gatherings.{events_with, is_kept, kept_after, kept_along, kept_next, kept_messages, keeping_kept, messages_of}
 use Rattle.btx_bib.proofs.GrammarLemmas.LengthLemmas.{events-none, events-some}
 
--- ---- at a limit nothing more is kept or told
+-- ---- at a limit nothing more is kept or logged
 
 module _ (wanted : Request) where
   ended-next : (kept : Gathering) (event : Event) → goes_on kept.ending ≡ false → kept_next wanted kept event ≡ kept
@@ -20,12 +20,12 @@ module _ (wanted : Request) where
   ended-along kept [] ended = refl
   ended-along kept (p ∷ ps) ended = ap (λ (k : Gathering). kept_along wanted k ps) (ended-next kept p.event ended) ∙ ended-along kept ps ended
 
-  pub ended-told : (database : Database) (kept : Gathering) (events : List Placed) → goes_on kept.ending ≡ false → kept_messages wanted database kept events ≡ []
-  ended-told database kept [] ended = refl
-  ended-told database kept (p ∷ ps) ended =
+  pub ended-logged : (database : Database) (kept : Gathering) (events : List Placed) → goes_on kept.ending ≡ false → kept_messages wanted database kept events ≡ []
+  ended-logged database kept [] ended = refl
+  ended-logged database kept (p ∷ ps) ended =
       ap (λ (b : Bool). (if b then messages_of wanted database kept p.event p.rest else []) ++ kept_messages wanted database (kept_next wanted kept p.event) ps) ended
       ∙ ap (λ (k : Gathering). kept_messages wanted database k ps) (ended-next kept p.event ended)
-      ∙ ended-told database kept ps ended
+      ∙ ended-logged database kept ps ended
 
   -- ---- one event, and the others
 
@@ -34,8 +34,8 @@ module _ (wanted : Request) where
     pub none-along : next_step (is_kept kept) w s ≡ None → kept_along wanted kept (events_with wanted kept w s) ≡ kept
     none-along e = ap (kept_along wanted kept) (events-none (keeping_kept wanted) kept w s e)
 
-    pub none-told : (database : Database) → next_step (is_kept kept) w s ≡ None → kept_messages wanted database kept (events_with wanted kept w s) ≡ []
-    none-told database e = ap (kept_messages wanted database kept) (events-none (keeping_kept wanted) kept w s e)
+    pub none-logged : (database : Database) → next_step (is_kept kept) w s ≡ None → kept_messages wanted database kept (events_with wanted kept w s) ≡ []
+    none-logged database e = ap (kept_messages wanted database kept) (events-none (keeping_kept wanted) kept w s e)
 
     module _ (step : Step) (after : Gathering) (whole : goes_on kept.ending ≡ true) (e : next_step (is_kept kept) w s ≡ Some step) (is : after ≡ kept_after wanted kept step.event) where
       next-is : kept_next wanted kept step.event ≡ after
@@ -46,20 +46,20 @@ module _ (wanted : Request) where
           ap (λ (k : Gathering). kept_along wanted k (events_with wanted k step.wanted step.rest)) (sym next-is)
           ∙ ap (kept_along wanted kept) (sym (events-some (keeping_kept wanted) kept w s step e))
 
-      pub turn-told : (database : Database) → messages_of wanted database kept step.event step.rest ++ kept_messages wanted database after (events_with wanted after step.wanted step.rest) ≡ kept_messages wanted database kept (events_with wanted kept w s)
-      turn-told database =
+      pub turn-logged : (database : Database) → messages_of wanted database kept step.event step.rest ++ kept_messages wanted database after (events_with wanted after step.wanted step.rest) ≡ kept_messages wanted database kept (events_with wanted kept w s)
+      turn-logged database =
           ap (λ (k : Gathering). messages_of wanted database kept step.event step.rest ++ kept_messages wanted database k (events_with wanted k step.wanted step.rest)) (sym next-is)
           ∙ ap (λ (b : Bool). (if b then messages_of wanted database kept step.event step.rest else []) ++ kept_messages wanted database (kept_next wanted kept step.event) (events_with wanted (kept_next wanted kept step.event) step.wanted step.rest)) (sym whole)
           ∙ ap (kept_messages wanted database kept) (sym (events-some (keeping_kept wanted) kept w s step e))
 
       pub turn-messages : (database : Database) (before now : List Message) (rest : List ℕ) → rest ≡ step.rest → now ≡ before ++ messages_of wanted database kept step.event rest
           → now ++ kept_messages wanted database after (events_with wanted after step.wanted step.rest) ≡ before ++ kept_messages wanted database kept (events_with wanted kept w s)
-      turn-messages database before now rest at tells =
+      turn-messages database before now rest at logs =
           let others = kept_messages wanted database after (events_with wanted after step.wanted step.rest) in
-          ap (λ (ms : List Message). ms ++ others) tells
+          ap (λ (ms : List Message). ms ++ others) logs
           ∙ append_assoc before (messages_of wanted database kept step.event rest) others
           ∙ ap (λ (r : List ℕ). before ++ (messages_of wanted database kept step.event r ++ others)) at
-          ∙ ap (λ (ms : List Message). before ++ ms) (turn-told database)
+          ∙ ap (λ (ms : List Message). before ++ ms) (turn-logged database)
 
 pub ended-if : (b : Bool) → not b ≡ true → b ≡ false
 ended-if true h = cc

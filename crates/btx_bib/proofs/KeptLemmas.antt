@@ -142,9 +142,9 @@ module _ (wanted : Request) where
       ∙ ap (λ (kept : Gathering). begun_by wanted kept kind key (standing_of wanted false (is_wanted wanted (stored_in known) key))) (closed-kept known sound)
       ∙ begun-by (with_current_stored known) kind key (is_wanted wanted (stored_in known) key)
 
-  entered-told : (database : Database) (known : Known) (kind key rest : List ℕ) → Sound known → is_some (entry_with_key (stored_in known) key) ≡ false
+  entered-logged : (database : Database) (known : Known) (kind key rest : List ℕ) → Sound known → is_some (entry_with_key (stored_in known) key) ≡ false
       → messages_of_entry wanted database (kept_of known) kind key rest ≡ event_messages wanted database known (Entry kind key) rest
-  entered-told database known kind key rest sound new = ap (messages_of_standing wanted database kind key rest) (standing-new known key sound new) ∙ at (is_wanted wanted (stored_in known) key) where
+  entered-logged database known kind key rest sound new = ap (messages_of_standing wanted database kind key rest) (standing-new known key sound new) ∙ at (is_wanted wanted (stored_in known) key) where
     at : (asks : Bool) → messages_of_standing wanted database kind key rest (standing_of wanted false asks) ≡ (if asks then type_messages key (wanted.kind (folded kind)) (spot_at database rest) else [])
     at true = refl
     at false = refl
@@ -199,10 +199,10 @@ module _ (wanted : Request) where
   fielded-kept known field None is = ap (λ (o : Option Given). record (kept_of known) { current = option_map pending_of o }) (sym is)
   fielded-kept known field (Some given) is = field-by known given field is (wanted.field (folded field.name)) refl
 
-  fielded-told : (database : Database) (strings : Strings) (field : Field) (rest : List ℕ) (current : Option Given) → messages_of_current wanted database strings field rest (option_map pending_of current) ≡ field_messages wanted database strings current field rest
+  fielded-logged : (database : Database) (strings : Strings) (field : Field) (rest : List ℕ) (current : Option Given) → messages_of_current wanted database strings field rest (option_map pending_of current) ≡ field_messages wanted database strings current field rest
   unfolding body_of
-  fielded-told database strings field rest None = refl
-  fielded-told database strings field rest (Some given) = at (wanted.field (folded field.name)) where
+  fielded-logged database strings field rest None = refl
+  fielded-logged database strings field rest (Some given) = at (wanted.field (folded field.name)) where
     at : (o : Option ℕ) → messages_of_number database strings (pending_of given) field rest o
         ≡ (if is_some (value_by o (field_values wanted given.fields)) then message.ExtraField given.key field.name (spot_before database rest) ∷ [] else if is_some o then value_messages database strings None field.value else [])
     at None = refl
@@ -248,8 +248,8 @@ module _ (wanted : Request) where
   event-said database known Comment rest sound fresh = refl
   event-said database known (Preamble value) rest sound fresh = refl
   event-said database known (Definition name value) rest sound fresh = refl
-  event-said database known (Entry kind key) rest sound fresh = entered-told database known kind key rest sound fresh
-  event-said database known (FieldOf field) rest sound fresh = fielded-told database known.strings field rest known.current
+  event-said database known (Entry kind key) rest sound fresh = entered-logged database known kind key rest sound fresh
+  event-said database known (FieldOf field) rest sound fresh = fielded-logged database known.strings field rest known.current
   event-said database known End rest sound fresh = refl
   event-said database known (Wrong slip) rest sound fresh = refl
 

@@ -1,4 +1,4 @@
--- Lemmas on what is told of a value.
+-- Lemmas on what is logged of a value.
 use Rattle.std.proofs.Common.{◌≡◌, ◌∙◌, ℕ, true, false, List, [], ◌∷◌, Option, Some, None, is_some, refl, ap}
 use Rattle.std.specs.Prelude.{is_none}
 use Rattle.std.proofs.lemmas.List.{append-nil}
@@ -12,7 +12,7 @@ use Rattle.btx_bib.specs.language.Messages.{Database, name_messages, value_messa
 use Rattle.btx_bib.specs.language.Strings.{string_value}
 use Rattle.btx_bib.specs.refinement.Strings.{Strings}
 
--- what is told of a value of one part
+-- what is logged of a value of one part
 pub names-one : (database : Database) (strings : Strings) (own : Option (List ℕ)) (part : Part) → value_messages database strings own (part ∷ []) ≡ name_messages database strings own part
 names-one database strings own part = append-nil (name_messages database strings own part)
 

@@ -75,17 +75,17 @@ pub checked-alone : (slots : List Slot) (slot : Slot) → parent_at slot ≡ Non
 unfolding checked
 checked-alone slots slot none = ap (λ (o : Option (List ℕ)). checked_by o slots slot) none
 
-pub told-alone : (slots : List Slot) (slot : Slot) → parent_at slot ≡ None → check_messages slots slot ≡ []
+pub messages-alone : (slots : List Slot) (slot : Slot) → parent_at slot ≡ None → check_messages slots slot ≡ []
 unfolding check_messages
-told-alone slots slot none = ap (λ (o : Option (List ℕ)). check_messages_by o slots slot) none
+messages-alone slots slot none = ap (λ (o : Option (List ℕ)). check_messages_by o slots slot) none
 
 pub checked-is : (slots : List Slot) (slot : Slot) (key : List ℕ) (o : Option Slot) → parent_at slot ≡ Some key → slot_at slots key ≡ o → checked slots slot ≡ (if is_parent o then slot else without_crossref slot)
 unfolding checked
 checked-is slots slot key o some is = ap (λ (o : Option (List ℕ)). checked_by o slots slot) some ∙ ap (λ (o : Option Slot). if is_parent o then slot else without_crossref slot) is
 
-pub told-is : (slots : List Slot) (slot : Slot) (key : List ℕ) (o : Option Slot) → parent_at slot ≡ Some key → slot_at slots key ≡ o → check_messages slots slot ≡ parent_messages slot.key key o
+pub messages-is : (slots : List Slot) (slot : Slot) (key : List ℕ) (o : Option Slot) → parent_at slot ≡ Some key → slot_at slots key ≡ o → check_messages slots slot ≡ parent_messages slot.key key o
 unfolding check_messages
-told-is slots slot key o some is = ap (λ (o : Option (List ℕ)). check_messages_by o slots slot) some ∙ ap (λ (o : Option Slot). parent_messages slot.key key o) is
+messages-is slots slot key o some is = ap (λ (o : Option (List ℕ)). check_messages_by o slots slot) some ∙ ap (λ (o : Option Slot). parent_messages slot.key key o) is
 
 key-checked_by : (o : Option (List ℕ)) (slots : List Slot) (slot : Slot) → (checked_by o slots slot).key ≡ slot.key
 key-checked_by None slots slot = refl
@@ -133,25 +133,25 @@ module _ (judge : List Slot → Slot → Slot) where
       ∙ ap (λ (xs : List Slot). passed judge (take p slots ++ judge xs s.0 ∷ []) (drop (suc p) slots)) (sym s.1.1.1)
       ∙ ap (λ (xs : List Slot). passed judge (take p slots) xs) (sym s.1.1.0)
 
-  -- what is told at a place
+  -- what is logged at a place
   abbrev pub messages_here : (List Slot → Slot → List Message) → List Slot → Option Slot → List Message
-  messages_here tell slots None = []
-  messages_here tell slots (Some slot) = tell slots slot
+  messages_here report slots None = []
+  messages_here report slots (Some slot) = report slots slot
 
-  pub told-next : (tell : List Slot → Slot → List Message) (slots after : List Slot) (p : ℕ) (told told' whole : List Message) → p < length slots → after ≡ changed_at p (judge slots) slots
-      → told' ≡ told ++ messages_here tell slots (slice_get slots p) → told ++ pass_messages judge tell (take p slots) (drop p slots) ≡ whole → told' ++ pass_messages judge tell (take (p + 1) after) (drop (p + 1) after) ≡ whole
-  told-next tell slots after p told told' whole within is tells total =
+  pub messages-next : (report : List Slot → Slot → List Message) (slots after : List Slot) (p : ℕ) (messages messages' whole : List Message) → p < length slots → after ≡ changed_at p (judge slots) slots
+      → messages' ≡ messages ++ messages_here report slots (slice_get slots p) → messages ++ pass_messages judge report (take p slots) (drop p slots) ≡ whole → messages' ++ pass_messages judge report (take (p + 1) after) (drop (p + 1) after) ≡ whole
+  messages-next report slots after p messages messages' whole within is logs total =
       let s = split slots p within in
-      let rest = pass_messages judge tell (take p slots ++ judge slots s.0 ∷ []) (drop (suc p) slots) in
-      ap (λ (n : ℕ). told' ++ pass_messages judge tell (take n after) (drop n after)) (add-one p)
-      ∙ ap (λ (xs : List Slot). told' ++ pass_messages judge tell (take (suc p) xs) (drop (suc p) xs)) is
-      ∙ ap (λ (xs : List Slot). told' ++ pass_messages judge tell xs (drop (suc p) (changed_at p (judge slots) slots))) (take-changed slots p s.0 (judge slots) s.1.0)
-      ∙ ap (λ (xs : List Slot). told' ++ pass_messages judge tell (take p slots ++ judge slots s.0 ∷ []) xs) (drop-changed slots p (judge slots))
-      ∙ ap (λ (ms : List Message). ms ++ rest) tells
-      ∙ ap (λ (o : Option Slot). (told ++ messages_here tell slots o) ++ rest) s.1.0
-      ∙ append_assoc told (tell slots s.0) rest
-      ∙ ap (λ (xs : List Slot). told ++ (tell xs s.0 ++ pass_messages judge tell (take p slots ++ judge xs s.0 ∷ []) (drop (suc p) slots))) (sym s.1.1.1)
-      ∙ ap (λ (xs : List Slot). told ++ pass_messages judge tell (take p slots) xs) (sym s.1.1.0)
+      let rest = pass_messages judge report (take p slots ++ judge slots s.0 ∷ []) (drop (suc p) slots) in
+      ap (λ (n : ℕ). messages' ++ pass_messages judge report (take n after) (drop n after)) (add-one p)
+      ∙ ap (λ (xs : List Slot). messages' ++ pass_messages judge report (take (suc p) xs) (drop (suc p) xs)) is
+      ∙ ap (λ (xs : List Slot). messages' ++ pass_messages judge report xs (drop (suc p) (changed_at p (judge slots) slots))) (take-changed slots p s.0 (judge slots) s.1.0)
+      ∙ ap (λ (xs : List Slot). messages' ++ pass_messages judge report (take p slots ++ judge slots s.0 ∷ []) xs) (drop-changed slots p (judge slots))
+      ∙ ap (λ (ms : List Message). ms ++ rest) logs
+      ∙ ap (λ (o : Option Slot). (messages ++ messages_here report slots o) ++ rest) s.1.0
+      ∙ append_assoc messages (report slots s.0) rest
+      ∙ ap (λ (xs : List Slot). messages ++ (report xs s.0 ++ pass_messages judge report (take p slots ++ judge xs s.0 ∷ []) (drop (suc p) slots))) (sym s.1.1.1)
+      ∙ ap (λ (xs : List Slot). messages ++ pass_messages judge report (take p slots) xs) (sym s.1.1.0)
       ∙ total
 
 pub messages_by-here : (slots : List Slot) (o : Option Slot) → messages_by slots o ≡ messages_here checked check_messages slots o

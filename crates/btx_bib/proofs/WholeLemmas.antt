@@ -18,7 +18,7 @@ use Rattle.btx_bib.specs.language.Strings.{defined}
 use Rattle.btx_bib.specs.language.Messages.{Database, Reading}
 use Rattle.btx_bib.specs.language.Wanted.{Request}
 use Rattle.btx_bib.specs.refinement.Readings.{IsListed, nothing_gathered, kept_by_all, kept_macro, kept_macros, library_kept, listed_draft, messages_of_all}
-use Rattle.btx_bib.proofs.AlongLemmas.{all-kept, all-sound, all-told}
+use Rattle.btx_bib.proofs.AlongLemmas.{all-kept, all-sound, all-logged}
 use Rattle.btx_bib.proofs.ApartLemmas.{known_all, reading-apart}
 use Rattle.btx_bib.proofs.KeptLemmas.{Sound, kept_of}
 use Rattle.btx_bib.proofs.StoringLemmas.{covered-none, first-draft, last-draft, names-listing, slots-listing}
@@ -106,8 +106,8 @@ module _ (wanted : Request) where
 
     pub library-is : (messages : List Message) → messages ≡ messages_of_all wanted (kept_macros (nothing_gathered wanted) macros) databases → library_kept kept.ending wanted kept messages ≡ library_of wanted macros databases
     unfolding library_of
-    library-is messages tells =
+    library-is messages logs =
         ap (λ (k : Gathering). library_kept k.ending wanted k messages) kept-known
         ∙ library-same known messages sound known.ending
-        ∙ ap (library_by known.ending wanted known) (tells ∙ ap (λ (k : Gathering). messages_of_all wanted k databases) before ∙ all-told wanted databases (with_macros macros) sound-before)
+        ∙ ap (library_by known.ending wanted known) (logs ∙ ap (λ (k : Gathering). messages_of_all wanted k databases) before ∙ all-logged wanted databases (with_macros macros) sound-before)
         ∙ ap (λ (reading : Reading). library_by reading.known.ending wanted reading.known reading.messages) (sym (reading-apart wanted macros databases))

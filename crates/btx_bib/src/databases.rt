@@ -45,7 +45,7 @@ impl<'a> Gathering<'a> {
     ) -> Result<(), AllocError>
         requires { goes_on self.old.ending ≡ true }
         ensures state { OnOk result (self.new ≡ closed (wanted request.now) (kept_along (wanted request.now) self.old (events_with (wanted request.now) self.old next.Item source.now.bytes.now))) }
-        ensures told { OnOk result (messages.new ≡ messages.old ++ kept_messages (wanted request.now) (source_database source.now) self.old (events_with (wanted request.now) self.old next.Item source.now.bytes.now)) }
+        ensures logged { OnOk result (messages.new ≡ messages.old ++ kept_messages (wanted request.now) (source_database source.now) self.old (events_with (wanted request.now) self.old next.Item source.now.bytes.now)) }
     {
         let mut site = Site {
             file: Word::new(source.name),
@@ -64,7 +64,7 @@ impl<'a> Gathering<'a> {
         messages: &mut Messages<'a>,
     ) -> Result<(), AllocError>
         ensures state { OnOk result (self.new ≡ kept_one (wanted request.now) self.old (source_database source.now)) }
-        ensures told { OnOk result (messages.new ≡ messages.old ++ messages_of_one (wanted request.now) self.old (source_database source.now)) }
+        ensures logged { OnOk result (messages.new ≡ messages.old ++ messages_of_one (wanted request.now) self.old (source_database source.now)) }
     {
         if self.has_ended() {
             return Ok(());
@@ -85,7 +85,7 @@ impl<'a> Gathering<'a> {
         messages: &mut Messages<'a>,
     ) -> Result<(), AllocError>
         ensures state { OnOk result (self.new ≡ kept_by_all (wanted request.now) self.old (source_databases sources.now)) }
-        ensures told { OnOk result (messages.new ≡ messages.old ++ messages_of_all (wanted request.now) self.old (source_databases sources.now)) }
+        ensures logged { OnOk result (messages.new ≡ messages.old ++ messages_of_all (wanted request.now) self.old (source_databases sources.now)) }
     {
         for source in sources {
             self.read_one(alloc, request, source, messages)?;

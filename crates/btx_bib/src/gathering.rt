@@ -62,7 +62,7 @@ impl<'a> Pending<'a> {
         messages: &mut Messages<'a>,
     ) -> Result<bool, AllocError>
         ensures entry { IfOk result (λ fits. (self.new, fits) ≡ taken_by (wanted request.now) strings.now self.old (field_view field.now)) }
-        ensures told { OnOk result (messages.new ≡ messages.old ++ messages_of_field (wanted request.now) (site_database site.old) strings.now self.old (field_view field.now) rest.now) }
+        ensures logged { OnOk result (messages.new ≡ messages.old ++ messages_of_field (wanted request.now) (site_database site.old) strings.now self.old (field_view field.now) rest.now) }
         ensures same { OnOk result (site.new ≡ site.old) }
     {
         let Some(number) = request.field(alloc, field.name)? else {
@@ -97,7 +97,7 @@ impl<'a> Pending<'a> {
     ) -> Result<bool, AllocError>
         requires { IsPlainPart (part_in_view field.now.value) }
         ensures entry { IfOk result (λ taken. IfTaken taken ((self.new, true) ≡ taken_by (wanted request.now) strings.now self.old (plain_field_view field.now)) (self.new ≡ self.old)) }
-        ensures told { IfOk result (λ taken. taken ≡ true → IsSilent (wanted request.now) strings.now (plain_field_view field.now) (Some self.old)) }
+        ensures logged { IfOk result (λ taken. taken ≡ true → IsSilent (wanted request.now) strings.now (plain_field_view field.now) (Some self.old)) }
     {
         let Some(number) = request.field(alloc, field.name)? else {
             return Ok(true);
@@ -170,7 +170,7 @@ impl<'a> Gathering<'a> {
         messages: &mut Messages<'a>,
     ) -> Result<(), AllocError>
         ensures state { OnOk result (self.new ≡ begun_by (wanted request.now) self.old kind.now key.entry.now standing.Wanted) }
-        ensures told { OnOk result (messages.new ≡ messages.old ++ messages_of_standing (wanted request.now) (site_database site.old) kind.now key.entry.now rest.now standing.Wanted) }
+        ensures logged { OnOk result (messages.new ≡ messages.old ++ messages_of_standing (wanted request.now) (site_database site.old) kind.now key.entry.now rest.now standing.Wanted) }
         ensures same { OnOk result (site.new ≡ site.old) }
     {
         let kind = request.kind(alloc, kind)?;
@@ -190,7 +190,7 @@ impl<'a> Gathering<'a> {
         messages: &mut Messages<'a>,
     ) -> Result<(), AllocError>
         ensures state { OnOk result (self.new ≡ entered (wanted request.now) self.old kind.now key.entry.now) }
-        ensures told { OnOk result (messages.new ≡ messages.old ++ messages_of_entry (wanted request.now) (site_database site.old) self.old kind.now key.entry.now rest.now) }
+        ensures logged { OnOk result (messages.new ≡ messages.old ++ messages_of_entry (wanted request.now) (site_database site.old) self.old kind.now key.entry.now rest.now) }
         ensures same { OnOk result (site.new ≡ site.old) }
     {
         self.close(alloc, request)?;
@@ -213,7 +213,7 @@ impl<'a> Gathering<'a> {
         messages: &mut Messages<'a>,
     ) -> Result<(), AllocError>
         ensures state { OnOk result (self.new ≡ fielded_by (wanted request.now) self.old (field_view field.now) self.old.current) }
-        ensures told { OnOk result (messages.new ≡ messages.old ++ messages_of_current (wanted request.now) (site_database site.old) self.old.strings (field_view field.now) rest.now self.old.current) }
+        ensures logged { OnOk result (messages.new ≡ messages.old ++ messages_of_current (wanted request.now) (site_database site.old) self.old.strings (field_view field.now) rest.now self.old.current) }
         ensures same { OnOk result (site.new ≡ site.old) }
     {
         let Some(pending) = &mut self.current else {
@@ -236,7 +236,7 @@ impl<'a> Gathering<'a> {
         messages: &mut Messages<'a>,
     ) -> Result<(), AllocError>
         ensures state { OnOk result (self.new ≡ with_kept_string self.old name.entry.now value.now) }
-        ensures told { OnOk result (messages.new ≡ messages.old ++ value_messages (site_database site.old) self.old.strings (Some name.entry.now) value.now) }
+        ensures logged { OnOk result (messages.new ≡ messages.old ++ value_messages (site_database site.old) self.old.strings (Some name.entry.now) value.now) }
         ensures same { OnOk result (site.new ≡ site.old) }
     {
         report_names(alloc, value, &self.strings, Some(name), site, messages)?;
@@ -267,7 +267,7 @@ impl<'a> Gathering<'a> {
         messages: &mut Messages<'a>,
     ) -> Result<(), AllocError>
         ensures state { OnOk result (self.new ≡ with_preamble self.old value.now) }
-        ensures told { OnOk result (messages.new ≡ messages.old ++ value_messages (site_database site.old) self.old.strings None value.now) }
+        ensures logged { OnOk result (messages.new ≡ messages.old ++ value_messages (site_database site.old) self.old.strings None value.now) }
         ensures same { OnOk result (site.new ≡ site.old) }
     {
         report_names(alloc, value, &self.strings, None, site, messages)?;
@@ -297,7 +297,7 @@ impl<'a> Gathering<'a> {
         messages: &mut Messages<'a>,
     ) -> Result<(), AllocError>
         ensures state { OnOk result (self.new ≡ kept_after (wanted request.now) self.old (event_view event.now)) }
-        ensures told { OnOk result (messages.new ≡ messages.old ++ messages_of (wanted request.now) (site_database site.old) self.old (event_view event.now) rest.now) }
+        ensures logged { OnOk result (messages.new ≡ messages.old ++ messages_of (wanted request.now) (site_database site.old) self.old (event_view event.now) rest.now) }
         ensures same { OnOk result (site.new ≡ site.old) }
     {
         match event {
@@ -331,7 +331,7 @@ impl<'a> Gathering<'a> {
     ) -> Result<(), AllocError>
         requires { goes_on self.old.ending ≡ true }
         ensures state { OnOk result (self.new ≡ kept_along (wanted request.now) self.old (events_with (wanted request.now) self.old next.Item text.entry.now)) }
-        ensures told { OnOk result (messages.new ≡ messages.old ++ kept_messages (wanted request.now) (site_database site.old) self.old (events_with (wanted request.now) self.old next.Item text.entry.now)) }
+        ensures logged { OnOk result (messages.new ≡ messages.old ++ kept_messages (wanted request.now) (site_database site.old) self.old (events_with (wanted request.now) self.old next.Item text.entry.now)) }
         ensures same { OnOk result (site.new ≡ site.old) }
     {
         let mut reader = Reader::of(text);
@@ -356,7 +356,7 @@ impl<'a> Gathering<'a> {
     ) -> Result<bool, AllocError>
         requires { IsPlainPart (part_in_view field.now.value) }
         ensures state { IfOk result (λ taken. IfTaken taken (self.new ≡ fielded_by (wanted request.now) self.old (plain_field_view field.now) self.old.current) (self.new ≡ self.old)) }
-        ensures told { IfOk result (λ taken. taken ≡ true → IsSilent (wanted request.now) self.old.strings (plain_field_view field.now) self.old.current) }
+        ensures logged { IfOk result (λ taken. taken ≡ true → IsSilent (wanted request.now) self.old.strings (plain_field_view field.now) self.old.current) }
         ensures same { IfOk result (λ taken. self.new.ending ≡ self.old.ending) }
     {
         match &mut self.current {
@@ -376,7 +376,7 @@ impl<'a> Gathering<'a> {
         requires { goes_on self.old.ending ≡ true }
         ensures whole { OnOk result (goes_on self.new.ending ≡ true) }
         ensures state { OnOk result (all_kept (wanted request.now) self.new reader.new ≡ all_kept (wanted request.now) self.old reader.old) }
-        ensures told { OnOk result ((database : Database) → all_messages (wanted request.now) database self.new reader.new ≡ all_messages (wanted request.now) database self.old reader.old) }
+        ensures logged { OnOk result ((database : Database) → all_messages (wanted request.now) database self.new reader.new ≡ all_messages (wanted request.now) database self.old reader.old) }
         ensures next { OnOk result (reader.new.0 ≡ reader.old.0) }
         ensures shorter { OnOk result (length reader.new.1 ≤ length reader.old.1) }
     {

@@ -71,7 +71,7 @@ fn report_part<'a>(
     site: &mut Site<'a>,
     messages: &mut Messages<'a>,
 ) -> Result<(), AllocError>
-    ensures told { OnOk result (messages.new ≡ messages.old ++ spec.name_messages (site_database site.old) strings.now (option_copied own.entry) (part_view part.entry)) }
+    ensures logged { OnOk result (messages.new ≡ messages.old ++ spec.name_messages (site_database site.old) strings.now (option_copied own.entry) (part_view part.entry)) }
     ensures same { OnOk result (site.new ≡ site.old) }
 {
     let Part::Named(string) = part else {
@@ -102,7 +102,7 @@ pub fn report_names<'a>(
     site: &mut Site<'a>,
     messages: &mut Messages<'a>,
 ) -> Result<(), AllocError>
-    ensures told { OnOk result (messages.new ≡ messages.old ++ spec.value_messages (site_database site.old) strings.now (option_copied own.entry) value.now) }
+    ensures logged { OnOk result (messages.new ≡ messages.old ++ spec.value_messages (site_database site.old) strings.now (option_copied own.entry) value.now) }
     ensures same { OnOk result (site.new ≡ site.old) }
 {
     let Some(part) = value.lone_part() else {
@@ -121,7 +121,7 @@ fn report_parts<'a>(
     site: &mut Site<'a>,
     messages: &mut Messages<'a>,
 ) -> Result<(), AllocError>
-    ensures told { OnOk result (messages.new ≡ messages.old ++ spec.value_messages (site_database site.old) strings.now (option_copied own.entry) value.now) }
+    ensures logged { OnOk result (messages.new ≡ messages.old ++ spec.value_messages (site_database site.old) strings.now (option_copied own.entry) value.now) }
     ensures same { OnOk result (site.new ≡ site.old) }
 {
     for part in value.parts() {
@@ -138,7 +138,7 @@ pub fn report_kind<'a>(
     site: &mut Site<'a>,
     messages: &mut Messages<'a>,
 ) -> Result<(), AllocError>
-    ensures told { OnOk result (messages.new ≡ messages.old ++ type_messages key.entry.now kind (spec.spot_at (site_database site.old) rest.now)) }
+    ensures logged { OnOk result (messages.new ≡ messages.old ++ type_messages key.entry.now kind (spec.spot_at (site_database site.old) rest.now)) }
     ensures same { OnOk result (site.new ≡ site.old) }
 {
     match kind {

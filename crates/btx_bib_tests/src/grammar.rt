@@ -97,8 +97,8 @@ fn event_words<'e>(event: &Event<'e>) -> (&'static [u8], &'e [u8]) {
 }
 
 // The events of a text with their lines, one after another.
-fn events_logged(alloc: Global, text: &[u8]) -> Result<Vec<u8>, AllocError> {
-    let mut told = Vec::new(alloc);
+fn events_listed(alloc: Global, text: &[u8]) -> Result<Vec<u8>, AllocError> {
+    let mut listed = Vec::new(alloc);
     let mut reader = Reader::of(text);
     let mut lines = LineCounter::of(text);
     for _ in 0..100 {
@@ -106,22 +106,22 @@ fn events_logged(alloc: Global, text: &[u8]) -> Result<Vec<u8>, AllocError> {
             break;
         };
         let (word, name) = event_words(&placed.event);
-        told.extend_from_slice(word)?;
-        told.extend_from_slice(name)?;
-        told.push(b'0' + (lines.line_at(placed.rest) % 10) as u8)?;
-        told.push(b'\n')?;
+        listed.extend_from_slice(word)?;
+        listed.extend_from_slice(name)?;
+        listed.push(b'0' + (lines.line_at(placed.rest) % 10) as u8)?;
+        listed.push(b'\n')?;
     }
-    Ok(told)
+    Ok(listed)
 }
 
 #[test]
 fn events_and_lines(rt: HostRuntime) -> Result<(), Fail> {
     let text =
         b"@comment{@Preamble{\"a\"}\n@string(s = {b}) @misc{K,\n title = s # {\n}, year=1\n,} @misc{l m @@a{c, {}} @misc{k, f=1}\n@misc{";
-    let told = events_logged(rt.alloc(), text)?;
+    let listed = events_listed(rt.alloc(), text)?;
     let expected =
         b"comment1\npreamble1\nend1\nstring s2\nend2\nentry K2\nfield title4\nfield year4\nend5\nentry l5\nno comma5\nentry c5\nno name5\nrepeated5\nend6\n";
-    assert!(rt; told.as_slice() == expected.as_slice());
+    assert!(rt; listed.as_slice() == expected.as_slice());
     Ok(())
 }
 

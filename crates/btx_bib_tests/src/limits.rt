@@ -27,7 +27,7 @@ const LONG: [Long; 9] = [
         (End::Whole, 1, 0, 0),
     ),
     (b"@misc{k,note={", MOST + 1, b"}}", (End::Whole, 1, 0, 0)),
-    // What a value's names tell stands where it is too long.
+    // What a value's names log stands where the value is too long.
     (
         b"@misc{k,title=zz # {",
         MOST + 1,

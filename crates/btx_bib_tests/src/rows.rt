@@ -126,7 +126,7 @@ pub const VALUES: [Row; 15] = [
         entries: b"k=-;A;-;\nj=-;B;-;\n[]",
         log: b"",
     },
-    // Of a field that isn't declared nothing is told but its faults.
+    // Of a field that isn't declared nothing is logged but its faults.
     Row {
         keys: b"k",
         least: 2,
@@ -135,7 +135,7 @@ pub const VALUES: [Row; 15] = [
         entries: b"k=-;A;-;\n[]",
         log: b"",
     },
-    // Of an entry that isn't stored nothing is told but its faults.
+    // Of an entry that isn't stored nothing is logged but its faults.
     Row {
         keys: b"k",
         least: 2,
@@ -144,7 +144,7 @@ pub const VALUES: [Row; 15] = [
         entries: b"k=-;-;-;\n[]",
         log: b"!Error--I was expecting an =--line 1 of file d.bib\n",
     },
-    // A string of a value that ends in a fault isn't told.
+    // A string of a value that ends in a fault isn't logged.
     Row {
         keys: b"k",
         least: 2,

@@ -22,9 +22,9 @@ use Rattle.btx_bst.specs.language.Turns.{Ends}
 use Rattle.btx_bst.specs.language.Lists.{brace_in, opening, closing, name_in, next_name, quoted_in, quoted_at, letters_at, listing, Listed, listed, name_turn, list_turn_in, list_turn, list_end, list_read, list_at}
 use Rattle.btx_bst.specs.language.BodyText.{BodyEnd, Whole, Broken, body_end}
 use Rattle.btx_bst.specs.language.Outcomes.{CommandOutcome, outcome, after_read, with_item}
-use Rattle.btx_bst.specs.language.Commands.{after_list, entry_command, function_command, function_ended, has_read, read_command, run_command, run_of, sort_command, declare, macro_command, function_in, command_at, command_named, after_listed}
+use Rattle.btx_bst.specs.language.Commands.{after_list, entry_command, function_command, function_ended, has_read, read_command, run_command, run_of, sort_command, declare, macro_command, function_in, command_at, command_named, after_listed, inside_at}
 use Rattle.btx_bst.specs.language.Predefined.{predefined}
-use Rattle.btx_bst.specs.language.StyleText.{StyleState, style_state, command_outcome, style_from, style_of}
+use Rattle.btx_bst.specs.language.StyleText.{StyleState, style_state, command_outcome, style_from, style_of, resumed}
 use Rattle.btx_bst.specs.laws.Spelling.{complaint_in, made_by, made_till, Division, IsBroken}
 use Rattle.btx_bst.specs.laws.ItemSpelling.{AreFull, IsEnd}
 use Rattle.btx_bst.specs.laws.Written.{AreNew, declared, made_in, with_made_function}
@@ -37,11 +37,11 @@ use Rattle.btx_bst.proofs.ItemSpellingLemmas.{end_turn, more_turn, skipped-lines
 use Rattle.btx_bst.proofs.WrittenLemmas.{ink_twice, name_no_brace, listed_name}
 use Rattle.btx_bst.proofs.WordSpellingLemmas.{parts-spelled, spelled-parts, break-spelled, spelled-break}
 use Rattle.btx_bst.proofs.TokenSpellingLemmas.{gap_one, gap_met, Agrees, spaced, sign_agrees, name_agrees, name_slip, text_agrees, letters_agrees}
-use Rattle.btx_bst.specs.refinement.Commands.{entry_lists, inside_at, function_of, macro_of}
+use Rattle.btx_bst.specs.refinement.Commands.{entry_lists, function_of, macro_of}
 use Rattle.btx_bst.specs.laws.StyleText.{unread_style}
 use Rattle.btx_bst.specs.laws.Names.{macro_lower}
 use Rattle.btx_bst.specs.laws.Places.{beginning}
-use Rattle.btx_bst.specs.refinement.StyleText.{resumed_after, resumed, word_outcome}
+use Rattle.btx_bst.specs.refinement.StyleText.{resumed_after, word_outcome}
 use Rattle.btx_bst.specs.refinement.Lists.{with_new}
 
 -- a rule has what a command comes to, and nothing else

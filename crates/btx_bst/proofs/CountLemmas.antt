@@ -11,14 +11,13 @@ use Rattle.btx_bst.specs.language.Items.{Item}
 use Rattle.btx_bst.specs.language.Items as item
 use Rattle.btx_bst.specs.language.Style.{Style}
 use Rattle.btx_bst.specs.language.BodyText.{BodyEnd, Whole, Broken, body_end}
-use Rattle.btx_bst.specs.language.Commands.{function_ended}
+use Rattle.btx_bst.specs.language.Commands.{function_ended, inside_at}
 use Rattle.btx_bst.specs.laws.Counts.{functions_behind, functions_in, is_read, before_read_in, CountLaw, BeforeReadLaw}
 use Rattle.btx_bst.specs.language.Predefined.{predefined}
 use Rattle.btx_bst.specs.language.StyleText.{style_of}
 use Rattle.btx_bst.proofs.BodyItemLemmas.{OnEnd, body_items}
 use Rattle.btx_bst.proofs.KeepLemmas.{Keeps, kept-style}
 use Rattle.btx_bst.specs.laws.StyleText.{unread_style}
-use Rattle.btx_bst.specs.refinement.Commands.{inside_at}
 
 -- ---- one more item
 

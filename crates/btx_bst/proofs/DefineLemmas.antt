@@ -5,10 +5,9 @@ use Rattle.btx_bst.specs.language.Complaints.{Complaint}
 use Rattle.btx_bst.specs.language.BodyText.{Inside, Broken, body_end}
 use Rattle.btx_bst.specs.language.Style.{Style}
 use Rattle.btx_bst.specs.language.Outcomes.{outcome}
-use Rattle.btx_bst.specs.language.Commands.{function_ended}
+use Rattle.btx_bst.specs.language.Commands.{function_ended, inside_at}
 use Rattle.btx_bst.specs.refinement.Views.{OpenBodies, open_bodies, inside_of_reader}
 use Rattle.btx_bst.proofs.StyleLemmas.{broken-grows}
-use Rattle.btx_bst.specs.refinement.Commands.{inside_at}
 use Rattle.btx_bst.specs.refinement.Bodies.{FunctionBody}
 
 pub defined-broken : (style : Style) (lowered : List ℕ) (p : Place) (o : OpenBodies) (c : Complaint) (t : Inside) (n m : ℕ) (bodies : List FunctionBody) (texts : List (List ℕ)) → o ≡ open_bodies [] [] → Broken c t ≡ body_end style.names (inside_of_reader p o style.bodies style.texts style.items) → n ≡ length style.bodies → bodies ≡ take n t.bodies → m ≡ length style.texts → texts ≡ take m t.texts → outcome (Some c) (record style { bodies = bodies; texts = texts; items = t.items }) t.place ≡ function_ended style lowered (body_end style.names (inside_at style p))

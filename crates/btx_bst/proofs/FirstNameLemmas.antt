@@ -12,7 +12,7 @@ use Rattle.btx_bst.specs.language.Style.{Style}
 use Rattle.btx_bst.specs.language.Turns.{Turn}
 use Rattle.btx_bst.specs.language.Lists.{opening, closing, next_name, Listing, listing, Listed, name_turn, list_turn_in, list_turn, list_end, list_read}
 use Rattle.btx_bst.specs.language.BodyText.{BodyEnd, Whole, Broken, body_end}
-use Rattle.btx_bst.specs.language.Commands.{function_ended}
+use Rattle.btx_bst.specs.language.Commands.{function_ended, inside_at}
 use Rattle.btx_bst.specs.language.Predefined.{predefined}
 use Rattle.btx_bst.specs.language.StyleText.{style_of}
 use Rattle.btx_bst.specs.laws.FirstNames.{FirstNamesLaw}
@@ -20,7 +20,6 @@ use Rattle.btx_bst.proofs.TurnLemmas.{OnTurn, turns-keep}
 use Rattle.btx_bst.proofs.KeepLemmas.{Keeps, kept-style}
 use Rattle.btx_bst.proofs.MeaningLemmas.{clear-style}
 use Rattle.btx_bst.specs.refinement.Lists.{unlisted, with_new}
-use Rattle.btx_bst.specs.refinement.Commands.{inside_at}
 
 -- these names stand first in their lists
 pub record StandFirst (a : Names) : Type 0 where

@@ -16,12 +16,12 @@ use Rattle.btx_bst.specs.language.Style.{Style}
 use Rattle.btx_bst.specs.language.BodyText.{body_end}
 use Rattle.btx_bst.specs.language.Lists.{opening, closing, next_name, quoted_at, letters_at, list_at}
 use Rattle.btx_bst.specs.language.Outcomes.{CommandOutcome, outcome, after_read, with_item}
-use Rattle.btx_bst.specs.language.Commands.{after_list, entry_command, function_command, function_ended, has_read, read_command, run_command, run_of, sort_command, declare, macro_command, function_in, command_at, command_named, after_listed}
-use Rattle.btx_bst.specs.language.StyleText.{StyleState, style_state, command_outcome, item_in, item_turn, style_from, style_of}
+use Rattle.btx_bst.specs.language.Commands.{after_list, entry_command, function_command, function_ended, has_read, read_command, run_command, run_of, sort_command, declare, macro_command, function_in, command_at, command_named, after_listed, inside_at}
+use Rattle.btx_bst.specs.language.StyleText.{StyleState, style_state, command_outcome, item_in, item_turn, style_from, style_of, resumed}
 use Rattle.btx_bst.specs.language.Predefined.{predefined}
 use Rattle.btx_bst.proofs.TurnLemmas.{OnTurn, turns-keep}
-use Rattle.btx_bst.specs.refinement.Commands.{entry_lists, run_name, macro_name, inside_at, function_of, macro_of}
-use Rattle.btx_bst.specs.refinement.StyleText.{style_so_far, resumed, word_outcome}
+use Rattle.btx_bst.specs.refinement.Commands.{entry_lists, run_name, macro_name, function_of, macro_of}
+use Rattle.btx_bst.specs.refinement.StyleText.{style_so_far, word_outcome}
 use Rattle.btx_bst.specs.laws.StyleText.{unread_style}
 use Rattle.btx_bst.specs.laws.Names.{macro_lower}
 use Rattle.btx_bst.specs.laws.Places.{beginning}

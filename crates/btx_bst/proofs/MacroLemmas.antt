@@ -12,7 +12,7 @@ use Rattle.btx_bst.specs.language.Items as item
 use Rattle.btx_bst.specs.language.Style.{Style}
 use Rattle.btx_bst.specs.language.BodyText.{BodyEnd, Whole, Broken, body_end}
 use Rattle.btx_bst.specs.language.Outcomes.{with_item}
-use Rattle.btx_bst.specs.language.Commands.{function_ended, has_read}
+use Rattle.btx_bst.specs.language.Commands.{function_ended, has_read, inside_at}
 use Rattle.btx_bst.specs.language.Predefined.{predefined}
 use Rattle.btx_bst.specs.language.StyleText.{style_of}
 use Rattle.btx_bst.specs.laws.Order.{MacroLaw}
@@ -21,7 +21,6 @@ use Rattle.btx_bst.proofs.ItemLemmas.{push_cases}
 use Rattle.btx_bst.proofs.BodyItemLemmas.{OnEnd, body_items}
 use Rattle.btx_bst.proofs.KeepLemmas.{Keeps, kept-style}
 use Rattle.btx_bst.specs.laws.StyleText.{unread_style}
-use Rattle.btx_bst.specs.refinement.Commands.{inside_at}
 use Rattle.btx_bst.specs.laws.Names.{macro_lower}
 use Rattle.btx_bst.specs.refinement.Names.{Macros}
 

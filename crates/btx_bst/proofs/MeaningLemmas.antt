@@ -22,7 +22,7 @@ use Rattle.btx_bst.specs.language.Style.{Style}
 use Rattle.btx_bst.specs.language.Turns.{Turn}
 use Rattle.btx_bst.specs.language.Lists.{opening, closing, next_name, Listing, listing, Listed, name_turn, list_turn_in, list_turn, list_end, list_read}
 use Rattle.btx_bst.specs.language.BodyText.{BodyEnd, Whole, Broken, body_end}
-use Rattle.btx_bst.specs.language.Commands.{function_ended}
+use Rattle.btx_bst.specs.language.Commands.{function_ended, inside_at}
 use Rattle.btx_bst.specs.language.Predefined.{predefined}
 use Rattle.btx_bst.specs.language.StyleText.{style_of}
 use Rattle.btx_bst.specs.laws.Meanings.{HasName, MeaningsLaw, OneMeaningLaw}
@@ -34,7 +34,6 @@ use Rattle.btx_bst.proofs.KeepLemmas.{Keeps, kept-style}
 use Rattle.btx_bst.proofs.ReferenceLemmas.{FineEnd, FineStyle, fine_keeps, fine_start, fine_function_body}
 use Rattle.btx_bst.specs.refinement.Names.{padded}
 use Rattle.btx_bst.specs.refinement.Lists.{unlisted, with_new}
-use Rattle.btx_bst.specs.refinement.Commands.{inside_at}
 
 -- ---- lists of names
 

@@ -9,7 +9,7 @@ use Rattle.btx_bst.specs.language.Items as item
 use Rattle.btx_bst.specs.language.Style.{Style}
 use Rattle.btx_bst.specs.language.BodyText.{BodyEnd, Whole, Broken, body_end}
 use Rattle.btx_bst.specs.language.Outcomes.{with_item}
-use Rattle.btx_bst.specs.language.Commands.{function_ended, has_read}
+use Rattle.btx_bst.specs.language.Commands.{function_ended, has_read, inside_at}
 use Rattle.btx_bst.specs.language.Predefined.{predefined}
 use Rattle.btx_bst.specs.language.StyleText.{style_of}
 use Rattle.btx_bst.specs.laws.Order.{IsOnce, needs, OnceLaw, OrderLaw}
@@ -17,7 +17,6 @@ use Rattle.btx_bst.proofs.BodyItemLemmas.{OnEnd, body_items}
 use Rattle.btx_bst.proofs.ItemLemmas.{There, there_more, there_last, there_cases, push_cases, push_left}
 use Rattle.btx_bst.proofs.KeepLemmas.{Keeps, kept-style}
 use Rattle.btx_bst.specs.laws.StyleText.{unread_style}
-use Rattle.btx_bst.specs.refinement.Commands.{inside_at}
 
 record Ordered (entered taken : Bool) (is : List Item) : Type 0 where
   entry_in : entered ≡ true → There item.Entry is

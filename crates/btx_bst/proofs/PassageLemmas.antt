@@ -23,10 +23,10 @@ use Rattle.btx_bst.specs.language.Turns.{Turn}
 use Rattle.btx_bst.specs.language.Lists.{brace_in, opening, closing, front_of, name_in, next_name, letters_at, quoted_text, quoted_in, quoted_at, Listing, listing, Listed, name_turn, list_turn_in, list_turn, list_end, list_read, list_at}
 use Rattle.btx_bst.specs.language.BodyText.{Inside, BodyEnd, Whole, Broken, with_named, closed_inside, word_turn, body_turn, body_end}
 use Rattle.btx_bst.specs.language.Outcomes.{CommandOutcome, outcome, after_read, with_item}
-use Rattle.btx_bst.specs.language.Commands.{after_list, entry_command, function_ended, function_command, has_read, read_command, function_in, run_of, run_command, sort_command, declare, macro_command, command_at, command_named, after_listed}
+use Rattle.btx_bst.specs.language.Commands.{after_list, entry_command, function_ended, function_command, has_read, read_command, function_in, run_of, run_command, sort_command, declare, macro_command, command_at, command_named, after_listed, inside_at}
 use Rattle.btx_bst.specs.laws.Passages.{lines_text, text_from, Passage, InkLaw, CommandLaw, SkipLaw}
 use Rattle.btx_bst.proofs.TurnLemmas.{OnTurn, turns-keep}
-use Rattle.btx_bst.specs.refinement.Commands.{entry_lists, run_name, macro_name, inside_at, function_of, macro_of}
+use Rattle.btx_bst.specs.refinement.Commands.{entry_lists, run_name, macro_name, function_of, macro_of}
 use Rattle.btx_bst.specs.refinement.Words.{string_before}
 use Rattle.btx_bst.specs.refinement.Lists.{unlisted, with_new}
 use Rattle.btx_bst.specs.refinement.Fronts.{letters_len}

@@ -27,7 +27,7 @@ use Rattle.btx_bst.specs.language.Words.{BodyWord, Open, Close, String, Integer,
 use Rattle.btx_bst.specs.language.Lists.{opening, closing, next_name, Listing, listing, Listed, name_turn, list_turn_in, list_turn, list_end, list_read, list_at}
 use Rattle.btx_bst.specs.language.BodyText.{Inside, BodyEnd, Whole, Broken, with_named, closed_inside, word_turn, body_turn, body_end}
 use Rattle.btx_bst.specs.language.Outcomes.{with_item}
-use Rattle.btx_bst.specs.language.Commands.{function_ended, function_in}
+use Rattle.btx_bst.specs.language.Commands.{function_ended, function_in, inside_at}
 use Rattle.btx_bst.specs.language.Predefined.{predefined}
 use Rattle.btx_bst.specs.language.StyleText.{style_of}
 use Rattle.btx_bst.specs.laws.References.{IsKnown, IsFunction, Refers, IsKnownItem, RefersWithin, ReferencesLaw, ItemsLaw}
@@ -36,7 +36,6 @@ use Rattle.btx_bst.proofs.KeepLemmas.{Keeps, kept-style}
 use Rattle.btx_bst.specs.refinement.Names.{number_in, padded, has_name}
 use Rattle.btx_bst.specs.laws.StyleText.{unread_style}
 use Rattle.btx_bst.specs.refinement.Lists.{unlisted, with_new}
-use Rattle.btx_bst.specs.refinement.Commands.{inside_at}
 use Rattle.btx_bst.specs.refinement.Bodies.{FunctionBody}
 
 -- ---- more of each kind

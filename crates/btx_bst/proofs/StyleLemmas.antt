@@ -21,16 +21,16 @@ use Rattle.btx_bst.specs.language.Lists.{opening, closing, next_name, quoted_at,
 use Rattle.btx_bst.specs.language.BodyText.{Inside, BodyEnd, Whole, Broken, with_named, closed_inside, word_turn, body_turn, body_end}
 use Rattle.btx_bst.specs.language.Style.{Style}
 use Rattle.btx_bst.specs.language.Outcomes.{CommandOutcome, outcome, after_read, with_item}
-use Rattle.btx_bst.specs.language.Commands.{after_list, entry_command, function_command, function_ended, read_command, run_command, run_of, sort_command, declare, macro_command, function_in, command_at, command_named, after_listed}
-use Rattle.btx_bst.specs.language.StyleText.{StyleState, item_in, item_turn, style_from}
+use Rattle.btx_bst.specs.language.Commands.{after_list, entry_command, function_command, function_ended, read_command, run_command, run_of, sort_command, declare, macro_command, function_in, command_at, command_named, after_listed, inside_at}
+use Rattle.btx_bst.specs.language.StyleText.{StyleState, item_in, item_turn, style_from, resumed}
 use Rattle.btx_bst.specs.refinement.Weights.{names_weight, weight, HasRoom}
 use Rattle.btx_bst.proofs.TurnLemmas.{OnTurn, turns-next, turns-keep}
 use Rattle.btx_bst.proofs.SizeLemmas.{ink-size, skipped-size}
 use Rattle.btx_bst.proofs.ListLemmas.{Sized, closing-size, opening-size, name_at-size, quoted_at-size, list_turn-size, ListTurn, list_at-weight}
 use Rattle.btx_bst.proofs.BodyTurnLemmas.{place_of, body_turn-size, BodyTurn, body_end-weight, inside_of}
-use Rattle.btx_bst.specs.refinement.Commands.{entry_lists, run_name, macro_name, inside_at, function_of, macro_of}
+use Rattle.btx_bst.specs.refinement.Commands.{entry_lists, run_name, macro_name, function_of, macro_of}
 use Rattle.btx_bst.specs.refinement.Names.{padded}
-use Rattle.btx_bst.specs.refinement.StyleText.{style_so_far, resumed_after, resumed, word_outcome}
+use Rattle.btx_bst.specs.refinement.StyleText.{style_so_far, resumed_after, word_outcome}
 use Rattle.btx_bst.specs.refinement.Lists.{unlisted}
 use Rattle.btx_bst.specs.refinement.Fronts.{letters_len}
 use Rattle.btx_bst.specs.laws.Names.{macro_lower}

@@ -1,6 +1,6 @@
 //! A style as far as it has been read, command by command.
 ghost use Rattle.std.specs.Prelude.{◌≡◌, IfOk, OnOk, None};
-ghost use Rattle.btx_bst.specs.language.Commands.{command_at, entry_command, run_command, sort_command, declare, macro_command, function_command, function_ended, function_in, read_command};
+ghost use Rattle.btx_bst.specs.language.Commands.{command_at, entry_command, run_command, sort_command, declare, macro_command, function_command, function_ended, function_in, read_command, inside_at};
 ghost use Rattle.btx_bst.specs.language.BodyText.{body_end};
 ghost use Rattle.btx_bst.specs.declared.callee.Kind.TheVariants as kind;
 ghost use Rattle.btx_bst.specs.language.Items as item;
@@ -10,7 +10,6 @@ ghost use Rattle.btx_bst.specs.language.Names.{named_lower};
 ghost use Rattle.btx_bst.specs.refinement.DraftViews.{draft_view, outcome_view};
 ghost use Rattle.btx_bst.specs.refinement.Weights.{HasRoom};
 ghost use Rattle.btx_bst.specs.laws.StyleText.{unread_style};
-ghost use Rattle.btx_bst.specs.refinement.Commands.{inside_at};
 
 use crate::bodies::Bodies;
 use crate::body_words::{body, find};

@@ -1,6 +1,6 @@
 -- Where no function of the style stands on the stack, a step leaves none there; and what it opens or executes comes of its token alone.
 use Rattle.std.proofs.Common.{◌≡◌, ℕ, ℤ, pos, ◌<◌, Bool, true, false, cond, nat_lt, List, [], ◌∷◌, ◌++◌, length, take, Option, Some, None, refl, arith, sym, subst, negsuc}
-use Rattle.std.specs.Prelude.{◌+ℤ◌, ◌-ℤ◌, int_lt, slice_get, slice_index_or}
+use Rattle.std.specs.Prelude.{◌+ℤ◌, ◌-ℤ◌, int_lt, slice_get, slice_index_or, codes}
 use Rattle.std.specs.List.{list_all}
 use Rattle.std.specs.Ordering.{int_eq}
 use Rattle.std.specs.Str.{bytes_eq}
@@ -216,8 +216,8 @@ module _ (r : ℕ) where
   in_entry_low go (Some entry) s h each = each entry
 
   assigned_low : (job : Job) (f : Callee) (v : Literal) (s : Store) → Free s.literals → Low r (variables.assigns job f v s)
-  assigned_low job (callee.GlobalInteger i) v s h = stored_integer_low (kept_variables.with_integer i) (λ n s. refl) v s h
-  assigned_low job (callee.GlobalString i) v s h = stored_string_low job.global_max (kept_variables.with_string i) (λ text s. refl) v s h
+  assigned_low job (callee.GlobalInteger i) v s h = stored_integer_low (variables.with_global_integer i) (λ n s. refl) v s h
+  assigned_low job (callee.GlobalString i) v s h = stored_string_low job.global_max (variables.with_global_string i) (λ text s. refl) v s h
   assigned_low job (callee.EntryInteger i) v s h =
       in_entry_low (λ entry. variables.stores_integer (variables.with_entry_integer entry i) v) s.current s h (λ entry. stored_integer_low (variables.with_entry_integer entry i) (λ n s. refl) v s h)
   assigned_low job (callee.EntryString i) v s h =
@@ -226,7 +226,7 @@ module _ (r : ℕ) where
 
   entry_integer_low : (i : ℕ) (current : Option ℕ) (s : Store) → Free s.literals → Low r (kept_variables.entry_integer i current s)
   entry_integer_low i None s h = outside_low s h
-  entry_integer_low i (Some entry) s h = integer_low said.Nothing (kept_variables.integer_of s.entries entry i) s h
+  entry_integer_low i (Some entry) s h = integer_low said.Nothing (variables.integer_of s.entries entry i) s h
 
   entry_string_low : (i : ℕ) (current : Option ℕ) (s : Store) → Free s.literals → Low r (kept_variables.entry_string i current s)
   entry_string_low i None s h = outside_low s h
@@ -314,7 +314,7 @@ module _ (r : ℕ) where
   row_low job built_in.Pop c = λ x u s h. (tt, h)
   row_low job built_in.Preamble c = λ s h. string_low said.Nothing job.library.preamble s h
   row_low job built_in.Purify c = λ text u s h. text_low said.Nothing (purify_of text) s h
-  row_low job built_in.Quote c = λ s h. string_low said.Nothing (34 ∷ []) s h
+  row_low job built_in.Quote c = λ s h. string_low said.Nothing (codes "\"") s h
   row_low job built_in.Skip c = λ s h. (tt, h)
   row_low job built_in.Stack c = λ s h. (tt, tt)
   row_low job built_in.Substring c = λ length u start v text w s h. text_low said.Nothing (substring_of text start length) s h

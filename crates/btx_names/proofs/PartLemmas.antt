@@ -7,7 +7,7 @@ use Rattle.std.specs.List.{All, flat_map}
 use Rattle.btx_text.specs.declared.element_kind.TextMode.{TextMode}
 use Rattle.btx_names.specs.language.FormattedNames.{initial_of}
 use Rattle.btx_names.specs.language.Tokens.{NameToken as Token, tokens_of}
-use Rattle.btx_names.specs.language.NameParts.{NameParts, Sections, One, Two, Three, parts_by, von_end, last_start}
+use Rattle.btx_names.specs.language.NameParts.{Sections, One, Two, Three, parts_by, von_end, last_start}
 use Rattle.btx_names.specs.laws.NameParts.{surname_of}
 use Rattle.btx_names.specs.refinement.NameTokens.{Hold, token_of, tokens_in, lettered_in, lettered_of_bare}
 use Rattle.btx_names.specs.refinement.Places.{bytes_at}
@@ -18,7 +18,7 @@ use Rattle.btx_names.specs.declared.name_token.NameToken.{NameToken}
 use Rattle.btx_names.specs.declared.name_tokens.Joint.TheVariants.{Space}
 use Rattle.btx_names.specs.declared.token_list.TokenList.{TokenList}
 use Rattle.btx_names.proofs.InitialLemmas.{elements_of_nothing, initial_from}
-use Rattle.btx_names.proofs.RangeLemmas.{tokens_of_nothing}
+use Rattle.btx_names.proofs.RangeLemmas.{ranges_within, tokens_of_nothing}
 use Rattle.btx_names.specs.refinement.NameParts.{von_start}
 
 -- ---- tokens that are said to have no abbreviation
@@ -259,12 +259,22 @@ jr_of_sections (One name) = sym tokens_of_nothing
 jr_of_sections (Two surname first) = sym tokens_of_nothing
 jr_of_sections (Three surname jr first) = refl
 
--- ---- parts with the same tokens
-
-pub same_parts : (one other : NameParts) → one.first ≡ other.first → one.von ≡ other.von → one.last ≡ other.last → one.jr ≡ other.jr → one ≡ other
-same_parts one other first von last jr =
-    let make = λ (a b c d : List Token). let parts : NameParts = record { first = a; von = b; last = c; jr = d } in parts in
-    ap (λ a. make a one.von one.last one.jr) first
-    ∙ ap (λ b. make other.first b one.last one.jr) von
-    ∙ ap (λ c. make other.first other.von c one.jr) last
-    ∙ ap (λ d. make other.first other.von other.last d) jr
+-- the parts are cut out of the list by their ranges
+pub parts_cut : (bytes : List ℕ) (list : TokenList) (ranges : Ranges) (sections : Sections) (all surname others jr behind before rest von last : List Token) →
+    IsListOf bytes list sections → AreRangesOf bytes list ranges → all ≡ tokens_in bytes list.tokens.items →
+    surname ≡ take list.surname all → others ≡ drop list.surname all → jr ≡ take list.jr others → behind ≡ drop list.jr others →
+    before ≡ take ranges.von_start surname → rest ≡ drop ranges.von_start surname →
+    von ≡ take (ranges.last_start - ranges.von_start) rest → last ≡ drop (ranges.last_start - ranges.von_start) rest →
+    (cond list.has_commas behind before ≡ (parts_by sections).first) × (von ≡ (parts_by sections).von) × (last ≡ (parts_by sections).last) × (jr ≡ (parts_by sections).jr)
+parts_cut bytes list ranges sections all surname others jr behind before rest von last is within whole one two three four five six seven eight =
+    let cut = sections_split bytes list sections all surname others jr behind is whole one two three four in
+    let starts = ranges_of_sections bytes list ranges sections is within in
+    let tokens = tokens_of (surname_of sections) in
+    let front : before ≡ take ranges.von_start tokens = rw cut.0 at five in
+    let back : rest ≡ drop ranges.von_start tokens = rw cut.0 at six in
+    let e : ranges.von_start + (ranges.last_start - ranges.von_start) ≡ ranges.last_start = omega (arith, (ranges_within bytes list ranges within).0) in (
+      rw (cut.2, front, is.commas, starts.0) refl ∙ sym (first_by_ranges sections),
+      seven ∙ rw (back, starts.0, starts.1) refl ∙ sym (von_by_ranges sections),
+      eight ∙ rw (back, drop-drop (ranges.last_start - ranges.von_start) ranges.von_start tokens, e, starts.1) refl ∙ sym (last_by_ranges sections),
+      cut.1 ∙ sym (jr_of_sections sections),
+    )

@@ -6,19 +6,16 @@ ghost use Rattle.btx_text.specs.language.Limits.{greatest_string};
 ghost use Rattle.btx_names.specs.refinement.Becomes.{Becomes, WritesLegal, WritesUntilIllegal};
 ghost use Rattle.btx_names.specs.language.Formats.{is_legal};
 ghost use Rattle.btx_names.specs.language.Answered as spec;
-ghost use Rattle.btx_names.specs.language.FormattedNames.{item_text, tokens_of_part};
+ghost use Rattle.btx_names.specs.language.FormattedNames.{item_text};
 ghost use Rattle.btx_names.specs.refinement.ItemViews.{item_view};
 ghost use Rattle.btx_names.specs.refinement.KeptItems.{kept_view};
-ghost use Rattle.btx_names.specs.refinement.KeptNames.{kept_bytes};
-ghost use Rattle.btx_names.specs.refinement.PartViews.{part_tokens, parts_view};
+ghost use Rattle.btx_names.specs.refinement.KeptNames.{kept_bytes, kept_parts};
 ghost use Rattle.btx_names.specs.refinement.FormattedNames.{formatted};
 
-use crate::format_items::{Item, Items, PartName, is_legal};
+use crate::format_items::{Item, Items, is_legal};
 use crate::kept_formats::{KeptFormat, KeptFormats};
 use crate::kept_item::KeptItem;
 use crate::kept_name::KeptName;
-use crate::name_parts::NameParts;
-use crate::part::Part;
 use crate::pieces::{push_literal, push_piece, push_plain};
 use crate::writer::Writer;
 use btx_strings::Answer;
@@ -37,7 +34,7 @@ pub fn format_one(
     ensures { Answers result (spec.one_name_text mode (kept_bytes name.now) format.now) (spec.one_name_complaints (kept_bytes name.now) format.now) }
 {
     writer.begin(mode);
-    if write_format(writer, &name.parts(), formats, format)? {
+    if write_format(writer, name, formats, format)? {
         Answer::copy_of(alloc, writer.text(), name.complaints(true))
     } else {
         Answer::new(Vec::new(alloc), name.complaints(false))
@@ -58,111 +55,91 @@ pub fn write_one(
         return Ok(false);
     }
     writer.begin(mode);
-    write_format(writer, &name.parts(), formats, format)
+    write_format(writer, name, formats, format)
 }
 
-// Writes the parts of a name in a format, whether that is kept or not; false where the format is illegal.
+// Writes a name in a format, whether that is kept or not; false where the format is illegal.
 fn write_format(
     writer: &mut Writer,
-    parts: &NameParts<'_>,
+    name: &KeptName,
     formats: &mut KeptFormats,
     format: &[u8],
 ) -> Result<bool, Fault>
     requires { writer.old.text.items ≡ [] }
-    ensures { WritesLegal greatest_string (is_legal format.now) result writer.new.text.items (formatted writer.old.mode (parts_view parts.now) format.now) }
+    ensures { WritesLegal greatest_string (is_legal format.now) result writer.new.text.items (formatted writer.old.mode (kept_parts name.now) format.now) }
 {
     if let Some(kept) = formats.find(format) {
-        return write_items(writer, parts, kept);
+        return write_items(writer, name, kept);
     }
     formats.keep(format)?;
-    write_legal(writer, parts, format)
+    write_legal(writer, name, format)
 }
 
-// Writes the parts of a name in a format that is kept, and so is legal.
+// Writes a name in a format that is kept, and so is legal.
 #[tactic(auto, using(crate::proofs::KeptItemLemmas::kept_items))]
-fn write_items(
-    writer: &mut Writer,
-    parts: &NameParts<'_>,
-    format: &KeptFormat,
-) -> Result<bool, Fault>
+fn write_items(writer: &mut Writer, name: &KeptName, format: &KeptFormat) -> Result<bool, Fault>
     requires { writer.old.text.items ≡ [] }
-    ensures { WritesLegal greatest_string (is_legal format.now.text.items) result writer.new.text.items (formatted writer.old.mode (parts_view parts.now) format.now.text.items) }
+    ensures { WritesLegal greatest_string (is_legal format.now.text.items) result writer.new.text.items (formatted writer.old.mode (kept_parts name.now) format.now.text.items) }
 {
     for item in format.items() {
-        push_kept(writer, item, parts)?;
+        push_kept(writer, item, name)?;
     }
     Ok(true)
 }
 
 // Adds what an item of a format that is kept gives. Many parts have no tokens: their pieces give nothing.
 #[inline(always)]
-fn push_kept(writer: &mut Writer, item: &KeptItem, parts: &NameParts<'_>) -> Result<(), Fault>
-    ensures text { Becomes greatest_string result writer.new.text.items (writer.old.text.items ++ item_text writer.old.mode (parts_view parts.now) (kept_view item.now)) }
+fn push_kept(writer: &mut Writer, item: &KeptItem, name: &KeptName) -> Result<(), Fault>
+    ensures text { Becomes greatest_string result writer.new.text.items (writer.old.text.items ++ item_text writer.old.mode (kept_parts name.now) (kept_view item.now)) }
     ensures mode { writer.new.mode ≡ writer.old.mode }
 {
     match item {
         KeptItem::Literal(literal) => push_literal(writer, literal),
         KeptItem::Plain(inside) => push_plain(writer, inside),
         KeptItem::Name(piece) => {
-            let part = part_of(parts, piece.part);
+            let part = name.part(piece.part);
             if part.tokens.is_empty() {
                 return Ok(());
             }
-            push_piece(writer, piece.as_piece(), *part)
+            push_piece(writer, piece.as_piece(), part)
         }
     }
 }
 
-// Writes the parts of a name in a format; false where the format is illegal.
-fn write_legal(writer: &mut Writer, parts: &NameParts<'_>, format: &[u8]) -> Result<bool, Fault>
+// Writes a name in a format; false where the format is illegal.
+fn write_legal(writer: &mut Writer, name: &KeptName, format: &[u8]) -> Result<bool, Fault>
     requires { writer.old.text.items ≡ [] }
-    ensures { WritesLegal greatest_string (is_legal format.now) result writer.new.text.items (formatted writer.old.mode (parts_view parts.now) format.now) }
+    ensures { WritesLegal greatest_string (is_legal format.now) result writer.new.text.items (formatted writer.old.mode (kept_parts name.now) format.now) }
 {
-    match write_until_illegal(writer, parts, format) {
+    match write_until_illegal(writer, name, format) {
         Err(Fault::StringLimit) if !is_legal(format) => Ok(false),
         written => written,
     }
 }
 
-// Writes the parts of a name in a format, which is read once; false where an illegal item is met, which may stand behind too long a text.
-fn write_until_illegal(
-    writer: &mut Writer,
-    parts: &NameParts<'_>,
-    format: &[u8],
-) -> Result<bool, Fault>
+// Writes a name in a format, which is read once; false where an illegal item is met, which may stand behind too long a text.
+fn write_until_illegal(writer: &mut Writer, name: &KeptName, format: &[u8]) -> Result<bool, Fault>
     requires { writer.old.text.items ≡ [] }
-    ensures { WritesUntilIllegal greatest_string (is_legal format.now) result writer.new.text.items (formatted writer.old.mode (parts_view parts.now) format.now) }
+    ensures { WritesUntilIllegal greatest_string (is_legal format.now) result writer.new.text.items (formatted writer.old.mode (kept_parts name.now) format.now) }
 {
     for item in Items::of(format) {
         if matches!(item, Item::Illegal) {
             return Ok(false);
         }
-        push_item(writer, item, parts)?;
+        push_item(writer, item, name)?;
     }
     Ok(true)
 }
 
 // Adds what an item of a format gives.
-fn push_item(writer: &mut Writer, item: Item<'_>, parts: &NameParts<'_>) -> Result<(), Fault>
-    ensures text { Becomes greatest_string result writer.new.text.items (writer.old.text.items ++ item_text writer.old.mode (parts_view parts.now) (item_view item.entry)) }
+fn push_item(writer: &mut Writer, item: Item<'_>, name: &KeptName) -> Result<(), Fault>
+    ensures text { Becomes greatest_string result writer.new.text.items (writer.old.text.items ++ item_text writer.old.mode (kept_parts name.now) (item_view item.entry)) }
     ensures mode { writer.new.mode ≡ writer.old.mode }
 {
     match item {
         Item::Literal(literal) => push_literal(writer, literal),
         Item::Plain(inside) => push_plain(writer, inside),
-        Item::Name(piece) => push_piece(writer, piece, *part_of(parts, piece.part)),
+        Item::Name(piece) => push_piece(writer, piece, name.part(piece.part)),
         Item::Illegal => Ok(()),
-    }
-}
-
-// The part of a name that a piece of a format asks for.
-fn part_of<'p, 't>(parts: &'p NameParts<'t>, part: PartName) -> &'p Part<'t>
-    ensures { part_tokens result.now ≡ tokens_of_part part (parts_view parts.now) }
-{
-    match part {
-        PartName::First => &parts.first,
-        PartName::Von => &parts.von,
-        PartName::Last => &parts.last,
-        PartName::Jr => &parts.jr,
     }
 }

@@ -4,15 +4,16 @@ ghost use Rattle.std.specs.List.{All};
 ghost use Rattle.btx_names.specs.refinement.NamesFrom.{names_from};
 ghost use Rattle.btx_names.specs.language.NameLists.{names_of};
 ghost use Rattle.btx_names.specs.language.NameParts as spec;
-ghost use Rattle.btx_names.specs.laws.NameParts as part;
 ghost use Rattle.btx_names.specs.refinement.NameTokens.{Hold};
 ghost use Rattle.btx_names.specs.refinement.Places.{bytes_at};
 ghost use Rattle.btx_names.specs.refinement.Steps.{first_name_len};
 ghost use Rattle.btx_names.specs.refinement.TokenLists.{AreRangesOf, IsListOf};
 
-use crate::name_parts::NameParts;
+use crate::format_items::PartName;
+use crate::name_parts::part_in;
 use crate::name_ranges::Ranges;
 use crate::name_reading::ReadName;
+use crate::part::Part;
 use crate::place::Place;
 use crate::separators::name_len;
 use crate::token_list::TokenList;
@@ -47,8 +48,9 @@ pub struct KeptName {
 
 impl KeptName {
     ghost use Rattle.btx_names.specs.refinement.Answered.{complaints_with};
-    ghost use Rattle.btx_names.specs.refinement.KeptNames.{IsFound, kept_bytes};
-    ghost use Rattle.btx_names.specs.refinement.PartViews.{parts_view};
+    ghost use Rattle.btx_names.specs.language.FormattedNames.{tokens_of_part};
+    ghost use Rattle.btx_names.specs.refinement.KeptNames.{IsFound, kept_bytes, kept_parts};
+    ghost use Rattle.btx_names.specs.refinement.PartViews.{part_tokens};
 
     /// Puts the name of a list that `before` others precede into `found`, if there is one, and else none.
     pub fn find(
@@ -169,11 +171,11 @@ impl KeptName {
         Ok(())
     }
 
-    /// Its parts.
-    pub fn parts(&self) -> NameParts<'_>
-        ensures { parts_view result ≡ part.parts_of (kept_bytes self.now) }
+    /// One of its parts.
+    pub fn part(&self, part: PartName) -> Part<'_>
+        ensures { part_tokens result ≡ tokens_of_part part (kept_parts self.now) }
     {
-        NameParts::of(&self.names, &self.list, self.ranges)
+        part_in(&self.names, &self.list, self.ranges, part)
     }
 
     /// Whether something is wrong with it.

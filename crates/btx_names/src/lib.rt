@@ -8,6 +8,7 @@ mod initials;
 mod kept_formats;
 mod kept_item;
 mod kept_name;
+mod kept_names;
 pub mod laws;
 mod name_formatter;
 mod name_list;

@@ -1,14 +1,14 @@
 //! Names in formats, one after another.
-ghost use Rattle.std.specs.Prelude.{◌≡◌, slice_get, IfOk, OnOk, IsSomeAnd, IsTrue, MatchOption, None, Some};
+ghost use Rattle.std.specs.Prelude.{◌≡◌, IfOk, IsTrue, MatchOption, None, Some};
 ghost use Rattle.btx_names.specs.refinement.Right.{IsText};
 ghost use Rattle.btx_strings.specs.refinement.Answers.{Answers};
 ghost use Rattle.btx_names.specs.language.Answered as spec;
-ghost use Rattle.btx_names.specs.refinement.KeptNames.{IsFound, kept_bytes};
-ghost use Rattle.btx_names.specs.language.NameLists.{names_of};
+ghost use Rattle.btx_names.specs.refinement.KeptNames.{kept_bytes};
 
 use crate::formatted::{format_one, write_one};
 use crate::kept_formats::KeptFormats;
 use crate::kept_name::KeptName;
+use crate::kept_names::KeptNames;
 use crate::writer::Writer;
 use btx_strings::{Answer, Complaints};
 use btx_text::{Fault, GREATEST_STRING, TextMode};
@@ -20,12 +20,12 @@ const MOST_FORMATS: usize = 16;
 // How many bytes a list of names has at most that is kept.
 const LONGEST_LIST: usize = 65_536;
 
-/// Puts names in formats. It keeps the latest name with its list and its tokens, and some formats as they were read, since a style mostly asks
-/// for the names of one list, one after another and in a few formats. No answer depends on what is kept.
+/// Puts names in formats. It keeps the latest names with their lists and tokens, and some formats as they were read, since a style mostly asks for
+/// the names of one list, time and again and in a few formats. No answer depends on what is kept.
 #[derive(Debug, Drop)]
 pub struct NameFormatter {
     alloc: Global,
-    name: Option<KeptName>,
+    names: KeptNames,
     formats: KeptFormats,
     writer: Writer,
 }
@@ -40,7 +40,7 @@ impl NameFormatter {
     fn with_room_for(alloc: Global, formats: usize) -> NameFormatter {
         NameFormatter {
             alloc,
-            name: None,
+            names: KeptNames::new(alloc),
             formats: KeptFormats::new(alloc, formats),
             writer: Writer::new(alloc),
         }
@@ -58,8 +58,7 @@ impl NameFormatter {
     ) -> Result<Answer, Fault>
         ensures { Answers result (spec.format_name_text mode names.now number format.now) (spec.format_name_complaints names.now number format.now) }
     {
-        self.go_to(names, number)?;
-        let answer = match &self.name {
+        let answer = match name_numbered(&mut self.names, names, number)? {
             Some(name) => format_one(
                 self.alloc,
                 name,
@@ -77,7 +76,7 @@ impl NameFormatter {
             ),
         };
         if names.len() > LONGEST_LIST {
-            self.name = None;
+            self.names.forget_long();
         }
         answer
     }
@@ -97,8 +96,7 @@ impl NameFormatter {
         if names.len() > LONGEST_LIST {
             return Ok(false);
         }
-        self.go_to(names, number)?;
-        let Some(name) = &self.name else {
+        let Some(name) = name_numbered(&mut self.names, names, number)? else {
             return Ok(false);
         };
         if !write_one(name, &mut self.formats, &mut self.writer, format, mode)? {
@@ -112,41 +110,6 @@ impl NameFormatter {
         ensures { result.now ≡ self.now.writer.text.items }
     {
         self.writer.text()
-    }
-
-    // Goes to a name of a string, by its number from 1 on. Where there is none, none is kept.
-    #[tactic(auto, using(crate::proofs::FormattedLemmas::nth_steps))]
-    fn go_to(&mut self, names: &[u8], number: i32) -> Result<(), AllocError>
-        ensures { OnOk result (MatchOption self.new.name (spec.nth_name names.now number ≡ None) (λ kept. spec.nth_name names.now number ≡ Some (kept_bytes kept))) }
-    {
-        let Some(before) = names_before(number) else {
-            self.name = None;
-            return Ok(());
-        };
-        if self.is_at(names, before) {
-            return Ok(());
-        }
-        self.find(names, before)
-    }
-
-    // Whether the name that is kept is the one of a list that `before` others precede.
-    fn is_at(&self, names: &[u8], before: usize) -> bool
-        ensures { IsTrue result → IsSomeAnd self.now.name (λ kept. slice_get (names_of names.now) before ≡ Some (kept_bytes kept)) }
-    {
-        match &self.name {
-            Some(name) => name.is(names, before),
-            None => false,
-        }
-    }
-
-    // Keeps the name of a list that `before` others precede, if there is one, in the memory of the one that was kept.
-    fn find(&mut self, names: &[u8], before: usize) -> Result<(), AllocError>
-        ensures { OnOk result (IsFound names.now before self.new.name) }
-    {
-        match self.name.take() {
-            Some(name) => name.go_to(names, before, &mut self.name),
-            None => KeptName::find(self.alloc, names, before, &mut self.name),
-        }
     }
 }
 
@@ -171,5 +134,21 @@ fn names_before(number: i32) -> Option<usize>
     match usize::try_from(number) {
         Ok(0) | Err(_) => None,
         Ok(number) => Some(number - 1),
+    }
+}
+
+// A name of a string, by its number from 1 on, if there is one.
+#[inline(always)]
+#[tactic(auto, using(crate::proofs::FormattedLemmas::nth_steps))]
+fn name_numbered<'k>(
+    kept: &'k mut KeptNames,
+    names: &[u8],
+    number: i32,
+) -> Result<Option<&'k KeptName>, AllocError>
+    ensures { IfOk result (λ found. MatchOption found (spec.nth_name names.now number ≡ None) (λ kept. spec.nth_name names.now number ≡ Some (kept_bytes kept.now))) }
+{
+    match names_before(number) {
+        Some(before) => kept.find(names, before),
+        None => Ok(None),
     }
 }

@@ -29,8 +29,8 @@ type Kept = ArrayVec<u8, 1001>;
 // The lines that become sure by one call, gathered so that one write takes them. There is room for the longest line.
 type Gathered = ArrayVec<u8, 1024>;
 
-// The first index at which a line is broken: a shorter head isn't worth a line, and a line is never broken at the two spaces before it.
-const FIRST_BREAK: usize = 3;
+/// The first index at which a line is broken: a shorter head isn't worth a line, and a line is never broken at the two spaces before it.
+pub const FIRST_BREAK: usize = 3;
 
 // What is done with the bytes that come.
 #[derive(Clone, Copy, Debug, PartialEq, Eq)]

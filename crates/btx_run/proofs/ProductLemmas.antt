@@ -19,7 +19,7 @@ use Rattle.btx_bib.specs.language.Requests.{asked}
 use Rattle.btx_step.specs.language.Jobs.{Job}
 use Rattle.btx_aux.specs.refinement.Faults.{CountsOfOne}
 use Rattle.btx_machine.specs.refinement.Faults.{CountsOfTwo}
-use Rattle.btx_machine.specs.language.KeepingStep.{AtFault, BothBegin, BothExtend, Completes}
+use Rattle.btx_machine.specs.language.KeepingStep.{Received, AtFault, BothBegin, BothExtend, Completes}
 use Rattle.btx_machine.specs.language.Product.{Product, product_of, style_product}
 use Rattle.btx_machine.specs.language.Reports.{last_line}
 use Rattle.btx_machine.specs.language.Saying.{ended_line}
@@ -43,7 +43,6 @@ use Rattle.btx_machine.specs.refinement.KeepingStep.{LastLineBehindList, KeepsSt
 use Rattle.btx_machine.specs.refinement.Outputs.{Journal}
 use Rattle.btx_machine.specs.refinement.Product.{product_early, executed}
 use Rattle.btx_run.specs.refinement.Files.Counts.{counts_at}
-use Rattle.btx_machine.specs.refinement.Written.{Received}
 use Rattle.btx_machine.specs.laws.Reports.{log_counts}
 use Rattle.btx_run.specs.refinement.Contents.{database_of}
 

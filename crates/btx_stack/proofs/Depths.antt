@@ -121,7 +121,7 @@ no_text_there slots top pool old d o l h = ap has_text (none_there slots top poo
 pub no_large_there : (slots : List Slot) (top : ℕ) (pool : List ℕ) (old : List Content) (d : ℕ) → contents_of (drop top slots) pool ≡ old → length slots ≡ 1000 → 1000 - top ≤ d → None ≡ large_on (drop d old)
 no_large_there slots top pool old d o l h = sym (ap large_on (none_there slots top pool old d o l h))
 
--- what is told of the content of a depth
+-- a function of the contents from a depth on, by the slot at that depth
 at_kind : {X : Type 0} (f : List Content → X) (slots : List Slot) (top : ℕ) (b : Slot) (pool : List ℕ) (old : List Content) (d : ℕ) → contents_of (drop top slots) pool ≡ old → Stand (drop top slots) (length pool) → top + d < length slots → b ≡ get_or slots (top + d) b → f (drop d old) ≡ f (content_as b.kind b (drop b.start (take (end_of (drop top slots) d (length pool)) pool)) ∷ drop (d + 1) old)
 at_kind f slots top b pool old d o s l e = ap f (at_depth slots top b pool (end_of (drop top slots) d (length pool)) old d o s l e refl).shown
 

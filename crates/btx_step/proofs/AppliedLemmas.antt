@@ -1,4 +1,4 @@
--- Either the operands of a function are there and fit, or something is told.
+-- Either the operands of a function are there and fit, or something is logged.
 use Rattle.std.proofs.Common.{◌≡◌, ◌≢◌, ◌≤◌, ◌+◌, ◌⊎◌, inl, inr, ℕ, zero, suc, List, [], ◌∷◌, ◌++◌, length, take, drop, replicate, Option, Some, None, refl, sym, ap, subst, ◌∙◌, arith}
 use Rattle.std.specs.Prelude.{option_and_then, MatchOption, ⊤}
 use Rattle.btx_bst.specs.declared.built_in.BuiltIn.{BuiltIn}
@@ -78,7 +78,7 @@ record Fails (operands : List Operand) (does : Does operands) (xs : List Literal
   why : AreMissing operands xs (complaints operands xs) ⊎ IsWrong operands xs (complaints operands xs)
   is : applied operands does xs ≡ None
 
--- where the first one fits, what is told is told of the others
+-- where the first one fits, what is logged is logged of the others
 logged_later : (operand : Operand) (more : List Operand) (x : Literal) (xs : List Literal) (value : Value operand) → seen_as operand x ≡ Some value
     → complaints (operand ∷ more) (x ∷ xs) ≡ complaints more xs
 logged_later Any more x xs value e = refl
@@ -118,7 +118,7 @@ module _ (operand : Operand) (more : List Operand) (does : Does (operand ∷ mor
   later (inr h) = inr (record { why = why_later h.why; is = go_on ∙ h.is })
 
 module _ (kind : Wanted) (more : List Operand) (x : Literal) (xs : List Literal) (none : seen_as (Of kind) x ≡ None) where
-  -- it is told, unless another one isn't there
+  -- it is logged, unless another one isn't there
   logged_here : (notes : List Note) → absent more xs ≡ notes → complaints (Of kind ∷ more) (x ∷ xs) ≡ or_else notes (note.WrongKind x kind ∷ [])
   logged_here notes e = ap (λ o. or_else (absent more xs) (misfit_notes o (note.WrongKind x kind) (wrong more xs))) none ∙ ap (λ l. or_else l (note.WrongKind x kind ∷ [])) e
 

@@ -13,7 +13,6 @@ use Rattle.btx_step.specs.laws.Leaves.{StandUnder, IsOther}
 use Rattle.btx_step.specs.language.Operands.{on_operands}
 use Rattle.btx_step.specs.language.Table.{row}
 use Rattle.btx_step.specs.language.Variables as variables
-use Rattle.btx_step.specs.refinement.Variables as kept_variables
 
 -- these literals stand, this entry is the current one, all entries but one are these, and so many bodies were open at once
 pub record Leaves (below : List Literal) (current : Option ℕ) (entries : List EntryVariables) (deepest : ℕ) (changed : Option ℕ) (a : Answer) : Type 0 where
@@ -53,13 +52,13 @@ in_entry go None s h = untouched None _ s
 in_entry go (Some entry) s h = h entry
 
 global_integer : (i : ℕ) (changed : Option ℕ) (v : Literal) (s : Store)
-    → Leaves s.literals s.current s.entries s.deepest changed (variables.stores_integer (kept_variables.with_integer i) v s)
-global_integer i changed (Integer n) s = untouched changed _ (kept_variables.with_integer i n s)
+    → Leaves s.literals s.current s.entries s.deepest changed (variables.stores_integer (variables.with_global_integer i) v s)
+global_integer i changed (Integer n) s = untouched changed _ (variables.with_global_integer i n s)
 global_integer i changed v s = untouched changed _ s
 
 global_string : (most i : ℕ) (changed : Option ℕ) (v : Literal) (s : Store)
-    → Leaves s.literals s.current s.entries s.deepest changed (variables.stores_string most (kept_variables.with_string i) v s)
-global_string most i changed (Text text) s = untouched changed _ (kept_variables.with_string i (take most text) s)
+    → Leaves s.literals s.current s.entries s.deepest changed (variables.stores_string most (variables.with_global_string i) v s)
+global_string most i changed (Text text) s = untouched changed _ (variables.with_global_string i (take most text) s)
 global_string most i changed v s = untouched changed _ s
 
 assigned_to : (job : Job) (f : Callee) (v : Literal) (s : Store) → Leaves s.literals s.current s.entries s.deepest s.current (variables.assigns job f v s)

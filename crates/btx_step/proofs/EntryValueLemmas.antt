@@ -1,12 +1,12 @@
 -- The variables of all entries, those of an entry behind those of the one before it.
 use Rattle.std.proofs.Common.{◌≡◌, ℕ, zero, suc, ◌+◌, ◌-◌, ◌*◌, ◌<◌, ◌≤◌, ◌^◌, ◌⊎◌, inl, inr, List, [], ◌∷◌, length, take, drop, replicate, get_or, slice_get, slice_set, unwrap_or, Option, Some, None, ℤ, pos, FitsSigned, w32, to_z, of_z, refl, sym, ap, ◌∙◌, arith, suc-mul, zero-mul}
-use Rattle.std.proofs.lemmas.List.{drop-drop, drop-replicate, drop-set-add, drop-set-lt, get_or-drop, get_or-take, length-take, set_past, take-replicate, take-set-le}
+use Rattle.std.proofs.lemmas.List.{drop-drop, drop-replicate, drop-set-add, drop-set-lt, get_or-drop, get_or-take, length-take, set-set, set_past, take-replicate, take-set-le}
 use Rattle.std.proofs.Math.Seq.{take-set-lt}
 use Rattle.std.proofs.lemmas.Option.{unwrap_or-slice_get, slice_get-get_or, slice_get_past}
 use Rattle.std.proofs.lemmas.Int.{to_z-of_z}
 use Rattle.btx_step.specs.language.Stores.{EntryVariables}
-use Rattle.btx_step.specs.language.Variables.{values_of, string_of}
-use Rattle.btx_step.specs.refinement.Variables.{rows, integer_set, string_set, integer_of}
+use Rattle.btx_step.specs.language.Variables.{values_of, integer_of, string_of}
+use Rattle.btx_step.specs.refinement.Variables.{rows, integer_set, string_set}
 
 -- ---- places
 
@@ -128,6 +128,10 @@ integer_put n i s xs ts e j p v fits lt l at = (λ k. rows n i s (slice_set xs (
 
 pub string_put : (n i s : ℕ) (xs : List ℤ) (ts : List (List ℕ)) (e j p : ℕ) (v : List ℕ) → e < n → j < s → p ≡ e * s + j → let all = rows n i s xs ts in rows n i s xs (slice_set ts p v) ≡ slice_set all e (string_set j v (values_of all e))
 string_put n i s xs ts e j p v lt l at = ap (λ q. rows n i s xs (slice_set ts q v)) at ∙ string-put n i s xs ts e j v lt l
+
+-- the same, where another string was put there first
+pub string_put_again : (n i s : ℕ) (xs : List ℤ) (ts : List (List ℕ)) (e j p : ℕ) (u v : List ℕ) → e < n → j < s → p ≡ e * s + j → let all = rows n i s xs ts in rows n i s xs (slice_set (slice_set ts p u) p v) ≡ slice_set all e (string_set j v (values_of all e))
+string_put_again n i s xs ts e j p u v lt l at = ap (λ (strings : List (List ℕ)). rows n i s xs strings) (set-set ts p u v) ∙ string_put n i s xs ts e j p v lt l at
 
 -- nothing is written where there is no such entry, or no such variable
 length-rows : (n i s : ℕ) (xs : List ℤ) (ts : List (List ℕ)) → length (rows n i s xs ts) ≡ n

@@ -128,11 +128,11 @@ pub reads_back : ReadsBack
 unfolding built_in_run function_run integer_stored string_stored
 reads_back job (callee.GlobalInteger i) (Integer n) xs s e room takes =
     ap (λ l. (kept_variables.global_integer i (assigning job l s).store).store.literals) e
-    ∙ on_top _ (kept_variables.with_integer i n (with_literals xs s)) room
+    ∙ on_top _ (variables.with_global_integer i n (with_literals xs s)) room
     ∙ ap (λ m. Integer m ∷ xs) (ap kept_variables.integer_in (read_at s.integers i n takes))
 reads_back job (callee.GlobalString i) (Text text) xs s e room takes =
     ap (λ l. (kept_variables.global_string i (assigning job l s).store).store.literals) e
-    ∙ on_top _ (kept_variables.with_string i (take job.global_max text) (with_literals xs s)) room
+    ∙ on_top _ (variables.with_global_string i (take job.global_max text) (with_literals xs s)) room
     ∙ ap (λ t. Text t ∷ xs) (ap kept_variables.string_in (read_at s.strings i (take job.global_max text) takes.0) ∙ all_kept job.global_max text takes.1)
 reads_back job (callee.EntryInteger i) (Integer n) xs s e room takes =
     ap (λ l. (kept_variables.entry_integer i (assigning job l s).store.current (assigning job l s).store).store.literals) e

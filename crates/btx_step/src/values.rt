@@ -1,13 +1,15 @@
 //! The values of variables, by number.
-ghost use Rattle.std.specs.Prelude.{◌≡◌, ◌<◌, ◌≤◌, ◌+◌, ◌*◌, ◌^◌, ◌⊎◌, pos, [], length, replicate, slice_get, slice_set};
+ghost use Rattle.std.specs.Prelude.{◌≡◌, ◌<◌, ◌≤◌, ◌+◌, ◌*◌, ◌^◌, ◌⊎◌, pos, [], if◌then◌else◌, length, replicate, slice_get, slice_set};
 ghost use Rattle.std.specs.Prelude.{IfOk, IfSome, IfNone};
-ghost use Rattle.btx_step.specs.language.Variables.{string_of, values_of};
-ghost use Rattle.btx_step.specs.refinement.Variables.{integer_in, integer_set, string_set, integer_of};
+ghost use Rattle.btx_text.specs.language.Limits.{greatest_string};
+ghost use Rattle.btx_step.specs.language.Variables.{integer_of, string_of, values_of};
+ghost use Rattle.btx_step.specs.refinement.Variables.{integer_in, integer_set, string_set};
 
 use crate::list::item;
 use btx_text::Text;
 use std::alloc::{AllocError, Global};
 use std::marker::Model;
+use std::mem;
 
 /// The values of the variables of all entries, those of an entry behind those of the one before it.
 #[derive(Drop)]
@@ -115,6 +117,31 @@ impl<'a> EntryValues<'a> {
         if let Some(place) = place(self.entries, self.strings_each, entry, number) {
             self.strings[place] = value;
         }
+    }
+
+    /// Makes `bytes` the value of the string variable `number` of the entry `entry` and answers true: in the memory that its value had, unless that is
+    /// shared. Or answers false and changes nothing, where there is no such variable or its value stands in a file. Where memory is refused the variable
+    /// may be left empty.
+    #[tactic(auto, using(crate::proofs::EntryValueLemmas::string_put_again))]
+    pub fn write_string(
+        &mut self,
+        alloc: Global,
+        entry: usize,
+        number: u32,
+        bytes: &[u8],
+    ) -> Result<bool, AllocError>
+        requires { length bytes.now ≤ greatest_string }
+        ensures { IfOk result (λ done. self.new ≡ (if done then slice_set self.old entry (string_set number bytes.now (values_of self.old entry)) else self.old)) }
+    {
+        let Some(place) = place(self.entries, self.strings_each, entry, number) else {
+            return Ok(false);
+        };
+        if self.strings[place].lent().is_some() {
+            return Ok(false);
+        }
+        let text = mem::replace(&mut self.strings[place], Text::empty());
+        self.strings[place] = text.beginning(alloc, 0)?.followed_by(alloc, bytes)?;
+        Ok(true)
     }
 }
 

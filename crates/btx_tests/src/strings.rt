@@ -476,7 +476,7 @@ fn sharing_holds(alloc: Global, string: &[u8]) -> Result<bool, AllocError> {
         return Ok(false);
     }
     let owned = Text::owned(Vec::from_slice(alloc, string)?);
-    let shared = Text::shared(Vec::from_slice(alloc, string)?)?;
+    let shared = Text::owned(Vec::from_slice(alloc, string)?).share()?;
     Ok(
         is_shared_as(alloc, Text::borrowed(string), string)?
             && is_shared_as(alloc, owned, string)?

@@ -78,14 +78,6 @@ impl<'a> Text<'a> {
         }
     }
 
-    /// Bytes that were computed, of which copies take no more memory.
-    pub fn shared(bytes: Vec<u8>) -> Result<Self, AllocError>
-        requires { length bytes.items ≤ greatest_string }
-        ensures { IfOk result (λ text. text ≡ bytes.items) }
-    {
-        Text::owned(bytes).share()
-    }
-
     /// The bytes.
     pub fn as_bytes(&self) -> &[u8]
         ensures value { result.now ≡ self.now }

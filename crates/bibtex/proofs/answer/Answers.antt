@@ -1,7 +1,7 @@
 use Rattle.std.proofs.Common.{Ok}
 use Rattle.bibtex.proofs.answer.Goals as goal
 
--- the job is done, and then its fault is told
+-- the job is done, and then its fault is reported
 pub returns-in-Ok : goal.returns-in-Ok
 returns-in-Ok g c = record {
   read = Ok c.in-Ok.settings;

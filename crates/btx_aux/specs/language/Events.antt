@@ -12,7 +12,7 @@ use Rattle.btx_aux.specs.language.Names.{has_ending, distinct}
 use Rattle.btx_aux.specs.language.Grammar.{Taken, EventKind, Includes, Opens, Absent, Full, TooLong, NoTop, words_of, end_by, is_whole}
 use Rattle.btx_text.specs.language.Lists.{is_among}
 
--- an event, with its place: a file and a line of it, from 1 up, or 0 for the file as a whole
+-- an event: what is said or happens (`word`), and its place, which is a file and a line of it, from 1 up, or 0 for the file as a whole
 pub record AuxEvent : Type 0 where
   pub file : List ℕ
   pub line : ℕ
@@ -64,13 +64,16 @@ expanded files reading earlier (event ∷ events) =
     let more = followed files reading with_event event (asked_of (files_named earlier) event.word) in
     (event ∷ more) ++ expanded files reading (with_event ++ more) events
 
--- the events of a file from its opening on, given how many of the 20 files that may be open at once aren't open yet; if there are none, that too
--- many are open. A file that is too long says just that
+-- the events of a file from its opening on, given how many of the 20 files that may be open at once, `MOST_OPEN`, aren't open yet. If there are none,
+-- the only event is that too many are open. Else the file is opened, while all but `suc room` of the 20 are open. Then follows, for a
+-- file that is too long, only that (`TooLong`), and for any other what its lines say, with the events of the files that they open
 abbrev pub opened : Files → ℕ → FileEvents
 opened files zero earlier name text = event_at name 0 Full ∷ []
 opened files (suc room) earlier name text =
-    let opening = event_at name 0 (Opens (19 - room)) in
-    opening ∷ (if is_too_long text then event_at name 0 TooLong ∷ [] else expanded files (opened files room) (earlier ++ opening ∷ []) (said name text))
+    let opening = event_at name 0 (Opens (MOST_OPEN - 1 - room)) in
+    opening
+    ∷ (if is_too_long text then event_at name 0 TooLong ∷ []
+    else expanded files (opened files room) (earlier ++ opening ∷ []) (said name text))
 
 -- the events up to the first that ends the reading
 abbrev pub until_end : List AuxEvent → List AuxEvent
@@ -79,4 +82,6 @@ until_end (event ∷ events) = if is_whole (end_by event.word) then event ∷ un
 
 -- the events of a job whose top file is `top`: those of that file and of the files that it opens, or that it is missing
 unfoldable pub job_events : Files → List ℕ → List AuxEvent
-job_events files top = until_end (option_map_or (opened files MOST_OPEN [] top) (files top) (event_at top 0 NoTop ∷ []))
+job_events files top =
+    until_end (option_map_or (opened files MOST_OPEN [] top)
+    (files top) (event_at top 0 NoTop ∷ []))

@@ -1,5 +1,4 @@
--- What a finder has. A finder is where a run gets its files from, by name: a folder, or files in memory. (The trait that it meets stands below,
--- behind what that needs.)
+-- What a finder has. A finder is where a run gets its files from, by name: a folder, or files in memory. (The trait that it meets is `Finder`.)
 use Rattle.std.specs.Prelude.{ℕ, Bool, true, false, List, Option, None, Some}
 
 -- for each name the file's bytes, or that there is no such file

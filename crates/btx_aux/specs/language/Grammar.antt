@@ -79,10 +79,12 @@ words_of_command (Some Input) argument = Includes (first_piece (pieces_of false 
 unfoldable pub words_of : List ℕ → List EventKind
 words_of line =
     let brace = byte "{" in
-    option_map_or (λ (place : ℕ). words_of_command (aux_command_named (take place line)) (drop (place + 1) line)) (position (λ b. b == brace) line) []
+    let words_at : ℕ → List EventKind = λ place.
+    words_of_command (aux_command_named (take place line)) (drop (place + 1) line) in
+    option_map_or words_at (position (λ b. b == brace) line) []
 
--- how the reading ends at a word, if that ends it: 20 files are open, a file is too long, or there is no top file; after any other word the reading
--- goes on, which is `Whole`
+-- how the reading ends at an event of this kind, if that ends it: 20 files are open, a file is too long, or there is no top file. After any other the
+-- reading goes on, which is `Whole`
 abbrev pub end_by : EventKind → End
 end_by Full = end.TooManyOpen
 end_by TooLong = end.FileLimit

@@ -48,7 +48,10 @@ star_by _ count = []
 
 -- where `*` stands, if it is cited: how many keys the events before the first `*` list
 abbrev pub all_of : List AuxEvent → Option ℕ
-all_of events = first_of (gathered (λ (earlier : List AuxEvent) (event : AuxEvent). star_by event.word (length (cited_keys earlier))) [] events)
+all_of events =
+    let star_at : List AuxEvent → AuxEvent → List ℕ = λ earlier event.
+    star_by event.word (length (cited_keys earlier)) in
+    first_of (gathered star_at [] events)
 
 -- ---- databases and the style
 
@@ -96,9 +99,9 @@ abbrev pub slip_complaints : Piece → List AuxComplaint
 slip_complaints (Taken name) = []
 slip_complaints (Cut slip) = Slipped slip ∷ []
 
--- what is wrong with an event, given the keys, the place of `*`, whether there were a `\bibdata` and a `\bibstyle` line, and the file names, all as
--- they stand before it: an error in a piece, a second `*`, a key that is listed in another spelling (`earlier`), a second line of its kind, an `\@input`
--- of another ending than `.aux` or of a file that is named already, and a file that isn't there
+-- what is wrong with an event, given what the events before it come to: the keys, the place of `*`, whether there were a `\bibdata` and a `\bibstyle`
+-- line, and the file names. Each of these is wrong: an error in a piece; a second `*`; a key that is listed in another spelling (`earlier`); a second
+-- line of its kind; a database that is named already; an `\@input` of another ending than `.aux`, or of a file that is named already; and a file that isn't there
 abbrev pub event_complaints : List (List ℕ) → Option ℕ → Bool → Bool → List (List ℕ) → EventKind → List AuxComplaint
 event_complaints keys all bibdata bibstyle files (Cites (Taken key)) =
     if is_star key then only_if (is_some all) SecondStar
@@ -117,11 +120,15 @@ abbrev pub notes_by : List (List ℕ) → Option ℕ → Bool → Bool → List 
 notes_by keys all bibdata bibstyle files event (Opens zero) = TopFile event.file ∷ []
 notes_by keys all bibdata bibstyle files event (Opens (suc level)) = LevelFile (suc level) event.file ∷ []
 notes_by keys all bibdata bibstyle files event word =
-    map (λ (complaint : AuxComplaint). Wrong complaint event.line event.file) (event_complaints keys all bibdata bibstyle files word)
+    map (λ (complaint : AuxComplaint). Wrong complaint event.line event.file)
+    (event_complaints keys all bibdata bibstyle files word)
 
 -- the notes of an event, given the events before it
 abbrev pub notes_at : List AuxEvent → AuxEvent → List AuxNote
-notes_at earlier event = notes_by (cited_keys earlier) (all_of earlier) (is_some (bibdata_of earlier)) (is_some (bibstyle_of earlier)) (files_named earlier) event event.word
+notes_at earlier event =
+    notes_by (cited_keys earlier) (all_of earlier)
+    (is_some (bibdata_of earlier)) (is_some (bibstyle_of earlier))
+    (files_named earlier) event event.word
 
 -- ---- the end
 
@@ -135,8 +142,8 @@ abbrev pub is_empty : List (List ℕ) → Bool
 is_empty [] = true
 is_empty (key ∷ keys) = false
 
--- the notes at the end: after a whole reading, what is missing, which is any key and `*`; a `\bibdata` line, unless `bibdata` is true; and a
--- `\bibstyle` line, unless `bibstyle` is true
+-- the notes at the end. After a whole reading they say what is missing: citations, if no key is listed and no `*` was cited; a `\bibdata` line, unless
+-- `bibdata` is true; a `\bibstyle` line, unless `bibstyle` is true. After any other end there are none
 abbrev pub closing_notes : End → List (List ℕ) → Option ℕ → Bool → Bool → List AuxNote
 closing_notes end.Whole keys all bibdata bibstyle =
     only_if (is_empty keys && is_none all) NoCitations ++ only_if (not bibdata) NoBibdata ++ only_if (not bibstyle) NoBibstyle
@@ -144,7 +151,10 @@ closing_notes _ keys all bibdata bibstyle = []
 
 -- all notes: of each event in turn, and then at the end
 abbrev pub notes_of : List AuxEvent → List AuxNote
-notes_of events = gathered notes_at [] events ++ closing_notes (end_of events) (cited_keys events) (all_of events) (is_some (bibdata_of events)) (is_some (bibstyle_of events))
+notes_of events =
+    gathered notes_at [] events
+    ++ closing_notes (end_of events) (cited_keys events) (all_of events)
+    (is_some (bibdata_of events)) (is_some (bibstyle_of events))
 
 -- ---- the job
 
@@ -158,13 +168,18 @@ pub record AuxJob : Type 0 where
   pub log : List Line
   pub ending : End
 
--- the job whose top file is `top`, read from `files`
+-- the job whose top file is `top`, read from `files`. The databases are those that the first `\bibdata` line names. The style is the one that the first
+-- `\bibstyle` line names, with `.bst`; there is none without such a line, or if its piece is faulty
 unfoldable pub job_of_files : Files → List ℕ → AuxJob
 job_of_files files top = let events = job_events files top in record {
   keys = cited_keys events;
   all = all_of events;
   databases = databases_in (bibdata_of events);
-  style = option_and_then (λ (piece : Piece). first_of (taken_with (codes ".bst") piece)) (bibstyle_of events);
-  log = map (λ (note : AuxNote). message (aux_note_kind note) (aux_note_text note)) (notes_of events);
+  style = option_and_then
+      (λ (piece : Piece). first_of (taken_with (codes ".bst") piece))
+      (bibstyle_of events);
+  log = map
+      (λ (note : AuxNote). message (aux_note_kind note) (aux_note_text note))
+      (notes_of events);
   ending = end_of events;
 }

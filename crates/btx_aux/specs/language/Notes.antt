@@ -19,7 +19,7 @@ pub data AuxComplaint : Type 0 where
   NotOpened : (name : List ℕ) → AuxComplaint
   RepeatedDatabase : (name : List ℕ) → AuxComplaint
 
--- the text of a complaint, without `Error--` before it and without its place
+-- the text of a complaint, without `Error--` before it and without its place; `Slipped` is an error in the argument of a line
 unfoldable pub aux_complaint_text : AuxComplaint → List ℕ
 aux_complaint_text (Slipped WhiteSpace) = codes "White space in argument"
 aux_complaint_text (Slipped Unclosed) = codes "No \"}\""
@@ -33,7 +33,8 @@ aux_complaint_text (AlreadyMet name) = codes "Already encountered file " ++ name
 aux_complaint_text (NotOpened name) = codes "I couldn't open auxiliary file " ++ name
 aux_complaint_text (RepeatedDatabase name) = codes "This database file appears more than once: " ++ name
 
--- what a line of the log is about: a file was found, something is wrong at a place, or something is missing in the whole
+-- what a line of the log is about: a file was found, something is wrong at a place, or something is missing in the whole. (Other types have a case
+-- `Wrong` of their own, as the events of a database do: each time it means that something is wrong)
 pub data AuxNote : Type 0 where
   TopFile : (name : List ℕ) → AuxNote
   LevelFile : (level : ℕ) (name : List ℕ) → AuxNote

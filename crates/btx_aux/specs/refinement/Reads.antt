@@ -4,6 +4,7 @@ use Rattle.std.specs.Prelude.{◌≡◌, ℕ, zero, suc, ◌-◌, Bool, true, fa
 use Rattle.std.specs.List.{IsDistinct}
 use Rattle.std.specs.Str.{bytes_eq}
 use Rattle.btx_aux.specs.declared.draft.Draft.{Draft}
+use Rattle.btx_aux.specs.declared.reading.TheConstants.{MOST_OPEN}
 use Rattle.btx_aux.specs.language.Files.{Files}
 use Rattle.btx_aux.specs.language.Names.{with_name_once}
 use Rattle.btx_aux.specs.refinement.Answers.{EndInAux}
@@ -50,7 +51,7 @@ opened_by files (suc room) draft name text = within (is_too_long text) files (op
 -- what is known after the top file
 unfoldable pub topped : Files → List ℕ → Option (List ℕ) → Draft
 topped files top None = after blank (event_at top 0 NoTop)
-topped files top (Some text) = opened_by files 20 blank top text
+topped files top (Some text) = opened_by files MOST_OPEN blank top text
 
 -- what is known, as what the job says, with what is missing in the whole
 abbrev pub closed : Draft → AuxJob
@@ -79,4 +80,4 @@ pub record AsksFirst (first : List ℕ) (before after names : List (List ℕ)) :
 
 -- the names that are known once a file is opened, where this number of further files may be opened: the top file's is new
 abbrev pub names_opened : List (List ℕ) → List ℕ → ℕ → List (List ℕ)
-names_opened before name room = fold with_name_once before (named_by name (Opens (20 - room)))
+names_opened before name room = fold with_name_once before (named_by name (Opens (MOST_OPEN - room)))

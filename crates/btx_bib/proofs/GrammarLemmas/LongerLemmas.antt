@@ -129,7 +129,7 @@ module _ (more : List ℕ) where
       → Goes Any same R R → ((a : A) → Goes P on (next a) (next a)) → Goes P on (Then R next) (Then R next)
   then-same P on R next D E = then-goes P same on R R next next D E
 
-  -- the last of what is spelled is told by what stands behind it
+  -- the last of what is spelled is decided by what stands behind it
   last-goes : {A B : Type 0} (P : B → List ℕ → Type 0) (Q : A → List ℕ → Type 0) (on : A → A) (on_next : B → B) (R S : Grammar A) (give other : A → B)
       → Goes Q on R S → ((a : A) → on_next (give a) ≡ other (on a)) → ((a : A) (front rest : List ℕ) → P (give a) rest → Q a (front ++ rest))
       → Goes P on_next (Then R (λ a. Gives (give a))) (Then S (λ a. Gives (other a)))

@@ -1,5 +1,5 @@
 -- What some databases give to a job, read one after the other.
-use Rattle.std.specs.Prelude.{ℕ, List, [], ◌++◌, fold, None, if◌then◌else◌}
+use Rattle.std.specs.Prelude.{ℕ, List, [], ◌++◌, fold, None, not, if◌then◌else◌}
 use Rattle.btx_text.specs.language.Limits.{is_too_long}
 use Rattle.btx_bib.specs.declared.end.End.{End}
 use Rattle.btx_bib.specs.declared.end.End.TheVariants as end
@@ -28,11 +28,13 @@ with_macro known macro =
 -- being read is at its end too
 abbrev pub read_one : Request → Reading → Database → Reading
 read_one wanted reading database =
-    if goes_on reading.known.ending then
-    (if is_too_long database.text then record reading { known = record reading.known { ending = end.FileLimit } } else
-    (let last = fold (read_next wanted database) reading (events_from (keeping wanted) reading.known Item database.text) in
-    record last { known = with_current_stored last.known }))
-    else reading
+    if not (goes_on reading.known.ending) then reading
+    else if is_too_long database.text then record reading { known = record reading.known { ending = end.FileLimit } }
+    else
+    let last =
+    fold (read_next wanted database) reading
+    (events_from (keeping wanted) reading.known Item database.text) in
+    record last { known = with_current_stored last.known }
 
 -- ---- all databases
 
@@ -47,8 +49,8 @@ library_by end.Whole wanted known messages = record {
 library_by end.FileLimit wanted known messages = record { entries = []; preamble = []; messages = messages; ending = end.FileLimit }
 library_by end.StringLimit wanted known messages = record { entries = []; preamble = []; messages = messages; ending = end.StringLimit }
 
--- what databases give to a job, where `macros` are those of its style: at the start no strings, no entries and no preamble are known, then each macro is
--- a string, and the databases are read one after the other
+-- what databases give to a job, where `macros` are those of its style. At the start no strings, no entries and no preamble are known. Then each macro
+-- is a string, and the databases are read one after the other
 unfoldable pub library_of : Request → List (List ℕ × List ℕ) → List Database → Library
 library_of wanted macros databases =
     let start : Known = record { strings = []; stored = []; current = None; preamble = []; ending = end.Whole } in

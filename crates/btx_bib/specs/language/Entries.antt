@@ -20,7 +20,9 @@ pub record Given : Type 0 where
 -- the value of an entry's first field whose number is `number`; nothing if it has none
 abbrev pub value_in : Request → List KeptField → ℕ → Option (List ℕ)
 value_in wanted fields number =
-    let has_number : KeptField → Bool = λ field. option_map_or (λ (other : ℕ). nat_eq other number) (wanted.field (folded field.name)) false in
+    let has_number : KeptField → Bool = λ field.
+    option_map_or (λ (other : ℕ). nat_eq other number)
+    (wanted.field (folded field.name)) false in
     option_map (λ (field : KeptField). field.value) (find has_number fields)
 
 -- the values of `count` fields, from field number `first` on

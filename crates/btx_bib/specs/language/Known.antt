@@ -45,10 +45,13 @@ if_fits text known next = if nat_lt greatest_string (length text) then record kn
 
 -- an entry has a value for the field `name` already
 abbrev pub has_value : Request → Given → List ℕ → Bool
-has_value wanted given name = is_some (option_and_then (λ (place : ℕ). field_value place (field_values wanted given.fields)) (wanted.field (folded name)))
+has_value wanted given name =
+    is_some (option_and_then
+    (λ (place : ℕ). field_value place (field_values wanted given.fields))
+    (wanted.field (folded name)))
 
--- what is known after a field: it is kept if its entry is stored, the style declares the field, and the entry has no value for it yet. Any other
--- field changes nothing
+-- what is known after a field: it is kept, behind the entry's other fields, if its entry is stored, the style declares the field, and the entry has no
+-- value for it yet; a value that is too long ends the reading. Any other field changes nothing
 abbrev pub after_field : Request → Known → Option Given → Field → Known
 after_field wanted known None field = known
 after_field wanted known (Some given) field =
@@ -59,7 +62,8 @@ after_field wanted known (Some given) field =
     else known
 
 -- what is known after an event: a `@preamble` is appended, and a `@string` defined. An entry's key first stores the entry that was being read, and a
--- wanted entry becomes the one that is being read, without a field yet; a field goes to that entry. `Close` is the end of an item
+-- wanted entry becomes the one that is being read, without a field yet; a field goes to that entry. `Close`, which the grammar calls `End`, is the end
+-- of an item
 abbrev pub after_event : Request → Known → Event → Known
 after_event wanted known Comment = known
 after_event wanted known (Preamble value) =

@@ -27,17 +27,24 @@ added (Some place) wanted stored = map (λ (given : Given). given.key) stored
 -- entries, and at the end those keys cited after it for which no database has an entry
 abbrev pub list_keys : Request → List Given → List (List ℕ)
 list_keys wanted stored =
-    fold with_key (fold with_key [] (first_cited wanted.all wanted.cited ++ added wanted.all wanted stored)) (last_cited wanted.all wanted.cited)
+    fold with_key
+    (fold with_key [] (first_cited wanted.all wanted.cited
+    ++ added wanted.all wanted stored))
+    (last_cited wanted.all wanted.cited)
 
--- the place of the list for a key: how it is spelled, which is as it was cited, else as its entry has it, else as it is given; whether it stays, since it
--- was cited, or at least `wanted.fewest` stored entries name it as their `crossref` (with `*` that number is 0, so every key stays); and its entry, if one
--- is stored
+-- the place of the list for a key, with its entry, if one is stored. The key is spelled as it was cited; else as its entry has it; else as it is given.
+-- The place stays in the list if its key was cited, or if at least `wanted.fewest` stored entries name it as their `crossref`. With `*` that number is 0,
+-- so every place stays
 unfoldable pub slot_of : Request → List Given → List ℕ → Slot
-slot_of wanted stored key = record {
-  key = unwrap_or (option_or (listed_as wanted.cited key) (option_map (λ (given : Given). given.key) (entry_with_key stored key))) key;
-  stays = is_some (listed_as wanted.cited key) || nat_le wanted.fewest (count_by (is_same_key key) (references wanted stored));
-  body = option_map (body_of wanted) (entry_with_key stored key);
-}
+slot_of wanted stored key =
+    let listed = listed_as wanted.cited key in
+    let entry = entry_with_key stored key in
+    let children = count_by (is_same_key key) (references wanted stored) in
+    record {
+      key = unwrap_or (option_or listed (option_map (λ (given : Given). given.key) entry)) key;
+      stays = is_some listed || nat_le wanted.fewest children;
+      body = option_map (body_of wanted) entry;
+    }
 
 -- the list, with a place for each of its keys, before the two passes of cross-references
 abbrev pub slots_of : Request → List Given → List Slot

@@ -57,6 +57,7 @@ spot_of _ = None
 -- the line of the log for a message, which ends with its place, if it has one: `--line 7 of file refs.bib`
 abbrev pub message_line : Message → Line
 message_line message = record {
-  text = mark_of (message_kind message) ++ message_text message ++ option_map_or (λ (spot : Spot). place_text spot.line spot.file) (spot_of message) [];
+  text = mark_of (message_kind message) ++ message_text message
+      ++ option_map_or (λ (spot : Spot). place_text spot.line spot.file) (spot_of message) [];
   kind = message_kind message;
 }

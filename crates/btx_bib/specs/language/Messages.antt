@@ -46,16 +46,16 @@ name_messages database strings own (Named string) =
 abbrev pub value_messages : Database → List (List ℕ × List ℕ) → Option (List ℕ) → List Part → List Message
 value_messages database strings own value = flat_map (name_messages database strings own) value
 
--- the messages for a field: that the entry has a value for it already, or one for each name of its value without a string; none if the entry
--- isn't stored or the style doesn't declare the field
+-- the messages for a field: that the entry has a value for it already; else one for each name of its value that stands for no string. There are none
+-- if the entry isn't stored or the style doesn't declare the field
 abbrev pub field_messages : Request → Database → List (List ℕ × List ℕ) → Option Given → Field → List ℕ → List Message
 field_messages wanted database strings None field rest = []
 field_messages wanted database strings (Some given) field rest =
     if has_value wanted given field.name then message.ExtraField given.key field.name (spot_before database rest) ∷ []
     else if is_some (wanted.field (folded field.name)) then value_messages database strings None field.value else []
 
--- the messages for an event of a database; `rest` is the text behind it, from which its line follows. For the key of an entry that is stored there is a
--- warning if the style has no function for its type
+-- the messages for an event of a database; `rest` is the text behind it, from which its line follows. For the key of an entry that is to be stored
+-- there is a warning, if the style has no function for its type
 abbrev pub event_messages : Request → Database → Known → Event → List ℕ → List Message
 event_messages wanted database known Comment rest = []
 event_messages wanted database known (Preamble value) rest = value_messages database known.strings None value

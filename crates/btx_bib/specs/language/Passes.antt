@@ -21,7 +21,9 @@ passed judge done (slot ∷ slots) = passed judge (done ++ judge (done ++ slot �
 -- pass takes away
 abbrev pub pass_messages : (List Slot → Slot → Slot) → (List Slot → Slot → List Message) → List Slot → List Slot → List Message
 pass_messages judge report done [] = []
-pass_messages judge report done (slot ∷ slots) = report (done ++ slot ∷ slots) slot ++ pass_messages judge report (done ++ judge (done ++ slot ∷ slots) slot ∷ []) slots
+pass_messages judge report done (slot ∷ slots) =
+    report (done ++ slot ∷ slots) slot
+    ++ pass_messages judge report (done ++ judge (done ++ slot ∷ slots) slot ∷ []) slots
 
 -- the values of an entry of the list; none if the place has no entry
 abbrev pub body_values : Option Body → List (Option (List ℕ))
@@ -77,7 +79,11 @@ is_parent (Some parent) = is_some parent.body && parent.stays
 
 -- the second pass, at a place of the list: the entry there loses its `crossref` if the parent that it names has no entry or doesn't stay
 unfoldable pub checked : List Slot → Slot → Slot
-checked slots slot = option_map_or (λ (key : List ℕ). if is_parent (slot_at slots key) then slot else without_crossref slot) (parent_at slot) slot
+checked slots slot =
+    option_map_or
+    (λ (key : List ℕ).
+    if is_parent (slot_at slots key) then slot else without_crossref slot)
+    (parent_at slot) slot
 
 -- the message of a parent: that it has no entry, or that it has a parent
 abbrev pub parent_messages : List ℕ → List ℕ → Option Slot → List Message
@@ -85,14 +91,20 @@ parent_messages child key None = BadReference child key ∷ []
 parent_messages child key (Some parent) =
     if is_some parent.body then (if is_some (parent_at parent) then NestedReference child key ∷ [] else []) else BadReference child key ∷ []
 
--- what the second pass logs of a place: that the parent has no entry, or that it has a parent itself
+-- what the second pass logs of a place: that the parent which the entry there names has no entry, or that it has a parent itself; else nothing
 unfoldable pub check_messages : List Slot → Slot → List Message
-check_messages slots slot = option_map_or (λ (key : List ℕ). parent_messages slot.key key (slot_at slots key)) (parent_at slot) []
+check_messages slots slot =
+    option_map_or (λ (key : List ℕ). parent_messages slot.key key (slot_at slots key))
+    (parent_at slot) []
 
 -- the entry of the library at a place of the list, if one is there and stays
 abbrev pub entry_at : Slot → List Entry
 entry_at slot =
-    option_map_or (λ (body : Body). if slot.stays then record { key = slot.key; kind = body.kind; values = body.values } ∷ [] else []) slot.body []
+    option_map_or
+    (λ (body : Body).
+    if slot.stays then record { key = slot.key; kind = body.kind; values = body.values } ∷ []
+    else [])
+    slot.body []
 
 -- the list after the first pass: children have what they inherit
 abbrev pub after_first : List Slot → List Slot
@@ -109,5 +121,7 @@ entries_of slots = flat_map entry_at (after_second (after_first slots))
 -- the messages of the passes: of parents, and then of keys that have no entry
 unfoldable pub reference_messages : List Slot → List Message
 reference_messages slots =
-    pass_messages checked check_messages [] (after_first slots) ++
-    flat_map (λ (slot : Slot). option_map_or (λ (body : Body). []) slot.body (NoEntry slot.key ∷ [])) (after_second (after_first slots))
+    pass_messages checked check_messages [] (after_first slots)
+    ++ flat_map
+    (λ (slot : Slot). if is_some slot.body then [] else NoEntry slot.key ∷ [])
+    (after_second (after_first slots))

@@ -4,8 +4,8 @@ use Rattle.btx_aux.specs.language.Job.{AuxJob}
 use Rattle.btx_bst.specs.language.Style.{Style, field_of, type_of}
 use Rattle.btx_bib.specs.language.Wanted.{Request}
 
--- what a job and its style ask, where `least` entries have to name an uncited one as their parent for it to stay: that is `--min-crossrefs`. If `*` is
--- cited, none has to
+-- what a job and its style ask. An uncited parent stays in the list if at least `fewest` stored entries name it: `least`, which is `--min-crossrefs`, or
+-- 0 if `*` is cited
 abbrev pub asked : Style → AuxJob → ℕ → Request
 asked style job least = record {
   cited = job.keys;

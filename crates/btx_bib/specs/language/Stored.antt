@@ -1,5 +1,5 @@
 -- Which entries of the databases are stored. An entry is stored if `*` or its key is cited, or if it is the parent of an entry stored
--- before it, and no entry stored before it has its key. Keys are compared without case (btxdoc, section 3).
+-- before it; but no entry is stored whose key an entry stored before it has. Keys are compared without case (btxdoc, section 3).
 use Rattle.std.specs.Prelude.{ℕ, ◌||◌, Bool, List, [], ◌++◌, Option, is_some, option_to_list, if◌then◌else◌}
 use Rattle.std.specs.List.{find, list_any, flat_map}
 use Rattle.btx_aux.specs.language.Names.{is_same_key}

@@ -1,4 +1,3 @@
-pub mod Bytes
 pub mod Items
 pub mod Spelling
 pub mod Reading

@@ -1,5 +1,5 @@
 -- A place of the list with another entry, as the code's clauses have it.
-use Rattle.std.specs.Prelude.{Option, List, [], ◌∷◌, ℕ, if◌then◌else◌, Bool, option_map}
+use Rattle.std.specs.Prelude.{Option, List, [], ◌∷◌, ℕ, if◌then◌else◌, Bool, is_some, option_map}
 use Rattle.btx_bib.specs.declared.slots.Body.{Body}
 use Rattle.btx_bib.specs.declared.slots.Slot.{Slot}
 use Rattle.std.specs.Option.{option_map_or, option_and_then}
@@ -32,7 +32,7 @@ with_field_values body values = option_map (λ (found : Body). record found { va
 
 -- the message of a place of the list, where its key has no entry
 abbrev pub absence_messages : Slot → List Message
-absence_messages slot = option_map_or (λ (body : Body). []) slot.body (NoEntry slot.key ∷ [])
+absence_messages slot = if is_some slot.body then [] else NoEntry slot.key ∷ []
 
 -- a place of the list with another entry
 abbrev pub with_body : Slot → Option Body → Slot

@@ -13,8 +13,8 @@ use Rattle.btx_bst.specs.language.Words.{BodyWord, Open, Close, String, Integer,
 use Rattle.btx_bst.specs.language.Names.{Names, named}
 use Rattle.btx_bst.specs.language.Turns.{Turn, Again, Ends, turns_within}
 
--- what is known inside a body: the place, the tokens of the innermost function so far, those of the functions round it, and, of the whole
--- style so far, the bodies of the functions that are defined, the strings and the items
+-- what is known inside a body: the place; the tokens of the innermost function so far (`tokens`), and those of the functions round it (`around`); and, of
+-- the whole style so far, the bodies of the functions that are defined, the strings and the items
 pub record Inside : Type 0 where
   pub place : Place
   pub tokens : List Token

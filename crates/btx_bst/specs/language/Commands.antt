@@ -13,7 +13,7 @@ use Rattle.btx_bst.specs.language.Complaints.{Complaint, Defined, Unknown, Anoth
 use Rattle.btx_bst.specs.language.Items.{Item, Entry, Function, Read, Execute, Iterate, Reverse, Sort, Integers, Strings, Macro}
 use Rattle.btx_bst.specs.language.Names.{named, with_function}
 use Rattle.btx_bst.specs.language.Style.{Style}
-use Rattle.btx_bst.specs.language.BodyText.{BodyEnd, Whole, Broken, body_end}
+use Rattle.btx_bst.specs.language.BodyText.{Inside, BodyEnd, Whole, Broken, body_end}
 use Rattle.btx_bst.specs.language.Outcomes.{CommandOutcome, outcome, after_read, with_item}
 use Rattle.btx_bst.specs.language.Lists.{Listed, opening, closing, next_name, quoted_at, list_at}
 use Rattle.std.specs.Map.{lookup}
@@ -66,6 +66,10 @@ function_ended style lowered (Whole inside) =
       items = inside.items ++ Function (length inside.bodies) ∷ [];
     }) inside.place
 
+-- the start of a body: nothing of it has been read
+abbrev pub inside_at : Style → Place → Inside
+inside_at style place = record { place = place; tokens = []; around = []; bodies = style.bodies; texts = style.texts; items = style.items }
+
 -- FUNCTION gives a new name to a function: the name in braces, which must name nothing yet, and the body in braces (btxhak, section 5.2)
 unfoldable pub function_command : Style → Place → CommandOutcome
 function_command style place =
@@ -74,14 +78,7 @@ function_command style place =
     if is_some (named style.names name) then outcome (Some (Defined name)) style place else
     after_read style (closing place) (λ _ place.
     after_read style (opening place) (λ _ place.
-    function_ended style (folded name) (body_end style.names (record {
-      place = place;
-      tokens = [];
-      around = [];
-      bodies = style.bodies;
-      texts = style.texts;
-      items = style.items;
-    }))))))
+    function_ended style (folded name) (body_end style.names (inside_at style place))))))
 
 -- ---- READ, EXECUTE, ITERATE, REVERSE and SORT
 
@@ -136,7 +133,8 @@ macro_command style place =
     if has_read style then outcome (Some AfterRead) style place else
     after_read style (opening place) (λ _ place.
     after_read style (next_name place) (λ name place.
-    if is_some (lookup (bytes_eq (folded name)) style.macros) then outcome (Some (Defined name)) style place else
+    if is_some (lookup (bytes_eq (folded name)) style.macros) then
+    outcome (Some (Defined name)) style place else
     after_read style (closing place) (λ _ place.
     after_read style (opening place) (λ _ place.
     after_read style (quoted_at place) (λ text place.

@@ -1,5 +1,5 @@
--- Direct styles: each literal of a function of the style, quoted or nameless, is one of two literals side by side directly before an executed
--- `if$` or `while$` (the other one may be any function, field or variable), and `call.type$` stands in no body, executed or as a literal. Most
+-- Direct styles. Each literal of a function of the style, quoted or nameless, is one of two literals side by side directly before an executed
+-- `if$` or `while$`; the other one may be any function, field or variable. And `call.type$` stands in no body, executed or as a literal. Most
 -- styles are direct (docs/STYLES.md), and a law bounds how many bodies such a style opens at once, by the number of its functions (`DirectLaw`).
 use Rattle.std.specs.Prelude.{◌≡◌, ℕ, ◌+◌, ◌-◌, ◌&&◌, ◌||◌, not, nat_lt, Bool, true, false, [], Option, Some, slice_get, slice_index_or, List}
 use Rattle.btx_bst.specs.declared.built_in.BuiltIn.TheVariants.{CallType, If, While}
@@ -36,8 +36,8 @@ is_choice _ = false
 unfoldable pub begins_pair : List Token → ℕ → Bool
 begins_pair body i = is_literal (slice_get body i) && is_literal (slice_get body (i + 1)) && is_choice (slice_get body (i + 2))
 
--- the token at place `i` of a body is no `call.type$`, and a literal of a function of the style only if it is one of two such literals before an
--- `if$` or a `while$`
+-- the token at place `i` of a body may stand there in a direct style: it is no `call.type$`; and if it is a literal of a function of the style, it is one
+-- of two literals side by side directly before an `if$` or a `while$`
 unfoldable pub is_direct_at : List Token → ℕ → Bool
 is_direct_at body i =
     not (is_call_type (slice_get body i))

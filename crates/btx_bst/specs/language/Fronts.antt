@@ -9,7 +9,7 @@ unfoldable pub len_till : (ℕ → Bool) → List ℕ → ℕ
 len_till test [] = 0
 len_till test (b ∷ bs) = if test b then 0 else suc (len_till test bs)
 
--- white, `}` or `%`: what ends a name, a string or an integer in a body
+-- whitespace, `}` or `%`: what ends a name, a string or an integer in a body
 abbrev pub ends_word : ℕ → Bool
 ends_word b = is_white b || b == byte "}" || b == byte "%"
 
@@ -26,7 +26,7 @@ name_len (b ∷ bs) = if is_ascii_digit b then 0 else len_till (λ b. not (is_na
 abbrev pub word_len : List ℕ → ℕ
 word_len = len_till ends_word
 
--- a word of a body may end before a text: white, a `}` or a `%` begins that, or it is empty
+-- a word of a body may end before a text: whitespace, a `}` or a `%` begins that, or it is empty
 abbrev pub is_word_end : List ℕ → Bool
 is_word_end [] = true
 is_word_end (b ∷ bs) = ends_word b

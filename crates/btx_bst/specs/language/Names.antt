@@ -1,6 +1,6 @@
 -- The names that are known, each with what it names. Case is ignored (btxhak, section 5.1), so names are kept in lower case. Functions,
 -- fields and variables share one set of names; those of each kind are numbered from 0, in the order in which they are declared.
-use Rattle.std.specs.Prelude.{ℕ, ◌-◌, false, List, [], ◌∷◌, ◌++◌, length, Option, None, Some, option_map, slice_index_or, position, replicate, codes, unwrap_or}
+use Rattle.std.specs.Prelude.{ℕ, ◌-◌, Bool, false, List, [], ◌∷◌, ◌++◌, length, Option, None, Some, option_map, slice_index_or, position, replicate, codes, unwrap_or}
 use Rattle.std.specs.Option.{option_or, option_map_or}
 use Rattle.std.specs.Str.{bytes_eq}
 use Rattle.btx_text.specs.language.Keys.{folded}
@@ -21,11 +21,13 @@ pub record Names : Type 0 where
   pub global_integers : List (List ℕ)
   pub global_strings : List (List ℕ)
 
--- what a name in lower case names, if it names anything: a built-in function, a function of the style, a field, or a variable
+-- what a name names, if it names anything: a built-in function, a function of the style, a field, or a variable. The name is given in lower case, as
+-- names are kept; nothing is converted here
 unfoldable pub named_lower : Names → List ℕ → Option Callee
 named_lower names name =
+    let is_called : Option (List ℕ) → Bool = λ other. option_map_or (bytes_eq name) other false in
     option_or (option_map callee.BuiltIn (built_in_of name))
-    (option_or (option_map User (position (λ (other : Option (List ℕ)). option_map_or (bytes_eq name) other false) names.functions))
+    (option_or (option_map User (position is_called names.functions))
     (option_or (option_map Field (position (bytes_eq name) names.fields))
     (option_or (option_map EntryInteger (position (bytes_eq name) names.entry_integers))
     (option_or (option_map EntryString (position (bytes_eq name) names.entry_strings))

@@ -29,7 +29,7 @@ unfoldable pub ink_from : ℕ → List ℕ → List (List ℕ) → Place
 ink_from number line [] = place_at number (behind_white line) []
 ink_from number line (next ∷ after) = line_or number (behind_white line) (next ∷ after) (ink_from (number + 1) next after)
 
--- the place where the next thing stands: the first from a place on that has neither white nor a comment, or the end of the text
+-- the place where the next thing stands: the first from a place on that has neither whitespace nor a comment, or the end of the text
 abbrev pub ink : Place → Place
 ink place = ink_from place.number place.line place.after
 

@@ -16,7 +16,7 @@ pub record Style : Type 0 where
   pub names : Names
   -- the macros, in order: names in lower case, each with its text
   pub macros : List (List ℕ × List ℕ)
-  -- the bodies of the functions, by their numbers: a body is its tokens, in the order in which they are executed
+  -- the bodies of the functions, by their numbers: the tokens of each, in order
   pub bodies : List (List Token)
   -- the strings that stand in bodies, by their numbers
   pub texts : List (List ℕ)

@@ -1,5 +1,5 @@
 -- The style of a text: its items, one after another.
-use Rattle.std.specs.Prelude.{ℕ, suc, false, List, [], ◌∷◌, None, Some}
+use Rattle.std.specs.Prelude.{ℕ, suc, false, List, [], ◌∷◌, Option, None, Some}
 use Rattle.btx_text.specs.language.Keys.{folded}
 use Rattle.btx_bst.specs.declared.command.Command.{Command}
 use Rattle.btx_bst.specs.language.Places.{Place, ink, size, skipped, place_at}
@@ -23,20 +23,29 @@ pub record StyleState : Type 0 where
 abbrev pub style_state : Style → Place → StyleState
 style_state style place = record { style = style; place = place }
 
--- reads a command, which begins with a word of letters; an error if the word is none of the ten
+-- reads a command, which begins with a word of letters; it is an error if that word is none of the ten commands
 abbrev pub command_outcome : Style → Place → CommandOutcome
 command_outcome style place =
     after_read style (letters_at place) (λ word behind.
-    option_map_or (λ (command : Command). command_at command style behind) (command_named (folded word)) (outcome (Some (NotCommand word)) style behind))
+    option_map_or (λ (command : Command). command_at command style behind)
+    (command_named (folded word))
+    (outcome (Some (NotCommand word)) style behind))
 
--- at a place that isn't in whitespace or a comment: reads a command; at the end of the text the style ends. Reading goes on where the command ends, or,
--- if something was wrong, behind the next empty line, with a message
+-- how the reading of a style goes on after a command: at the place where that ends, or, if something was wrong, behind the next empty line, with a
+-- message
+abbrev pub resumed : Option Complaint → Style → Place → StyleState
+resumed complaint style place =
+    option_map_or
+    (λ (said : Complaint). style_state (with_item (Message said place.number) style) (skipped place))
+    complaint (style_state style place)
+
+-- reads a command at a place that isn't in whitespace or a comment; at the end of the text the style ends. After the command reading goes on where it
+-- ends. If something was wrong, it goes on behind the next empty line, with a message
 abbrev pub item_in : Style → Place → List ℕ → Turn StyleState Style
 item_in style place [] = Ends style
 item_in style place (b ∷ bs) =
     let after = command_outcome style place in
-    let faulty : Complaint → StyleState = λ complaint. style_state (with_item (Message complaint after.place.number) after.style) (skipped after.place) in
-    Again (option_map_or faulty after.complaint (style_state after.style after.place))
+    Again (resumed after.complaint after.style after.place)
 
 -- the command that stands next is read, or the text ends and with it the style
 unfoldable pub item_turn : StyleState → Turn StyleState Style

@@ -5,8 +5,8 @@ use Rattle.btx_bst.specs.language.Places.{Place, ink, further}
 use Rattle.btx_bst.specs.language.Fronts.{word_len, quote_len, digits_len, is_word_end}
 use Rattle.btx_bst.specs.language.Complaints.{Complaint, BadInteger, TextAfter}
 
--- a word: a brace, a string, an integer, a name behind a `'`, a name, a literal that is left out with what is wrong with it, a `"` whose string
--- doesn't end, or the end of the file
+-- a word of a body: a brace, a string, an integer, a name behind a `'` (`Quoted`), or a name. Or it is a literal with a fault, which is left out
+-- (`Faulty`), a `"` whose string doesn't end (`Unended`), or the end of the file (`Ended`)
 pub data BodyWord : Type 0 where
   Open : BodyWord
   Close : BodyWord
@@ -27,9 +27,9 @@ pub record Front : Type 0 where
 abbrev pub front : BodyWord → List ℕ → Front
 front word rest = record { word = word; rest = rest }
 
--- the string whose text is `text`, up to the next quote; what is left of the line then begins with that quote. Without a quote the string has no
--- end, and `line` is left. Behind the quote whitespace, `}`, `%` or the end of the line must follow, else everything up to one of these is skipped and
--- the string is an error
+-- the string whose text is `text`, up to the next quote; the third argument is what is left of the line, which begins with that quote. Without a quote
+-- the string has no end, and `line` is left. Behind the quote whitespace, `}`, `%` or the end of the line must follow. Else the string is an error, and
+-- everything up to one of these is skipped
 abbrev pub string_ended : List ℕ → List ℕ → List ℕ → Front
 string_ended line text [] = front Unended line
 string_ended line text (quote ∷ rest) =
@@ -65,7 +65,7 @@ unfoldable pub integer_at : List ℕ → Front
 integer_at [] = front (Faulty BadInteger) []
 integer_at (b ∷ bs) = if b == byte "-" then integer_front (b ∷ bs) true bs (digits_len bs) else integer_front (b ∷ bs) false (b ∷ bs) (digits_len (b ∷ bs))
 
--- the word at the front of a line whose first byte `b` is no whitespace and no `%`. A name or a quoted name goes up to white, a `}`, a `%` or the
+-- the word at the front of a line whose first byte `b` is no whitespace and no `%`. A name or a quoted name goes up to whitespace, a `}`, a `%` or the
 -- line's end, whatever its bytes: `a{b` is one name
 unfoldable pub word_front : ℕ → List ℕ → Front
 word_front b bs =
@@ -90,6 +90,6 @@ abbrev pub met_in : Place → List ℕ → Met
 met_in place [] = met Ended place
 met_in place (b ∷ bs) = met (word_front b bs).word (further place (word_front b bs).rest)
 
--- the word of a body that stands next, behind white and comments, and the place behind it
+-- the word of a body that stands next, behind whitespace and comments, and the place behind it
 abbrev pub met_at : Place → Met
 met_at place = met_in (ink place) (ink place).line

@@ -43,7 +43,7 @@ AndThen {A} R rest style from o =
     ((a : A) × (to : Place) × R from (Took a to) × rest a style to o)
     ⊎ ((complaint : Complaint) × (to : Place) × R from (Slip complaint to) × (o ≡ outcome (Some complaint) style to))
 
--- a `{` stands here, and `rest` says how the command goes on
+-- a `{` stands here, and `rest` says how the command goes on. (`none` is the value of a brace, `tt`, which isn't used; it isn't the `None` of an option)
 abbrev pub Opened : Rule → Rule
 Opened rest = AndThen (BehindGap (StyleSignHere open_brace NoOpen)) (λ none. rest)
 

@@ -4,7 +4,7 @@ use Rattle.btx_bst.specs.language.Names.{Names}
 use Rattle.std.specs.Map.{lookup}
 use Rattle.std.specs.Str.{bytes_eq}
 
--- the text of the macro of a name in lower case
+-- the text of the macro of a name, which is given in lower case, as macros are kept; nothing is converted here
 abbrev pub macro_lower : List (List ℕ × List ℕ) → List ℕ → Option (List ℕ)
 macro_lower macros name = lookup (bytes_eq name) macros
 

@@ -13,7 +13,8 @@ use Rattle.btx_bst.specs.language.Words.{BodyWord, Open, Close, String, Integer,
 use Rattle.btx_bst.specs.language.Names.{Names, named}
 use Rattle.btx_bst.specs.language.BodyText.{Inside, BodyEnd, Whole, Broken, body_end}
 
--- the parts of a body: a word with the number of its line, or the parts of a nameless function; and then more
+-- the parts of a body: `Plain`, a word with the number of its line, or `Group`, the parts of a nameless function, and then more; `Nothing` at the end.
+-- (Other types have a case `Plain` of their own, as lines of the log do)
 pub data Parts : Type 0 where
   Nothing : Parts
   Plain : (line : ℕ) (word : BodyWord) (more : Parts) → Parts

@@ -81,7 +81,7 @@ abbrev pub IsMissing : (ℕ → Bool) → Complaint → Complaint → List ℕ �
 IsMissing test wrong complaint [] = complaint ≡ EndOfFile
 IsMissing test wrong complaint (b ∷ bs) = (test b ≡ false) × (complaint ≡ wrong)
 
--- the byte `sign` stands here, or the complaint is `wrong`
+-- the byte `sign` stands here, or the complaint is `wrong`. A sign has no value of its own: `none` is `tt`, and not the `None` of an option
 abbrev pub StyleSignHere : ℕ → Complaint → StyleGrammar (Unit {0})
 StyleSignHere sign wrong from (Took none to) = (rest : List ℕ) × (from.line ≡ sign ∷ rest) × (to ≡ further from rest)
 StyleSignHere sign wrong from (Slip complaint to) = (to ≡ from) × IsMissing (λ b. b == sign) wrong complaint from.line

@@ -6,11 +6,11 @@ use Rattle.btx_bst.specs.language.Items.{Entry, Item, Macro}
 use Rattle.btx_bst.specs.language.Style.{Style}
 use Rattle.btx_bst.specs.language.Outcomes.{CommandOutcome, outcome, with_item, after_read}
 use Rattle.btx_bst.specs.language.Lists.{list_at, opening, next_name, closing, quoted_at}
-use Rattle.btx_bst.specs.language.Commands.{after_list, function_in, run_of, function_ended}
+use Rattle.btx_bst.specs.language.Commands.{after_list, function_in, run_of, function_ended, inside_at}
 use Rattle.btx_bst.specs.declared.callee.Callee.{Callee}
 use Rattle.btx_bst.specs.language.Names.{named}
 use Rattle.btx_text.specs.language.Keys.{folded}
-use Rattle.btx_bst.specs.language.BodyText.{Inside, body_end}
+use Rattle.btx_bst.specs.language.BodyText.{body_end}
 use Rattle.btx_bst.specs.laws.Names.{macro_lower}
 use Rattle.btx_bst.specs.language.Complaints.{Defined}
 
@@ -20,14 +20,7 @@ function_of style name place other =
     if is_some other then outcome (Some (Defined name)) style place else
     after_read style (closing place) (λ _ place.
     after_read style (opening place) (λ _ place.
-    function_ended style (folded name) (body_end style.names (record {
-      place = place;
-      tokens = [];
-      around = [];
-      bodies = style.bodies;
-      texts = style.texts;
-      items = style.items;
-    }))))
+    function_ended style (folded name) (body_end style.names (inside_at style place))))
 
 -- MACRO with the name `name`, given the text of the macro that has it already: an error if one does; else the `}` of the name follows, and the text in
 -- quotes, in braces
@@ -39,10 +32,6 @@ macro_of style name place other =
     after_read style (quoted_at place) (λ text place.
     after_read style (closing place) (λ _ place.
     outcome None (with_item Macro (record style { macros = style.macros ++ (folded name, text) ∷ [] })) place))))
-
--- the start of a body: nothing of it has been read
-abbrev pub inside_at : Style → Place → Inside
-inside_at style place = record { place = place; tokens = []; around = []; bodies = style.bodies; texts = style.texts; items = style.items }
 
 -- the three lists of an ENTRY
 abbrev pub entry_lists : Style → Place → CommandOutcome

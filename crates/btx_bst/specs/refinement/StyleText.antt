@@ -1,20 +1,13 @@
 -- The style of a state, as proofs name it.
 use Rattle.btx_bst.specs.language.Style.{Style}
-use Rattle.btx_bst.specs.language.StyleText.{StyleState, style_state}
-use Rattle.btx_bst.specs.language.Outcomes.{CommandOutcome, outcome, with_item}
+use Rattle.btx_bst.specs.language.StyleText.{StyleState, resumed}
+use Rattle.btx_bst.specs.language.Outcomes.{CommandOutcome, outcome}
 use Rattle.std.specs.Prelude.{Option, Some, ℕ, List}
-use Rattle.btx_bst.specs.language.Places.{Place, skipped}
-use Rattle.btx_bst.specs.language.Complaints.{Complaint, NotCommand}
-use Rattle.btx_bst.specs.language.Items.{Message}
+use Rattle.btx_bst.specs.language.Places.{Place}
+use Rattle.btx_bst.specs.language.Complaints.{NotCommand}
 use Rattle.btx_bst.specs.declared.command.Command.{Command}
 use Rattle.btx_bst.specs.language.Commands.{command_at}
 use Rattle.std.specs.Option.{option_map_or}
-
--- how the reading of a style goes on after a command: at the place where that ends, or, if something was wrong, behind the next empty line, with a
--- message
-abbrev pub resumed : Option Complaint → Style → Place → StyleState
-resumed complaint style place =
-    option_map_or (λ (said : Complaint). style_state (with_item (Message said place.number) style) (skipped place)) complaint (style_state style place)
 
 -- what a command comes to, given its word and which of the ten it is; an error if it is none of them
 abbrev pub word_outcome : Style → Place → List ℕ → Option Command → CommandOutcome

@@ -3,8 +3,7 @@ use Rattle.std.specs.Prelude.{◌⊎◌, ℕ}
 use Rattle.std.specs.Io.KnownBytes.{Appends}
 use Rattle.btx_out.specs.language.Pieces.{AppendsBeginning}
 use Rattle.btx_machine.specs.language.Product.{Product}
-use Rattle.btx_machine.specs.language.KeepingStep.{BothBegin, WithinOneStep}
-use Rattle.btx_machine.specs.refinement.Written.{Received}
+use Rattle.btx_machine.specs.language.KeepingStep.{Received, BothBegin, WithinOneStep}
 
 -- the log's last line comes only behind the whole list: the list was written to its end, or nothing of that line was written
 abbrev pub LastLineBehindList : Received → Received → Product → Type 0

@@ -15,11 +15,8 @@ use Rattle.btx_machine.specs.language.States.{Out, State, state, Outcome, Stoppe
 use Rattle.btx_machine.specs.laws.States.{final_state, effect}
 use Rattle.btx_machine.specs.refinement.States.{outcome_of}
 use Rattle.btx_machine.specs.language.Steps.{token_effect}
+use Rattle.btx_machine.specs.language.KeepingStep.{Received}
 use Rattle.btx_machine.specs.refinement.Product.{so_far}
-
--- what the two sinks have received, that of the list first and that of the log second; nothing is known of a sink that doesn't show its bytes
-abbrev pub Received : Type 0
-Received = Option (List ℕ) × Option (List ℕ)
 
 -- what the sinks of both outputs have received
 abbrev pub received : Outputs → Received

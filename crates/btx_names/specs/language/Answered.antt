@@ -20,9 +20,13 @@ names_before (negsuc n) = None
 unfoldable pub nth_name : List ℕ → ℤ → Option (List ℕ)
 nth_name names number = option_and_then (slice_get (names_of names)) (names_before number)
 
--- a name in a format: nothing where the format is illegal
+-- a name in a format: what the items of the format give for the parts of the name (First, von, Last and Jr), joined; nothing where the format is
+-- illegal
 unfoldable pub one_name_text : TextMode → List ℕ → List ℕ → List ℕ
-one_name_text mode name format = if is_legal format then flat_map (item_text mode (parts_by (sections_of name))) (items_of format) else []
+one_name_text mode name format =
+    if is_legal format then
+    flat_map (item_text mode (parts_by (sections_of name))) (items_of format)
+    else []
 
 -- what `format.name$` finds wrong with a name and a format: a comma at the name's end, a third comma, an illegal format
 unfoldable pub one_name_complaints : List ℕ → List ℕ → Complaints

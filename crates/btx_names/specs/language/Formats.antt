@@ -30,7 +30,10 @@ pub data FormatItem : Type 0 where
 unfoldable pub part_named : ℕ → Option PartName
 part_named letter =
     let lower = to_ascii_lowercase letter in
-    if lower == byte "f" then Some First else if lower == byte "v" then Some Von else if lower == byte "l" then Some Last else if lower == byte "j" then Some Jr else None
+    if lower == byte "f" then Some First
+    else if lower == byte "v" then Some Von
+    else if lower == byte "l" then Some Last
+    else if lower == byte "j" then Some Jr else None
 
 -- ---- a piece with a part, of what follows its letter
 
@@ -61,8 +64,8 @@ piece_item before letter rest part =
 
 -- ---- the items
 
--- the item of a group, given the text before the first letter at its own level and the rest from that letter on: a piece, if the letter names a part, and
--- else illegal
+-- the item of a group, given the text before the first letter at its own level and the rest from that letter on. Without a letter it is the text. With
+-- one it is a piece, if the letter names a part, and else illegal
 abbrev pub split_item : List ℕ → List ℕ → FormatItem
 split_item before [] = Plain before
 split_item before (letter ∷ rest) = option_map_or (piece_item before letter rest) (part_named letter) Illegal

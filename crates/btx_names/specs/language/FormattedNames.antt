@@ -47,14 +47,16 @@ tie_of mode so_far Space is_last = if is_last || is_short mode so_far then byte 
 abbrev pub period_of : Bool → List ℕ
 period_of is_full = if is_full then [] else byte "." ∷ []
 
--- the text after a token, if `left` tokens of the part follow it. After the last one that is nothing; else it is the piece's own text between tokens, if
--- it has one, and else a period after an abbreviation, and then a `~`, a `-` or a space
+-- the text after a token, if `left` tokens of the part follow it. After the last token that is nothing. Else it is the piece's own text between tokens,
+-- if it has one. Without one it is a period, if the token is abbreviated, and then a `~`, a `-` or a space
 unfoldable pub between_text : TextMode → FormatPiece → List ℕ → Joint → ℕ → List ℕ
 between_text mode piece so_far joint left =
     if left == 0 then []
-    else unwrap_or piece.between (period_of piece.is_full ++ tie_of mode (so_far ++ period_of piece.is_full) joint (left == 1) ∷ [])
+    else unwrap_or piece.between
+    (period_of piece.is_full
+    ++ tie_of mode (so_far ++ period_of piece.is_full) joint (left == 1) ∷ [])
 
--- the text of a piece, `so_far`, with further tokens appended
+-- the text of a piece, `so_far`, with further tokens appended: each in full or abbreviated, as the piece asks, and after it the text between tokens
 unfoldable pub with_tokens : TextMode → FormatPiece → List ℕ → List NameToken → List ℕ
 with_tokens mode piece so_far [] = so_far
 with_tokens mode piece so_far (token ∷ tokens) =

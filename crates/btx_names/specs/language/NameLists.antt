@@ -9,17 +9,17 @@ use Rattle.std.specs.Str.{byte}
 
 -- ---- separators
 
--- a text begins with a white byte, `and` in any case, and a white byte
+-- a text begins with a byte of whitespace, `and` in any case, and a byte of whitespace: 5 bytes, as " and " has
 unfoldable pub is_separator : List ℕ → Bool
 is_separator text =
     nat_le 5 (length text) && is_white (slice_index text 0)
-    && to_ascii_lowercase (slice_index text 1) == byte "a" && to_ascii_lowercase (slice_index text 2) == byte "n" && to_ascii_lowercase (slice_index text 3) == byte "d"
-    && is_white (slice_index text 4)
+    && to_ascii_lowercase (slice_index text 1) == byte "a" && to_ascii_lowercase (slice_index text 2) == byte "n"
+    && to_ascii_lowercase (slice_index text 3) == byte "d" && is_white (slice_index text 4)
 
 -- ---- names
 
 -- the pieces of a text between its separators, from brace depth `depth` on. The whitespace round an `and` belongs to the pieces, so that two
--- separators may share a byte of it; the first `skip` bytes are the letters of a separator
+-- separators may share a byte of it; the first `skip` bytes are letters of a separator, of which `and` has 3
 unfoldable pub pieces_from : ℕ → ℕ → List ℕ → List (List ℕ)
 pieces_from skip depth [] = [] ∷ []
 pieces_from (suc skip) depth (b ∷ bs) = pieces_from skip depth bs

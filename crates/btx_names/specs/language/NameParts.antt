@@ -14,7 +14,7 @@ use Rattle.btx_names.specs.language.VonTokens.{is_von}
 
 -- ---- commas
 
--- the texts before and after the first comma at depth 0, if a token follows it: a comma that no token follows says nothing
+-- the texts before and after the first comma at depth 0, if a token follows it. A comma that only whitespace, `~`, `-` and commas follow says nothing
 unfoldable pub split_at_comma : List ℕ → Option (List ℕ × List ℕ)
 split_at_comma text =
     let size = run_len Comma 0 text in
@@ -45,7 +45,9 @@ sections_of name = cut_first name (split_at_comma name)
 unfoldable pub ends_in_comma : List ℕ → Bool
 ends_in_comma name =
     let comma = byte "," in
-    option_map_or (λ b. b == comma) (find (λ b. not (is_white b || is_sep b)) (reverse name)) false && depth_of name == 0
+    option_map_or (λ b. b == comma)
+    (find (λ b. not (is_white b || is_sep b)) (reverse name)) false
+    && depth_of name == 0
 
 -- a name has a third comma that a token follows
 abbrev pub has_third_comma : Sections → Bool
@@ -83,7 +85,10 @@ von_end tokens = up_to_last (λ (token : NameToken). is_von token.text) (before_
 -- the index of the first token of Last in a name without commas: the one after von; without von the final token, or the first of those that `-`
 -- joins to it
 abbrev pub last_start : List NameToken → ℕ
-last_start tokens = if nat_lt 0 (von_end tokens) then von_end tokens else up_to_last (λ (token : NameToken). not (is_hyphen token.joint)) (before_final tokens)
+last_start tokens =
+    if nat_lt 0 (von_end tokens) then von_end tokens
+    else up_to_last (λ (token : NameToken). not (is_hyphen token.joint))
+    (before_final tokens)
 
 -- ---- the parts
 
@@ -94,13 +99,17 @@ pub record NameParts : Type 0 where
   pub last : List NameToken
   pub jr : List NameToken
 
--- the parts of a name without commas, First von Last, given its tokens. von begins with the first von token; where there is none, Last begins there
+-- the parts of a name without commas, First von Last, given its tokens. First ends before `von_start`: that is the index of the first von token, or,
+-- where there is no von, of the first token of Last
 abbrev pub unsplit : List NameToken → NameParts
 unsplit tokens =
-    let start = if nat_lt 0 (von_end tokens) then before_first (λ (token : NameToken). is_von token.text) tokens else last_start tokens in
+    let von_start =
+    if nat_lt 0 (von_end tokens) then
+    before_first (λ (token : NameToken). is_von token.text) tokens
+    else last_start tokens in
     record {
-      first = take start tokens;
-      von = take (last_start tokens - start) (drop start tokens);
+      first = take von_start tokens;
+      von = take (last_start tokens - von_start) (drop von_start tokens);
       last = drop (last_start tokens) tokens;
       jr = [];
     }

@@ -6,7 +6,7 @@ use Rattle.btx_text.specs.language.Elements.{depth_after}
 use Rattle.btx_names.specs.declared.runs.Stop.{Stop}
 use Rattle.btx_names.specs.declared.runs.Stop.TheVariants.{Break, Comma, Letter, Closing, Brace}
 
--- a byte that stands between tokens where it is at depth 0: white, `~`, `-` or a comma
+-- a byte that stands between tokens where it is at depth 0: whitespace, `~`, `-` or a comma
 abbrev pub is_break : ℕ → Bool
 is_break b = is_white b || is_sep b || b == byte ","
 

@@ -1,4 +1,4 @@
--- The tokens of a name (btxhak, section 5.4): its longest runs without white, `~`, `-` and commas at depth 0.
+-- The tokens of a name (btxhak, section 5.4): its longest runs without whitespace, `~`, `-` and commas at depth 0.
 use Rattle.std.specs.Prelude.{ℕ, zero, suc, ◌-◌, ◌==◌, List, [], ◌∷◌, take, drop, slice_index, if◌then◌else◌}
 use Rattle.std.specs.Str.{byte}
 use Rattle.btx_names.specs.declared.name_tokens.Joint.{Joint}

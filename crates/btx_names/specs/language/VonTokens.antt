@@ -10,13 +10,16 @@ use Rattle.btx_text.specs.language.Elements.{Element, elements_of}
 use Rattle.btx_strings.specs.language.Controls.{letters_of}
 use Rattle.std.specs.Char.{is_ascii_alphabetic, is_ascii_lowercase}
 
--- a special character counts as lower case: its first control sequence is a foreign letter (which stands for letters when a string is purified) in
--- lower case, as in `{\oe}`; or that is no foreign letter, and the first letter after it is lower case, as in `{\'e}`. Letters of later control sequences count too.
+-- whether a special character counts as lower case. Its first control sequence is a foreign letter if it stands for one or two letters when a string is
+-- purified, as `\oe` and `\L` do. If it is one, its own first letter has to be in lower case, as in `{\oe}`. If it is none, the first letter after it
+-- has to be there and in lower case, as in `{\'e}`. Letters of later control sequences count too.
 unfoldable pub is_lower_special : List ℕ → Bool
 is_lower_special text =
     let name = take_while is_alpha (drop 2 text) in
-    if nat_lt 0 (length (letters_of name)) then is_ascii_lowercase (slice_index name 0)
-    else option_map_or is_ascii_lowercase (find is_ascii_alphabetic (drop (length name) (drop 2 text))) false
+    let after = drop (length name) (drop 2 text) in
+    let is_foreign = nat_lt 0 (length (letters_of name)) in
+    if is_foreign then is_ascii_lowercase (slice_index name 0)
+    else option_map_or is_ascii_lowercase (find is_ascii_alphabetic after) false
 
 -- what an element says of its token: `Some true` for lower case, `Some false` for upper case, and nothing where it doesn't decide. Special
 -- characters and the letters at depth 0 decide.

@@ -1,13 +1,10 @@
 -- The commas of a name: those that count, and those that no token follows.
 use Rattle.std.specs.Prelude.{ℕ, ◌+◌, ◌==◌, ◌&&◌, Bool, not, List, length, take, drop, slice_index, filter}
 use Rattle.std.specs.List.{range_with_len}
+use Rattle.btx_text.specs.laws.Bytes.{comma}
 use Rattle.btx_text.specs.language.Elements.{depth_of}
 use Rattle.btx_names.specs.language.NameParts.{Sections, One, Two, Three}
 use Rattle.btx_names.specs.laws.NameParts.{is_all_breaks}
-
--- `,`
-abbrev pub comma : ℕ
-comma = 44
 
 -- a comma stands at this place of a name, at depth 0
 abbrev pub is_comma_at : List ℕ → ℕ → Bool

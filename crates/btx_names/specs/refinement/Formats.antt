@@ -1,5 +1,5 @@
 -- Parts of a piece of a format, as proofs name them.
-use Rattle.std.specs.Prelude.{ℕ, List, drop, if◌then◌else◌, Option, Some, None}
+use Rattle.std.specs.Prelude.{ℕ, List, drop, if◌then◌else◌, Option}
 use Rattle.std.specs.Option.{option_map_or}
 use Rattle.btx_names.specs.language.Formats.{is_doubled, FormatPiece, FormatItem, Name, Illegal, piece_item}
 use Rattle.btx_names.specs.laws.Formats.{has_no_letter}

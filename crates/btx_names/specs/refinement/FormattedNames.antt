@@ -1,10 +1,10 @@
 -- Names of parts of a name's text.
-use Rattle.std.specs.Prelude.{ℕ, List, Bool, if◌then◌else◌, [], ◌∷◌, ◌++◌, Option, Some, None, unwrap_or}
+use Rattle.std.specs.Prelude.{ℕ, List, Bool, [], ◌∷◌, ◌++◌, Option, unwrap_or}
 use Rattle.std.specs.List.{flat_map}
 use Rattle.btx_text.specs.declared.element_kind.TextMode.{TextMode}
 use Rattle.btx_names.specs.language.NameParts.{NameParts}
 use Rattle.btx_names.specs.language.Formats.{items_of}
-use Rattle.btx_names.specs.language.FormattedNames.{item_text, initial_of, tie_of, period_of}
+use Rattle.btx_names.specs.language.FormattedNames.{item_text, tie_of, period_of}
 use Rattle.btx_names.specs.declared.name_tokens.Joint.{Joint}
 
 -- the text between two tokens: the piece's own, if it has one; else a period after an abbreviation, and then a `~`, a `-` or a space

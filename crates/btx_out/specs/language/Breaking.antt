@@ -1,21 +1,22 @@
 -- How a logical line, the text between two `newline$`, is broken into lines. The output of `write$` is broken reasonably (btxhak,
 -- section 5.3, at `newline$` and `write$`); where exactly is this project's own rule. `line_length` is the greatest length of a line.
-use Rattle.std.specs.Prelude.{ℕ, zero, suc, ◌+◌, ◌&&◌, nat_le, Bool, true, false, List, [], ◌∷◌, ◌++◌, length, take, drop, Option, None, Some, slice_index, if◌then◌else◌}
+use Rattle.std.specs.Prelude.{ℕ, zero, suc, ◌+◌, ◌&&◌, nat_le, Bool, true, false, List, [], ◌∷◌, ◌++◌, length, take, drop, Option, None, Some, slice_index, codes, if◌then◌else◌}
 use Rattle.std.specs.List.{flat_map}
 use Rattle.btx_text.specs.language.Class.{is_white}
 use Rattle.btx_text.specs.language.Lines.{trimmed}
+use Rattle.btx_out.specs.declared.breaker.TheConstants.{FIRST_BREAK}
 
 -- ---- a line
 
 -- a text with a line feed after it; nothing for the empty text
 abbrev pub with_line_feed : List ℕ → List ℕ
 with_line_feed [] = []
-with_line_feed (b ∷ bs) = b ∷ bs ++ 10 ∷ []
+with_line_feed (b ∷ bs) = b ∷ bs ++ codes "\n"
 
 -- a line as it is written: without the whitespace at its end, and with a line feed. Whitespace alone gives nothing, but no text at all an empty
 -- line.
 abbrev pub written_line : List ℕ → List ℕ
-written_line [] = 10 ∷ []
+written_line [] = codes "\n"
 written_line (b ∷ bs) = with_line_feed (trimmed (b ∷ bs))
 
 -- ---- where a text is broken
@@ -35,10 +36,10 @@ unfoldable pub from_white : List ℕ → List ℕ
 from_white [] = []
 from_white (b ∷ bs) = if is_white b then b ∷ bs else from_white bs
 
--- the greatest index at which a text has whitespace, among those from 3 on and below the given number; none if there is none
+-- the greatest index at which a text has whitespace, among those from `FIRST_BREAK`, 3, on and below the given number; none if there is none
 unfoldable pub last_white : ℕ → List ℕ → Option ℕ
 last_white zero text = None
-last_white (suc i) text = if nat_le 3 i && is_white (slice_index text i) then Some i else last_white i text
+last_white (suc i) text = if nat_le FIRST_BREAK i && is_white (slice_index text i) then Some i else last_white i text
 
 -- where a text is broken: whether the break lies past the line, what stands before it (the head), and what stands after it (the rest)
 pub data Break : Type 0 where
@@ -65,7 +66,7 @@ break_of line_length text = break_at line_length text (last_white (line_length +
 
 -- what stands after a break, after two spaces
 abbrev pub indented : List ℕ → List ℕ
-indented rest = 32 ∷ 32 ∷ rest
+indented rest = codes "  " ++ rest
 
 -- ---- the pieces of a logical line
 
@@ -101,8 +102,8 @@ cut_within zero line_length text = only (Short text)
 cut_within (suc turns) line_length text =
     if nat_le (length text) line_length then only (Short text) else cut_at (cut_within turns line_length) text (break_of line_length text)
 
--- the pieces of a logical line. A break takes four bytes at least and puts two before what follows, for every line length that can be asked for. So the text gets
--- shorter, and the bound is never reached
+-- the pieces of a logical line. A break takes four bytes at least and puts two before what follows, for every line length that can be asked for. So
+-- the text gets shorter, and the bound is never reached
 unfoldable pub cut_of : ℕ → List ℕ → Cut
 cut_of line_length text = cut_within (length text) line_length text
 
@@ -111,7 +112,7 @@ cut_of line_length text = cut_within (length text) line_length text
 -- what is written of the last piece when the logical line ends
 abbrev pub written_last : Last → List ℕ
 written_last (Short text) = written_line text
-written_last (Long text) = text ++ 10 ∷ []
+written_last (Long text) = text ++ codes "\n"
 written_last (Nothing past) = []
 
 -- what is certain to be written of the last piece, whatever follows: all of a text that is longer than a line and has no break; else nothing

@@ -13,7 +13,7 @@ abbrev pub break_full : List ℕ → Option ℕ → ByteStep
 break_full text (Some i) = (Collecting (indented (drop (i + 1) text)), written_line (take i text))
 break_full text None = (Passing, text)
 
--- how a pending line goes on with one more byte `b`: what is left of it then, and what becomes sure
+-- how a pending line goes on with one more byte `b`: what is left of it then, and what becomes sure. (This is no step of a run)
 abbrev pub step : ℕ → Left → ℕ → ByteStep
 step line_length (Collecting text) b =
     if nat_lt (length text) line_length then (Collecting (text ++ b ∷ []), []) else break_full (text ++ b ∷ []) (last_white (line_length + 1) (text ++ b ∷ []))

@@ -1,7 +1,6 @@
 -- What the style that was found holds.
 use Rattle.btx_bst.specs.language.Style.{Style}
 use Rattle.btx_bst.specs.language.StyleText.{style_of}
-use Rattle.btx_bib.specs.language.Messages.{Database}
 use Rattle.btx_run.specs.declared.files.found.JobFiles.{JobFiles}
 
 -- the style whose file was found

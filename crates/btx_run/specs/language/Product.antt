@@ -6,6 +6,7 @@ use Rattle.btx_text.specs.language.LogLines.{Line}
 use Rattle.btx_aux.specs.language.Files.{Files}
 use Rattle.btx_aux.specs.language.Job.{AuxJob}
 use Rattle.btx_bib.specs.language.Databases.{library_of}
+use Rattle.btx_bib.specs.language.Messages.{Database}
 use Rattle.btx_bib.specs.language.Requests.{asked}
 use Rattle.btx_step.specs.language.Jobs.{Job}
 use Rattle.btx_machine.specs.language.Product.{Product, style_product}
@@ -27,10 +28,10 @@ abbrev pub product_of_files : AuxJob → FilesRead → Options → LogCounts →
 product_of_files job (Ends ending) options counts budget = record { bbl = []; log_so_far = []; report = report_of ending 0 0 counts }
 product_of_files job (Found found) options counts budget =
     let style = style_in found in
+    let databases : List Database = map (λ (file : NamedFile). record { file = file.name; text = file.bytes }) found.databases in
     let work : Job = record {
       style = style;
-      library = library_of (asked style job options.min_crossrefs) style.macros
-          (map (λ (file : NamedFile). record { file = file.name; text = file.bytes }) found.databases);
+      library = library_of (asked style job options.min_crossrefs) style.macros databases;
       mode = options.text;
       entry_max = options.entry_max;
       global_max = options.global_max;

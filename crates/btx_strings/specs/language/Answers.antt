@@ -1,4 +1,5 @@
--- What a string function answers.
+-- What a string function answers beside its string: a `Complaints` has a Boolean for each thing that can be wrong with the operands. What of it is
+-- logged, and how, `changes_case` and `formats_name` say, in `btx_step`.
 use Rattle.std.specs.Prelude.{false}
 use Rattle.btx_strings.specs.declared.answers.Complaints.{Complaints}
 

@@ -65,12 +65,12 @@ abbrev pub is_white_text : List ℕ → Bool
 is_white_text (b ∷ []) = is_white b
 is_white_text _ = false
 
--- the elements before, nearest first, are a depth-0 colon with nothing but white after it
+-- of the elements before, which stand nearest first, the nearest that isn't whitespace is a colon at depth 0
 abbrev pub after_colon : List Element → Bool
 after_colon [] = false
 after_colon (part ∷ before) = if is_white_text part.text then after_colon before else part.depth == 0 && bytes_eq part.text (codes ":")
 
--- an element begins a title, or a part of one: nothing stands before it, or white does, and before that white a colon outside all braces
+-- an element begins a title, or a part of one: nothing stands before it; or whitespace does, and before that a colon outside all braces
 abbrev pub begins_title : List Element → Bool
 begins_title [] = true
 begins_title (part ∷ before) = is_white_text part.text && after_colon before
@@ -80,10 +80,13 @@ abbrev pub is_title : Conversion → Bool
 is_title Title = true
 is_title _ = false
 
--- an element in another case, given its kind, depth and text: bytes at depth 0 and special characters change, others stay
+-- an element in another case, given its kind, depth and text. A byte at depth 0 is put in the case of the conversion. A special character changes glyph by glyph; the whitespace
+-- directly after a control sequence that becomes letters is removed. Any other element stays as it is
 abbrev pub cased_as : Conversion → Kind → ℕ → List ℕ → List ℕ
 cased_as conversion Byte depth text = if depth == 0 then map (case_of conversion) text else text
-cased_as conversion Special depth text = flat_map (cased_glyph conversion) (without_white (becomes_letters conversion) [] (glyphs_of text))
+cased_as conversion Special depth text =
+    flat_map (cased_glyph conversion)
+    (without_white (becomes_letters conversion) [] (glyphs_of text))
 cased_as conversion _ depth text = text
 
 -- an element in another case; in a title it stays as it is if it begins the title or a part of it, which `begins` says
@@ -97,12 +100,15 @@ cased_parts conversion before (part ∷ parts) = cased_part conversion (begins_t
 
 -- ---- `change.case$`
 
--- `change.case$`: the string in the case that the conversion names; unchanged if it is none
+-- `change.case$`: the string in the case that the conversion names; unchanged if it names none. The string is read as bytes in either mode: bytes
+-- from 128 up have no case
 abbrev pub change_case_of : List ℕ → List ℕ → List ℕ
 change_case_of string conversion =
-    option_map_or (λ (to : Conversion). cased_parts to [] (elements_of Bytes string)) (conversion_of conversion) string
+    option_map_or (λ (to : Conversion). cased_parts to [] (elements_of Bytes string))
+    (conversion_of conversion) string
 
 -- the errors of `change.case$` with the string `conversion` on top: one, if that isn't `t`, `l` or `u`
 abbrev pub case_complaints : List ℕ → Complaints
 case_complaints conversion =
-    option_map_or (λ (to : Conversion). no_complaints) (conversion_of conversion) (record no_complaints { illegal_conversion = true })
+    option_map_or (λ (to : Conversion). no_complaints) (conversion_of conversion)
+    (record no_complaints { illegal_conversion = true })

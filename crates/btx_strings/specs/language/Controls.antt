@@ -45,7 +45,7 @@ letters_of name =
     else if is_among (codes "i" ∷ codes "j" ∷ codes "o" ∷ codes "aa" ∷ codes "l" ∷ codes "O" ∷ codes "AA" ∷ codes "L" ∷ []) name then take 1 name
     else []
 
--- ---- white after a control sequence
+-- ---- whitespace after a control sequence
 
 -- the glyphs before this one (the nearest first) end in a control sequence whose name passes `test`, and in nothing but whitespace after it
 abbrev pub follows : (List ℕ → Bool) → List Glyph → Bool

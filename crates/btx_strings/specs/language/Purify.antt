@@ -31,7 +31,8 @@ abbrev pub purified_glyph : Glyph → List ℕ
 purified_glyph (Control name) = letters_of name
 purified_glyph (Plain b) = kept_class (class_of b) b
 
--- what `purify$` leaves of an element, given its kind and its text; nothing of a brace
+-- what `purify$` leaves of an element, given its kind and its text: of a byte by itself what its class says, of a special character what it leaves of
+-- each glyph, and of a brace nothing
 abbrev pub purified_as : Kind → List ℕ → List ℕ
 purified_as Byte text = flat_map (λ (b : ℕ). purified_class (class_of b) b) text
 purified_as Special text = flat_map purified_glyph (glyphs_of text)

@@ -1,5 +1,5 @@
 -- The classes of bytes. Alpha is `A-Z`, `a-z` and the bytes from 128 up, which have no case (this project's own rule);
--- separators are `~` and `-` (btxhak, section 5.3, at `purify$`); white is space, tab and, this project's own, carriage return.
+-- separators are `~` and `-` (btxhak, section 5.3, at `purify$`); whitespace is space, tab and, this project's own, carriage return.
 use Rattle.std.specs.Prelude.{ℕ, ◌==◌, ◌||◌, ◌&&◌, nat_le, Bool, not, if◌then◌else◌}
 use Rattle.btx_text.specs.declared.byte_class.Class.{Class}
 use Rattle.btx_text.specs.declared.byte_class.Class.TheVariants.{White, Alpha, Digit, Sep, Other}
@@ -18,11 +18,12 @@ is_alpha b = is_ascii_uppercase b || is_ascii_lowercase b || nat_le 128 b
 abbrev pub is_sep : ℕ → Bool
 is_sep b = b == byte "~" || b == byte "-"
 
--- a byte that can stand in a name, in styles and in databases: from 33 up, and none of `" # % ' ( ) , = { }`
+-- a byte that can stand in a name, in styles and in databases: from `!` up, which is the first behind the space, and none of `" # % ' ( ) , = { }`
 abbrev pub is_name_byte : ℕ → Bool
 is_name_byte b =
-    nat_le 33 b
-    && not (b == byte "\"" || b == byte "#" || b == byte "%" || b == byte "'" || b == byte "(" || b == byte ")" || b == byte "," || b == byte "=" || b == byte "{" || b == byte "}")
+    nat_le (byte "!") b
+    && not (b == byte "\"" || b == byte "#" || b == byte "%" || b == byte "'" || b == byte "(" || b == byte ")"
+    || b == byte "," || b == byte "=" || b == byte "{" || b == byte "}")
 
 -- a byte that a name begins with, in styles and in databases: no digit
 abbrev pub begins_name : ℕ → Bool

@@ -12,7 +12,7 @@ use Rattle.btx_text.specs.language.Sequences.{sequence_size, begins_sequence}
 
 -- ---- depth
 
--- the brace depth after a byte: one more after `{`, one less after `}`, but never below 0 (this project's own rule)
+-- the brace depth after a byte: one more after `{`, one less after `}`, but never below 0 (this project's own rule): for natural numbers `0 - 1` is 0
 abbrev pub depth_after : ℕ → ℕ → ℕ
 depth_after depth b = if b == byte "{" then depth + 1 else if b == byte "}" then depth - 1 else depth
 
@@ -20,7 +20,7 @@ depth_after depth b = if b == byte "{" then depth + 1 else if b == byte "}" then
 abbrev pub depth_of : List ℕ → ℕ
 depth_of text = fold depth_after 0 text
 
--- ---- the division, stated
+-- ---- elements and their kinds
 
 -- an element of a string: its kind, its text, the index of its first byte, and the brace depth before it
 pub record Element : Type 0 where
@@ -34,8 +34,9 @@ abbrev pub is_utf8 : TextMode → Bool
 is_utf8 Bytes = false
 is_utf8 Utf8 = true
 
--- the kind of the element with which `rest`, which has a byte, begins at brace depth `depth`. A special character begins at depth 0, with a `{` directly
--- before a backslash
+-- the kind of the element with which `rest`, which has a byte, begins at brace depth `depth`. A special character begins at depth 0, with a `{`
+-- directly before a backslash. A wide element, which only UTF-8 has, is a well-formed sequence of two to four bytes. Any other element is one byte: a
+-- brace or a plain byte
 unfoldable pub kind_at : TextMode → ℕ → List ℕ → Kind
 kind_at mode depth rest =
     if depth == 0 && starts_with nat_eq rest (codes "{\\") then Special
@@ -43,7 +44,7 @@ kind_at mode depth rest =
     else if slice_index rest 0 == byte "{" then Open
     else if slice_index rest 0 == byte "}" then Close else Byte
 
--- ---- the same list, computed
+-- ---- the list of elements
 
 -- the number of bytes up to and including the first after which the brace depth is 0, from depth `depth` on; all bytes if there is none
 unfoldable pub group_len : ℕ → List ℕ → ℕ

@@ -1,4 +1,4 @@
--- The lines of a text: it is cut at its line feeds, and each line loses the white at its end. What follows the last line feed is a
+-- The lines of a text: it is cut at its line feeds, and each line loses the whitespace at its end. What follows the last line feed is a
 -- line too, unless nothing does.
 use Rattle.std.specs.Prelude.{ℕ, ◌==◌, List, [], ◌∷◌, map, if◌then◌else◌}
 use Rattle.btx_text.specs.language.Class.{is_white}

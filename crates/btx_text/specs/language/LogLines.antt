@@ -29,6 +29,6 @@ mark_of Error = codes "Error--"
 unfoldable pub place_text : ℕ → List ℕ → List ℕ
 place_text line file = codes "--line " ++ decimal line ++ codes " of file " ++ file
 
--- a log line of this kind that has no place: the prefix of its kind, and its text
+-- a log line of this kind: the prefix of its kind, and its text, which ends with its place if it has one
 abbrev pub message : LineKind → List ℕ → Line
 message kind text = record { text = mark_of kind ++ text; kind = kind }

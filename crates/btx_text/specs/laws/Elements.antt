@@ -11,7 +11,7 @@ use Rattle.std.specs.List.{flat_map}
 abbrev pub text_of : List Element → List ℕ
 text_of parts = flat_map (λ part. part.text) parts
 
--- ---- the division, stated
+-- ---- the division, as a relation
 
 -- the text of a special character, and what follows: inside it the depth is above 0, and it ends at depth 0 or at the end of the string
 pub record IsSpecial (text after : List ℕ) : Type 0 where
@@ -38,7 +38,7 @@ pub record IsDivision (mode : TextMode) (string : List ℕ) (parts : List Elemen
   pub joined : text_of parts ≡ string
   pub each : (left : List Element) (part : Element) (right : List Element) → parts ≡ left ++ part ∷ right → IsElement mode (text_of left) part (text_of right)
 
--- ---- what elements count as
+-- ---- wide elements
 
 -- a character of more than one byte
 abbrev pub is_wide : Kind → Bool

@@ -25,11 +25,11 @@ returns c =
     let databases = source_databases c.args.sources.now in
     let start = c.in_ok-define_macros.ensures ∙ ap (λ (k : Gathering). kept_macros k c.macros.result.now) c.in_ok-gathering.ensures ∙ ap (kept_macros (nothing_gathered w)) c.macros.ensures in
     let kept = c.in_ok-read_all.ensures.state ∙ ap (λ (k : Gathering). kept_by_all w k databases) start in
-    let tells =
-    c.in_ok-read_all.ensures.told
+    let logs =
+    c.in_ok-read_all.ensures.logged
     ∙ ap (λ (ms : List Message). ms ++ messages_of_all w c.define_macros.new.self databases) c.new-messages.ensures
     ∙ ap (λ (k : Gathering). messages_of_all w k databases) start in
     let whole =
-    library-is w macros databases c.read_all.new.self kept c.read_all.new.messages tells
+    library-is w macros databases c.read_all.new.self kept c.read_all.new.messages logs
     ∙ ap (λ (asks : Request). library_of asks macros databases) c.in_ok-request.ensures in
     IfOk-weaker c.library.result _ _ (λ library is. is ∙ whole) c.library.ensures

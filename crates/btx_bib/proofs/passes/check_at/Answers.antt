@@ -7,7 +7,7 @@ use Rattle.btx_bib.specs.declared.slots.Slot.{Slot}
 use Rattle.btx_bib.specs.refinement.Finding.{first_place}
 use Rattle.btx_bib.specs.language.Passes.{checked, without_crossref, is_parent, parent_at}
 use Rattle.btx_bib.specs.refinement.Steps.{slot_by, messages_by}
-use Rattle.btx_bib.proofs.PassLemmas.{changed_at-agree, changed_at-keep, changed_at-none, slot_at-by, checked-alone, checked-is, told-alone, told-is}
+use Rattle.btx_bib.proofs.PassLemmas.{changed_at-agree, changed_at-keep, changed_at-none, slot_at-by, checked-alone, checked-is, messages-alone, messages-is}
 use Rattle.btx_bib.proofs.passes.check_at.Goals as goal
 
 pub returns-in_default-clause-slots : goal.returns-in_default-clause-slots
@@ -31,7 +31,7 @@ returns-in_default-2-clause-messages c =
     let messages = c.args.messages.now in
     let there : slice_get slots c.args.place ≡ Some slot = search rules in
     let alone : parent_at slot ≡ None = search rules in
-    sym (append-nil messages) ∙ ap (λ (ms : List Message). messages ++ ms) (sym (told-alone slots slot alone)) ∙ ap (λ (o : Option Slot). messages ++ messages_by slots o) (sym there)
+    sym (append-nil messages) ∙ ap (λ (ms : List Message). messages ++ ms) (sym (messages-alone slots slot alone)) ∙ ap (λ (o : Option Slot). messages ++ messages_by slots o) (sym there)
 
 pub returns-then-stays-clause-slots : goal.returns-then-stays-clause-slots
 returns-then-stays-clause-slots c =
@@ -55,7 +55,7 @@ returns-then-stays-clause-messages c =
     let found : parent ≡ slot_by slots (first_place (bytes_eq (folded c.in-Some-2.key)) c.args.names.now) = search rules in
     let at = slot_at-by slots c.args.names.now c.in-Some-2.key parent c.requires found in
     let messages = c.args.messages.now in
-    c.in_ok-report_parent.ensures ∙ ap (λ (ms : List Message). messages ++ ms) (sym (told-is slots slot c.in-Some-2.key parent named at)) ∙ ap (λ (o : Option Slot). messages ++ messages_by slots o) (sym there)
+    c.in_ok-report_parent.ensures ∙ ap (λ (ms : List Message). messages ++ ms) (sym (messages-is slots slot c.in-Some-2.key parent named at)) ∙ ap (λ (o : Option Slot). messages ++ messages_by slots o) (sym there)
 
 pub returns-clause-slots : goal.returns-clause-slots
 returns-clause-slots c =
@@ -79,4 +79,4 @@ returns-clause-messages c =
     let found : parent ≡ slot_by slots (first_place (bytes_eq (folded c.in-Some-2.key)) c.args.names.now) = search rules in
     let at = slot_at-by slots c.args.names.now c.in-Some-2.key parent c.requires found in
     let messages = c.args.messages.now in
-    c.in_ok-report_parent.ensures ∙ ap (λ (ms : List Message). messages ++ ms) (sym (told-is slots slot c.in-Some-2.key parent named at)) ∙ ap (λ (o : Option Slot). messages ++ messages_by slots o) (sym there)
+    c.in_ok-report_parent.ensures ∙ ap (λ (ms : List Message). messages ++ ms) (sym (messages-is slots slot c.in-Some-2.key parent named at)) ∙ ap (λ (o : Option Slot). messages ++ messages_by slots o) (sym there)

@@ -23,7 +23,8 @@ field_at text =
 -- after a comma: the closing delimiter ends the entry, else a field follows
 unfoldable pub after_comma : Delimiter → List ℕ → Parsed (Option Field)
 after_comma delimiter rest =
-    if begins (λ b. b == closing_delimiter delimiter) rest then Ok (None, drop 1 rest) else followed_by (field_at rest) (λ field behind. Ok (Some field, behind))
+    if begins (λ b. b == closing_delimiter delimiter) rest then Ok (None, drop 1 rest)
+    else followed_by (field_at rest) (λ field behind. Ok (Some field, behind))
 
 -- after a key or a field: the closing delimiter, which ends the entry, or a comma and then a field or the closing delimiter; else an error
 unfoldable pub more_in : Delimiter → List ℕ → Parsed (Option Field)

@@ -70,12 +70,13 @@ abbrev pub step_by : Parsed (Event × Wanted) → Step
 step_by (Ok got) = record { event = got.0.0; wanted = got.0.1; rest = got.1 }
 step_by (Err wrong) = record { event = Wrong wrong.0; wanted = Item; rest = wrong.1 }
 
--- the text behind the first `@`
+-- the text behind the first `@`, with which an item begins
 unfoldable pub behind_at : List ℕ → Option (List ℕ)
 behind_at [] = None
 behind_at (b ∷ bs) = if b == byte "@" then Some bs else behind_at bs
 
--- the next event of a text, given what is expected there; none if an item is expected and no `@` is left
+-- the next event of a text, given what is expected there; none if an item is expected and no `@` is left. Inside an item whitespace is
+-- passed over first
 unfoldable pub expected_step : Wanted → List ℕ → Option Step
 expected_step Item text = option_map (λ rest. step_by (head_at rest)) (behind_at text)
 expected_step (Closing delimiter) text =
@@ -98,11 +99,13 @@ is_repeated is_stored _ = false
 abbrev pub as_known : (List ℕ → Bool) → Event × Wanted → Event × Wanted
 as_known is_stored got = if is_repeated is_stored got.0 then (Wrong Repeated, Item) else got
 
--- the next event of a text, given what is expected there and which keys are stored: an entry that repeats one of them is a fault
+-- the next event of a text, given what is expected there and which keys are stored: an entry that repeats one of these is an error
 abbrev pub next_step : (List ℕ → Bool) → Wanted → List ℕ → Option Step
 next_step is_stored wanted text =
     option_map
-    (λ (step : Step). let got = as_known is_stored (step.event, step.wanted) in record { event = got.0; wanted = got.1; rest = step.rest })
+    (λ (step : Step).
+    let got = as_known is_stored (step.event, step.wanted) in
+    record { event = got.0; wanted = got.1; rest = step.rest })
     (expected_step wanted text)
 
 -- how what is known of the items before is kept, where S is the type of all that is known: which keys are stored, and what is known after a
@@ -113,12 +116,15 @@ pub record Keeping (S : Type 0) : Type 0 where
 
 -- ---- the events of a text
 
--- at most `turns` events of a text; the bound is that of `events_from`, and is never reached
+-- at most `turns` events of a text: the event of the next step, if there is one, and then those of the rest. The bound is that of `events_from`, and
+-- is never reached
 unfoldable pub events_within : {S : Type 0} → Keeping S → ℕ → S → Wanted → List ℕ → List Placed
 events_within keeping zero state wanted text = []
 events_within keeping (suc turns) state wanted text =
     option_map_or
-    (λ (step : Step). record { event = step.event; rest = step.rest } ∷ events_within keeping turns (keeping.after state step.event) step.wanted step.rest)
+    (λ (step : Step).
+    record { event = step.event; rest = step.rest }
+    ∷ events_within keeping turns (keeping.after state step.event) step.wanted step.rest)
     (next_step (keeping.is_stored state) wanted text) []
 
 -- the events of a text, given what is known before it and what is expected first. The bound on their number is never reached, since each takes a

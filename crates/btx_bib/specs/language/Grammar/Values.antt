@@ -44,7 +44,7 @@ part_in (b ∷ bs) =
     else if begins_name b then Ok (Named (record { name = longest_run NameByte (b ∷ bs); rest = past NameByte (b ∷ bs) }), past NameByte (b ∷ bs))
     else Err (NoValue, b ∷ bs)
 
--- the part of a value that stands next, behind white
+-- the part of a value that stands next, behind whitespace
 abbrev pub part_at : List ℕ → Parsed Part
 part_at text = part_in (past Gap text)
 
@@ -53,16 +53,19 @@ abbrev pub behind_hash : List ℕ → Option (List ℕ)
 behind_hash [] = None
 behind_hash (b ∷ bs) = if b == byte "#" then Some bs else None
 
--- the text after the `#` that joins another part, where one stands after white
+-- the text after the `#` that joins another part, where one stands after whitespace
 abbrev pub next_part : List ℕ → Option (List ℕ)
 next_part rest = behind_hash (past Gap rest)
 
--- reads a value of at most `turns` parts: a part, and the others if a `#` stands behind it. The bound is never reached, since each part takes a byte at least
+-- reads a value of at most `turns` parts: a part, and the others if a `#` stands behind it. The bound is never reached, since each part takes a byte
+-- at least
 unfoldable pub value_within : ℕ → List ℕ → Parsed (List Part)
 value_within zero text = Err (EndOfFile, [])
 value_within (suc turns) text =
     followed_by (part_at text) (λ part rest.
-    option_map_or (λ (behind : List ℕ). followed_by (value_within turns behind) (λ parts end. Ok (part ∷ parts, end))) (next_part rest) (Ok (part ∷ [], rest)))
+    let others : List ℕ → Parsed (List Part) = λ behind.
+    followed_by (value_within turns behind) (λ parts end. Ok (part ∷ parts, end)) in
+    option_map_or others (next_part rest) (Ok (part ∷ [], rest)))
 
 -- the value that stands next: its parts, which `#` joins, or what is wrong in it
 unfoldable pub value_at : List ℕ → Parsed (List Part)

@@ -14,8 +14,7 @@ use Rattle.btx_bib.specs.language.Grammar.Tokens.{closing_delimiter}
 use Rattle.btx_bib.specs.language.Grammar.Fields.{Field}
 use Rattle.btx_bib.specs.language.Grammar.Items.{Event, Comment, Preamble, Definition, Entry, FieldOf, End, Wrong, command_of, Placed, Keeping, as_known}
 use Rattle.btx_bib.specs.laws.Grammar.Spelling.{Grammar, Gives, Then, Spaced, IsRun, IsWrongHere, NameHere, SignHere, ValueSpelling, FieldSpelling}
-use Rattle.btx_text.specs.laws.Bytes.{open_brace}
-use Rattle.btx_bib.specs.laws.Grammar.Bytes.{at_sign, comma, equals_sign, open_parenthesis}
+use Rattle.btx_text.specs.laws.Bytes.{at_sign, comma, equals_sign, open_brace, open_parenthesis}
 
 -- a thing as `R` has it, behind the byte `sign`; or one as `S` has it where the text doesn't begin with that byte
 abbrev pub OnSign : {A : Type 0} → ℕ → Grammar A → Grammar A → Grammar A

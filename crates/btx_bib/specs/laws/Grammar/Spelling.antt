@@ -14,8 +14,7 @@ use Rattle.btx_bib.specs.language.Grammar.Tokens.{Parsed, slip_at}
 use Rattle.btx_bib.specs.language.Grammar.Values.{Part, Braced, Quoted, Digits, Named}
 use Rattle.btx_bib.specs.language.Grammar.Fields.{Field}
 use Rattle.std.specs.Char.{is_ascii_digit}
-use Rattle.btx_text.specs.laws.Bytes.{open_brace, close_brace}
-use Rattle.btx_bib.specs.laws.Grammar.Bytes.{equals_sign, hash, quote}
+use Rattle.btx_text.specs.laws.Bytes.{close_brace, double_quote, equals_sign, hash, open_brace}
 
 -- how something is spelled: a relation between what was read or is wrong, a front of a text, and the rest. The front spells the first, or it is
 -- wrong where the rest begins
@@ -54,7 +53,7 @@ pub record IsRun (set : ByteSet) (text rest : List ℕ) : Type 0 where
   pub all : AllIn set text
   pub longest : begins (is_in set) rest ≡ false
 
--- all the whitespace that stands here, which may be none
+-- all the whitespace that stands here, possibly of no byte. It has no value of its own: `none` is `tt`, and not the `None` of an option
 abbrev pub White : Grammar (Unit {0})
 White (Ok none) front rest = IsRun Gap front rest
 White (Err slip) front rest = ⊥
@@ -79,7 +78,7 @@ abbrev pub NameHere : Grammar (List ℕ)
 NameHere (Ok name) front rest = IsWord NameByte begins_name name front rest
 NameHere (Err slip) front rest = (begins begins_name rest ≡ false) × IsWrongHere NoName slip front rest
 
--- the byte `sign`, or the error `wrong` where another byte stands
+-- the byte `sign`, or the error `wrong` where another byte stands; a sign has no value of its own, so `none` is `tt`
 abbrev pub SignHere : ℕ → Slip → Grammar (Unit {0})
 SignHere sign wrong (Ok none) front rest = front ≡ sign ∷ []
 SignHere sign wrong (Err slip) front rest = (begins (λ b. b == sign) rest ≡ false) × IsWrongHere wrong slip front rest
@@ -97,20 +96,20 @@ IsEnclosed enclosure text = IsInside enclosure 0 text × (depth_of text ≡ 0)
 
 -- a byte with which a part of a value begins: `{`, `"`, a digit, or a byte with which a name begins
 abbrev pub begins_part : ℕ → Bool
-begins_part b = b == open_brace || b == quote || is_ascii_digit b || begins_name b
+begins_part b = b == open_brace || b == double_quote || is_ascii_digit b || begins_name b
 
 -- what is wrong where a part of a value is wanted: no part begins with the next byte, a `}` in quotes closes nothing, or the file ends
 abbrev pub IsWrongPart : Slip → List ℕ → List ℕ → Type 0
 IsWrongPart NoValue front rest = (front ≡ []) × (b : ℕ) × (bs : List ℕ) × (rest ≡ b ∷ bs) × (begins_part b ≡ false)
-IsWrongPart Unbalanced front rest = (text : List ℕ) × (bs : List ℕ) × (front ≡ quote ∷ text) × (rest ≡ close_brace ∷ bs) × IsEnclosed Quotes text
+IsWrongPart Unbalanced front rest = (text : List ℕ) × (bs : List ℕ) × (front ≡ double_quote ∷ text) × (rest ≡ close_brace ∷ bs) × IsEnclosed Quotes text
 IsWrongPart EndOfFile front rest = (rest ≡ []) ×
-    ((front ≡ []) ⊎ (((text : List ℕ) × (front ≡ open_brace ∷ text) × IsInside Group 0 text) ⊎ ((text : List ℕ) × (front ≡ quote ∷ text) × IsInside Quotes 0 text)))
+    ((front ≡ []) ⊎ (((text : List ℕ) × (front ≡ open_brace ∷ text) × IsInside Group 0 text) ⊎ ((text : List ℕ) × (front ≡ double_quote ∷ text) × IsInside Quotes 0 text)))
 IsWrongPart _ front rest = ⊥
 
 -- a part of a value: a text in braces, a text in quotes, digits, or the name of a string; or what is wrong
 abbrev pub PartHere : Grammar Part
 PartHere (Ok (Braced text)) front rest = (front ≡ open_brace ∷ (text ++ close_brace ∷ [])) × IsEnclosed Group text
-PartHere (Ok (Quoted text)) front rest = (front ≡ quote ∷ (text ++ quote ∷ [])) × IsEnclosed Quotes text
+PartHere (Ok (Quoted text)) front rest = (front ≡ double_quote ∷ (text ++ double_quote ∷ [])) × IsEnclosed Quotes text
 PartHere (Ok (Digits text)) front rest = IsWord Digit is_ascii_digit text front rest
 PartHere (Ok (Named string)) front rest = IsWord NameByte begins_name string.name front rest × (string.rest ≡ rest)
 PartHere (Err slip) front rest = IsWrongPart slip front rest

@@ -12,7 +12,7 @@ use Rattle.btx_bib.specs.language.Grammar.Items.{command_of}
 use Rattle.btx_bib.specs.laws.Grammar.Spelling.{Grammar, Gives, Then, Spaced, NameHere, SignHere, ValueSpelling}
 use Rattle.btx_bib.specs.laws.Grammar.Reading.{OpenHere, KeyHere, MoreHere}
 use Rattle.btx_bib.specs.laws.Grammar.Fields.{more_at}
-use Rattle.btx_bib.specs.laws.Grammar.Bytes.{equals_sign}
+use Rattle.btx_text.specs.laws.Bytes.{equals_sign}
 
 -- what stands behind an `@`: an `@comment`, which ends with its own name; a `@preamble`; a `@string`; or an entry
 pub data WholeItem : Type 0 where

@@ -3,13 +3,12 @@ use Rattle.std.specs.Prelude.{ℕ, suc, ◌==◌, ◌||◌, Bool, List, [], ◌�
 use Rattle.btx_bib.specs.declared.grammar.byte_sets.Enclosure.{Enclosure}
 use Rattle.btx_bib.specs.declared.grammar.byte_sets.Enclosure.TheVariants.{Group, Quotes}
 use Rattle.std.specs.Int.{is_in_range}
-use Rattle.btx_text.specs.laws.Bytes.{open_brace, close_brace}
-use Rattle.btx_bib.specs.laws.Grammar.Bytes.{quote}
+use Rattle.btx_text.specs.laws.Bytes.{close_brace, double_quote, open_brace}
 
 -- a byte that changes the depth or can end what is enclosed: a brace, and in quotes a `"`
 abbrev pub is_mark : Enclosure → ℕ → Bool
 is_mark Group b = b == open_brace || b == close_brace
-is_mark Quotes b = b == open_brace || b == close_brace || b == quote
+is_mark Quotes b = b == open_brace || b == close_brace || b == double_quote
 
 -- one of the bytes that neither are white nor enclose: from `#` to `z`
 abbrev pub is_word_byte : ℕ → Bool

@@ -1,10 +1,7 @@
 -- Lines are counted by their line feeds.
 use Rattle.std.specs.Prelude.{ℕ, suc, ◌==◌, List, [], ◌∷◌, if◌then◌else◌, ◌-◌, length}
+use Rattle.btx_text.specs.laws.Bytes.{line_feed}
 use Rattle.btx_bib.specs.language.Grammar.PlaceLines.{lines_begun}
-
--- the end of a line, which counts as white in a database
-abbrev pub line_feed : ℕ
-line_feed = 10
 
 -- the line number of the byte with which `rest` begins
 abbrev pub line_at : List ℕ → List ℕ → ℕ

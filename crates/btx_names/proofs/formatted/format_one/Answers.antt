@@ -1,9 +1,8 @@
 use Rattle.std.proofs.Common.{◌≡◌, ◌∙◌, rules, sym, refl, true, false}
 use Rattle.std.proofs.lemmas.Result.{err_from_is_err_and}
 use Rattle.btx_names.specs.language.NameParts.{sections_of}
-use Rattle.btx_names.specs.refinement.PartViews.{parts_view}
 use Rattle.btx_names.specs.language.Formats.{is_legal}
-use Rattle.btx_names.specs.refinement.KeptNames.{kept_bytes}
+use Rattle.btx_names.specs.refinement.KeptNames.{kept_bytes, kept_parts}
 use Rattle.btx_names.proofs.FormattedLemmas.{one_illegal, one_legal, answers_fault}
 use Rattle.btx_names.proofs.formatted.format_one.Goals as goal
 use Rattle.btx_names.specs.refinement.FormattedNames.{formatted}
@@ -12,8 +11,8 @@ pub returns-then-branch : goal.returns-then-branch
 returns-then-branch c =
     let name = kept_bytes c.args.name.now in
     let format = c.args.format.now in
-    let made : (is_legal format ≡ true) × (c.write_format.new.writer.text.items ≡ formatted c.args.mode (parts_view c.parts.result) format) = search rules in
-    let is = one_legal c.args.mode name format (sections_of name) true (parts_view c.parts.result) c.complaints.result refl (sym made.0) refl c.parts.ensures c.complaints.ensures in
+    let made : (is_legal format ≡ true) × (c.write_format.new.writer.text.items ≡ formatted c.args.mode (kept_parts c.args.name.now) format) = search rules in
+    let is = one_legal c.args.mode name format (sections_of name) true (kept_parts c.args.name.now) c.complaints.result refl (sym made.0) refl refl c.complaints.ensures in
     rw (is.0, is.1, sym (c.text.ensures ∙ made.1)) c.copy_of.ensures
 
 pub returns-else-branch : goal.returns-else-branch
@@ -27,4 +26,4 @@ pub returns-in_err-write_format : goal.returns-in_err-write_format
 returns-in_err-write_format c =
     let name = kept_bytes c.args.name.now in
     let p = err_from_is_err_and c.from_residual.result c.from_residual.ensures.1 in
-    rw (p.1, p.2) (answers_fault c.args.mode name c.args.format.now _ (sections_of name) (parts_view c.parts.result) c.in_err-write_format.field-0.0 refl c.parts.ensures (rw c.begin.ensures.mode at c.in_err-write_format.ensures))
+    rw (p.1, p.2) (answers_fault c.args.mode name c.args.format.now _ (sections_of name) (kept_parts c.args.name.now) c.in_err-write_format.field-0.0 refl refl (rw c.begin.ensures.mode at c.in_err-write_format.ensures))

@@ -4,14 +4,14 @@ use Rattle.std.specs.List.{flat_map}
 use Rattle.btx_names.specs.language.Formats.{FormatItem}
 use Rattle.btx_names.specs.language.FormattedNames.{item_text}
 use Rattle.btx_names.specs.refinement.KeptItems.{kept_view, items_in}
-use Rattle.btx_names.specs.refinement.PartViews.{parts_view}
+use Rattle.btx_names.specs.refinement.KeptNames.{kept_parts}
 use Rattle.btx_names.proofs.KeptItemLemmas.{kept_is_legal, items_at, no_items_left, items_fail}
 use Rattle.btx_names.proofs.formatted.write_items.Goals as goal
 
 pub returns-in_err-push_kept : goal.returns-in_err-push_kept
 returns-in_err-push_kept c =
     let format = c.args.format.now in
-    let text = item_text c.args.writer.now.mode (parts_view c.args.parts.now) in
+    let text = item_text c.args.writer.now.mode (kept_parts c.args.name.now) in
     let items = c.items-item-items.result.now in
     let i = c.loop-item.item-index in
     let item = kept_view c.item-item.result in

@@ -1,5 +1,5 @@
 -- How many warnings and errors a log has. A count that would be above the greatest number of 64 bits stays there (this project's own).
-use Rattle.std.specs.Prelude.{ℕ, ◌-◌, ◌^◌, min, count_by, List}
+use Rattle.std.specs.Prelude.{◌-◌, ◌^◌, min, count_by, List}
 use Rattle.btx_text.specs.language.LogLines.{Line, is_error, is_warning}
 use Rattle.btx_machine.specs.declared.report.LogCounts.{LogCounts}
 

@@ -10,7 +10,7 @@ use Rattle.btx_bib.specs.refinement.Requests.{wanted}
 use Rattle.btx_bib.specs.refinement.Sites.{site_database}
 use Rattle.btx_bib.proofs.GrammarLemmas.LengthLemmas.{events-less}
 use Rattle.btx_bib.proofs.GrammarLemmas.PlainLemmas.{left-chain}
-use Rattle.btx_bib.proofs.GatheringLemmas.{ended-along, ended-told, ended-if, none-along, none-told, turn-along, turn-messages}
+use Rattle.btx_bib.proofs.GatheringLemmas.{ended-along, ended-logged, ended-if, none-along, none-logged, turn-along, turn-messages}
 use Rattle.btx_bib.proofs.gathering.Gathering.read_events.Goals as goal
 
 pub loop-placed-preserved : goal.loop-placed-preserved
@@ -19,13 +19,13 @@ loop-placed-preserved c =
     let inv = c.loop-placed.invariant in
     let read = rw c.in-Some.is at c.in_ok-placed.ensures.ok in
     let step : Step = record { event = event_view c.in-Some.placed.event; wanted = c.read.new.self.0; rest = c.read.new.self.1 } in
-    let tells = c.in_ok-take.ensures.told ∙ ap (λ (s : Site). c.loop-placed.messages ++ messages_of asked (site_database s) c.loop-placed.self step.event c.in-Some.placed.rest.now) inv.same in
+    let logs = c.in_ok-take.ensures.logged ∙ ap (λ (s : Site). c.loop-placed.messages ++ messages_of asked (site_database s) c.loop-placed.self step.event c.in-Some.placed.rest.now) inv.same in
     let plain = c.in_ok-take_plain_fields-2.ensures in
     let ms = c.take.new.messages in
     record {
       whole = plain.whole;
       state = plain.state ∙ turn-along asked c.loop-placed.self c.loop-placed.reader.0 c.loop-placed.reader.1 step c.take.new.self inv.whole read.0 c.in_ok-take.ensures.state ∙ inv.state;
-      told = ap (λ (others : List Message). ms ++ others) (plain.told (site_database c.args.site.now)) ∙ turn-messages asked c.loop-placed.self c.loop-placed.reader.0 c.loop-placed.reader.1 step c.take.new.self inv.whole read.0 c.in_ok-take.ensures.state (site_database c.args.site.now) c.loop-placed.messages c.take.new.messages c.in-Some.placed.rest.now read.1 tells ∙ inv.told;
+      logged = ap (λ (others : List Message). ms ++ others) (plain.logged (site_database c.args.site.now)) ∙ turn-messages asked c.loop-placed.self c.loop-placed.reader.0 c.loop-placed.reader.1 step c.take.new.self inv.whole read.0 c.in_ok-take.ensures.state (site_database c.args.site.now) c.loop-placed.messages c.take.new.messages c.in-Some.placed.rest.now read.1 logs ∙ inv.logged;
       same = c.in_ok-take.ensures.same ∙ inv.same;
     }
 
@@ -49,19 +49,19 @@ returns-then-has_ended-clause-state c =
     ∙ c.in_ok-take_plain_fields.ensures.state
     ∙ ap (λ (r : Next × List ℕ). kept_along asked c.args.self.now (events_with asked c.args.self.now r.0 r.1)) c.of-reader.ensures
 
-pub returns-then-has_ended-clause-told : goal.returns-then-has_ended-clause-told
-returns-then-has_ended-clause-told c =
+pub returns-then-has_ended-clause-logged : goal.returns-then-has_ended-clause-logged
+returns-then-has_ended-clause-logged c =
     let asked = wanted c.args.request.now in
     let inv = c.loop-placed.invariant in
     let read = rw c.in-Some.is at c.in_ok-placed.ensures.ok in
     let step : Step = record { event = event_view c.in-Some.placed.event; wanted = c.read.new.self.0; rest = c.read.new.self.1 } in
     let ended = ended-if (goes_on c.take.new.self.ending) (sym c.has_ended.ensures ∙ c.if-has_ended.true) in
-    let tells = c.in_ok-take.ensures.told ∙ ap (λ (s : Site). c.loop-placed.messages ++ messages_of asked (site_database s) c.loop-placed.self step.event c.in-Some.placed.rest.now) inv.same in
+    let logs = c.in_ok-take.ensures.logged ∙ ap (λ (s : Site). c.loop-placed.messages ++ messages_of asked (site_database s) c.loop-placed.self step.event c.in-Some.placed.rest.now) inv.same in
     sym (append-nil c.take.new.messages)
-    ∙ ap (λ (ms : List Message). c.take.new.messages ++ ms) (sym (ended-told asked (site_database c.args.site.now) c.take.new.self (events_with asked c.take.new.self step.wanted step.rest) ended))
-    ∙ turn-messages asked c.loop-placed.self c.loop-placed.reader.0 c.loop-placed.reader.1 step c.take.new.self inv.whole read.0 c.in_ok-take.ensures.state (site_database c.args.site.now) c.loop-placed.messages c.take.new.messages c.in-Some.placed.rest.now read.1 tells
-    ∙ inv.told
-    ∙ ap (λ (ms : List Message). c.args.messages.now ++ ms) (c.in_ok-take_plain_fields.ensures.told (site_database c.args.site.now))
+    ∙ ap (λ (ms : List Message). c.take.new.messages ++ ms) (sym (ended-logged asked (site_database c.args.site.now) c.take.new.self (events_with asked c.take.new.self step.wanted step.rest) ended))
+    ∙ turn-messages asked c.loop-placed.self c.loop-placed.reader.0 c.loop-placed.reader.1 step c.take.new.self inv.whole read.0 c.in_ok-take.ensures.state (site_database c.args.site.now) c.loop-placed.messages c.take.new.messages c.in-Some.placed.rest.now read.1 logs
+    ∙ inv.logged
+    ∙ ap (λ (ms : List Message). c.args.messages.now ++ ms) (c.in_ok-take_plain_fields.ensures.logged (site_database c.args.site.now))
     ∙ ap (λ (r : Next × List ℕ). c.args.messages.now ++ kept_messages asked (site_database c.args.site.now) c.args.self.now (events_with asked c.args.self.now r.0 r.1)) c.of-reader.ensures
 
 pub returns-clause-state : goal.returns-clause-state
@@ -74,13 +74,13 @@ returns-clause-state c =
     ∙ c.in_ok-take_plain_fields.ensures.state
     ∙ ap (λ (r : Next × List ℕ). kept_along asked c.args.self.now (events_with asked c.args.self.now r.0 r.1)) c.of-reader.ensures
 
-pub returns-clause-told : goal.returns-clause-told
-returns-clause-told c =
+pub returns-clause-logged : goal.returns-clause-logged
+returns-clause-logged c =
     let asked = wanted c.args.request.now in
     let inv = c.loop-placed.invariant in
     let read = rw c.in_default.is at c.in_ok-placed.ensures.ok in
     sym (append-nil c.loop-placed.messages)
-    ∙ ap (λ (ms : List Message). c.loop-placed.messages ++ ms) (sym (none-told asked c.loop-placed.self c.loop-placed.reader.0 c.loop-placed.reader.1 (site_database c.args.site.now) read.0))
-    ∙ inv.told
-    ∙ ap (λ (ms : List Message). c.args.messages.now ++ ms) (c.in_ok-take_plain_fields.ensures.told (site_database c.args.site.now))
+    ∙ ap (λ (ms : List Message). c.loop-placed.messages ++ ms) (sym (none-logged asked c.loop-placed.self c.loop-placed.reader.0 c.loop-placed.reader.1 (site_database c.args.site.now) read.0))
+    ∙ inv.logged
+    ∙ ap (λ (ms : List Message). c.args.messages.now ++ ms) (c.in_ok-take_plain_fields.ensures.logged (site_database c.args.site.now))
     ∙ ap (λ (r : Next × List ℕ). c.args.messages.now ++ kept_messages asked (site_database c.args.site.now) c.args.self.now (events_with asked c.args.self.now r.0 r.1)) c.of-reader.ensures

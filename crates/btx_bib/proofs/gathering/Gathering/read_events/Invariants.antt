@@ -15,7 +15,7 @@ invariant-loop-placed l =
     record {
       whole : goes_on l.self.ending ≡ true;
       state : kept_along asked l.self others ≡ kept_along asked l.initial.self first;
-      told : l.messages ++ kept_messages asked (site_database l.initial.site) l.self others ≡ l.initial.messages ++ kept_messages asked (site_database l.initial.site) l.initial.self first;
+      logged : l.messages ++ kept_messages asked (site_database l.initial.site) l.self others ≡ l.initial.messages ++ kept_messages asked (site_database l.initial.site) l.initial.self first;
       same : l.site ≡ l.initial.site;
     }
 

@@ -11,7 +11,7 @@ abbrev pub invariant-loop-field : goal.invariant-loop-field
 invariant-loop-field l = record {
   whole : goes_on l.self.ending ≡ true;
   state : all_kept (wanted l.request) l.self l.reader ≡ all_kept (wanted l.request) l.initial.self l.initial.reader;
-  told : (database : Database) → all_messages (wanted l.request) database l.self l.reader ≡ all_messages (wanted l.request) database l.initial.self l.initial.reader;
+  logged : (database : Database) → all_messages (wanted l.request) database l.self l.reader ≡ all_messages (wanted l.request) database l.initial.self l.initial.reader;
   next : l.reader.0 ≡ l.initial.reader.0;
   shorter : length l.reader.1 ≤ length l.initial.reader.1;
 }
