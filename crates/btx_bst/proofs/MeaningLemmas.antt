@@ -37,7 +37,7 @@ use Rattle.btx_bst.specs.refinement.Lists.{unlisted, with_new}
 
 -- ---- lists of names
 
--- each name of a list is told by what looks names up
+-- each name of a list is found by what looks names up
 abbrev pub Found : (List ℕ → Option Callee) → (ℕ → Callee) → List (List ℕ) → Type 0
 Found look f xs = (k : ℕ) (m : List ℕ) → slice_get xs k ≡ Some m → look m ≡ Some (f k)
 

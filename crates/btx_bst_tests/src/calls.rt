@@ -83,8 +83,8 @@ fn a_style(rt: HostRuntime) -> Result<(), Fault> {
     Ok(())
 }
 
-// Whether each of these styles is told direct, or each told not direct.
-fn all_logged(alloc: Global, texts: &[&[u8]], direct: bool) -> Result<bool, Fault> {
+// Whether each of these styles is direct, or, where `direct` is false, none of them is.
+fn all_are(alloc: Global, texts: &[&[u8]], direct: bool) -> Result<bool, Fault> {
     for text in texts {
         if is_direct(&read_style(alloc, b"s.bst", text)?) != direct {
             return Ok(false);
@@ -95,7 +95,7 @@ fn all_logged(alloc: Global, texts: &[&[u8]], direct: bool) -> Result<bool, Faul
 
 #[test]
 fn direct_styles(rt: HostRuntime) -> Result<(), Fault> {
-    assert!(rt; all_logged(rt.alloc(), DIRECT, true)? == true);
-    assert!(rt; all_logged(rt.alloc(), NOT_DIRECT, false)? == true);
+    assert!(rt; all_are(rt.alloc(), DIRECT, true)? == true);
+    assert!(rt; all_are(rt.alloc(), NOT_DIRECT, false)? == true);
     Ok(())
 }

@@ -30,15 +30,15 @@ logs_nothing counts log = record {
 
 -- lines, and then further ones
 pub logs_both : (a b c : LogCounts) (x y z : Option (List ℕ)) (first more : List Line) → Logs (a, b) (x, y) first → Logs (b, c) (y, z) more → Logs (a, c) (x, z) (first ++ more)
-logs_both a b c x y z first more told told' = record {
-  counts = λ before is. told'.counts (before ++ first) (told.counts before is) ∙ ap counts_of (append_assoc before first more);
-  received = subst (Appends x z) (sym (bytes_of_both first more)) (Appends-trans x y z _ _ told.received told'.received);
+logs_both a b c x y z first more logs logs' = record {
+  counts = λ before is. logs'.counts (before ++ first) (logs.counts before is) ∙ ap counts_of (append_assoc before first more);
+  received = subst (Appends x z) (sym (bytes_of_both first more)) (Appends-trans x y z _ _ logs.received logs'.received);
 }
 
 -- all of the first lines is a beginning
 pub logged_begins : (x y : Option (List ℕ)) (a b : LogCounts) (first more : List Line) → Logs (a, b) (x, y) first → AppendsBeginning x y (bytes_of_lines (first ++ more))
-logged_begins x y a b first more told =
-    subst (AppendsBeginning x y) (sym (bytes_of_both first more)) (beginning-longer x y _ _ (beginning-all x y _ told.received))
+logged_begins x y a b first more logs =
+    subst (AppendsBeginning x y) (sym (bytes_of_both first more)) (beginning-longer x y _ _ (beginning-all x y _ logs.received))
 
 -- a beginning of the first lines is one of all
 pub part_begins : (x y : Option (List ℕ)) (first more : List Line) → AppendsBeginning x y (bytes_of_lines first) → AppendsBeginning x y (bytes_of_lines (first ++ more))
@@ -46,8 +46,8 @@ part_begins x y first more part = subst (AppendsBeginning x y) (sym (bytes_of_bo
 
 -- all of the first lines, and then a beginning of the further ones
 pub rest_begins : (x y z : Option (List ℕ)) (a b : LogCounts) (first more : List Line) → Logs (a, b) (x, y) first → AppendsBeginning y z (bytes_of_lines more) → AppendsBeginning x z (bytes_of_lines (first ++ more))
-rest_begins x y z a b first more told part =
-    subst (AppendsBeginning x z) (sym (bytes_of_both first more)) (beginning-after x y z _ _ told.received part)
+rest_begins x y z a b first more logs part =
+    subst (AppendsBeginning x z) (sym (bytes_of_both first more)) (beginning-after x y z _ _ logs.received part)
 
 -- ---- one line
 
@@ -90,12 +90,12 @@ at_line lines i line lt is =
 -- one line more
 pub logs_one_more : (lines : List Line) (i : ℕ) (line : Line) (a b c : LogCounts) (x y z : Option (List ℕ)) → i < length lines → line ≡ get_or lines i line
     → Logs (a, b) (x, y) (take i lines) → Logs (b, c) (y, z) (line ∷ []) → Logs (a, c) (x, z) (take (i + 1) lines)
-logs_one_more lines i line a b c x y z lt is told next =
-    subst (Logs (a, c) (x, z)) (sym (take_more lines i line lt ∙ ap (λ l. take i lines ++ l ∷ []) (sym is))) (logs_both a b c x y z _ _ told next)
+logs_one_more lines i line a b c x y z lt is logs next =
+    subst (Logs (a, c) (x, z)) (sym (take_more lines i line lt ∙ ap (λ l. take i lines ++ l ∷ []) (sym is))) (logs_both a b c x y z _ _ logs next)
 
 -- the lines so far, and a beginning of the next
 pub line_begins : (lines : List Line) (i : ℕ) (line : Line) (a b : LogCounts) (x y z : Option (List ℕ)) → i < length lines → line ≡ get_or lines i line
     → Logs (a, b) (x, y) (take i lines) → AppendsBeginning y z (bytes_of_lines (line ∷ [])) → AppendsBeginning x z (bytes_of_lines lines)
-line_begins lines i line a b x y z lt is told part =
+line_begins lines i line a b x y z lt is logs part =
     subst (λ l. AppendsBeginning x z (bytes_of_lines l)) (sym (at_line lines i line lt is))
-    (part_begins x z (take i lines ++ line ∷ []) (drop (i + 1) lines) (rest_begins x y z a b _ _ told part))
+    (part_begins x z (take i lines ++ line ∷ []) (drop (i + 1) lines) (rest_begins x y z a b _ _ logs part))

@@ -84,14 +84,14 @@ reads_failing (Err fault) a b x y part err begins = begins
 -- lines, and then a part
 pub reads_behind : {T : Type 0} (r : Result T Fault) (a b c : LogCounts) (x y z : Option (List ℕ)) (lines : List Line) (part : Logged T)
     → Logs (a, b) (x, y) lines → ReadsAs r (b, c) (y, z) part → ReadsAs r (a, c) (x, z) (behind lines part)
-reads_behind (Ok value) a b c x y z lines part told read = record { gives = read.gives; logs = logs_both a b c x y z _ _ told read.logs }
-reads_behind (Err fault) a b c x y z lines part told read = rest_begins x y z a b _ _ told read
+reads_behind (Ok value) a b c x y z lines part logs read = record { gives = read.gives; logs = logs_both a b c x y z _ _ logs read.logs }
+reads_behind (Err fault) a b c x y z lines part logs read = rest_begins x y z a b _ _ logs read
 
 -- a fault while the lines before a part were written
 pub reads_part : {T : Type 0} (r : Result T Fault) (a b : LogCounts) (x y : Option (List ℕ)) (lines : List Line) (part : Logged T)
     → IsErr r → AppendsBeginning x y (bytes_of_lines lines) → ReadsAs r (a, b) (x, y) (behind lines part)
-reads_part (Ok value) a b x y lines part err told = absurd (untrue err)
-reads_part (Err fault) a b x y lines part err told = part_begins x y _ _ told
+reads_part (Ok value) a b x y lines part err begins = absurd (untrue err)
+reads_part (Err fault) a b x y lines part err begins = part_begins x y _ _ begins
 
 -- a part without a line
 pub reads_at_once : {T : Type 0} (value : T) (a : LogCounts) (x : Option (List ℕ)) → IsRead value (a, a) (x, x) (logged [] value)
@@ -132,9 +132,9 @@ found_more files names i name lt is =
 -- a database's line was logged
 pub database_is_read : (files : Files) (number : ℕ) (name : List ℕ) (found : Option NamedFile) (line : Line) (a b : LogCounts) (x y : Option (List ℕ)) → found ≡ file_at files name
     → line ≡ database_logged number name found → Logs (a, b) (x, y) (line ∷ []) → IsRead found (a, b) (x, y) (database_read files number name)
-database_is_read files number name found line a b x y is is_line told = record {
+database_is_read files number name found line a b x y is is_line logs = record {
   gives = is;
-  logs = subst (λ line. Logs (a, b) (x, y) (line ∷ [])) (is_line ∙ ap (database_logged number name) is) told;
+  logs = subst (λ line. Logs (a, b) (x, y) (line ∷ [])) (is_line ∙ ap (database_logged number name) is) logs;
 }
 
 -- a beginning of it
@@ -227,7 +227,7 @@ style_is_missed files job name = refl
 pub style_missed : (files : Files) (job : AuxJob) (name : List ℕ) (line : Line) (a b : LogCounts) (x y : Option (List ℕ))
     → line ≡ no_style_line name → Logs (a, b) (x, y) (line ∷ []) → IsRead (Ends ended.Finished) (a, b) (x, y) (style_read files job name None)
 unfolding style_read
-style_missed files job name line a b x y is told = record { gives = refl; logs = subst (λ line. Logs (a, b) (x, y) (line ∷ [])) is told }
+style_missed files job name line a b x y is logs = record { gives = refl; logs = subst (λ line. Logs (a, b) (x, y) (line ∷ [])) is logs }
 
 -- the same answer for the same part
 pub reads_is : {T : Type 0} (r : Result T Fault) (counted : Counted) (log : LogReceived) (part same : Logged T) → part ≡ same → ReadsAs r counted log same → ReadsAs r counted log part

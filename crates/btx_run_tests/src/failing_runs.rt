@@ -14,7 +14,7 @@ const LINES: &[u8] =
 const BBL: &[u8] =
     b"one\n\naaaaaaaaaaaaaaaaaaaaaaaaaaaaaaaaaaaaaaaa\n  aaaaaaaaaaaaaaaaaaaaaaaaaaaaaaaaaaaaaaaaaaaaaaa b\n";
 
-const TOLD: &[u8] =
+const LOGGED: &[u8] =
     b"The top-level auxiliary file: job.aux\nThe style file: s.bst\nDatabase file #1: d.bib\n";
 
 const LOG: &[u8] =
@@ -138,7 +138,7 @@ fn is_past_bbl(
     }
     assert!(rt; tried.answer == Err(RunFault::Device));
     failed(rt, &tried.bbl, at, BBL);
-    assert!(rt; tried.log.bytes.as_slice() == TOLD);
+    assert!(rt; tried.log.bytes.as_slice() == LOGGED);
     Ok(false)
 }
 
@@ -157,7 +157,7 @@ fn is_past_log(
     }
     assert!(rt; tried.answer == Err(RunFault::Device));
     failed(rt, &tried.log, at, LOG);
-    let is_last = tried.log.bytes.len() >= TOLD.len();
+    let is_last = tried.log.bytes.len() >= LOGGED.len();
     assert!(rt; tried.bbl.bytes.as_slice() == if is_last { BBL } else { b"".as_slice() });
     Ok(false)
 }
@@ -211,7 +211,7 @@ fn try_warning(alloc: Global, bbl: Device, log: Device) -> Result<Tried, FetchFa
 
 // What the `.bbl` holds where the log broke off with so many bytes.
 fn list_behind(log: usize) -> &'static [u8] {
-    if log < TOLD.len() {
+    if log < LOGGED.len() {
         b""
     } else if log < WARNED.len() {
         b"a\n"
@@ -228,18 +228,18 @@ fn stands_in_step(rt: &impl Abort, tried: Result<Tried, FetchFault>) -> Result<(
     Ok(())
 }
 
-// Asserts that nothing of the list was written, and nothing told behind it.
+// Asserts that nothing of the list was written, and that the log ends with the lines of the files.
 fn stands_before_the_list(
     rt: &impl Abort,
     tried: Result<Tried, FetchFault>,
 ) -> Result<(), FetchFault> {
     let tried = tried?;
     assert!(rt; tried.answer == Err(RunFault::Device));
-    assert!(rt; tried.bbl.bytes.is_empty() && tried.log.bytes.as_slice() == TOLD);
+    assert!(rt; tried.bbl.bytes.is_empty() && tried.log.bytes.as_slice() == LOGGED);
     Ok(())
 }
 
-// A warning between two lines of the list is told only if the first was written, and the second is written only if it was told.
+// A warning between two lines of the list is logged only if the first was written, and the second is written only if the warning was logged.
 #[test]
 fn keeps_step_at_a_warning(rt: HostRuntime) -> Result<(), Fail> {
     let alloc = rt.alloc();

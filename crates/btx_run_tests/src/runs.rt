@@ -248,10 +248,10 @@ fn run_behind(alloc: Global, first: &[u8]) -> Result<Outputs, Fault> {
 
 #[test]
 fn runs_past_errors(rt: HostRuntime) -> Result<(), Fail> {
-    for (first, told, errors) in &FIRSTS {
+    for (first, logged, errors) in &FIRSTS {
         let ran = run_behind(rt.alloc(), first);
         let ending = Ending::Finished(*errors, 4, 1);
-        ends_as(&rt, ran, b"a\n", &[TOP, told, FILES], ending)?;
+        ends_as(&rt, ran, b"a\n", &[TOP, logged, FILES], ending)?;
     }
     Ok(())
 }
@@ -293,10 +293,10 @@ const WITHOUT_STYLE: [First; 6] = [
 // A run without a style finishes: its databases aren't looked for.
 #[test]
 fn ends_without_a_style(rt: HostRuntime) -> Result<(), Fail> {
-    for (aux, told, errors) in &WITHOUT_STYLE {
+    for (aux, logged, errors) in &WITHOUT_STYLE {
         let ran = run_over(rt.alloc(), &job_of(aux, STYLE, b"outside"), 9);
         let ending = Ending::Finished(*errors, 0, 0);
-        ends_as(&rt, ran, b"", &[TOP, told], ending)?;
+        ends_as(&rt, ran, b"", &[TOP, logged], ending)?;
     }
     Ok(())
 }
@@ -382,8 +382,8 @@ fn opens_twenty_files(rt: HostRuntime) -> Result<(), Fail> {
     let ran = run_inputting(rt.alloc(), b"\\@input{f1.aux}\n", &CHAIN);
     ends_as(&rt, ran, b"", &[TWENTY_FOUND], Ending::TooManyOpen)?;
     let ran = run_inputting(rt.alloc(), b"\\@input{f1.aux}\n", &CHAIN[..19]);
-    let told = [TWENTY_FOUND, LAST_MISSING, FILES];
-    ends_as(&rt, ran, b"a\n", &told, Ending::Finished(1, 4, 1))
+    let logged = [TWENTY_FOUND, LAST_MISSING, FILES];
+    ends_as(&rt, ran, b"a\n", &logged, Ending::Finished(1, 4, 1))
 }
 
 #[test]
@@ -393,8 +393,8 @@ fn says_what_failed(rt: HostRuntime) -> Result<(), Fail> {
         (RunFault::Memory, "out of memory"),
         (RunFault::Device, "device error"),
     ] {
-        let told = fault.to_string(rt.alloc())?;
-        assert!(rt; told.as_str() == text);
+        let reported = fault.to_string(rt.alloc())?;
+        assert!(rt; reported.as_str() == text);
     }
     Ok(())
 }

@@ -33,8 +33,8 @@ fn begins(
     wanted: &str,
 ) -> Result<(), Fail> {
     let body = body_of(alloc, pieces)?;
-    let told = play(alloc, setting, &body)?;
-    let front = &told.as_slice()[..wanted.len().min(told.len())];
+    let answers = play(alloc, setting, &body)?;
+    let front = &answers.as_slice()[..wanted.len().min(answers.len())];
     assert!(rt; front == wanted.as_bytes());
     Ok(())
 }
@@ -199,16 +199,16 @@ fn in_both(
     bytes: &[u8],
     wide: &[u8],
 ) -> Result<(), Fail> {
-    let told = play(alloc, &usual(Some(0)), body.as_bytes())?;
-    assert!(rt; told.as_slice() == bytes);
+    let answers = play(alloc, &usual(Some(0)), body.as_bytes())?;
+    assert!(rt; answers.as_slice() == bytes);
     let setting = Setting {
         entry: Some(0),
         mode: TextMode::Utf8,
         entry_max: KeptBytes::of_entries(),
         global_max: KeptBytes::of_globals(),
     };
-    let told = play(alloc, &setting, body.as_bytes())?;
-    assert!(rt; told.as_slice() == wide);
+    let answers = play(alloc, &setting, body.as_bytes())?;
+    assert!(rt; answers.as_slice() == wide);
     Ok(())
 }
 

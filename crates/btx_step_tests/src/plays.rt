@@ -1,4 +1,4 @@
-//! Takes the tokens of a function one after another, and tells all that they answer as one text.
+//! Takes the tokens of a function one after another, and makes one text of all that they answer.
 use btx_aux::{AuxJob, MemoryFinder, read_aux};
 use btx_bib::{Library, Source, read_databases};
 use btx_bst::{Style, Token, read_style};
@@ -99,14 +99,14 @@ fn play_read<'a>(
     );
     let mut store = Store::new(alloc, &job)?;
     store.set_current(setting.entry);
-    let mut told = Vec::new(alloc);
+    let mut answers = Vec::new(alloc);
     for token in last_body(style) {
-        if !play_token(alloc, &job, &mut store, *token, &mut told)? {
+        if !play_token(alloc, &job, &mut store, *token, &mut answers)? {
             break;
         }
     }
-    write_literals(alloc, &job, &mut store, &mut told)?;
-    Ok(told)
+    write_literals(alloc, &job, &mut store, &mut answers)?;
+    Ok(answers)
 }
 
 /// Answers the tokens of the last function, or none if there is no function.
@@ -118,18 +118,18 @@ pub fn last_body<'a>(style: &'a Style<'_>) -> &'a [Token] {
     style.body(functions - 1)
 }
 
-/// Executes a token, and adds what it answers to `told`. Answers whether another may follow.
+/// Executes a token, and adds what it answers to `answers`. Answers whether another may follow.
 fn play_token<'a>(
     alloc: Global,
     job: &Job<'a>,
     store: &mut Store<'a>,
     token: Token,
-    told: &mut Vec<u8>,
+    answers: &mut Vec<u8>,
 ) -> Result<bool, AllocError> {
     let mut said = Said::Nothing;
     let next = store.step(job, token, &mut said)?;
-    write_said(alloc, job, store.current(), token, said, told)?;
-    write_next(job, next, told)?;
+    write_said(alloc, job, store.current(), token, said, answers)?;
+    write_next(job, next, answers)?;
     Ok(!matches!(next, Next::End(_)))
 }
 
@@ -139,27 +139,27 @@ fn write_said(
     entry: Option<usize>,
     token: Token,
     said: Said<'_>,
-    told: &mut Vec<u8>,
+    answers: &mut Vec<u8>,
 ) -> Result<(), AllocError> {
     match said {
         Said::Nothing => Ok(()),
-        Said::Wrote(text) => write_written(told, text.as_bytes()),
-        Said::EndedLine => write_line(told, &[b"newline"]),
-        Said::Noted(notes) => write_notes(alloc, job, entry, token, notes.as_slice(), told),
+        Said::Wrote(text) => write_written(answers, text.as_bytes()),
+        Said::EndedLine => write_line(answers, &[b"newline"]),
+        Said::Noted(notes) => write_notes(alloc, job, entry, token, notes.as_slice(), answers),
     }
 }
 
-fn write_written(told: &mut Vec<u8>, text: &[u8]) -> Result<(), AllocError> {
-    write_line(told, &[b"write ", text])
+fn write_written(answers: &mut Vec<u8>, text: &[u8]) -> Result<(), AllocError> {
+    write_line(answers, &[b"write ", text])
 }
 
-/// Adds an item, in pieces, behind the others in `told`.
-fn write_line(told: &mut Vec<u8>, pieces: &[&[u8]]) -> Result<(), AllocError> {
-    if !told.is_empty() {
-        told.extend_from_slice(b" | ")?;
+/// Adds an item, in pieces, behind the others in `answers`.
+fn write_line(answers: &mut Vec<u8>, pieces: &[&[u8]]) -> Result<(), AllocError> {
+    if !answers.is_empty() {
+        answers.extend_from_slice(b" | ")?;
     }
     for piece in pieces {
-        told.extend_from_slice(piece)?;
+        answers.extend_from_slice(piece)?;
     }
     Ok(())
 }
@@ -170,12 +170,12 @@ fn write_notes(
     entry: Option<usize>,
     token: Token,
     notes: &[Note<'_>],
-    told: &mut Vec<u8>,
+    answers: &mut Vec<u8>,
 ) -> Result<(), AllocError> {
     let executed = executed_name(job.style(), token);
     let key = entry.map(|entry| job.key(entry));
     for note in notes {
-        write_note(alloc, job, executed, key, note, told)?;
+        write_note(alloc, job, executed, key, note, answers)?;
     }
     Ok(())
 }
@@ -186,10 +186,10 @@ fn write_note(
     executed: &[u8],
     key: Option<&[u8]>,
     note: &Note<'_>,
-    told: &mut Vec<u8>,
+    answers: &mut Vec<u8>,
 ) -> Result<(), AllocError> {
     let line = line_of(alloc, job.style(), executed, key, note)?;
-    write_line(told, &[line.text()])
+    write_line(answers, &[line.text()])
 }
 
 /// Answers the name of what a token executes.
@@ -200,16 +200,16 @@ fn executed_name<'a>(style: &'a Style<'_>, token: Token) -> &'a [u8] {
     }
 }
 
-fn write_next(job: &Job<'_>, next: Next, told: &mut Vec<u8>) -> Result<(), AllocError> {
+fn write_next(job: &Job<'_>, next: Next, answers: &mut Vec<u8>) -> Result<(), AllocError> {
     let style = job.style();
     match next {
         Next::Nothing => Ok(()),
-        Next::End(Limit::Literals) => write_line(told, &[b"limit literals"]),
-        Next::End(_) => write_line(told, &[b"limit string"]),
-        Next::Run(function) => write_line(told, &[b"run ", style.name(function)]),
-        Next::Open(_) => write_line(told, &[b"open"]),
+        Next::End(Limit::Literals) => write_line(answers, &[b"limit literals"]),
+        Next::End(_) => write_line(answers, &[b"limit string"]),
+        Next::Run(function) => write_line(answers, &[b"run ", style.name(function)]),
+        Next::Open(_) => write_line(answers, &[b"open"]),
         Next::Loop(test, body) => write_line(
-            told,
+            answers,
             &[b"loop ", style.name(test), b" ", style.name(body)],
         ),
     }
@@ -219,10 +219,10 @@ fn write_literals(
     alloc: Global,
     job: &Job<'_>,
     store: &mut Store<'_>,
-    told: &mut Vec<u8>,
+    answers: &mut Vec<u8>,
 ) -> Result<(), AllocError> {
     for _ in 0..store.depth() {
-        write_top(alloc, job, store, told)?;
+        write_top(alloc, job, store, answers)?;
     }
     Ok(())
 }
@@ -231,10 +231,10 @@ fn write_top(
     alloc: Global,
     job: &Job<'_>,
     store: &mut Store<'_>,
-    told: &mut Vec<u8>,
+    answers: &mut Vec<u8>,
 ) -> Result<(), AllocError> {
     match store.pop()? {
-        Some(value) => write_note(alloc, job, b"", None, &Note::Shown(value), told),
+        Some(value) => write_note(alloc, job, b"", None, &Note::Shown(value), answers),
         None => Ok(()),
     }
 }

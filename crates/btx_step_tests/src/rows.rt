@@ -215,8 +215,8 @@ fn plays_row(rt: &impl Abort, alloc: Global, setting: &Setting, row: &str) -> Re
     let mut parts = row.split(" => ");
     let body = parts.next().unwrap_or("");
     let wanted = parts.next().unwrap_or("");
-    let told = play(alloc, setting, body.as_bytes())?;
-    assert!(rt; told.as_slice() == wanted.as_bytes());
+    let answers = play(alloc, setting, body.as_bytes())?;
+    assert!(rt; answers.as_slice() == wanted.as_bytes());
     Ok(())
 }
 

@@ -24,11 +24,11 @@ returns-in_err-log_one-clause-reads g c =
 pub returns-clause-reads : goal.returns-clause-reads
 returns-clause-reads g c =
     let line : c.in_ok-line.line ≡ style_line c.args.style.name = c.in_ok-line.ensures ∙ ap style_line c.name.ensures in
-    let told : Logs (counts_at c.args.journal.now, counts_at c.log_one.new.self) (c.args.journal.now.sink.received, c.log_one.new.self.sink.received) (style_line c.args.style.name ∷ []) =
+    let logs : Logs (counts_at c.args.journal.now, counts_at c.log_one.new.self) (c.args.journal.now.sink.received, c.log_one.new.self.sink.received) (style_line c.args.style.name ∷ []) =
     subst (λ line. Logs (counts_at c.args.journal.now, counts_at c.log_one.new.self) (c.args.journal.now.sink.received, c.log_one.new.self.sink.received) (line ∷ [])) line
     (logs_line c.in_ok-line.line c.args.journal.now c.log_one.new.self c.in_ok-log_one.ensures.ok c.log_one.ensures.warnings c.log_one.ensures.errors) in
     by_map c.with_style.ensures.reads (λ names among. among)
     (λ files read. reads_is c.with_style.result (counts_at c.args.journal.now, counts_at c.with_style.new.journal) (c.args.journal.now.sink.received, c.with_style.new.journal.sink.received) _ _
     (style_is_read files c.args.job.now c.args.style.name c.args.style)
     (reads_behind c.with_style.result (counts_at c.args.journal.now) (counts_at c.log_one.new.self) (counts_at c.with_style.new.journal) c.args.journal.now.sink.received c.log_one.new.self.sink.received c.with_style.new.journal.sink.received
-    (style_line c.args.style.name ∷ []) _ told read))
+    (style_line c.args.style.name ∷ []) _ logs read))

@@ -19,11 +19,11 @@ returns-in_err-log_all-clause-reads g c = shown_by (returns-in_err-log_all-claus
 
 pub returns-clause-answered : goal.returns-clause-answered
 returns-clause-answered g c =
-    let told : Logs (counts_at c.args.journal.now, counts_at c.log_all.new.journal) (c.args.journal.now.sink.received, c.log_all.new.journal.sink.received) c.args.job.now.log =
+    let logs : Logs (counts_at c.args.journal.now, counts_at c.log_all.new.journal) (c.args.journal.now.sink.received, c.log_all.new.journal.sink.received) c.args.job.now.log =
     subst (λ lines. Logs (counts_at c.args.journal.now, counts_at c.log_all.new.journal) (c.args.journal.now.sink.received, c.log_all.new.journal.sink.received) lines) c.log.ensures c.in_ok-log_all.ensures.ok in
     by_map c.after_job.ensures.reads (λ names among. among)
     (λ files read. reads_behind c.after_job.result (counts_at c.args.journal.now) (counts_at c.log_all.new.journal) (counts_at c.after_job.new.journal) c.args.journal.now.sink.received c.log_all.new.journal.sink.received c.after_job.new.journal.sink.received
-    c.args.job.now.log _ told read)
+    c.args.job.now.log _ logs read)
 
 pub returns-clause-reads : goal.returns-clause-reads
 returns-clause-reads g c = shown_by (returns-clause-answered g c)
