@@ -33,7 +33,7 @@ cite() {
     printf '\\citation{%s}\n\\bibdata{d}\n\\bibstyle{s}\n' "$1" >job.aux
 }
 
-# letters N LETTER: so many of this letter.
+# letters N LETTER: N of this letter.
 letters() {
     printf "$2%.0s" $(seq "$1")
 }

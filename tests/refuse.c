@@ -1,5 +1,5 @@
 /* A library to be preloaded: the allocation of the number REFUSE_AT, counted from 1, is refused. Where that allocation was
- * asked for, the file REFUSE_TOLD is made, so that its absence says that the program asks for fewer. */
+ * asked for, the file REFUSE_NOTE is made, so that its absence says that the program asks for fewer. */
 #define _GNU_SOURCE
 #include <dlfcn.h>
 #include <errno.h>
@@ -12,11 +12,11 @@ static unsigned long asked;
 static int is_refused(void)
 {
     const char *number = getenv("REFUSE_AT");
-    const char *told = getenv("REFUSE_TOLD");
+    const char *note = getenv("REFUSE_NOTE");
     if (!number || ++asked != strtoul(number, NULL, 10))
         return 0;
-    if (told)
-        close(open(told, O_WRONLY | O_CREAT, 0666));
+    if (note)
+        close(open(note, O_WRONLY | O_CREAT, 0666));
     errno = ENOMEM;
     return 1;
 }

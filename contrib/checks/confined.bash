@@ -253,7 +253,7 @@ style() {
     printf 'ENTRY {title}{}{} FUNCTION {misc}{} STRINGS {s} READ %s\n' "$1" >s.bst
 }
 
-# long N: so many times ten bytes.
+# long N: N times ten bytes.
 long() {
     head -c "$(($1 * 10))" /dev/zero | tr '\0' x
 }

@@ -1,7 +1,7 @@
 """Sees that bibtex-explain says what docs/RULES.md says to do, of each message, and finds the places that the program finds.
 
     python3 explanations.py                 compares the tables of RULES with the script's
-    python3 explanations.py PROGRAM JOBS    runs so many small jobs over databases made by chance, and looks for the place of each error
+    python3 explanations.py PROGRAM JOBS    runs this number of small jobs over databases made by chance, and looks for the place of each error
 
 What is wrong is printed; the exit status is 0 only where nothing is."""
 

@@ -172,7 +172,7 @@ run_program job
 wants_found 3 '' 'Ended: limit string, warnings 0, errors 0, steps 22'
 end
 
-# database_with N LETTER: the entry's title has so many letters.
+# database_with N: the entry's title has N letters.
 database_with() {
     printf '@misc{k, title = {%s}}\n' "$(head -c "$1" /dev/zero | tr '\0' a)" >d.bib
 }
@@ -197,7 +197,7 @@ run_program job
 wants_job 0 $'a\n' "$first_log"
 end
 
-# includes N: the job's file includes another, that one the next, and so on; so many are open at once.
+# includes N: the job's file includes another, that one the next, and so on; N are open at once.
 includes() {
     local number
     printf '\\@input{f1.aux}\n\\citation{k}\n\\bibdata{d}\n\\bibstyle{s}\n' >job.aux
@@ -207,7 +207,7 @@ includes() {
     : >"f$number.aux"
 }
 
-# levels N: the log's lines of so many included files.
+# levels N: the log's lines of N included files.
 levels() {
     local number
     for ((number = 1; number <= $1; number++)); do

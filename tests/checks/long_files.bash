@@ -1,6 +1,6 @@
 # Files that are longer than any that is read, or have no end: at most one byte more than the greatest file is read of each.
 
-# within KIB WORD..: runs the program with so much memory at most.
+# within KIB WORD..: runs the program with at most KIB KiB of memory.
 within() {
     status=0
     (

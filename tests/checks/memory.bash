@@ -9,7 +9,7 @@ most_requests=20000
 # run_refused N WORD..: runs the program with the Nth request for memory refused.
 run_refused() {
     status=0
-    timeout 60 env LD_PRELOAD="$refuse" REFUSE_AT="$1" REFUSE_TOLD="$folder/refused" "$program" "${@:2}" \
+    timeout 60 env LD_PRELOAD="$refuse" REFUSE_AT="$1" REFUSE_NOTE="$folder/refused" "$program" "${@:2}" \
         </dev/null >"$folder/stdout" 2>"$folder/stderr" || status=$?
 }
 

@@ -43,7 +43,7 @@ wants_found 0 '' 'Ended: finished, warnings 0, errors 0, steps 1010000011'
 end
 
 # How text is read.
-# counts_characters NUMBER WORD..: the title `Élie` has so many characters.
+# counts_characters NUMBER WORD..: the title `Élie` has NUMBER characters.
 counts_characters() {
     begin "text_$((passed + failed))"
     printf '@misc{k, title = {\xc3\x89lie}}\n' >d.bib
@@ -122,7 +122,7 @@ keeps ab a 'string of 2 bytes cut to 1 while executing :=' s EXECUTE --global-ma
 keeps "$long" "$long" '' 'sort.key$' ITERATE --entry-max 1000000
 keeps "$long" "$long" '' s EXECUTE --global-max 1000000
 
-# limits TEXT LENGTH KEPT VARIABLE COMMAND PLACE: of a string of so many bytes, which nothing breaks, so many are kept without an option.
+# limits LENGTH KEPT VARIABLE COMMAND PLACE: of a string of LENGTH bytes, which nothing breaks, KEPT are kept without an option.
 limits() {
     begin "usual_limit_$((passed + failed))"
     use_style "STRINGS {s} FUNCTION {f} {\"$(letters "$1" b)\" '$3 := $3 write\$ newline\$} $4 {f}"

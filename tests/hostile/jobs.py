@@ -103,7 +103,7 @@ def aux_files_in_a_circle(size):
 
 
 def nested_aux_files(depth):
-    """So many files, each of which names the next one; the last has the job's lines."""
+    """`depth` files, each of which names the next one; the last has the job's lines."""
     names = ["job.aux"] + ["level%d.aux" % level for level in range(1, depth)]
     files = {name: b"\\@input{%s}\n" % after.encode() for name, after in zip(names, names[1:])}
     return {**files, names[-1]: AUX}
@@ -288,7 +288,7 @@ def one_long_string_used_again_and_again(size):
 
 @hostile(size=100_000, small=200)
 def one_long_string_whose_last_white_goes(size):
-    """The string is as long as may be and ends in white, which each entry's value loses."""
+    """The string is as long as may be and ends in whitespace, which each entry's value loses."""
     text = b"x" * (size * LONGEST_STRING // 100_000 - 1)
     entries = b"".join(b"@misc{k%d, title = s}\n" % number for number in range(size))
     return {"job.aux": AUX.replace(b"{k}", b"{*}"), "d.bib": b"@string{s = {" + text + b" }}\n" + entries}, Expected()

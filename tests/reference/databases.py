@@ -9,7 +9,7 @@ WHITE_RUN = re.compile(rb"[ \t\r\n]+")
 
 
 def is_blank(byte):
-    """White, and the end of a line."""
+    """Whitespace, and the end of a line."""
     return is_white(byte) or byte == 10
 
 
@@ -179,7 +179,7 @@ class Reader:
     # ---- signs and names ----
 
     def skip_white(self):
-        """Passes white; the file may not end there."""
+        """Passes whitespace; the file may not end there."""
         self.place = front(self.text, self.place, is_blank)
         self.not_at_end()
 

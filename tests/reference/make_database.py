@@ -79,7 +79,7 @@ class Maker:
         return " ".join(words)
 
     def wrapped(self, text):
-        """A value in braces or quotes, its white now and then more than a space."""
+        """A value in braces or quotes, its whitespace now and then more than a space."""
         text = text.replace(" ", self.pick([" ", " ", " ", "\n     ", "  "]))
         return "{" + text + "}" if self.chance(0.6) or '"' in text.replace('{\\"', "") else '"' + text + '"'
 

@@ -45,7 +45,7 @@ def commas(name):
 
 
 def last_sign(name):
-    """The place of the last byte that is neither white nor a separator."""
+    """The place of the last byte that is neither whitespace nor a separator."""
     signs = [place for place, byte in enumerate(name) if not is_white(byte) and not is_separator(byte)]
     return signs[-1] if signs else None
 

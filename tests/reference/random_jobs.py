@@ -126,13 +126,13 @@ class Maker:
 
 
 def random_jobs(number, seed):
-    """So many jobs: their files and their options."""
+    """`number` jobs: their files and their options."""
     for place in range(number):
         yield Maker(seed * 1_000_003 + place).job()
 
 
 def random_programs(number, seed):
-    """So many programs of 50 tokens, as jobs."""
+    """`number` programs of 50 tokens, as jobs."""
     for place in range(number):
         yield Maker(seed * 1_000_003 + place).program()
 

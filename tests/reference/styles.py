@@ -103,7 +103,7 @@ class Reader:
         return b"" if self.at_end() else self.lines[self.line][self.column:]
 
     def skip_white(self):
-        """Passes white, ends of lines and comments."""
+        """Passes whitespace, ends of lines and comments."""
         while not self.at_end():
             rest = self.rest()
             if rest == b"" or rest[0] == 37:
@@ -114,7 +114,7 @@ class Reader:
                 return
 
     def next_token(self):
-        """Passes white; the file may not end there."""
+        """Passes whitespace; the file may not end there."""
         self.skip_white()
         if self.at_end():
             raise Fault(b"Illegal end of style file")
@@ -125,7 +125,7 @@ class Reader:
             self.line += 1
 
     def skip_token(self):
-        """Passes all up to white, `}`, `%` or the end of the line, and gives it."""
+        """Passes all up to whitespace, `}`, `%` or the end of the line, and gives it."""
         rest = self.rest()
         end = 0
         while end < len(rest) and not is_white(rest[end]) and rest[end] not in b"}%":

@@ -250,7 +250,7 @@ def change_case(text, conversion):
 
 
 def keeps_title_case(found, number):
-    """Is it the first element, or does white, and before that a colon at depth 0, stand before it?"""
+    """Is it the first element, or does whitespace, and before that a colon at depth 0, stand before it?"""
     before = number
     while before > 0 and found[before - 1].kind == BYTE and found[before - 1].text in (b" ", b"\t", b"\r"):
         before -= 1

@@ -93,7 +93,7 @@ def pushes(number):
 
 
 def chained(number):
-    """So many functions, each of which but the first calls the one before."""
+    """`number` functions, each of which but the first calls the one before."""
     text = b"FUNCTION {f1} {} "
     for place in range(2, number + 1):
         text += b"FUNCTION {f%d} {f%d} " % (place, place - 1)

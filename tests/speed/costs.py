@@ -74,7 +74,7 @@ def names_of(size):
 
 
 def entries_of(size, fields=""):
-    """So many entries with these fields."""
+    """`size` entries with these fields."""
     return "".join("@misc{%s%s}\n" % (key, fields) for key in names_of(size))
 
 
@@ -256,7 +256,7 @@ def sorts(size):
 
 @cost("seconds", "seconds for 1,000,000,000 bytes", 200, 800, scale=1e-9)
 def uses_of_a_string(size):
-    """A string that is joined from parts, with white at its end, which each value that it gives loses."""
+    """A string that is joined from parts, with whitespace at its end, which each value that it gives loses."""
     values = "".join(", f%03d = s" % number for number in range(size))
     database = "@string{s = {%s} # {}}\n@misc{k%s}\n" % ("x " * (LONGEST_STRING // 2 - 1), values)
     return Job({"d.bib": database, "s.bst": style("", fields=many(size))}, size * LONGEST_STRING)

@@ -88,7 +88,7 @@ def read_arguments():
     parser = argparse.ArgumentParser()
     parser.add_argument("--only", type=named_shapes, default=list(SHAPES.values()), metavar="NAME,..", help="these shapes alone")
     parser.add_argument("--original", action="store_true", help="adds rows of the original")
-    parser.add_argument("--runs", type=int, default=3, help="seconds are the best of so many runs")
+    parser.add_argument("--runs", type=int, default=3, help="seconds are the best of this number of runs")
     parser.add_argument("program", nargs="?", type=pathlib.Path, default=PROGRAM)
     return parser.parse_args()
 

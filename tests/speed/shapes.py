@@ -69,7 +69,7 @@ WORDS = "The  {Works}\n  of {\\'E}mile and {{Bo}\tDunn}   \n   "
 
 @shape("bytes", 90_000, 900_000)
 def giant_value(size):
-    """Seven tenths are words in braces, with white between them; one is white alone, one opens braces and one closes them."""
+    """Seven tenths are words in braces, with whitespace between them; one is whitespace alone, one opens braces and one closes them."""
     part = size // 10
     value = WORDS * (7 * part // len(WORDS)) + " " * part + "{" * part + "}" * part
     return database_job("@article{work, title = {%s}}\n" % value, ["work"])
@@ -119,7 +119,7 @@ NAME, STRING = "unknown-name-%06d\n", '"string of %07d" '
 
 
 def numbered(text, size):
-    """The text again and again with a number in it, so many bytes of it."""
+    """The text again and again with a number in it, about `size` bytes in all."""
     return "".join(text % number for number in range(size // len(text % 0)))
 
 
@@ -179,7 +179,7 @@ def name_without_letters(size):
 
 @shape("bytes", 20_000, 200_000)
 def name_with_white_between(size):
-    """Two tokens with much white between."""
+    """Two tokens with `size` bytes of whitespace between."""
     return name_job(size, "A" + " " * size + "B C", "{ff}")
 
 

@@ -19,8 +19,8 @@ use Rattle.bibtex.specs.Status.{first_fault}
 use Rattle.bibtex.specs.declared.given.Settings.{Settings}
 use Rattle.bibtex.specs.declared.list_file.ListFile.{ListFile}
 
--- The job that was asked for is run, with all that was asked of it, over a finder of this content, if it tells one: its report, list and
--- log are the product's, and after a fault the two outputs are beginnings of them. Whatever the finder is, also one over the files of a disk,
+-- The job that was asked for is run, with all that was asked of it, over a finder of this content, if that is known: its report, list and
+-- log are the product's, and after a fault the two outputs are prefixes of them. Whatever the finder is, also one over the files of a disk,
 -- there are files of whose product the same holds; and the run keeps to its budget.
 pub record RunsJob (content : Option Files) (settings : Settings) (before after : Received) (answer : Result Report RunFault) : Type 0 where
   pub report : IfOk answer (λ report. IfSome content (λ files. report ≡ (product files settings.job.now settings.options).report))

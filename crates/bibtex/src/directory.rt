@@ -14,7 +14,7 @@ use std::alloc::Global;
 use std::io;
 use std::io::{ErrorKind, Read};
 
-/// The files of a folder of a system. It tells its content where the system does.
+/// The files of a folder of a system. Their content is known where the system's is.
 pub struct DirectoryFinder<'a, S> {
     system: S,
     directory: &'a str,
@@ -132,60 +132,86 @@ mod tests {
     use crate::system::RealSystem;
     use std::alloc::AllocError;
     use std::fs;
-    use std::process::Abort;
-    use std::rt::Files;
     use std::test::Fail;
 
-    // What a fetch answered, how often the finder failed then, and the bytes.
-    type Fetched = (Result<bool, FetchFault>, u64, Vec<u8>);
-
-    // What a new finder over a folder gives for a name.
-    fn fetched(
-        rt: &(impl Files + AllocGlobal),
-        directory: &str,
-        name: &[u8],
-    ) -> Result<Fetched, AllocError> {
-        let mut into = Vec::from_slice(rt.alloc(), b"what was there")?;
-        let mut finder = DirectoryFinder::new(RealSystem::new(rt), directory);
-        let answer = finder.fetch(rt.alloc(), name, &mut into);
-        Ok((answer, finder.failures, into))
-    }
-
-    // Asserts what a fetch gave.
-    fn gives(
-        rt: &impl Abort,
-        fetched: Result<Fetched, AllocError>,
+    // A name, what a fetch answers for it, how often the finder fails then, and the bytes.
+    #[derive(Clone, Copy)]
+    struct Row<'a> {
+        name: &'a [u8],
         answer: Result<bool, FetchFault>,
         failures: u64,
-        bytes: &[u8],
-    ) -> Result<(), Fail> {
-        let (found, failed, into) = fetched?;
-        assert!(rt; (found, failed) == (answer, failures));
-        assert!(rt; into.as_slice() == bytes);
-        Ok(())
+        bytes: &'a [u8],
+    }
+
+    // Whether a new finder over a folder gives this for a name.
+    fn gives(rt: &HostRuntime, directory: &str, row: &Row<'_>) -> Result<bool, AllocError> {
+        let mut into = Vec::from_slice(rt.alloc(), b"what was there")?;
+        let mut finder = DirectoryFinder::new(RealSystem::new(rt), directory);
+        let answer = finder.fetch(rt.alloc(), row.name, &mut into);
+        Ok(answer == row.answer && finder.failures == row.failures && into.as_slice() == row.bytes)
+    }
+
+    // Whether each name gives what is said.
+    fn all_give(rt: &HostRuntime, directory: &str, rows: &[Row<'_>]) -> Result<bool, AllocError> {
+        for row in rows {
+            if !gives(rt, directory, row)? {
+                return Ok(false);
+            }
+        }
+        Ok(true)
+    }
+
+    const ROWS: [Row<'static>; 5] = [
+        Row {
+            name: b"present.aux",
+            answer: Ok(true),
+            failures: 0,
+            bytes: b"text",
+        },
+        Row {
+            name: b"empty.aux",
+            answer: Ok(true),
+            failures: 0,
+            bytes: b"",
+        },
+        Row {
+            name: b"missing.aux",
+            answer: Ok(false),
+            failures: 0,
+            bytes: b"",
+        },
+        Row {
+            name: b"\xff.aux",
+            answer: Ok(false),
+            failures: 0,
+            bytes: b"",
+        },
+        // a folder can be opened and not be read
+        Row {
+            name: b".",
+            answer: Err(FetchFault::Device),
+            failures: 1,
+            bytes: b"",
+        },
+    ];
+
+    // Whether the files of a folder are read, which is removed then.
+    fn reads_in(rt: &HostRuntime, directory: &str, rows: &[Row<'_>]) -> Result<bool, Fail> {
+        write_file(rt, directory, "present.aux", b"text")?;
+        write_file(rt, directory, "empty.aux", b"")?;
+        let are_read = all_give(rt, directory, rows)?;
+        fs::remove_dir_all(rt, directory)?;
+        Ok(are_read)
     }
 
     #[test]
     fn reads_real_files(rt: HostRuntime) -> Result<(), Fail> {
         let directory = make_folder(&rt, rt.alloc(), "directory")?;
-        let directory = directory.as_str();
-        write_file(&rt, directory, "present.aux", b"text")?;
-        write_file(&rt, directory, "empty.aux", b"")?;
-        for (name, answer, failures, bytes) in [
-            (b"present.aux".as_slice(), Ok(true), 0, b"text".as_slice()),
-            (b"empty.aux", Ok(true), 0, b""),
-            (b"missing.aux", Ok(false), 0, b""),
-            (b"\xff.aux", Ok(false), 0, b""),
-            // a folder can be opened and not be read
-            (b".", Err(FetchFault::Device), 1, b""),
-        ] {
-            gives(&rt, fetched(&rt, directory, name), answer, failures, bytes)?;
-        }
-        fs::remove_dir_all(&rt, directory)?;
+        assert!(rt; reads_in(&rt, directory.as_str(), &ROWS)?);
         Ok(())
     }
 
-    // A text of so many bytes, in which no two blocks of a power of two are the same.
+    // A text of `length` bytes, in which no two neighbouring blocks of 2^k bytes are the same.
     fn long_text(alloc: Global, length: u32) -> Result<Vec<u8>, AllocError> {
         let mut text = Vec::new(alloc);
         for place in 0..length {
@@ -194,33 +220,56 @@ mod tests {
         Ok(text)
     }
 
+    // Whether a text that is written to a file of a folder is read again.
+    fn reads_text(rt: &HostRuntime, directory: &str, text: &[u8]) -> Result<bool, Fail> {
+        write_file(rt, directory, "long.aux", text)?;
+        let row = Row {
+            name: b"long.aux",
+            answer: Ok(true),
+            failures: 0,
+            bytes: text,
+        };
+        let is_read = gives(rt, directory, &row)?;
+        Ok(is_read)
+    }
+
+    // Whether a text of each length is read, in a folder that is removed then.
+    fn reads_long(rt: &HostRuntime, directory: &str, lengths: &[u32]) -> Result<bool, Fail> {
+        for length in lengths {
+            let text = long_text(rt.alloc(), *length)?;
+            if !reads_text(rt, directory, &text)? {
+                return Ok(false);
+            }
+        }
+        fs::remove_dir_all(rt, directory)?;
+        Ok(true)
+    }
+
     // A file is read to its last byte, however long it is.
     #[test]
     fn reads_long_files(rt: HostRuntime) -> Result<(), Fail> {
         let directory = make_folder(&rt, rt.alloc(), "long")?;
-        let directory = directory.as_str();
-        for length in [4_096, 4_097, 65_537, 1_000_000] {
-            let text = long_text(rt.alloc(), length)?;
-            write_file(&rt, directory, "long.aux", &text)?;
-            gives(
-                &rt,
-                fetched(&rt, directory, b"long.aux"),
-                Ok(true),
-                0,
-                &text,
-            )?;
-        }
-        fs::remove_dir_all(&rt, directory)?;
+        let lengths = [4_096, 4_097, 65_537, 1_000_000];
+        assert!(rt; reads_long(&rt, directory.as_str(), &lengths)?);
         Ok(())
+    }
+
+    // Whether there is no file whose name has this length.
+    fn misses(rt: &HostRuntime, length: usize) -> Result<bool, AllocError> {
+        let name = vec![in rt.alloc(); b'n'; length]?;
+        let row = Row {
+            name: &name,
+            answer: Ok(false),
+            failures: 0,
+            bytes: b"",
+        };
+        gives(rt, ".", &row)
     }
 
     // A name may be longer than any that the system takes: there is no such file.
     #[test]
     fn misses_long_names(rt: HostRuntime) -> Result<(), Fail> {
-        for length in [256, 5_000] {
-            let name = vec![in rt.alloc(); b'n'; length]?;
-            gives(&rt, fetched(&rt, ".", &name), Ok(false), 0, b"")?;
-        }
+        assert!(rt; misses(&rt, 256)? && misses(&rt, 5_000)?);
         Ok(())
     }
 }

@@ -143,8 +143,6 @@ mod tests {
     use crate::scratch::{make_folder, write_file};
     use crate::system::RealSystem;
     use btx_run::{KeptBytes, LineLength, Options, TextMode};
-    use std::process::Abort;
-    use std::rt::Files;
     use std::test::Fail;
     use std::{fs, io};
 
@@ -155,7 +153,7 @@ mod tests {
         "The top-level auxiliary file: job.aux\nThe style file: s.bst\nDatabase file #1: d.bib\nEnded: finished, warnings 0, errors 0, steps 4\n";
 
     // Writes the files of the job.
-    fn write_job(rt: &(impl Files + AllocGlobal), directory: &str) -> io::Result<()> {
+    fn write_job(rt: &HostRuntime, directory: &str) -> io::Result<()> {
         let aux = b"\\citation{k}\n\\bibdata{d}\n\\bibstyle{s}\n";
         write_file(rt, directory, "job.aux", aux)?;
         write_file(rt, directory, "d.bib", b"@misc{k, title = {T}}\n")?;
@@ -180,40 +178,39 @@ mod tests {
         }
     }
 
-    // Runs the job in a folder, and gives its status.
-    fn status_in(
-        rt: &(impl Files + Print + Eprint + AllocGlobal),
-        directory: &str,
-    ) -> Result<u8, RunFault> {
-        let settings = settings_in(directory);
-        let mut outputs = SystemOutputs::new(rt);
-        let report = run_job(rt.alloc(), &settings, RealSystem::new(rt), &mut outputs)?;
-        Ok(report.status)
+    // What a run answered, of its report the status alone.
+    fn status_of(answer: Result<Report, RunFault>) -> Result<u8, RunFault> {
+        Ok(answer?.status)
     }
 
-    // Asserts the text of an output of the job.
-    fn wrote(
-        rt: &(impl Files + AllocGlobal + Abort),
-        directory: &str,
-        ending: &str,
-        text: &str,
-    ) -> Result<(), Fail> {
+    // Runs the job in a folder, and gives its status.
+    fn status_in(rt: &HostRuntime, directory: &str) -> Result<u8, RunFault> {
+        let settings = settings_in(directory);
+        let mut outputs = SystemOutputs::new(rt);
+        status_of(run_job(rt.alloc(), &settings, RealSystem::new(rt), &mut outputs))
+    }
+
+    // Whether an output of the job has this text.
+    fn wrote(rt: &HostRuntime, directory: &str, ending: &str, text: &str) -> Result<bool, Fail> {
         let path = path_of(rt.alloc(), &settings_in(directory), ending)?;
         let found = fs::read_to_string(rt, path.as_str())?;
-        assert!(rt; found.as_str() == text);
-        Ok(())
+        Ok(found.as_str() == text)
+    }
+
+    // Whether the job runs in a folder, and fails when the folder is removed.
+    fn runs_in(rt: &HostRuntime, directory: &str) -> Result<bool, Fail> {
+        write_job(rt, directory)?;
+        let has_run = status_in(rt, directory) == Ok(0)
+            && wrote(rt, directory, ".bbl", "a\n")?
+            && wrote(rt, directory, ".blg", LOG)?;
+        fs::remove_dir_all(rt, directory)?;
+        Ok(has_run && status_in(rt, directory) == Err(RunFault::Device))
     }
 
     #[test]
     fn writes_files(rt: HostRuntime) -> Result<(), Fail> {
         let directory = make_folder(&rt, rt.alloc(), "job")?;
-        let directory = directory.as_str();
-        write_job(&rt, directory)?;
-        assert!(rt; status_in(&rt, directory) == Ok(0));
-        wrote(&rt, directory, ".bbl", "a\n")?;
-        wrote(&rt, directory, ".blg", LOG)?;
-        fs::remove_dir_all(&rt, directory)?;
-        assert!(rt; status_in(&rt, directory) == Err(RunFault::Device));
+        assert!(rt; runs_in(&rt, directory.as_str())?);
         Ok(())
     }
 

@@ -83,7 +83,7 @@ impl<W: EmptiedFile> ListFile<W> {
     }
 }
 
-/// A file of the real system. It doesn't tell what it holds.
+/// A file of the real system. What it holds isn't known.
 #[derive(Drop)]
 pub struct SystemFile<F> {
     file: F,

@@ -173,30 +173,34 @@ fn main(rt: HostRuntime) -> ExitCode {
 #[cfg(test)]
 mod tests {
     use super::*;
+    use std::alloc::AllocError;
     use std::test::Fail;
 
-    // The exit code for the system's answer when it was asked for the words.
-    fn code_for(
-        rt: &(impl Files + Print + Eprint + AllocGlobal),
-        args: io::Result<Args>,
-    ) -> ExitCode {
+    // Whether the program exits so for the system's answer when it was asked for the words.
+    fn exits_with(rt: &HostRuntime, args: io::Result<Args>, status: u8) -> bool {
         let mut outputs = SystemOutputs::new(rt);
-        run_command_line(rt.alloc(), RealSystem::new(rt), &mut outputs, args)
+        let code = run_command_line(rt.alloc(), RealSystem::new(rt), &mut outputs, args);
+        code == ExitCode::from(status)
+    }
+
+    // The program's name alone.
+    fn name_alone(alloc: Global) -> Result<Vec<String>, AllocError> {
+        let mut words = Vec::new(alloc);
+        words.push(String::from_str(alloc, "bibtex")?)?;
+        Ok(words)
     }
 
     #[test]
     fn exits_for_words(rt: HostRuntime) -> Result<(), Fail> {
-        let mut words = Vec::new(rt.alloc());
-        words.push(String::from_str(rt.alloc(), "bibtex")?)?;
-        assert!(rt; code_for(&rt, Ok(words.into_iter())) == ExitCode::from(1));
+        let words = name_alone(rt.alloc())?;
+        assert!(rt; exits_with(&rt, Ok(words.into_iter()), 1));
         Ok(())
     }
 
     #[test]
     fn exits_for_unread_words(rt: HostRuntime) {
         for (kind, status) in [(ErrorKind::InvalidData, 1), (ErrorKind::OutOfMemory, 5)] {
-            let args = Err(io::Error::from(kind));
-            assert!(rt; code_for(&rt, args) == ExitCode::from(status));
+            assert!(rt; exits_with(&rt, Err(io::Error::from(kind)), status));
         }
     }
 }

@@ -64,29 +64,31 @@ mod tests {
     use super::*;
     use btx_run::{End, Limit};
 
+    // The program's end for a job that ran to an end with so many errors.
+    fn exit_after(end: End, errors: u64) -> Exit {
+        Exit::of(Ok(Report {
+            status: end.status(errors),
+            end,
+            steps: 4,
+            deepest: 1,
+            warnings: 0,
+            errors,
+        }))
+    }
+
     #[test]
     fn gives_each_status(rt: HostRuntime) {
-        for (end, errors, status) in [
-            (End::Finished, 0, 0),
-            (End::Finished, 1, 2),
-            (End::Limit(Limit::Calls), 0, 3),
-            (End::NoTopFile, 0, 3),
-            (End::Stopped, 1, 4),
+        for (exit, status) in [
+            (exit_after(End::Finished, 0), 0),
+            (exit_after(End::Finished, 1), 2),
+            (exit_after(End::Limit(Limit::Calls), 0), 3),
+            (exit_after(End::NoTopFile, 0), 3),
+            (exit_after(End::Stopped, 1), 4),
+            (Exit::of(Err(RunFault::Memory)), 5),
+            (Exit::of(Err(RunFault::Device)), 6),
+            (Exit::Shown, 0),
+            (Exit::Refused, 1),
         ] {
-            let report = Report {
-                status: end.status(errors),
-                end,
-                steps: 4,
-                deepest: 1,
-                warnings: 0,
-                errors,
-            };
-            assert!(rt; Exit::of(Ok(report)).status() == status);
-        }
-        for (fault, status) in [(RunFault::Memory, 5), (RunFault::Device, 6)] {
-            assert!(rt; Exit::of(Err(fault)).status() == status);
-        }
-        for (exit, status) in [(Exit::Shown, 0), (Exit::Refused, 1)] {
             assert!(rt; exit.status() == status);
         }
     }

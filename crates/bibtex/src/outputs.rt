@@ -10,7 +10,7 @@ use std::io::Write;
 use std::rt::Files;
 use std::{fs, io};
 
-/// All that the program writes to. It tells what was done with it, in order, or doesn't, as the real system.
+/// All that the program writes to. What was done with it is known, in order, or isn't, as with the real system.
 pub trait Outputs {
     /// A list's file that is open.
     type List: EmptiedFile + Drop;
@@ -27,7 +27,7 @@ pub trait Outputs {
         ensures { WereDone (acts self.old) (acts self.new) (ClosedList file ∷ []) };
 
     /// Empties the log that an earlier run left in the file of this path, so that no old log stands beside a new list. Where there is none, or
-    /// that can't be done, nothing is said: the end of the run tells. A pipe or a device is left alone.
+    /// that can't be done, nothing is said: the end of the run shows whether the log can be written. A pipe or a device is left alone.
     fn empty_log(&mut self, path: &str)
         ensures { WereDone (acts self.old) (acts self.new) (EmptiedLog path.now ∷ []) };
 

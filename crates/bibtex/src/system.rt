@@ -7,12 +7,12 @@ ghost use Rattle.bibtex.specs.FolderFiles.{Holds, IsMissedBy};
 use std::io::Read;
 use std::{fs, io, rt};
 
-/// A system whose files are read by their paths. It tells what they hold or doesn't, as the real one.
+/// A system whose files are read by their paths. Their content is known or isn't, as with the real one.
 pub trait System {
     /// A file that is open.
     type File: Read + Drop;
 
-    /// What the files hold, by their paths, for a system that tells it.
+    /// What the files hold, by their paths, for a system whose content is known.
     ghost content: { Self → Option Files };
 
     /// Opens a file, which is then read from its first byte on.

@@ -274,7 +274,7 @@ fate_none files earlier event later off silent = λ name. silent name ∙ sym (
 
 -- ---- reading
 
--- the number of open files, where room is left for so many more
+-- the number of open files where there is room for `room` more
 abbrev open_with : ℕ → ℕ
 open_with room = 20 - room
 

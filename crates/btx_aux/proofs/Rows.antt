@@ -58,7 +58,7 @@ case_mismatch : alone (codes "\\citation{k,K}") ≡ base_with (codes "k" ∷ [])
 unfolding job_events said words_of aux_command_named pieces_of line_pieces trimmed
 case_mismatch = refl
 
--- white in the argument: what stands before it is taken
+-- whitespace in the argument: what stands before it is taken
 white_space : alone (codes "\\citation{k, j}") ≡ base_with (codes "k" ∷ []) None (error_at 1 (Slipped WhiteSpace) ∷ [])
 unfolding job_events said words_of aux_command_named pieces_of line_pieces trimmed
 white_space = refl
@@ -68,7 +68,7 @@ unclosed : alone (codes "\\citation{k") ≡ base_with [] None (error_at 1 (Slipp
 unfolding job_events said words_of aux_command_named pieces_of line_pieces trimmed
 unclosed = refl
 
--- white at the end of a line is no part of it
+-- whitespace at the end of a line is no part of it
 unclosed_before_white : alone (codes "\\citation{k ") ≡ alone (codes "\\citation{k")
 unfolding job_events said words_of aux_command_named pieces_of line_pieces trimmed
 unclosed_before_white = refl

@@ -1,7 +1,7 @@
 //! The commands of an `.aux` file.
 
 /// A command that counts. Lines of any other are ignored.
-#[derive(Clone, Copy, Debug, PartialEq, Eq)]
+#[derive(Clone, Copy, PartialEq, Eq)]
 pub enum Command {
     /// `\citation`: keys.
     Citation,
@@ -14,9 +14,9 @@ pub enum Command {
 }
 
 /// What ends the reading of a line before its `}`, or after it.
-#[derive(Clone, Copy, Debug, PartialEq, Eq)]
+#[derive(Clone, Copy, PartialEq, Eq)]
 pub enum Slip {
-    /// White in the argument.
+    /// Whitespace in the argument.
     WhiteSpace,
     /// The line ends within the argument.
     Unclosed,

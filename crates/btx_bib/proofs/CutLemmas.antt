@@ -317,7 +317,7 @@ closed-entry wanted known kind key on =
     ∙ ap (λ (k : Known). after_key wanted k kind key) (closed-closed known)
     ∙ sym (ap (λ (b : Bool). if b then after_key wanted (with_current_stored known) kind key else known) on)
 
--- so many events
+-- at most `turns` events are the same if the current entry is stored before them
 abbrev SameEvents : Request → ℕ → Type 0
 SameEvents wanted turns = (known : Known) (next : Next) (text : List ℕ) → WantsNone next ⊎ (goes_on known.ending ≡ false)
     → events_within (keeping wanted) turns (with_current_stored known) next text ≡ events_within (keeping wanted) turns known next text

@@ -101,7 +101,7 @@ impl Model for Places {
 impl Places {
     ghost use Rattle.std.specs.Prelude.{◌≡◌, ◌<◌, [], IfOk, OnErr, OnOk, length, replicate, slice_get, slice_set};
 
-    /// So many fields are missing.
+    /// The places of `count` fields, all of them missing.
     pub fn missing(alloc: Global, count: usize) -> Result<Places, AllocError>
         ensures { IfOk result (λ places. places ≡ replicate count Place.Missing) }
     {

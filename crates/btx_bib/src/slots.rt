@@ -143,7 +143,7 @@ impl<'a> Slots<'a> {
         Ok(())
     }
 
-    /// Takes the entry at a place its parent.
+    /// Removes the parent of the entry at `place`.
     pub fn cut(&mut self, place: usize)
         ensures { self.new ≡ changed_at place without_crossref self.old }
     {

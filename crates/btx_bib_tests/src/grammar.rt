@@ -1,4 +1,5 @@
 //! Tests of what no contract says: that the calls succeed where memory suffices. They hold by the contracts as well.
+use crate::limits::{MOST, with_letters};
 use btx_bib::grammar::events::Event;
 use btx_bib::grammar::line_counter::LineCounter;
 use btx_bib::grammar::reader::{Reader, StoredKeys};
@@ -9,7 +10,6 @@ use btx_bib::grammar::values::Value;
 use btx_text::{Fault, Text};
 use std::alloc::{AllocError, Global};
 use std::marker::Model;
-use std::test::Fail;
 
 // Every name has this value, which is squeezed.
 #[derive(Drop)]
@@ -38,19 +38,11 @@ impl<'a> Strings<'a> for OneValue<'a> {
     }
 }
 
-// Every name has a letter with white round it.
+// Every name has a letter with whitespace round it.
 #[tactic(auto, unfolding(btx_bib::specs::refinement::Grammar::Squeezing::is_squeezed))]
 fn spaced_letter<'a>() -> OneValue<'a> {
     OneValue {
         value: Text::borrowed(b" v "),
-    }
-}
-
-// Every name has the empty text.
-#[tactic(auto, unfolding(btx_bib::specs::refinement::Grammar::Squeezing::is_squeezed))]
-fn empty_value<'a>() -> OneValue<'a> {
-    OneValue {
-        value: Text::empty(),
     }
 }
 
@@ -96,54 +88,46 @@ fn event_words<'e>(event: &Event<'e>) -> (&'static [u8], &'e [u8]) {
     }
 }
 
-// The events of a text with their lines, one after another.
-fn events_listed(alloc: Global, text: &[u8]) -> Result<Vec<u8>, AllocError> {
-    let mut listed = Vec::new(alloc);
+// Lists an event: its word, its name or key, and the last digit of its line.
+fn push_event(listed: &mut Vec<u8>, event: &Event<'_>, line: usize) -> Result<(), AllocError> {
+    let (word, name) = event_words(event);
+    listed.extend_from_slice(word)?;
+    listed.extend_from_slice(name)?;
+    listed.extend_from_slice(&[b'0' + (line % 10) as u8, b'\n'])
+}
+
+// Lists the events of a text with their lines, one after another.
+fn push_events(listed: &mut Vec<u8>, alloc: Global, text: &[u8]) -> Result<(), AllocError> {
     let mut reader = Reader::of(text);
     let mut lines = LineCounter::of(text);
     for _ in 0..100 {
-        let Some(placed) = reader.read(alloc, &KeyK)? else {
-            break;
-        };
-        let (word, name) = event_words(&placed.event);
-        listed.extend_from_slice(word)?;
-        listed.extend_from_slice(name)?;
-        listed.push(b'0' + (lines.line_at(placed.rest) % 10) as u8)?;
-        listed.push(b'\n')?;
+        match reader.read(alloc, &KeyK)? {
+            Some(placed) => push_event(listed, &placed.event, lines.line_at(placed.rest))?,
+            None => return Ok(()),
+        }
     }
-    Ok(listed)
-}
-
-#[test]
-fn events_and_lines(rt: HostRuntime) -> Result<(), Fail> {
-    let text =
-        b"@comment{@Preamble{\"a\"}\n@string(s = {b}) @misc{K,\n title = s # {\n}, year=1\n,} @misc{l m @@a{c, {}} @misc{k, f=1}\n@misc{";
-    let listed = events_listed(rt.alloc(), text)?;
-    let expected =
-        b"comment1\npreamble1\nend1\nstring s2\nend2\nentry K2\nfield title4\nfield year4\nend5\nentry l5\nno comma5\nentry c5\nno name5\nrepeated5\nend6\n";
-    assert!(rt; listed.as_slice() == expected.as_slice());
     Ok(())
 }
 
-// The text of the first value in a database, or the fault of it.
-fn first_text<'a>(
-    alloc: Global,
-    text: &'a [u8],
-    ends: Ends,
-    strings: &OneValue<'a>,
-) -> Result<Text<'a>, Fault> {
-    let mut reader = Reader::of(text);
-    for _ in 0..100 {
-        match reader.read(alloc, &KeyK)? {
-            Some(placed) => {
-                if let Some(value) = value_in(placed.event) {
-                    return value_text(alloc, &value, strings, ends);
-                }
-            }
-            None => return Ok(Text::empty()),
-        }
-    }
-    Ok(Text::empty())
+// Whether these are the events of a text with their lines.
+fn has_events(alloc: Global, text: &[u8], expected: &[u8]) -> Result<bool, AllocError> {
+    let mut listed = Vec::new(alloc);
+    push_events(&mut listed, alloc, text)?;
+    Ok(listed.as_slice() == expected)
+}
+
+// Whether a text with each kind of item has the events that it should have.
+fn events_are_right(alloc: Global) -> Result<bool, AllocError> {
+    has_events(
+        alloc,
+        b"@comment{@Preamble{\"a\"}\n@string(s = {b}) @misc{K,\n title = s # {\n}, year=1\n,} @misc{l m @@a{c, {}} @misc{k, f=1}\n@misc{",
+        b"comment1\npreamble1\nend1\nstring s2\nend2\nentry K2\nfield title4\nfield year4\nend5\nentry l5\nno comma5\nentry c5\nno name5\nrepeated5\nend6\n",
+    )
+}
+
+#[test]
+fn events_and_lines(rt: HostRuntime) {
+    assert!(rt; events_are_right(rt.alloc()) == Ok(true));
 }
 
 // The value of an event.
@@ -155,43 +139,94 @@ fn value_in<'a>(event: Event<'a>) -> Option<Value<'a>> {
     }
 }
 
-#[test]
-fn texts_of_values(rt: HostRuntime) -> Result<(), Fail> {
-    let strings = spaced_letter();
-    let fields = [
-        (b"@a{c,f={Knuth}}".as_slice(), b"Knuth".as_slice()),
-        (b"@a{c,f={ Donald Knuth\r\n}}", b"Donald Knuth"),
-        (b"@a{c,f={ Donald\n  Knuth \t}}", b"Donald Knuth"),
-        (b"@a{c,f=\"x \" # s # {  z} # 12}", b"x v z12"),
-        (b"@a{c,f=s}", b"v"),
-    ];
-    for (text, expected) in fields {
-        let found = first_text(rt.alloc(), text, Ends::Trimmed, &strings)?;
-        assert!(rt; found.as_bytes() == expected);
+// The first value in a database.
+fn first_value<'a>(alloc: Global, text: &'a [u8]) -> Result<Option<Value<'a>>, AllocError> {
+    let mut reader = Reader::of(text);
+    for _ in 0..100 {
+        match reader.read(alloc, &KeyK)? {
+            Some(placed) => {
+                if let Some(value) = value_in(placed.event) {
+                    return Ok(Some(value));
+                }
+            }
+            None => return Ok(None),
+        }
     }
-    let found = first_text(rt.alloc(), b"@string{f= s # {  z }}", Ends::Kept, &strings)?;
-    assert!(rt; found.as_bytes() == b" v z ".as_slice());
-    Ok(())
+    Ok(None)
 }
 
-// A field of so many letters, with white at its ends.
-fn long_field(alloc: Global, len: usize) -> Result<Vec<u8>, AllocError> {
-    let mut text = Vec::from_slice(alloc, b"@a{c,f={\n ")?;
-    for _ in 0..len {
-        text.push(b'x')?;
+// The text of the first value in a database, or the fault of it.
+fn first_text<'a>(alloc: Global, text: &'a [u8], ends: Ends) -> Result<Text<'a>, Fault> {
+    match first_value(alloc, text)? {
+        Some(value) => value_text(alloc, &value, &spaced_letter(), ends),
+        None => Ok(Text::empty()),
     }
-    text.extend_from_slice(b"\n }}")?;
-    Ok(text)
+}
+
+/// A database, what becomes of the ends of its first value, and the text of that.
+type Worked = (&'static [u8], Ends, &'static [u8]);
+
+const TEXTS: [Worked; 6] = [
+    (b"@a{c,f={Knuth}}", Ends::Trimmed, b"Knuth"),
+    (
+        b"@a{c,f={ Donald Knuth\r\n}}",
+        Ends::Trimmed,
+        b"Donald Knuth",
+    ),
+    (
+        b"@a{c,f={ Donald\n  Knuth \t}}",
+        Ends::Trimmed,
+        b"Donald Knuth",
+    ),
+    (
+        b"@a{c,f=\"x \" # s # {  z} # 12}",
+        Ends::Trimmed,
+        b"x v z12",
+    ),
+    (b"@a{c,f=s}", Ends::Trimmed, b"v"),
+    (b"@string{f= s # {  z }}", Ends::Kept, b" v z "),
+];
+
+// Whether the first value in a database has this text.
+fn has_text(alloc: Global, text: &[u8], ends: Ends, expected: &[u8]) -> Result<bool, Fault> {
+    let found = first_text(alloc, text, ends)?;
+    Ok(found.as_bytes() == expected)
+}
+
+// Whether each of these values has its text.
+fn each_has_its_text(alloc: Global, rows: &[Worked]) -> Result<bool, Fault> {
+    for (text, ends, expected) in rows {
+        if !has_text(alloc, text, *ends, expected)? {
+            return Ok(false);
+        }
+    }
+    Ok(true)
+}
+
+// Whether each value of the table has its text.
+fn texts_are_right(alloc: Global) -> Result<bool, Fault> {
+    each_has_its_text(alloc, &TEXTS)
 }
 
 #[test]
-fn greatest_value(rt: HostRuntime) -> Result<(), Fail> {
-    let strings = empty_value();
-    let whole = long_field(rt.alloc(), 1_000_000)?;
-    let found = first_text(rt.alloc(), &whole, Ends::Trimmed, &strings)?;
-    assert!(rt; found.len() == 1_000_000);
-    let longer = long_field(rt.alloc(), 1_000_001)?;
-    let refused = first_text(rt.alloc(), &longer, Ends::Trimmed, &strings);
-    assert!(rt; matches!(refused, Err(Fault::StringLimit)));
-    Ok(())
+fn texts_of_values(rt: HostRuntime) {
+    assert!(rt; texts_are_right(rt.alloc()) == Ok(true));
+}
+
+// How long the text of the first value in a database is.
+fn text_len(alloc: Global, text: &[u8]) -> Result<usize, Fault> {
+    let found = first_text(alloc, text, Ends::Trimmed)?;
+    Ok(found.len())
+}
+
+// How long the text of a field is that has `letters` letters, with whitespace at both ends.
+fn long_text_len(alloc: Global, letters: usize) -> Result<usize, Fault> {
+    let text = with_letters(alloc, b"@a{c,f={\n ", letters, b"\n }}")?;
+    text_len(alloc, &text)
+}
+
+#[test]
+fn greatest_value(rt: HostRuntime) {
+    assert!(rt; long_text_len(rt.alloc(), MOST) == Ok(MOST));
+    assert!(rt; long_text_len(rt.alloc(), MOST + 1) == Err(Fault::StringLimit));
 }

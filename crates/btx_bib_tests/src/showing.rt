@@ -1,8 +1,8 @@
 //! Libraries as plain texts and numbers, so that a test compares these and holds no library.
 use btx_aux::{AuxJob, MemoryFinder, read_aux};
-use btx_bib::{End, Library, Source, read_databases};
+use btx_bib::{End, Library, Message, Source, read_databases};
 use btx_bst::{Style, read_style};
-use btx_text::{Fault, LineKind};
+use btx_text::{Fault, LineKind, LogLine};
 use std::alloc::{AllocError, Global};
 
 /// What is asked of databases: a style's text and how many fields it has with `crossref`, the cited keys, and how many references keep
@@ -22,101 +22,135 @@ pub struct Asked<'a> {
 /// How a reading ended, how many entries and messages there are, and how long the first entry's title is.
 pub type Size = (End, usize, usize, usize);
 
-// A value and a `;`: a `-` where it is missing.
-fn push_value(shown: &mut Vec<u8>, value: Option<&[u8]>) -> Result<(), AllocError> {
-    match value {
-        Some(value) => shown.extend_from_slice(value)?,
-        None => shown.push(b'-')?,
-    }
-    shown.push(b';')?;
-    Ok(())
+/// What is seen of a library, and of the style and the job that it was read for.
+#[derive(Drop)]
+pub struct Seen {
+    /// The library as a text.
+    pub shown: Vec<u8>,
+    /// Its size.
+    pub size: Size,
+    /// How many fields the style has, with `crossref`.
+    pub fields: usize,
+    /// How many keys the job has.
+    pub keys: usize,
 }
 
-// An entry: its key, a `=` if the style has its type and a `?` if not, and its values.
+// A value and a `;`: a `-` where it is missing.
+fn push_value(shown: &mut Vec<u8>, value: Option<&[u8]>) -> Result<(), AllocError> {
+    let text = match value {
+        Some(value) => value,
+        None => b"-",
+    };
+    shown.extend_from_slice(text)?;
+    shown.extend_from_slice(b";")
+}
+
+// An entry's key, and a `=` if the style has its type and a `?` if not.
+fn push_head(shown: &mut Vec<u8>, library: &Library<'_>, number: usize) -> Result<(), AllocError> {
+    shown.extend_from_slice(library.key(number))?;
+    let mark: &[u8] = match library.kind(number) {
+        Some(_) => b"=",
+        None => b"?",
+    };
+    shown.extend_from_slice(mark)
+}
+
+// An entry: its key with the mark of its type, and its values.
 fn push_entry(
     shown: &mut Vec<u8>,
     fields: u32,
     library: &Library<'_>,
     number: usize,
 ) -> Result<(), AllocError> {
-    shown.extend_from_slice(library.key(number))?;
-    match library.kind(number) {
-        Some(_) => shown.push(b'=')?,
-        None => shown.push(b'?')?,
-    }
+    push_head(shown, library, number)?;
     for field in 0..fields {
         push_value(shown, library.value(number, field))?;
     }
-    shown.push(b'\n')?;
-    Ok(())
+    shown.extend_from_slice(b"\n")
 }
 
-// The messages of a library as lines of the log, an error behind a `!`.
+// A line of the log, an error behind a `!`.
+fn push_line(shown: &mut Vec<u8>, line: &LogLine) -> Result<(), AllocError> {
+    if line.kind() == LineKind::Error {
+        shown.extend_from_slice(b"!")?;
+    }
+    shown.extend_from_slice(line.text())?;
+    shown.extend_from_slice(b"\n")
+}
+
+// A message as a line of the log.
+fn push_message(
+    shown: &mut Vec<u8>,
+    alloc: Global,
+    message: &Message<'_>,
+) -> Result<(), AllocError> {
+    let line = message.log_line(alloc)?;
+    push_line(shown, &line)
+}
+
+// The messages of a library as lines of the log.
 fn push_messages(
     shown: &mut Vec<u8>,
     alloc: Global,
     library: &Library<'_>,
 ) -> Result<(), AllocError> {
     for message in library.messages() {
-        let line = message.log_line(alloc)?;
-        if line.kind() == LineKind::Error {
-            shown.push(b'!')?;
-        }
-        shown.extend_from_slice(line.text())?;
-        shown.push(b'\n')?;
+        push_message(shown, alloc, message)?;
     }
     Ok(())
 }
 
-// A library: its entries, its preamble in brackets, and its messages.
+// The preamble of a library in brackets.
+fn push_preamble(shown: &mut Vec<u8>, library: &Library<'_>) -> Result<(), AllocError> {
+    shown.extend_from_slice(b"[")?;
+    shown.extend_from_slice(library.preamble().as_bytes())?;
+    shown.extend_from_slice(b"]\n")
+}
+
+// A library: its entries, its preamble, and its messages.
+fn push_library(
+    shown: &mut Vec<u8>,
+    alloc: Global,
+    fields: u32,
+    library: &Library<'_>,
+) -> Result<(), AllocError> {
+    for number in 0..library.len() {
+        push_entry(shown, fields, library, number)?;
+    }
+    push_preamble(shown, library)?;
+    push_messages(shown, alloc, library)
+}
+
+// The text of a library.
 fn library_shown(alloc: Global, fields: u32, library: &Library<'_>) -> Result<Vec<u8>, AllocError> {
     let mut shown = Vec::new(alloc);
-    for number in 0..library.len() {
-        push_entry(&mut shown, fields, library, number)?;
-    }
-    shown.push(b'[')?;
-    shown.extend_from_slice(library.preamble().as_bytes())?;
-    shown.extend_from_slice(b"]\n")?;
-    push_messages(&mut shown, alloc, library)?;
+    push_library(&mut shown, alloc, fields, library)?;
     Ok(shown)
 }
 
-/// Makes the job that cites `keys`.
-pub fn citing(alloc: Global, keys: &[u8]) -> Result<AuxJob, Fault> {
-    let mut top = Vec::from_slice(alloc, b"\\citation{")?;
-    top.extend_from_slice(keys)?;
-    top.extend_from_slice(b"}\n")?;
-    let mut finder = MemoryFinder::new(alloc, &[(b"job.aux", &top)])?;
+// The text of an `.aux` file that cites these keys.
+fn aux_text(alloc: Global, keys: &[u8]) -> Result<Vec<u8>, AllocError> {
+    let mut text = Vec::from_slice(alloc, b"\\citation{")?;
+    push_keys(&mut text, keys)?;
+    Ok(text)
+}
+
+// The cited keys, and the end of their line.
+fn push_keys(text: &mut Vec<u8>, keys: &[u8]) -> Result<(), AllocError> {
+    text.extend_from_slice(keys)?;
+    text.extend_from_slice(b"}\n")
+}
+
+// The job of an `.aux` file.
+fn job_of(alloc: Global, top: &[u8]) -> Result<AuxJob, Fault> {
+    let mut finder = MemoryFinder::new(alloc, &[(b"job.aux", top)])?;
     read_aux(alloc, &mut finder, b"job.aux")
 }
 
-// What databases give, with a style and a job. Each of these functions holds one thing that is dear to drop, and has one `?`.
-fn shown_with(
-    alloc: Global,
-    asked: Asked<'_>,
-    style: &Style<'_>,
-    job: &AuxJob,
-    sources: &[Source<'_>],
-) -> Result<Vec<u8>, Fault> {
-    let library = read_databases(alloc, style, job, sources, asked.least)?;
-    library_shown(alloc, asked.fields, &library).map_err(Fault::from)
-}
-
-// What databases give, with a style.
-fn shown_by(
-    alloc: Global,
-    asked: Asked<'_>,
-    style: &Style<'_>,
-    sources: &[Source<'_>],
-) -> Result<Vec<u8>, Fault> {
-    let job = citing(alloc, asked.keys)?;
-    shown_with(alloc, asked, style, &job, sources)
-}
-
-/// Shows what the databases `sources` give to what is asked.
-pub fn shown_of(alloc: Global, asked: Asked<'_>, sources: &[Source<'_>]) -> Result<Vec<u8>, Fault> {
-    let style = read_style(alloc, b"s.bst", asked.style)?;
-    shown_by(alloc, asked, &style, sources)
+// The job that cites these keys.
+fn citing(alloc: Global, keys: &[u8]) -> Result<AuxJob, Fault> {
+    let top = aux_text(alloc, keys)?;
+    job_of(alloc, &top)
 }
 
 // How long the first entry's title is.
@@ -127,30 +161,74 @@ fn title_len(library: &Library<'_>) -> usize {
     }
 }
 
-/// Answers the size of what the database `text` gives to a style and a job.
-pub fn size_with(
+// What is seen of a library, and of the style and the job that it was read for.
+fn seen_in(
     alloc: Global,
+    fields: u32,
     style: &Style<'_>,
     job: &AuxJob,
-    text: &[u8],
-) -> Result<Size, Fault> {
-    let source = [Source {
-        name: b"d.bib",
-        bytes: text,
-    }];
-    let library = read_databases(alloc, style, job, &source, 2)?;
-    let messages = library.messages().len();
-    Ok((library.end(), library.len(), messages, title_len(&library)))
+    library: &Library<'_>,
+) -> Result<Seen, Fault> {
+    Ok(Seen {
+        shown: library_shown(alloc, fields, library)?,
+        size: (
+            library.end(),
+            library.len(),
+            library.messages().len(),
+            title_len(library),
+        ),
+        fields: style.fields(),
+        keys: job.keys().len(),
+    })
 }
 
-// The size of what a database gives to a style and a job that cites this.
-fn size_by(alloc: Global, style: &Style<'_>, keys: &[u8], text: &[u8]) -> Result<Size, Fault> {
-    let job = citing(alloc, keys)?;
-    size_with(alloc, style, &job, text)
+// What databases give, with a style and a job. Each of these functions holds one thing that is dear to drop, and has one `?`.
+fn seen_with(
+    alloc: Global,
+    asked: Asked<'_>,
+    style: &Style<'_>,
+    job: &AuxJob,
+    sources: &[Source<'_>],
+) -> Result<Seen, Fault> {
+    let library = read_databases(alloc, style, job, sources, asked.least)?;
+    seen_in(alloc, asked.fields, style, job, &library)
+}
+
+// What databases give, with a style.
+fn seen_by(
+    alloc: Global,
+    asked: Asked<'_>,
+    style: &Style<'_>,
+    sources: &[Source<'_>],
+) -> Result<Seen, Fault> {
+    let job = citing(alloc, asked.keys)?;
+    seen_with(alloc, asked, style, &job, sources)
+}
+
+/// Answers what is seen of what the databases `sources` give to what is asked.
+pub fn seen_of(alloc: Global, asked: Asked<'_>, sources: &[Source<'_>]) -> Result<Seen, Fault> {
+    let style = read_style(alloc, b"s.bst", asked.style)?;
+    seen_by(alloc, asked, &style, sources)
+}
+
+/// Shows what the databases `sources` give to what is asked.
+pub fn shown_of(alloc: Global, asked: Asked<'_>, sources: &[Source<'_>]) -> Result<Vec<u8>, Fault> {
+    let seen = seen_of(alloc, asked, sources)?;
+    Ok(seen.shown)
 }
 
 /// Answers the size of what the database `text` gives to the style `style` and a job that cites `keys`.
 pub fn size_of(alloc: Global, style: &[u8], keys: &[u8], text: &[u8]) -> Result<Size, Fault> {
-    let style = read_style(alloc, b"s.bst", style)?;
-    size_by(alloc, &style, keys, text)
+    let asked = Asked {
+        style,
+        fields: 0,
+        keys,
+        least: 2,
+    };
+    let sources = [Source {
+        name: b"d.bib",
+        bytes: text,
+    }];
+    let seen = seen_of(alloc, asked, &sources)?;
+    Ok(seen.size)
 }

@@ -5,6 +5,17 @@ use btx_bib::Source;
 use btx_text::Fault;
 use std::alloc::{AllocError, Global};
 
+// A text with these digits in the place of each `%`.
+fn push_with_digits(whole: &mut Vec<u8>, digits: &[u8], text: &[u8]) -> Result<(), AllocError> {
+    for byte in text {
+        match *byte {
+            b'%' => whole.extend_from_slice(digits)?,
+            other => whole.push(other)?,
+        }
+    }
+    Ok(())
+}
+
 // A text with a number in the place of each `%`.
 fn push_numbered(
     whole: &mut Vec<u8>,
@@ -13,54 +24,75 @@ fn push_numbered(
     text: &[u8],
 ) -> Result<(), AllocError> {
     let digits = format!(in alloc; "{number}")?;
-    for byte in text {
-        if *byte == b'%' {
-            whole.extend_from_slice(digits.as_bytes())?;
-        } else {
-            whole.push(*byte)?;
+    push_with_digits(whole, digits.as_bytes(), text)
+}
+
+// Some texts, once for each number below this one.
+fn push_all(
+    whole: &mut Vec<u8>,
+    alloc: Global,
+    count: u32,
+    texts: &[&[u8]],
+) -> Result<(), AllocError> {
+    for number in 0..count {
+        for text in texts {
+            push_numbered(whole, alloc, number, text)?;
         }
     }
     Ok(())
 }
 
 // Some texts, once for each number below this one, which stands there in the place of each `%`.
-pub fn numbered(alloc: Global, count: u32, texts: &[&[u8]]) -> Result<Vec<u8>, AllocError> {
+fn numbered(alloc: Global, count: u32, texts: &[&[u8]]) -> Result<Vec<u8>, AllocError> {
     let mut whole = Vec::new(alloc);
-    for number in 0..count {
-        for text in texts {
-            push_numbered(&mut whole, alloc, number, text)?;
-        }
-    }
+    push_all(&mut whole, alloc, count, texts)?;
     Ok(whole)
 }
 
-// What two hundred entries give to a job that cites all.
-fn found(alloc: Global) -> Result<Vec<u8>, Fault> {
+/// Makes a database of `count` times ten entries.
+pub fn entries(alloc: Global, count: u32) -> Result<Vec<u8>, AllocError> {
+    numbered(alloc, count, &TEN_ENTRIES)
+}
+
+// What `count` times ten entries are to give, without the preamble.
+fn given(alloc: Global, count: u32) -> Result<Vec<u8>, AllocError> {
+    numbered(alloc, count, &TEN_GIVEN)
+}
+
+// What a database gives to a job that cites all.
+fn shown_text(alloc: Global, bytes: &[u8]) -> Result<Vec<u8>, Fault> {
     let asked = Asked {
         style: USUAL_STYLE,
         fields: 6,
         keys: b"*",
         least: 2,
     };
-    let text = numbered(alloc, 20, &TEN_ENTRIES)?;
     let sources = [Source {
         name: b"d.bib",
-        bytes: &text,
+        bytes,
     }];
     shown_of(alloc, asked, &sources)
 }
 
-// What they are to give.
-fn wanted(alloc: Global) -> Result<Vec<u8>, AllocError> {
-    let mut wanted = numbered(alloc, 20, &TEN_GIVEN)?;
-    wanted.extend_from_slice(b"[xxxxxxxxxxxxxxxxxxxx]\n")?;
-    Ok(wanted)
+// What two hundred entries give.
+fn found(alloc: Global) -> Result<Vec<u8>, Fault> {
+    let text = entries(alloc, 20)?;
+    shown_text(alloc, &text)
+}
+
+// Whether this is what two hundred entries are to give.
+fn is_wanted(alloc: Global, found: &[u8]) -> Result<bool, Fault> {
+    let given = given(alloc, 20)?;
+    Ok(found.strip_prefix(given.as_slice()) == Some(b"[xxxxxxxxxxxxxxxxxxxx]\n".as_slice()))
+}
+
+// Whether two hundred entries give what they are to give.
+fn is_right(alloc: Global) -> Result<bool, Fault> {
+    let found = found(alloc)?;
+    is_wanted(alloc, &found)
 }
 
 #[test]
-fn two_hundred_entries(rt: HostRuntime) -> Result<(), Fault> {
-    let found = found(rt.alloc())?;
-    let wanted = wanted(rt.alloc())?;
-    assert!(rt; found == wanted);
-    Ok(())
+fn two_hundred_entries(rt: HostRuntime) {
+    assert!(rt; is_right(rt.alloc()) == Ok(true));
 }

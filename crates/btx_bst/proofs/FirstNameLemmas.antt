@@ -91,6 +91,6 @@ first_keeps = record {
 -- what stands first before a style is found by its number in it
 pub first-names : StandFirst predefined → FirstNamesLaw
 first-names first file text =
-    let told = (clear-style file text).1 in
+    let clear = (clear-style file text).1 in
     let h : IsFirstIn (style_of file text) = kept-style IsFirstIn first_keeps file text first in
-    record { parent = told.of_fields 0 _ h.parent; sort_key = told.of_entry_strings 0 _ h.sort_key; entry_limit = told.of_global_integers 0 _ h.entry_limit; global_limit = told.of_global_integers 1 _ h.global_limit }
+    record { parent = clear.of_fields 0 _ h.parent; sort_key = clear.of_entry_strings 0 _ h.sort_key; entry_limit = clear.of_global_integers 0 _ h.entry_limit; global_limit = clear.of_global_integers 1 _ h.global_limit }

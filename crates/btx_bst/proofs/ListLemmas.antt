@@ -134,7 +134,7 @@ with_name-functions kind.EntryString name names = refl
 with_name-functions kind.GlobalInteger name names = refl
 with_name-functions kind.GlobalString name names = refl
 
--- a list and what is left of the text weigh so much at most, and the functions are these
+-- a list and what is left of the text weigh at most `n`, and the functions are `functions`
 abbrev pub Weighs : ℕ → List (Option (List ℕ)) → Listing → Type 0
 Weighs n functions s = (size s.place + names_weight s.names ≤ n) × (s.names.functions ≡ functions)
 

@@ -7,7 +7,7 @@ use Rattle.std.proofs.lemmas.Slice.Eq.{bytes_eq-Decides}
 use Rattle.std.proofs.lemmas.Option.{slice_get-get_or, same_Some}
 use Rattle.btx_text.specs.language.Keys.{folded}
 use Rattle.btx_bst.specs.declared.built_in.BuiltIn.{BuiltIn}
-use Rattle.btx_bst.specs.declared.built_in.BuiltIn.TheVariants.{Equals, Greater, Less, Plus, Minus, Concatenate, Assign, AddPeriod, CallType, ChangeCase, CharacterToInteger, Cite, Duplicate, Empty, FormatName, If, IntegerToCharacter, IntegerToString, Missing, NewLine, NumNames, Pop, Preamble, Purify, Quote, Skip, Stack, Substring, Swap, TextLength, TextPrefix, Top, Warning, While, Width, Write}
+use Rattle.btx_bst.specs.declared.built_in.BuiltIn.TheVariants.{Equals, Greater, Less, Plus, Minus, Concatenate, Assign, AddPeriod, CallType, ChangeCase, ChrToInt, Cite, Duplicate, Empty, FormatName, If, IntToChr, IntToStr, Missing, NewLine, NumNames, Pop, Preamble, Purify, Quote, Skip, Stack, Substring, Swap, TextLength, TextPrefix, Top, Warning, While, Width, Write}
 use Rattle.btx_bst.specs.declared.built_in.BuiltIn.TheVariants as built_in
 use Rattle.btx_bst.specs.declared.callee.Callee.{Callee}
 use Rattle.btx_bst.specs.declared.callee.Callee.TheVariants.{User, Field, EntryInteger, EntryString, GlobalInteger, GlobalString}
@@ -37,7 +37,7 @@ use Rattle.btx_bst.specs.refinement.Lists.{unlisted, with_new}
 
 -- ---- lists of names
 
--- each name of a list is told by what looks names up
+-- each name of a list is found by what looks names up
 abbrev pub Found : (List ℕ → Option Callee) → (ℕ → Callee) → List (List ℕ) → Type 0
 Found look f xs = (k : ℕ) (m : List ℕ) → slice_get xs k ≡ Some m → look m ≡ Some (f k)
 
@@ -220,14 +220,14 @@ built_in_word Assign = refl
 built_in_word AddPeriod = refl
 built_in_word CallType = refl
 built_in_word ChangeCase = refl
-built_in_word CharacterToInteger = refl
+built_in_word ChrToInt = refl
 built_in_word Cite = refl
 built_in_word Duplicate = refl
 built_in_word Empty = refl
 built_in_word FormatName = refl
 built_in_word If = refl
-built_in_word IntegerToCharacter = refl
-built_in_word IntegerToString = refl
+built_in_word IntToChr = refl
+built_in_word IntToStr = refl
 built_in_word Missing = refl
 built_in_word NewLine = refl
 built_in_word NumNames = refl

@@ -76,7 +76,7 @@ pass_further p line rest e a = record {
 pass_line : (n : ℕ) (line next : List ℕ) (after : List (List ℕ)) → Passage (place_at n line (next ∷ after)) (place_at (n + 1) next after)
 pass_line n line next after = record { between = line ++ 10 ∷ []; joined = sym (append_assoc line (10 ∷ []) (next ++ lines_text after)); counted = omega arith }
 
--- ---- white and what is skipped
+-- ---- whitespace and what is skipped
 
 white_ends : (line : List ℕ) → EndsIn line (behind_white line)
 unfolding behind_white
@@ -140,7 +140,7 @@ quoted_passes p (b ∷ bs) e = at (b == 34) where
   at true = text_passes p (b ∷ bs) (take (quote_len bs) bs) (drop (quote_len bs) bs) e (ends_byte b bs _ (ends_drop (quote_len bs) bs))
   at false = pass_here p
 
--- what is read from a place without white on
+-- what is read from a place without whitespace on
 behind_ink : {A : Type 0} (p : Place) (r : Read A) → ReadPasses (ink p) r → ReadPasses p r
 behind_ink p (Took x q) h = pass_on p (ink p) q (ink-law p) h
 behind_ink p (Slip c q) h = pass_on p (ink p) q (ink-law p) h

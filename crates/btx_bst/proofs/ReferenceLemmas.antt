@@ -166,7 +166,7 @@ found_known a n name h =
 
 -- ---- bodies
 
--- inside a body, that began when so many functions were defined
+-- inside a body that began when `before` functions were defined
 pub record Fine (names : Names) (before : ℕ) (inside : Inside) : Type 0 where
   pub grown : before ≤ length inside.bodies
   pub tokens_known : AllRefer names (length inside.texts) (length inside.bodies) inside.tokens

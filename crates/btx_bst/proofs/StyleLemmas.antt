@@ -127,7 +127,7 @@ whole-weight names s t e = let h : size (inside_of (Whole t)).place + length (in
 abbrev pub counts : Style → ℕ
 counts style = length style.bodies + length style.texts + names_weight style.names
 
--- so much of the text is left at most, the style and it weigh so much at most, and no function has a name before it has a body
+-- the text that is left has a size of at most `n`, the style and it weigh at most `m`, and no function has a name before it has a body
 abbrev pub Within : ℕ → ℕ → CommandOutcome → Type 0
 Within n m o = (size o.place ≤ n) × (weight o.style o.place ≤ m) × (length o.style.names.functions ≤ length o.style.bodies)
 

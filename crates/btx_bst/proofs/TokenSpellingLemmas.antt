@@ -53,7 +53,7 @@ ends_back t (b ∷ bs) = at (t b) refl (ends_back t bs) where
 pub upto_met : (t : ℕ → Bool) (line : List ℕ) → IsUpTo t (take (len_till t line) line) line (drop (len_till t line) line)
 upto_met t line = record { joined = sym (take-append-drop (len_till t line) line); none = none_front t line; ends = ends_back t line }
 
--- ---- white and comments
+-- ---- whitespace and comments
 
 white_blank : (line : List ℕ) → IsBlank line → behind_white line ≡ []
 unfolding behind_white
@@ -91,7 +91,7 @@ gap_one_from n line (next ∷ after) q (inr h) =
 pub gap_one : (p q : Place) → Gap p q → ink p ≡ q
 gap_one p q h = gap_one_from p.number p.line p.after q h
 
--- a line is blank, or has white and then something else
+-- a line is blank, or has whitespace and then something else
 abbrev Divides : List ℕ → List ℕ → Type 0
 Divides line behind = (IsBlank line × (behind ≡ [])) ⊎ ((white : List ℕ) × (rest : List ℕ) × AllWhite white × (line ≡ white ++ rest) × Begins ends_gap rest × (behind ≡ rest))
 

@@ -37,7 +37,7 @@ use Rattle.btx_bst.specs.refinement.Fronts.{letters_len}
 use Rattle.btx_bst.specs.refinement.StyleText.{word_outcome}
 use Rattle.btx_bst.specs.refinement.Lists.{with_new}
 
--- ---- white
+-- ---- whitespace
 
 white_twice : (line : List ℕ) → behind_white (behind_white line) ≡ behind_white line
 unfolding behind_white

@@ -26,7 +26,7 @@ pub enum BuiltIn {
     /// `change.case$`
     ChangeCase,
     /// `chr.to.int$`
-    CharacterToInteger,
+    ChrToInt,
     /// `cite$`
     Cite,
     /// `duplicate$`
@@ -38,9 +38,9 @@ pub enum BuiltIn {
     /// `if$`
     If,
     /// `int.to.chr$`
-    IntegerToCharacter,
+    IntToChr,
     /// `int.to.str$`
-    IntegerToString,
+    IntToStr,
     /// `missing$`
     Missing,
     /// `newline$`
@@ -93,14 +93,14 @@ pub const BUILT_INS: [BuiltIn; 37] = [
     BuiltIn::AddPeriod,
     BuiltIn::CallType,
     BuiltIn::ChangeCase,
-    BuiltIn::CharacterToInteger,
+    BuiltIn::ChrToInt,
     BuiltIn::Cite,
     BuiltIn::Duplicate,
     BuiltIn::Empty,
     BuiltIn::FormatName,
     BuiltIn::If,
-    BuiltIn::IntegerToCharacter,
-    BuiltIn::IntegerToString,
+    BuiltIn::IntToChr,
+    BuiltIn::IntToStr,
     BuiltIn::Missing,
     BuiltIn::NewLine,
     BuiltIn::NumNames,
@@ -138,14 +138,14 @@ impl BuiltIn {
             BuiltIn::AddPeriod => b"add.period$",
             BuiltIn::CallType => b"call.type$",
             BuiltIn::ChangeCase => b"change.case$",
-            BuiltIn::CharacterToInteger => b"chr.to.int$",
+            BuiltIn::ChrToInt => b"chr.to.int$",
             BuiltIn::Cite => b"cite$",
             BuiltIn::Duplicate => b"duplicate$",
             BuiltIn::Empty => b"empty$",
             BuiltIn::FormatName => b"format.name$",
             BuiltIn::If => b"if$",
-            BuiltIn::IntegerToCharacter => b"int.to.chr$",
-            BuiltIn::IntegerToString => b"int.to.str$",
+            BuiltIn::IntToChr => b"int.to.chr$",
+            BuiltIn::IntToStr => b"int.to.str$",
             BuiltIn::Missing => b"missing$",
             BuiltIn::NewLine => b"newline$",
             BuiltIn::NumNames => b"num.names$",

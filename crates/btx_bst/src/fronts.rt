@@ -12,7 +12,7 @@ use crate::integers::integer_at;
 use crate::word::Word;
 use btx_text::classify::{is_name_byte, is_white};
 
-/// A line without the white and the comment that it begins with.
+/// A line without the whitespace and the comment that it begins with.
 #[tactic(auto, using(crate::proofs::FrontLemmas::white_steps))]
 pub fn behind_white(line: &[u8]) -> &[u8]
     ensures { result.now ≡ places.behind_white line.now }

@@ -110,7 +110,7 @@ pub fn worked_styles_are_read_so()
     ensures messages { worked.AreTexts worked.complaint_texts }
 {}
 
-/// Nothing of a text is read twice, and nothing is left out: the text at a place is the white before a command, the command's own, what is
+/// Nothing of a text is read twice, and nothing is left out: the text at a place is the whitespace before a command, the command's own, what is
 /// skipped behind its fault, and the text at the place behind it; and the number of a line counts the lines before.
 #[tactic(auto, using(crate::proofs::PassageLemmas::passage_laws))]
 pub fn all_of_a_text_is_read()

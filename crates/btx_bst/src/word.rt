@@ -2,7 +2,7 @@
 use crate::complaint::Complaint;
 
 /// A word of a body.
-#[derive(Clone, Copy, Debug)]
+#[derive(Clone, Copy)]
 pub enum Word<'a> {
     /// A `{`.
     Open,

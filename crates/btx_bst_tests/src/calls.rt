@@ -1,5 +1,6 @@
 //! A style read and shown by each call.
-use btx_bst::{BuiltIn, Callee, Style, Token, is_direct, read_style};
+use crate::showing::look_over;
+use btx_bst::{BuiltIn, Callee, Style, Token, read_style};
 use btx_text::Fault;
 use std::alloc::Global;
 use std::process::Abort;
@@ -66,27 +67,29 @@ fn texts(style: &Style<'_>) -> [bool; 4] {
     ]
 }
 
-// What the calls of the style above answer.
+// What the calls of a style answer.
 type Answers = ([bool; 9], [usize; 8], [bool; 4]);
 
-fn answers(alloc: Global) -> Result<Answers, Fault> {
-    let style = read_style(alloc, b"s.bst", TEXT)?;
-    Ok((names(&style), counts(&style), texts(&style)))
+fn answers_of(style: &Style<'_>) -> Result<Answers, Fault> {
+    Ok((names(style), counts(style), texts(style)))
+}
+
+// The same of the style of a text.
+fn answers(alloc: Global, text: &[u8]) -> Result<Answers, Fault> {
+    let style = read_style(alloc, b"s.bst", text)?;
+    answers_of(&style)
 }
 
 #[test]
-fn a_style(rt: HostRuntime) -> Result<(), Fault> {
-    let (names, counts, texts) = answers(rt.alloc())?;
-    assert!(rt; names == [true; 9]);
-    assert!(rt; counts == [3, 11, 2, 1, 2, 3, 1, 1]);
-    assert!(rt; texts == [true; 4]);
-    Ok(())
+fn a_style(rt: HostRuntime) {
+    let wanted = ([true; 9], [3, 11, 2, 1, 2, 3, 1, 1], [true; 4]);
+    assert!(rt; answers(rt.alloc(), TEXT) == Ok(wanted));
 }
 
-// Whether each of these styles is told direct, or each told not direct.
-fn all_logged(alloc: Global, texts: &[&[u8]], direct: bool) -> Result<bool, Fault> {
+// Whether each of these styles is direct, or, where `direct` is false, none of them is.
+fn all_are(alloc: Global, texts: &[&[u8]], direct: bool) -> Result<bool, Fault> {
     for text in texts {
-        if is_direct(&read_style(alloc, b"s.bst", text)?) != direct {
+        if look_over(alloc, text)?.is_direct != direct {
             return Ok(false);
         }
     }
@@ -94,8 +97,7 @@ fn all_logged(alloc: Global, texts: &[&[u8]], direct: bool) -> Result<bool, Faul
 }
 
 #[test]
-fn direct_styles(rt: HostRuntime) -> Result<(), Fault> {
-    assert!(rt; all_logged(rt.alloc(), DIRECT, true)? == true);
-    assert!(rt; all_logged(rt.alloc(), NOT_DIRECT, false)? == true);
-    Ok(())
+fn direct_styles(rt: HostRuntime) {
+    assert!(rt; all_are(rt.alloc(), DIRECT, true) == Ok(true));
+    assert!(rt; all_are(rt.alloc(), NOT_DIRECT, false) == Ok(true));
 }

@@ -1,7 +1,7 @@
 //! Texts that were cut or spoilt: each is read.
-use btx_bst::read_style;
+use crate::showing::look_over;
 use btx_text::Fault;
-use std::alloc::Global;
+use std::alloc::{AllocError, Global};
 
 // A style of about 2,000 bytes.
 const TEXT: &[u8] = b"ENTRY {author title year note}{seen}{label}\n\
@@ -24,59 +24,83 @@ FUNCTION {repeated}\n{ #3 'turn :=\n  { turn #0 > }\n  { turn #1 - 'turn :=\n   
 FUNCTION {widths} { \"{\\oe}uvre\" width$ \"A-b~c\" text.length$ + #7 = 'skip$ { \"abc\" #2 text.prefix$ 'last := } if$ }\n\n\
 EXECUTE {repeated}\nEXECUTE {widths} % the end\n";
 
-// How many items and functions all beginnings of the text have, together.
-fn cuts(alloc: Global) -> Result<usize, Fault> {
+// How many items and functions a text has, together.
+fn size(alloc: Global, text: &[u8]) -> Result<usize, Fault> {
+    let found = look_over(alloc, text)?;
+    Ok(found.items.saturating_add(found.functions))
+}
+
+// How many items and functions all prefixes of a text have, together.
+fn cuts(alloc: Global, text: &[u8]) -> Result<usize, Fault> {
     let mut sum: usize = 0;
-    for len in 0..TEXT.len() {
-        let style = read_style(alloc, b"s", &TEXT[..len])?;
-        sum = sum
-            .saturating_add(style.items().len())
-            .saturating_add(style.functions());
+    for len in 0..text.len() {
+        sum = sum.saturating_add(size(alloc, &text[..len])?);
     }
     Ok(sum)
 }
 
-// How many items and functions the text has, together, with each of its bytes replaced by this one.
-fn replaced(alloc: Global, byte: u8) -> Result<usize, Fault> {
+// A text with a byte in the place of another.
+fn spoilt(alloc: Global, text: &[u8], place: usize, byte: u8) -> Result<Vec<u8>, AllocError> {
+    let mut bytes = Vec::from_slice(alloc, text)?;
+    if let Some(old) = bytes.get_mut(place) {
+        *old = byte;
+    }
+    Ok(bytes)
+}
+
+// How many items and functions a text has, together, with a byte in the place of another.
+fn spoilt_size(alloc: Global, text: &[u8], place: usize, byte: u8) -> Result<usize, Fault> {
+    let bytes = spoilt(alloc, text, place, byte)?;
+    size(alloc, &bytes)
+}
+
+// How many items and functions a text has, together, with each of its bytes replaced by this one.
+fn replaced(alloc: Global, text: &[u8], byte: u8) -> Result<usize, Fault> {
     let mut sum: usize = 0;
-    for place in 0..TEXT.len() {
-        let mut text = Vec::from_slice(alloc, TEXT)?;
-        if let Some(spoilt) = text.get_mut(place) {
-            *spoilt = byte;
+    for place in 0..text.len() {
+        sum = sum.saturating_add(spoilt_size(alloc, text, place, byte)?);
+    }
+    Ok(sum)
+}
+
+// Whether a text has items or functions with each of these bytes in each place.
+fn all_replaced(alloc: Global, text: &[u8], bytes: &[u8]) -> Result<bool, Fault> {
+    for byte in bytes {
+        if replaced(alloc, text, *byte)? == 0 {
+            return Ok(false);
         }
-        let style = read_style(alloc, b"s", &text)?;
-        sum = sum
-            .saturating_add(style.items().len())
-            .saturating_add(style.functions());
     }
-    Ok(sum)
+    Ok(true)
 }
 
-// How many items and functions the text has, and how many messages.
+// How many items, functions and messages the text has.
 fn whole(alloc: Global) -> Result<(usize, usize, usize), Fault> {
-    let style = read_style(alloc, b"s", TEXT)?;
-    let messages = crate::showing::messages(&style);
-    Ok((style.items().len(), style.functions(), messages))
+    let found = look_over(alloc, TEXT)?;
+    Ok((found.items, found.functions, found.messages))
 }
 
 #[test]
-fn the_whole_text(rt: HostRuntime) -> Result<(), Fault> {
+fn the_whole_text(rt: HostRuntime) {
     assert!(rt; TEXT.len() >= 2_000);
-    assert!(rt; whole(rt.alloc())? == (34, 41, 0));
-    Ok(())
+    assert!(rt; whole(rt.alloc()) == Ok((34, 41, 0)));
+}
+
+// Whether the prefixes of the text have items or functions.
+fn cuts_are_read(alloc: Global) -> Result<bool, Fault> {
+    Ok(cuts(alloc, TEXT)? > 0)
 }
 
 #[test]
-fn every_cut(rt: HostRuntime) -> Result<(), Fault> {
-    assert!(rt; cuts(rt.alloc())? > 0);
-    Ok(())
+fn every_cut(rt: HostRuntime) {
+    assert!(rt; cuts_are_read(rt.alloc()) == Ok(true));
 }
 
-// An opening brace, a closing one, a quote, a comment, and zero.
+// Whether the text is read with each of these bytes in each place: an opening brace, a closing one, a quote, a comment, and zero.
+fn replaced_are_read(alloc: Global) -> Result<bool, Fault> {
+    all_replaced(alloc, TEXT, b"{}\"%\0")
+}
+
 #[test]
-fn every_byte_replaced(rt: HostRuntime) -> Result<(), Fault> {
-    for byte in [b'{', b'}', b'"', b'%', 0] {
-        assert!(rt; replaced(rt.alloc(), byte)? > 0, "{byte}");
-    }
-    Ok(())
+fn every_byte_replaced(rt: HostRuntime) {
+    assert!(rt; replaced_are_read(rt.alloc()) == Ok(true));
 }

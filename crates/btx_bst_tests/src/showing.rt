@@ -1,42 +1,7 @@
 //! Styles as plain texts, so that a test compares texts and holds no style.
-use btx_bst::{Callee, Item, Message, Style, Token, read_style};
+use btx_bst::{Callee, Item, Message, Style, Token, is_direct, read_style};
 use btx_text::Fault;
 use std::alloc::{AllocError, Global};
-
-/// A style's text, and what is shown of it.
-pub type Row = (&'static [u8], &'static [u8]);
-
-// The items of a style, each with its end: a command by its word and its name, a message as the log has it.
-fn items_of(alloc: Global, style: &Style<'_>) -> Result<Vec<u8>, Fault> {
-    let mut shown = Vec::new(alloc);
-    for item in style.items() {
-        push_item(alloc, &mut shown, style, item)?;
-        shown.push(b'\n')?;
-    }
-    Ok(shown)
-}
-
-// The bodies of a style, each with its end: its tokens behind its number.
-fn bodies_of(alloc: Global, style: &Style<'_>) -> Result<Vec<u8>, Fault> {
-    let mut shown = Vec::new(alloc);
-    for number in 0..style.functions() {
-        shown.extend_from_slice(format!(in alloc; "{number}:")?.as_bytes())?;
-        for token in style.body(number) {
-            push_token(alloc, &mut shown, style, *token)?;
-        }
-        shown.push(b'\n')?;
-    }
-    Ok(shown)
-}
-
-// A text as it is shown. Nothing but the reading may fail here, since each `?` is a way out on which the whole style is dropped.
-fn shown_of(alloc: Global, text: &[u8], shown: Shown) -> Result<Vec<u8>, Fault> {
-    let style = read_style(alloc, b"s", text)?;
-    match shown {
-        Shown::Items => items_of(alloc, &style),
-        Shown::Bodies => bodies_of(alloc, &style),
-    }
-}
 
 /// What is shown of a style.
 #[derive(Clone, Copy)]
@@ -47,26 +12,97 @@ pub enum Shown {
     Bodies,
 }
 
-/// Adds to `wrong` each row of `rows` that isn't shown as the row says, as it is shown.
-pub fn push_wrong_rows(
-    alloc: Global,
-    rows: &[Row],
-    shown: Shown,
-    wrong: &mut Vec<u8>,
-) -> Result<(), Fault> {
-    for (text, wanted) in rows {
-        let found = shown_of(alloc, text, shown)?;
-        if found.as_slice() != *wanted {
-            push_wrong_row(wrong, text, &found)?;
-        }
+// The items of a style, each with its end: a command by its word and its name, a message as the log has it.
+fn push_items(alloc: Global, shown: &mut Vec<u8>, style: &Style<'_>) -> Result<(), AllocError> {
+    for item in style.items() {
+        push_item(alloc, shown, style, item)?;
+        shown.extend_from_slice(b"\n")?;
     }
     Ok(())
 }
 
-fn push_wrong_row(wrong: &mut Vec<u8>, text: &[u8], found: &[u8]) -> Result<(), AllocError> {
-    wrong.extend_from_slice(text)?;
-    wrong.extend_from_slice(b"\n=>\n")?;
-    wrong.extend_from_slice(found)
+// The tokens of a body.
+fn push_tokens(
+    alloc: Global,
+    shown: &mut Vec<u8>,
+    style: &Style<'_>,
+    tokens: &[Token],
+) -> Result<(), AllocError> {
+    for token in tokens {
+        push_token(alloc, shown, style, *token)?;
+    }
+    Ok(())
+}
+
+// The number of a body.
+fn push_body_number(alloc: Global, shown: &mut Vec<u8>, number: usize) -> Result<(), AllocError> {
+    let head = format!(in alloc; "{number}:")?;
+    shown.extend_from_slice(head.as_bytes())
+}
+
+// The bodies of a style, each with its end: its tokens behind its number.
+fn push_bodies(alloc: Global, shown: &mut Vec<u8>, style: &Style<'_>) -> Result<(), AllocError> {
+    for number in 0..style.functions() {
+        push_body_number(alloc, shown, number)?;
+        push_tokens(alloc, shown, style, style.body(number))?;
+        shown.extend_from_slice(b"\n")?;
+    }
+    Ok(())
+}
+
+// What is shown of a style.
+fn push_style(
+    alloc: Global,
+    text: &mut Vec<u8>,
+    style: &Style<'_>,
+    shown: Shown,
+) -> Result<(), AllocError> {
+    match shown {
+        Shown::Items => push_items(alloc, text, style),
+        Shown::Bodies => push_bodies(alloc, text, style),
+    }
+}
+
+// Whether this is what is shown of a style.
+fn style_shows(
+    alloc: Global,
+    style: &Style<'_>,
+    shown: Shown,
+    wanted: &[u8],
+) -> Result<bool, Fault> {
+    let mut text = Vec::new(alloc);
+    push_style(alloc, &mut text, style, shown)?;
+    Ok(text.as_slice() == wanted)
+}
+
+// Whether this is what is shown of the style of a text. Nothing but the reading may fail here, since each `?` is a way out on which the whole style is
+// dropped.
+fn shows(alloc: Global, text: &[u8], shown: Shown, wanted: &[u8]) -> Result<bool, Fault> {
+    let style = read_style(alloc, b"s", text)?;
+    style_shows(alloc, &style, shown, wanted)
+}
+
+/// Answers what stands before the first byte of a text that is `mark`, and behind it.
+pub fn cut(text: &[u8], mark: u8) -> (&[u8], &[u8]) {
+    let mut parts = text.splitn(2, |byte| *byte == mark);
+    (parts.next().unwrap_or(b""), parts.next().unwrap_or(b""))
+}
+
+/// Answers the number of the first row that isn't shown as the row says, if there is one: a style's text and what is shown of it, with a `|` between.
+pub fn first_wrong(alloc: Global, rows: &[&[u8]], shown: Shown) -> Result<Option<usize>, Fault> {
+    for (number, row) in rows.iter().enumerate() {
+        let (text, wanted) = cut(row, b'|');
+        if !shows(alloc, text, shown, wanted)? {
+            return Ok(Some(number));
+        }
+    }
+    Ok(None)
+}
+
+// A number in decimal.
+fn push_number(alloc: Global, shown: &mut Vec<u8>, number: i64) -> Result<(), AllocError> {
+    let digits = format!(in alloc; "{number}")?;
+    shown.extend_from_slice(digits.as_bytes())
 }
 
 fn push_item(
@@ -121,12 +157,12 @@ fn push_token(
         Token::Text(number) => {
             shown.extend_from_slice(b" \"")?;
             shown.extend_from_slice(style.text(number))?;
-            shown.push(b'"')?;
-            Ok(())
+            shown.extend_from_slice(b"\"")
         }
-        Token::Integer(value) => shown.extend_from_slice(format!(in alloc;
-            " #{value}"
-        )?.as_bytes()),
+        Token::Integer(value) => {
+            shown.extend_from_slice(b" #")?;
+            push_number(alloc, shown, i64::from(value))
+        }
         Token::Quote(callee) => push_callee(alloc, shown, style, b" '", callee),
         Token::Run(callee) => push_callee(alloc, shown, style, b" ", callee),
     }
@@ -141,16 +177,51 @@ fn push_callee(
 ) -> Result<(), AllocError> {
     shown.extend_from_slice(before)?;
     match callee {
-        Callee::User(number) => shown.extend_from_slice(format!(in alloc; "{number}")?.as_bytes()),
+        Callee::User(number) => push_number(alloc, shown, i64::from(number)),
         _ => shown.extend_from_slice(style.name(callee)),
     }
 }
 
-/// Answers how many messages a style has.
-pub fn messages(style: &Style<'_>) -> usize {
+// How many messages a style has.
+fn messages(style: &Style<'_>) -> usize {
     style
         .items()
         .iter()
         .filter(|item| matches!(item, Item::Message(_)))
         .count()
+}
+
+/// How many things a style has, and whether it is direct.
+#[derive(Drop)]
+pub struct Overview {
+    /// How many items.
+    pub items: usize,
+    /// How many functions.
+    pub functions: usize,
+    /// How many messages.
+    pub messages: usize,
+    /// How many macros.
+    pub macros: usize,
+    /// How many fields.
+    pub fields: usize,
+    /// Whether it is direct.
+    pub is_direct: bool,
+}
+
+// What a style has.
+fn overview_of(style: &Style<'_>) -> Result<Overview, Fault> {
+    Ok(Overview {
+        items: style.items().len(),
+        functions: style.functions(),
+        messages: messages(style),
+        macros: style.macros().len(),
+        fields: style.fields(),
+        is_direct: is_direct(style),
+    })
+}
+
+/// Answers what the style of a text has. As above the reading alone may fail here, and the last call answers what this does.
+pub fn look_over(alloc: Global, text: &[u8]) -> Result<Overview, Fault> {
+    let style = read_style(alloc, b"s", text)?;
+    overview_of(&style)
 }

@@ -36,12 +36,12 @@ pub starts_trans : (r s t : Out) → Starts r s → Starts s t → Starts r t
 starts_trans r s t f g = (goes_on r s t f.0 g.0, begins_trans r.log s.log t.log f.1 g.1)
 
 -- the list of references goes on too, for each length of a line
-pub written_begins : (limit : ℕ) (s t : Out) → 3 ≤ limit → Grown s t ⊎ Ended s t → IsPrefix (so_far limit s) (so_far limit t)
-written_begins limit s t wide (inl f) = (
-  sure_after limit (left limit s.pending) f.0,
-  ap (λ lines. written_of limit lines t.pending) f.1 ∙ ap (λ text. written_of limit s.lines text) f.2 ∙ written_of-longer limit s.lines s.pending f.0 wide,
+pub written_begins : (line_length : ℕ) (s t : Out) → 3 ≤ line_length → Grown s t ⊎ Ended s t → IsPrefix (so_far line_length s) (so_far line_length t)
+written_begins line_length s t wide (inl f) = (
+  sure_after line_length (left line_length s.pending) f.0,
+  ap (λ lines. written_of line_length lines t.pending) f.1 ∙ ap (λ text. written_of line_length s.lines text) f.2 ∙ written_of-longer line_length s.lines s.pending f.0 wide,
 )
-written_begins limit s t wide (inr f) = (
-  wrap_after limit (left limit s.pending) f.0 ++ written_of limit f.1 t.pending,
-  ap (λ lines. written_of limit lines t.pending) f.2 ∙ written_of-more limit s.lines s.pending f.0 f.1 t.pending wide,
+written_begins line_length s t wide (inr f) = (
+  wrap_after line_length (left line_length s.pending) f.0 ++ written_of line_length f.1 t.pending,
+  ap (λ lines. written_of line_length lines t.pending) f.2 ∙ written_of-more line_length s.lines s.pending f.0 f.1 t.pending wide,
 )

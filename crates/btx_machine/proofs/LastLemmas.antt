@@ -2,7 +2,7 @@
 use Rattle.std.proofs.Common.{◌≡◌, ℕ, List, Option, ap, subst, sym, ◌∙◌}
 use Rattle.std.specs.Io.KnownBytes.{Appends}
 use Rattle.std.proofs.KnownBytes.{Appends-trans}
-use Rattle.btx_out.specs.language.Pieces.{AppendsBeginning}
+use Rattle.btx_out.specs.language.Pieces.{AppendsPrefix}
 use Rattle.btx_machine.specs.refinement.Outputs.{Journal, Outputs, Receiver, Work}
 use Rattle.btx_machine.specs.declared.ending.Ending.{Ending}
 use Rattle.btx_machine.specs.language.States.{Out, state}
@@ -24,7 +24,7 @@ unfinished_part work end steps new same part start out h = closing_bbl start wor
 module _ (work : Work) (end : Ending) (steps : ℕ) (mid new : Outputs) (log : mid.log ≡ work.outputs.log) (fin : FinishedAt work.outputs end mid) (bbl : new.bbl ≡ mid.bbl) where
   -- the list is written to its end
   whole : FinishedAt work.outputs end new
-  whole start out h = subst (λ (r : Receiver). Appends start.bbl r.received (bbl_at start.limit end out)) (sym bbl) (fin start out h)
+  whole start out h = subst (λ (r : Receiver). Appends start.bbl r.received (bbl_at start.line_length end out)) (sym bbl) (fin start out h)
 
   module _ (deepest : ℕ) (d : deepest ≡ work.store.deepest) (counts : LogCounts) (tw : counts.warnings ≡ mid.log.warnings) (te : counts.errors ≡ mid.log.errors) (report : Report) (r : report ≡ report_of (end_as end) steps deepest counts) where
     report_is : (start : Start) (out : Out) → StandsFor start work.outputs out → report ≡ report_at end steps (state work.store out)
@@ -34,11 +34,11 @@ module _ (work : Work) (end : Ending) (steps : ℕ) (mid new : Outputs) (log : m
         let logged_is : counts ≡ log_counts out.warnings out.errors = ap (λ n. log_counts n counts.errors) (tw ∙ w ∙ h.warnings) ∙ ap (log_counts out.warnings) (te ∙ e ∙ h.errors) in
         r ∙ ap (λ n. report_of (end_as end) steps n counts) d ∙ ap (report_of (end_as end) steps work.store.deepest) logged_is
 
-    pub line_part : AppendsBeginning mid.log.sink.received new.log.sink.received (ended_line (last_line report)) → ClosesPart work end steps new
+    pub line_part : AppendsPrefix mid.log.sink.received new.log.sink.received (ended_line (last_line report)) → ClosesPart work end steps new
     line_part part start out h =
         closing_log start work.outputs new end out (last_line (report_at end steps (state work.store out))) h whole
-        (subst (λ (report : Report). AppendsBeginning work.outputs.log.sink.received new.log.sink.received (ended_line (last_line report))) (report_is start out h)
-        (subst (λ (log : Journal). AppendsBeginning log.sink.received new.log.sink.received (ended_line (last_line report))) log part))
+        (subst (λ (report : Report). AppendsPrefix work.outputs.log.sink.received new.log.sink.received (ended_line (last_line report))) (report_is start out h)
+        (subst (λ (log : Journal). AppendsPrefix log.sink.received new.log.sink.received (ended_line (last_line report))) log part))
 
     pub line_whole : Appends mid.log.sink.received new.log.sink.received (ended_line (last_line report)) → Closes work end steps new
     line_whole more start out h = (

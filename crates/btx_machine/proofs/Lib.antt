@@ -36,7 +36,6 @@ pub mod RunLemmas
 pub mod EdgeLemmas
 pub mod DepthLemmas
 pub mod DeepLemmas
-pub mod LowLemmas
 pub mod DirectBodies
 pub mod DirectLemmas
 pub mod DirectRuns

@@ -1,7 +1,7 @@
 //! The log of a run.
 ghost use Rattle.std.specs.Prelude.{◌≡◌, IfErr, IfOk, OnErr, OnOk};
 ghost use Rattle.std.specs.Io.KnownBytes.{Appends};
-ghost use Rattle.btx_out.specs.language.Pieces.{AppendsBeginning};
+ghost use Rattle.btx_out.specs.language.Pieces.{AppendsPrefix};
 ghost use Rattle.btx_text.specs.language.LogLines.{is_error, is_warning};
 ghost use Rattle.btx_aux.specs.refinement.Faults.{CountsOfOne};
 ghost use Rattle.btx_machine.specs.language.Reports.{last_line};
@@ -64,7 +64,7 @@ impl<'s, L: Sink> Journal<'s, L> {
     /// Writes a line, and counts it. The only fault is the device's; the log then received a prefix of the line.
     pub fn log_one(&mut self, line: &LogLine) -> Result<(), Fault>
         ensures ok { OnOk result (Appends self.old.sink.received self.new.sink.received (ended_line line.now.text)) }
-        ensures err { OnErr result (AppendsBeginning self.old.sink.received self.new.sink.received (ended_line line.now.text)) }
+        ensures err { OnErr result (AppendsPrefix self.old.sink.received self.new.sink.received (ended_line line.now.text)) }
         ensures fault { IfErr result (λ fault. fault ≡ Fault.Device) }
         ensures warnings { self.new.warnings ≡ counted_if (is_warning line.now.kind) self.old.warnings }
         ensures errors { self.new.errors ≡ counted_if (is_error line.now.kind) self.old.errors }
@@ -92,7 +92,7 @@ impl<'s, L: Sink> Journal<'s, L> {
     pub fn end(&mut self, alloc: Global, report: Report) -> Result<Report, Fault>
         ensures report { IfOk result (λ answer. answer ≡ report) }
         ensures ok { OnOk result (Appends self.old.sink.received self.new.sink.received (ended_line (last_line report))) }
-        ensures err { OnErr result (AppendsBeginning self.old.sink.received self.new.sink.received (ended_line (last_line report))) }
+        ensures err { OnErr result (AppendsPrefix self.old.sink.received self.new.sink.received (ended_line (last_line report))) }
         ensures sink { self.new.sink.name ≡ self.old.sink.name }
         ensures counts { CountsOfOne result (self.old.sink.failures, self.new.sink.failures) }
     {

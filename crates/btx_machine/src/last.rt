@@ -1,7 +1,7 @@
 //! What a run writes last.
 ghost use Rattle.std.specs.Prelude.{◌≡◌, ◌++◌, ◌∷◌, [], IfOk, OnOk, OnErr};
 ghost use Rattle.std.specs.Io.KnownBytes.{Appends};
-ghost use Rattle.btx_out.specs.language.Pieces.{AppendsBeginning};
+ghost use Rattle.btx_out.specs.language.Pieces.{AppendsPrefix};
 ghost use Rattle.btx_machine.specs.refinement.Closing.{Closes, ClosesPart, FinishedAt, FinishedPart};
 ghost use Rattle.btx_aux.specs.refinement.Faults.{CountsOfOne};
 ghost use Rattle.btx_machine.specs.language.Reports.{end_as, last_line, report_of};
@@ -39,7 +39,7 @@ fn last_line(alloc: Global, report: &Report) -> Result<Vec<u8>, AllocError>
 pub fn log_end<L: Sink>(alloc: Global, report: Report, log: &mut L) -> Result<Report, Fault>
     ensures report { IfOk result (λ answer. answer ≡ report) }
     ensures ok { OnOk result (Appends (L.received log.old) (L.received log.new) (ended_line (last_line report))) }
-    ensures err { OnErr result (AppendsBeginning (L.received log.old) (L.received log.new) (ended_line (last_line report))) }
+    ensures err { OnErr result (AppendsPrefix (L.received log.old) (L.received log.new) (ended_line (last_line report))) }
     ensures counts { CountsOfOne result (L.failures log.old, L.failures log.new) }
 {
     let line = last_line(alloc, &report)?;

@@ -1,7 +1,7 @@
 //! What is written and logged while a run goes on.
 ghost use Rattle.std.specs.Prelude.{◌≡◌, [], IfOk, IsSome, OnErr, OnOk, map};
 ghost use Rattle.std.specs.Io.KnownBytes.{Appends};
-ghost use Rattle.btx_out.specs.language.Pieces.{AppendsBeginning};
+ghost use Rattle.btx_out.specs.language.Pieces.{AppendsPrefix};
 ghost use Rattle.btx_bib.specs.language.MessageTexts.{message_line};
 ghost use Rattle.btx_step.specs.refinement.Answers.{silence};
 ghost use Rattle.btx_machine.specs.declared.ending.Ending.TheVariants.{Finished};
@@ -191,7 +191,7 @@ impl<'s, W: Sink, L: Sink> Outputs<'s, W, L> {
     pub fn end(&mut self, alloc: Global, report: Report) -> Result<Report, Fault>
         ensures report { IfOk result (λ answer. answer ≡ report) }
         ensures ok { OnOk result (Appends self.old.log.sink.received self.new.log.sink.received (ended_line (last_line report))) }
-        ensures err { OnErr result (AppendsBeginning self.old.log.sink.received self.new.log.sink.received (ended_line (last_line report))) }
+        ensures err { OnErr result (AppendsPrefix self.old.log.sink.received self.new.log.sink.received (ended_line (last_line report))) }
         ensures bbl { self.new.bbl ≡ self.old.bbl }
         ensures counts { CountsOfBoth result self.old self.new }
     {

@@ -21,7 +21,7 @@ use btx_step::{Job, Store};
 use btx_text::Fault;
 use std::alloc::Global;
 
-/// Executes the style of a job: writes the list of references, in lines of at most this number of bytes where white allows a break, and the
+/// Executes the style of a job: writes the list of references, in lines of at most this number of bytes where whitespace allows a break, and the
 /// rest of the log, which goes on from what was logged before. At most `budget` steps are taken.
 pub fn execute_style<'a, W: Sink, L: Sink>(
     alloc: Global,
@@ -60,13 +60,13 @@ fn do_all<'a, W: Sink, L: Sink>(
     budget: u64,
 ) -> Result<Report, Fault>
     requires store { work.old.store ≡ first_store job.now }
-    requires fresh { work.old.outputs.breaker ≡ holding work.old.outputs.breaker.limit (Collecting []) }
-    requires range { IsLineLength work.old.outputs.breaker.limit }
+    requires fresh { work.old.outputs.breaker ≡ holding work.old.outputs.breaker.line_length (Collecting []) }
+    requires range { IsLineLength work.old.outputs.breaker.line_length }
     ensures ok { IfOk result (λ report. Completes report (received work.old.outputs) (received work.new.outputs)
-        (style_product job.now (log_counts work.old.outputs.log.warnings work.old.outputs.log.errors) work.old.outputs.breaker.limit budget)) }
+        (style_product job.now (log_counts work.old.outputs.log.warnings work.old.outputs.log.errors) work.old.outputs.breaker.line_length budget)) }
     ensures bound { IfOk result (λ report. report.steps ≤ budget) }
     ensures err { OnErr result (AtFault (received work.old.outputs) (received work.new.outputs)
-        (style_product job.now (log_counts work.old.outputs.log.warnings work.old.outputs.log.errors) work.old.outputs.breaker.limit) budget) }
+        (style_product job.now (log_counts work.old.outputs.log.warnings work.old.outputs.log.errors) work.old.outputs.breaker.line_length) budget) }
     ensures counts { CountsOfBoth result work.old.outputs work.new.outputs }
 {
     let mut left = budget;

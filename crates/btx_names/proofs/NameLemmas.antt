@@ -28,7 +28,7 @@ pub name_len_all : (depth : ℕ) (s : List ℕ) (i : ℕ) → length s ≤ i →
 unfolding first_name_len
 name_len_all depth s i h = rw (drop_all i s h) refl
 
--- a byte from `!` to `z` is neither white nor a brace
+-- a byte from `!` to `z` is neither whitespace nor a brace
 abbrev is_plain : ℕ → Bool
 is_plain = is_in_range 33 122
 

@@ -14,7 +14,7 @@ use Rattle.btx_names.specs.refinement.NameLists.{is_letter}
 
 -- ---- the bytes of a separator
 
--- no white byte, and no brace
+-- no whitespace byte, and no brace
 pub record IsInk (b : ℕ) : Type 0 where
   pub not_white : is_white b ≡ false
   pub keeps : depth_after 0 b ≡ 0
@@ -29,7 +29,7 @@ letter_is_ink lower b is space tab return open_brace close_brace =
 pub white_keeps : (b : ℕ) → is_white b ≡ true → depth_after 0 b ≡ 0
 white_keeps b is = rw (never is_white b 123 is refl, never is_white b 125 is refl) refl
 
--- the first bytes of a text are no white and no braces
+-- the first bytes of a text are no whitespace and no braces
 abbrev pub InkFirst : ℕ → List ℕ → Type 0
 InkFirst zero text = Unit {0}
 InkFirst (suc n) [] = Unit {0}

@@ -9,7 +9,7 @@ use Rattle.btx_names.specs.language.Tokens.{NameToken, joint_of, tokens_from, to
 
 -- ---- tests
 
--- two tests of one byte, which one value of it tells apart
+-- a byte that passes a test isn't one that fails it
 pub never : (p : ℕ → Bool) (b v : ℕ) → p b ≡ true → p v ≡ false → eqb b v ≡ false
 never p b v holds fails = false_from_ne_true (eqb b v) (λ same. true≢false (sym holds ∙ ap p (eqb-true b v same) ∙ fails))
 

@@ -27,7 +27,7 @@ no_names : names_of [] ≡ []
 unfolding names_of
 no_names = refl
 
--- separators may share a white byte, and need one on both sides
+-- separators may share a whitespace byte, and need one on both sides
 shared_white : names_of (codes "a and and b") ≡ codes "a " ∷ codes " " ∷ codes " b" ∷ []
 unfolding names_of pieces_from is_separator
 shared_white = refl

@@ -7,7 +7,7 @@ use crate::runs::{Stop, run_len};
 use std::marker::Model;
 
 /// A part of a name, as a format names it.
-#[derive(Clone, Copy, Debug, PartialEq, Eq)]
+#[derive(Clone, Copy, PartialEq, Eq)]
 pub enum PartName {
     /// First, by the letter `f`.
     First,
@@ -20,7 +20,7 @@ pub enum PartName {
 }
 
 /// A piece of a format that names a part.
-#[derive(Clone, Copy, Debug)]
+#[derive(Clone, Copy)]
 pub struct Piece<'a> {
     /// What stands before the tokens.
     pub before: &'a [u8],
@@ -35,7 +35,7 @@ pub struct Piece<'a> {
 }
 
 /// What a format is made of.
-#[derive(Clone, Copy, Debug)]
+#[derive(Clone, Copy)]
 pub enum Item<'a> {
     /// Bytes outside braces, which are copied.
     Literal(&'a [u8]),

@@ -12,7 +12,7 @@ use std::alloc::{AllocError, Global};
 const LONGEST_FORMAT: usize = 256;
 
 /// A legal format with its items.
-#[derive(Debug, Drop)]
+#[derive(Drop)]
 pub struct KeptFormat {
     text: Vec<u8>,
     items: Vec<KeptItem>,
@@ -47,7 +47,7 @@ impl KeptFormat {
 }
 
 /// The formats that are kept: the first legal ones that were asked for and are short.
-#[derive(Debug, Drop)]
+#[derive(Drop)]
 pub struct KeptFormats {
     alloc: Global,
     // How many are kept at most.

@@ -8,7 +8,7 @@ use crate::format_items::{Item, PartName, Piece};
 use std::alloc::{AllocError, Global};
 
 /// A piece of a format that names a part.
-#[derive(Debug, Drop)]
+#[derive(Drop)]
 pub struct KeptPiece {
     before: Vec<u8>,
     /// The part.
@@ -19,7 +19,7 @@ pub struct KeptPiece {
 }
 
 /// What a legal format is made of.
-#[derive(Debug, Drop)]
+#[derive(Drop)]
 pub enum KeptItem {
     /// Bytes outside braces.
     Literal(Vec<u8>),

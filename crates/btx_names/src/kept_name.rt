@@ -21,7 +21,7 @@ use btx_strings::Complaints;
 use std::alloc::{AllocError, Global};
 
 /// A name of a list of names, with its tokens. It owns the bytes of all of them.
-#[derive(Debug, Drop)]
+#[derive(Drop)]
 pub struct KeptName {
     names: Vec<u8>,
     // How many names of the list precede this one.

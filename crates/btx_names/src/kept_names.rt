@@ -16,7 +16,7 @@ const LONGEST_SHORT_LIST: usize = 1_024;
 const OF_LONG_LISTS: usize = 0;
 
 /// The names that were asked for last, with their lists: a list of at most four names that is gone through again finds them here.
-#[derive(Debug, Drop)]
+#[derive(Drop)]
 pub struct KeptNames {
     alloc: Global,
     // Which index a name has follows from its number and from the length of its list.

@@ -75,7 +75,7 @@ pub fn hyphens_join_to_last()
         is_hyphen final.joint ≡ false }
 {}
 
-/// What a special character says of von is its first control sequence's, as its glyphs tell it: a foreign letter by its own case, any other by
+/// What a special character says of von is its first control sequence's, as its glyphs show: a foreign letter by its own case, any other by
 /// the first letter behind it.
 #[tactic(auto, using(crate::proofs::VonGlyphLemmas::special_by_glyphs))]
 pub fn first_control_sequence_decides()

@@ -22,7 +22,7 @@ const LONGEST_LIST: usize = 65_536;
 
 /// Puts names in formats. It keeps the latest names with their lists and tokens, and some formats as they were read, since a style mostly asks for
 /// the names of one list, time and again and in a few formats. No answer depends on what is kept.
-#[derive(Debug, Drop)]
+#[derive(Drop)]
 pub struct NameFormatter {
     alloc: Global,
     names: KeptNames,

@@ -11,7 +11,7 @@ use crate::token_counts::{TokenTest, before_first, up_to_last_before_final};
 use crate::token_list::TokenList;
 
 /// Where von and Last begin in the section of the surname, as counts of tokens.
-#[derive(Clone, Copy, Debug)]
+#[derive(Clone, Copy)]
 pub struct Ranges {
     /// How many tokens stand before von.
     pub von_start: usize,

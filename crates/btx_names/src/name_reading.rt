@@ -16,7 +16,7 @@ use crate::token_list::TokenList;
 use std::alloc::AllocError;
 
 /// A name of a list.
-#[derive(Debug, Drop)]
+#[derive(Drop)]
 pub struct ReadName {
     /// Its bytes in the list.
     pub place: Place,

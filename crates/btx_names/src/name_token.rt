@@ -4,7 +4,7 @@ use crate::name_tokens::Joint;
 use crate::place::Place;
 
 /// A token of a name, with what each piece of a format may ask of it. Its bytes stand in the list of names.
-#[derive(Clone, Copy, Debug)]
+#[derive(Clone, Copy)]
 pub struct NameToken {
     /// Its bytes.
     pub text: Place,

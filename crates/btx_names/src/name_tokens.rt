@@ -3,9 +3,9 @@ ghost use Rattle.std.specs.Prelude.{◌≡◌};
 ghost use Rattle.btx_names.specs.language.Tokens.{joint_of};
 
 /// What joins a token to the next one.
-#[derive(Clone, Copy, Debug, PartialEq, Eq)]
+#[derive(Clone, Copy, PartialEq, Eq)]
 pub enum Joint {
-    /// White, a comma, or the end of the name.
+    /// Whitespace, a comma, or the end of the name.
     Space,
     /// A `~`.
     Tie,

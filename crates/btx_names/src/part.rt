@@ -6,7 +6,7 @@ ghost use Rattle.btx_names.specs.refinement.NameTokens.{Hold, lettered_of_bare};
 use crate::name_token::NameToken;
 
 /// A range of the tokens of a name.
-#[derive(Clone, Copy, Debug)]
+#[derive(Clone, Copy)]
 pub struct Part<'t> {
     /// The list of names, in which its tokens have their places.
     pub bytes: &'t [u8],

@@ -3,7 +3,7 @@ ghost use Rattle.std.specs.Prelude.{◌≡◌};
 ghost use Rattle.btx_names.specs.refinement.Places.{bytes_at};
 
 /// Some bytes among others: where they begin, and how many they are.
-#[derive(Clone, Copy, Debug)]
+#[derive(Clone, Copy)]
 pub struct Place {
     /// How many bytes stand before them.
     pub from: usize,

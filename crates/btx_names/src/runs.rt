@@ -1,4 +1,4 @@
-//! Runs: the beginnings of a text before a byte of some kind at depth 0.
+//! Runs: the prefixes of a text before a byte of some kind at depth 0.
 ghost use Rattle.std.specs.Prelude.{◌≡◌, ◌≤◌, ◌==◌, ◌&&◌, length};
 ghost use Rattle.btx_names.specs.language.Runs as spec;
 ghost use Rattle.btx_names.specs.refinement.Steps as steps;
@@ -7,9 +7,9 @@ use btx_text::classify::{is_alpha, is_white};
 use btx_text::depths::depth_after;
 
 /// The bytes at which a run ends.
-#[derive(Clone, Copy, Debug, PartialEq, Eq)]
+#[derive(Clone, Copy, PartialEq, Eq)]
 pub enum Stop {
-    /// What stands between tokens: white, `~`, `-` and the comma.
+    /// What stands between tokens: whitespace, `~`, `-` and the comma.
     Break,
     /// The comma.
     Comma,

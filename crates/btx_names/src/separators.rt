@@ -18,8 +18,8 @@ fn has_and(text: &[u8]) -> bool
         && matches!(text[3], b'd' | b'D')
 }
 
-// Whether a separator stands where the brace depth is given: a white byte, `and` in any case, and a white byte, at depth 0. The
-// `and` is looked for first, since few white bytes stand before one.
+// Whether a separator stands where the brace depth is given: a whitespace byte, `and` in any case, and a whitespace byte, at depth 0. The
+// `and` is looked for first, since few whitespace bytes stand before one.
 #[tactic(auto, unfolding(crate::specs::language::NameLists::is_separator))]
 pub(crate) fn separates(depth: usize, text: &[u8]) -> bool
     ensures { result ≡ (depth == 0 && spec.is_separator text.now) }
@@ -27,14 +27,14 @@ pub(crate) fn separates(depth: usize, text: &[u8]) -> bool
     depth == 0 && text.len() >= 5 && has_and(text) && is_white(text[0]) && is_white(text[4])
 }
 
-// Whether a byte is from `!` to `z`. Such a byte is neither white nor a brace: it begins no separator, and it leaves the depth as it is.
+// Whether a byte is from `!` to `z`. Such a byte is neither whitespace nor a brace: it begins no separator, and it leaves the depth as it is.
 fn is_plain(byte: u8) -> bool
     ensures { result ≡ is_in_range 33 122 byte }
 {
     matches!(byte, b'!'..=b'z')
 }
 
-/// How long the first piece of a text is: to the white byte before the first `and` that separates, this byte included, or to the end.
+/// How long the first piece of a text is: to the whitespace byte before the first `and` that separates, this byte included, or to the end.
 #[tactic(auto, using(crate::proofs::NameLemmas::name_len_steps))]
 pub(crate) fn name_len(text: &[u8]) -> usize
     ensures { result ≡ steps.first_name_len 0 text.now }

@@ -11,7 +11,7 @@ use crate::part::Part;
 use crate::von_tokens::is_von;
 
 /// What is asked of a token.
-#[derive(Clone, Copy, Debug, PartialEq, Eq)]
+#[derive(Clone, Copy, PartialEq, Eq)]
 pub enum TokenTest {
     /// That it is von.
     Von,

@@ -7,7 +7,7 @@ use crate::name_token::NameToken;
 use std::alloc::Global;
 
 /// The tokens of a name, section by section. Their places are those in the list of names.
-#[derive(Debug, Drop)]
+#[derive(Drop)]
 pub struct TokenList {
     /// All tokens.
     pub tokens: Vec<NameToken>,

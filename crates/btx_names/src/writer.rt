@@ -9,7 +9,7 @@ use btx_text::{Elements, Fault, GREATEST_STRING, TextMode};
 use std::alloc::Global;
 
 /// The text of a name so far. It is one byte longer than a string may be at most, since the end of a piece may take a byte away.
-#[derive(Debug, Drop)]
+#[derive(Drop)]
 pub struct Writer {
     text: Vec<u8>,
     // Where the latest piece begins.

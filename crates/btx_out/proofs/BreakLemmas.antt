@@ -43,7 +43,7 @@ last_white-append (suc n) t u h =
     let lt : n < length t = omega arith in
     rw (get_or_append_left t u 0 n lt, last_white-append n t u (omega arith)) refl
 
--- the first white of a longer text
+-- the first whitespace byte of a longer text
 from_white_on : (r s : List ℕ) (w : ℕ) (ws : List ℕ) → from_white r ≡ w ∷ ws → (from_white (r ++ s) ≡ w ∷ (ws ++ s)) × (till_white (r ++ s) ≡ till_white r)
 unfolding from_white till_white
 from_white_on [] s w ws is = cc
@@ -62,7 +62,7 @@ from_white_none (b ∷ bs) s is = at (is_white b) is (from_white_none bs s) wher
   at true is rest = cc
   at false is rest = let h = rest is in (h.0, ap (λ xs. b ∷ xs) h.1)
 
--- without white each byte is none
+-- without whitespace each byte is none
 pub no_white_at : (r : List ℕ) (k : ℕ) → from_white r ≡ [] → k < length r → is_white (get_or r k 0) ≡ false
 unfolding from_white
 no_white_at [] k is lt = absurd (omega arith)
@@ -72,7 +72,7 @@ no_white_at (b ∷ bs) k is lt = at (is_white b) k refl is lt (λ j e l. no_whit
   at false zero test is lt rest = test
   at false (suc k) test is lt rest = rest k is (omega arith)
 
--- the white at the front of a longer text
+-- the whitespace at the front of a longer text
 skip_white_on : (r s : List ℕ) (c : ℕ) (rest : List ℕ) → skip_white r ≡ c ∷ rest → skip_white (r ++ s) ≡ c ∷ (rest ++ s)
 unfolding skip_white
 skip_white_on [] s c rest is = cc
@@ -105,7 +105,7 @@ length-from_white (b ∷ bs) = at (is_white b) (length-from_white bs) where
   at true h = omega arith
   at false h = omega arith
 
--- a text whose last byte isn't white keeps it
+-- a text whose last byte isn't whitespace keeps it
 trimmed_ink : (t : List ℕ) → 0 < length t → is_white (get_or t (length t - 1) 0) ≡ false → trimmed t ≡ t
 unfolding trimmed
 trimmed_ink [] some ink = absurd (omega arith)
@@ -133,46 +133,46 @@ break_past-shrinks : (text head more : List ℕ) → length more + 3 ≤ length 
 break_past-shrinks text head [] h = tt
 break_past-shrinks text head (b ∷ bs) h = let le = length-skip_white bs in omega arith
 
-break_of-shrinks : (limit : ℕ) (text : List ℕ) → 3 ≤ limit → limit < length text → Shrinks text (break_of limit text)
+break_of-shrinks : (line_length : ℕ) (text : List ℕ) → 3 ≤ line_length → line_length < length text → Shrinks text (break_of line_length text)
 unfolding break_of
-break_of-shrinks limit text wide long = at (last_white (limit + 1) text) refl where
-  at : (o : Option ℕ) → last_white (limit + 1) text ≡ o → Shrinks text (break_at limit text o)
-  at (Some i) is = let h = last_white-some (limit + 1) i text is in simp length-drop (omega (arith, h.0, h.1))
+break_of-shrinks line_length text wide long = at (last_white (line_length + 1) text) refl where
+  at : (o : Option ℕ) → last_white (line_length + 1) text ≡ o → Shrinks text (break_at line_length text o)
+  at (Some i) is = let h = last_white-some (line_length + 1) i text is in simp length-drop (omega (arith, h.0, h.1))
   at None is =
-      let le = length-from_white (drop (limit + 1) text) in
-      let len = length-drop (limit + 1) text in
-      break_past-shrinks text _ (from_white (drop (limit + 1) text)) (omega arith)
+      let le = length-from_white (drop (line_length + 1) text) in
+      let len = length-drop (line_length + 1) text in
+      break_past-shrinks text _ (from_white (drop (line_length + 1) text)) (omega arith)
 
 cut_same : (cut cut' : List ℕ → Cut) (text : List ℕ) (broken : Break) → ((rest : List ℕ) → length rest < length text → cut rest ≡ cut' rest) → Shrinks text broken → cut_at cut text broken ≡ cut_at cut' text broken
 cut_same cut cut' text Unbroken same shrinks = refl
 cut_same cut cut' text (Broken past head []) same shrinks = refl
 cut_same cut cut' text (Broken past head (b ∷ rest)) same shrinks = ap (λ c. with_head head c) (same (indented (b ∷ rest)) (omega arith))
 
-cut_within-enough : (n m limit : ℕ) (text : List ℕ) → 3 ≤ limit → length text ≤ n → length text ≤ m → cut_within n limit text ≡ cut_within m limit text
+cut_within-enough : (n m line_length : ℕ) (text : List ℕ) → 3 ≤ line_length → length text ≤ n → length text ≤ m → cut_within n line_length text ≡ cut_within m line_length text
 unfolding cut_within
-cut_within-enough zero zero limit text wide hn hm = refl
-cut_within-enough zero (suc m) limit [] wide hn hm = rw (le-leb 0 limit (omega arith)) refl
-cut_within-enough zero (suc m) limit (b ∷ bs) wide hn hm = absurd (omega arith)
-cut_within-enough (suc n) zero limit [] wide hn hm = rw (le-leb 0 limit (omega arith)) refl
-cut_within-enough (suc n) zero limit (b ∷ bs) wide hn hm = absurd (omega arith)
-cut_within-enough (suc n) (suc m) limit text wide hn hm = at (leb (length text) limit) refl (λ rest h. cut_within-enough n m limit rest wide (omega arith) (omega arith)) where
-  at : (t : Bool) → leb (length text) limit ≡ t → ((rest : List ℕ) → length rest < length text → cut_within n limit rest ≡ cut_within m limit rest) →
-      cond t (only (Short text)) (cut_at (cut_within n limit) text (break_of limit text)) ≡ cond t (only (Short text)) (cut_at (cut_within m limit) text (break_of limit text))
+cut_within-enough zero zero line_length text wide hn hm = refl
+cut_within-enough zero (suc m) line_length [] wide hn hm = rw (le-leb 0 line_length (omega arith)) refl
+cut_within-enough zero (suc m) line_length (b ∷ bs) wide hn hm = absurd (omega arith)
+cut_within-enough (suc n) zero line_length [] wide hn hm = rw (le-leb 0 line_length (omega arith)) refl
+cut_within-enough (suc n) zero line_length (b ∷ bs) wide hn hm = absurd (omega arith)
+cut_within-enough (suc n) (suc m) line_length text wide hn hm = at (leb (length text) line_length) refl (λ rest h. cut_within-enough n m line_length rest wide (omega arith) (omega arith)) where
+  at : (t : Bool) → leb (length text) line_length ≡ t → ((rest : List ℕ) → length rest < length text → cut_within n line_length rest ≡ cut_within m line_length rest) →
+      cond t (only (Short text)) (cut_at (cut_within n line_length) text (break_of line_length text)) ≡ cond t (only (Short text)) (cut_at (cut_within m line_length) text (break_of line_length text))
   at true is same = refl
-  at false is same = cut_same (cut_within n limit) (cut_within m limit) text (break_of limit text) same (break_of-shrinks limit text wide (omega (arith, leb-false (length text) limit is)))
+  at false is same = cut_same (cut_within n line_length) (cut_within m line_length) text (break_of line_length text) same (break_of-shrinks line_length text wide (omega (arith, leb-false (length text) line_length is)))
 
-pub cut_short : (limit : ℕ) (text : List ℕ) → length text ≤ limit → cut_of limit text ≡ only (Short text)
+pub cut_short : (line_length : ℕ) (text : List ℕ) → length text ≤ line_length → cut_of line_length text ≡ only (Short text)
 unfolding cut_of cut_within
-cut_short limit [] h = refl
-cut_short limit (b ∷ bs) h = rw (le-leb (length (b ∷ bs)) limit h) refl
+cut_short line_length [] h = refl
+cut_short line_length (b ∷ bs) h = rw (le-leb (length (b ∷ bs)) line_length h) refl
 
-pub cut_long : (limit : ℕ) (text : List ℕ) → 3 ≤ limit → limit < length text → cut_of limit text ≡ cut_at (cut_of limit) text (break_of limit text)
+pub cut_long : (line_length : ℕ) (text : List ℕ) → 3 ≤ line_length → line_length < length text → cut_of line_length text ≡ cut_at (cut_of line_length) text (break_of line_length text)
 unfolding cut_of cut_within
-cut_long limit [] wide h = absurd (omega arith)
-cut_long limit (b ∷ bs) wide h =
-    rw (lt-leb (length (b ∷ bs)) limit h)
-    (cut_same (cut_within (length bs) limit) (λ rest. cut_within (length rest) limit rest) (b ∷ bs) (break_of limit (b ∷ bs))
-    (λ rest lt. cut_within-enough (length bs) (length rest) limit rest wide (omega arith) (omega arith)) (break_of-shrinks limit (b ∷ bs) wide h))
+cut_long line_length [] wide h = absurd (omega arith)
+cut_long line_length (b ∷ bs) wide h =
+    rw (lt-leb (length (b ∷ bs)) line_length h)
+    (cut_same (cut_within (length bs) line_length) (λ rest. cut_within (length rest) line_length rest) (b ∷ bs) (break_of line_length (b ∷ bs))
+    (λ rest lt. cut_within-enough (length bs) (length rest) line_length rest wide (omega arith) (omega arith)) (break_of-shrinks line_length (b ∷ bs) wide h))
 
 -- ---- one byte more
 
@@ -200,39 +200,39 @@ grows_white front text rest b whole [] is = let h = from_white_none rest (b ∷ 
   at false = refl
 grows_white front text rest b whole (w ∷ ws) is = let h = from_white_on rest (b ∷ []) w ws is in rw (h.0, h.1) (grows_past text b (front ++ till_white rest) ws (skip_white ws) refl)
 
-break_of-grows : (limit : ℕ) (text : List ℕ) (b : ℕ) → limit < length text → Grows text b (break_of limit text) (break_of limit (text ++ b ∷ []))
+break_of-grows : (line_length : ℕ) (text : List ℕ) (b : ℕ) → line_length < length text → Grows text b (break_of line_length text) (break_of line_length (text ++ b ∷ []))
 unfolding break_of
-break_of-grows limit text b long =
-    let fits : limit + 1 ≤ length text = omega arith in
-    rw (last_white-append (limit + 1) text (b ∷ []) fits) (at fits (last_white (limit + 1) text) refl) where
-      at : limit + 1 ≤ length text → (o : Option ℕ) → last_white (limit + 1) text ≡ o → Grows text b (break_at limit text o) (break_at limit (text ++ b ∷ []) o)
+break_of-grows line_length text b long =
+    let fits : line_length + 1 ≤ length text = omega arith in
+    rw (last_white-append (line_length + 1) text (b ∷ []) fits) (at fits (last_white (line_length + 1) text) refl) where
+      at : line_length + 1 ≤ length text → (o : Option ℕ) → last_white (line_length + 1) text ≡ o → Grows text b (break_at line_length text o) (break_at line_length (text ++ b ∷ []) o)
       at fits (Some i) is =
-          let h = last_white-some (limit + 1) i text is in
+          let h = last_white-some (line_length + 1) i text is in
           let le : i ≤ length text = omega (arith, h.1) in
           let le' : i + 1 ≤ length text = omega (arith, h.1) in
           rw (take-append-le i text (b ∷ []) le, drop-append-le (i + 1) text (b ∷ []) le') (grows_inside text b (take i text) (drop (i + 1) text))
       at fits None is =
-          rw (take-append-le (limit + 1) text (b ∷ []) fits, drop-append-le (limit + 1) text (b ∷ []) fits)
-          (grows_white (take (limit + 1) text) text (drop (limit + 1) text) b (take-append-drop (limit + 1) text) (from_white (drop (limit + 1) text)) refl)
+          rw (take-append-le (line_length + 1) text (b ∷ []) fits, drop-append-le (line_length + 1) text (b ∷ []) fits)
+          (grows_white (take (line_length + 1) text) text (drop (line_length + 1) text) b (take-append-drop (line_length + 1) text) (from_white (drop (line_length + 1) text)) refl)
 
 -- a text that isn't broken ends in ink
 pub past_none : (head r : List ℕ) → break_past head r ≡ Unbroken → r ≡ []
 past_none head [] is = refl
 past_none head (b ∷ bs) is = cc
 
-unbroken_ink : (limit : ℕ) (text : List ℕ) → 3 ≤ limit → limit < length text → break_of limit text ≡ Unbroken → is_white (get_or text (length text - 1) 0) ≡ false
+unbroken_ink : (line_length : ℕ) (text : List ℕ) → 3 ≤ line_length → line_length < length text → break_of line_length text ≡ Unbroken → is_white (get_or text (length text - 1) 0) ≡ false
 unfolding break_of
-unbroken_ink limit text wide long is = at (last_white (limit + 1) text) refl is where
-  at : (o : Option ℕ) → last_white (limit + 1) text ≡ o → break_at limit text o ≡ Unbroken → is_white (get_or text (length text - 1) 0) ≡ false
+unbroken_ink line_length text wide long is = at (last_white (line_length + 1) text) refl is where
+  at : (o : Option ℕ) → last_white (line_length + 1) text ≡ o → break_at line_length text o ≡ Unbroken → is_white (get_or text (length text - 1) 0) ≡ false
   at (Some i) e is = cc
   at None e is = ⊎_elim
       (λ more.
-      let k : limit + 1 + (length text - (limit + 2)) ≡ length text - 1 = omega arith in
-      let lt : length text - (limit + 2) < length (drop (limit + 1) text) = omega (arith, length-drop (limit + 1) text) in
-      let h = no_white_at (drop (limit + 1) text) (length text - (limit + 2)) (past_none _ _ is) lt in
+      let k : line_length + 1 + (length text - (line_length + 2)) ≡ length text - 1 = omega arith in
+      let lt : length text - (line_length + 2) < length (drop (line_length + 1) text) = omega (arith, length-drop (line_length + 1) text) in
+      let h = no_white_at (drop (line_length + 1) text) (length text - (line_length + 2)) (past_none _ _ is) lt in
       rw (get_or-drop, k) at h)
-      (λ le. let k : length text - 1 ≡ limit = omega arith in rw k (last_white-none (limit + 1) limit text e (omega arith) (omega arith)))
-      (cases_lt (limit + 1) (length text))
+      (λ le. let k : length text - 1 ≡ line_length = omega arith in rw k (last_white-none (line_length + 1) line_length text e (omega arith) (omega arith)))
+      (cases_lt (line_length + 1) (length text))
 
 -- ---- the pieces of a text with one byte more
 
@@ -241,110 +241,110 @@ sure_cut cut = flat_map written_line cut.heads ++ sure_last cut.last
 
 -- a cut goes on to another by one step
 abbrev Goes : ℕ → ℕ → Cut → Cut → Type 0
-Goes limit b cut cut' = (left_last cut'.last ≡ (step limit (left_last cut.last) b).0) × (sure_cut cut' ≡ sure_cut cut ++ (step limit (left_last cut.last) b).1)
+Goes line_length b cut cut' = (left_last cut'.last ≡ (step line_length (left_last cut.last) b).0) × (sure_cut cut' ≡ sure_cut cut ++ (step line_length (left_last cut.last) b).1)
 
-goes_short : (limit : ℕ) (text : List ℕ) (b : ℕ) → length text < limit → Goes limit b (cut_of limit text) (cut_of limit (text ++ b ∷ []))
-goes_short limit text b short =
-    let fits : length text ≤ limit = omega arith in
-    let fits' : length (text ++ b ∷ []) ≤ limit = omega (arith, length-append text (b ∷ [])) in
-    rw (cut_short limit text fits, cut_short limit (text ++ b ∷ []) fits', lt-ltb (length text) limit short) (refl, refl)
+goes_short : (line_length : ℕ) (text : List ℕ) (b : ℕ) → length text < line_length → Goes line_length b (cut_of line_length text) (cut_of line_length (text ++ b ∷ []))
+goes_short line_length text b short =
+    let fits : length text ≤ line_length = omega arith in
+    let fits' : length (text ++ b ∷ []) ≤ line_length = omega (arith, length-append text (b ∷ [])) in
+    rw (cut_short line_length text fits, cut_short line_length (text ++ b ∷ []) fits', lt-ltb (length text) line_length short) (refl, refl)
 
 abbrev SameFull : ℕ → List ℕ → Option ℕ → Type 0
-SameFull limit x o =
-    (left_last (cut_at (cut_of limit) x (break_at limit x o)).last ≡ (break_full x o).0) × (sure_cut (cut_at (cut_of limit) x (break_at limit x o)) ≡ [] ++ (break_full x o).1)
+SameFull line_length x o =
+    (left_last (cut_at (cut_of line_length) x (break_at line_length x o)).last ≡ (break_full x o).0) × (sure_cut (cut_at (cut_of line_length) x (break_at line_length x o)) ≡ [] ++ (break_full x o).1)
 
-goes_full : (limit : ℕ) (text : List ℕ) (b : ℕ) → 3 ≤ limit → length text ≡ limit → Goes limit b (cut_of limit text) (cut_of limit (text ++ b ∷ []))
+goes_full : (line_length : ℕ) (text : List ℕ) (b : ℕ) → 3 ≤ line_length → length text ≡ line_length → Goes line_length b (cut_of line_length text) (cut_of line_length (text ++ b ∷ []))
 unfolding break_of from_white till_white
-goes_full limit text b wide full =
-    let fits : length text ≤ limit = omega arith in
-    let len : length (text ++ b ∷ []) ≡ limit + 1 = omega (arith, length-append text (b ∷ [])) in
-    let long : limit < length (text ++ b ∷ []) = omega arith in
-    let none_left : limit ≤ length text = omega arith in
-    rw (cut_short limit text fits, cut_long limit (text ++ b ∷ []) wide long, le-ltb (length text) limit none_left)
-    (at (text ++ b ∷ []) len (last_white (limit + 1) (text ++ b ∷ [])) refl) where
-      inside : (x head rest : List ℕ) → length rest + 2 ≤ limit →
-          (left_last (cut_at (cut_of limit) x (Broken false head rest)).last ≡ Collecting (indented rest)) × (sure_cut (cut_at (cut_of limit) x (Broken false head rest)) ≡ written_line head)
+goes_full line_length text b wide full =
+    let fits : length text ≤ line_length = omega arith in
+    let len : length (text ++ b ∷ []) ≡ line_length + 1 = omega (arith, length-append text (b ∷ [])) in
+    let long : line_length < length (text ++ b ∷ []) = omega arith in
+    let none_left : line_length ≤ length text = omega arith in
+    rw (cut_short line_length text fits, cut_long line_length (text ++ b ∷ []) wide long, le-ltb (length text) line_length none_left)
+    (at (text ++ b ∷ []) len (last_white (line_length + 1) (text ++ b ∷ [])) refl) where
+      inside : (x head rest : List ℕ) → length rest + 2 ≤ line_length →
+          (left_last (cut_at (cut_of line_length) x (Broken false head rest)).last ≡ Collecting (indented rest)) × (sure_cut (cut_at (cut_of line_length) x (Broken false head rest)) ≡ written_line head)
       inside x head [] h = (refl, rw (append-nil, append-nil) refl)
       inside x head (c ∷ rest) h =
-          let fits : length (indented (c ∷ rest)) ≤ limit = omega arith in
-          rw (cut_short limit (indented (c ∷ rest)) fits) (refl, rw (append-nil, append-nil) refl)
+          let fits : length (indented (c ∷ rest)) ≤ line_length = omega arith in
+          rw (cut_short line_length (indented (c ∷ rest)) fits) (refl, rw (append-nil, append-nil) refl)
 
-      at : (x : List ℕ) → length x ≡ limit + 1 → (o : Option ℕ) → last_white (limit + 1) x ≡ o → SameFull limit x o
+      at : (x : List ℕ) → length x ≡ line_length + 1 → (o : Option ℕ) → last_white (line_length + 1) x ≡ o → SameFull line_length x o
       at x len (Some i) is =
-          let h = last_white-some (limit + 1) i x is in
+          let h = last_white-some (line_length + 1) i x is in
           inside x (take i x) (drop (i + 1) x) (omega (arith, h.0, length-drop (i + 1) x))
       at x len None is =
-          let le : length x ≤ limit + 1 = omega arith in
-          rw (drop_all (limit + 1) x le) (refl, refl)
+          let le : length x ≤ line_length + 1 = omega arith in
+          rw (drop_all (line_length + 1) x le) (refl, refl)
 
-goes_long : (limit : ℕ) (text : List ℕ) (b : ℕ) (broken broken' : Break) → 3 ≤ limit → Grows text b broken broken' → (broken ≡ Unbroken → written_line text ≡ text ++ 10 ∷ []) →
-    ((rest : List ℕ) → length rest < length text → Goes limit b (cut_of limit rest) (cut_of limit (rest ++ b ∷ []))) → Shrinks text broken →
-    Goes limit b (cut_at (cut_of limit) text broken) (cut_at (cut_of limit) (text ++ b ∷ []) broken')
+goes_long : (line_length : ℕ) (text : List ℕ) (b : ℕ) (broken broken' : Break) → 3 ≤ line_length → Grows text b broken broken' → (broken ≡ Unbroken → written_line text ≡ text ++ 10 ∷ []) →
+    ((rest : List ℕ) → length rest < length text → Goes line_length b (cut_of line_length rest) (cut_of line_length (rest ++ b ∷ []))) → Shrinks text broken →
+    Goes line_length b (cut_at (cut_of line_length) text broken) (cut_at (cut_of line_length) (text ++ b ∷ []) broken')
 unfolding skip_white
-goes_long limit text b Unbroken broken' wide is ink more shrinks = rw is (at (is_white b)) where
+goes_long line_length text b Unbroken broken' wide is ink more shrinks = rw is (at (is_white b)) where
   at : (t : Bool) →
-      (left_last (cut_at (cut_of limit) (text ++ b ∷ []) (cond t (Broken true text []) Unbroken)).last ≡ (cond {A = ByteStep} t (Swallowing, 10 ∷ []) (Passing, b ∷ [])).0)
-      × (sure_cut (cut_at (cut_of limit) (text ++ b ∷ []) (cond t (Broken true text []) Unbroken)) ≡ text ++ (cond {A = ByteStep} t (Swallowing, 10 ∷ []) (Passing, b ∷ [])).1)
+      (left_last (cut_at (cut_of line_length) (text ++ b ∷ []) (cond t (Broken true text []) Unbroken)).last ≡ (cond {A = ByteStep} t (Swallowing, 10 ∷ []) (Passing, b ∷ [])).0)
+      × (sure_cut (cut_at (cut_of line_length) (text ++ b ∷ []) (cond t (Broken true text []) Unbroken)) ≡ text ++ (cond {A = ByteStep} t (Swallowing, 10 ∷ []) (Passing, b ∷ [])).1)
   at true = (refl, rw (append-nil, append-nil) (ink refl))
   at false = (refl, refl)
-goes_long limit text b (Broken past head (c ∷ rest)) broken' wide is ink more shrinks =
+goes_long line_length text b (Broken past head (c ∷ rest)) broken' wide is ink more shrinks =
     let h = more (indented (c ∷ rest)) (omega arith) in
-    let cut = cut_of limit (indented (c ∷ rest)) in
-    rw is (h.0, rw (append_assoc, append_assoc, append_assoc) (ap (λ xs. written_line head ++ xs) (h.1 ∙ append_assoc (flat_map written_line cut.heads) (sure_last cut.last) (step limit (left_last cut.last) b).1)))
-goes_long limit text b (Broken false head []) broken' wide is ink more shrinks =
-    let fits : length (indented (b ∷ [])) ≤ limit = omega arith in
-    let room : length (indented []) < limit = omega arith in
-    rw (is, cut_short limit (indented (b ∷ [])) fits, lt-ltb (length (indented [])) limit room) (refl, sym (append-nil (written_line head ++ [] ++ [])))
-goes_long limit text b (Broken true head []) broken' wide is ink more shrinks = rw is (at (is_white b)) where
+    let cut = cut_of line_length (indented (c ∷ rest)) in
+    rw is (h.0, rw (append_assoc, append_assoc, append_assoc) (ap (λ xs. written_line head ++ xs) (h.1 ∙ append_assoc (flat_map written_line cut.heads) (sure_last cut.last) (step line_length (left_last cut.last) b).1)))
+goes_long line_length text b (Broken false head []) broken' wide is ink more shrinks =
+    let fits : length (indented (b ∷ [])) ≤ line_length = omega arith in
+    let room : length (indented []) < line_length = omega arith in
+    rw (is, cut_short line_length (indented (b ∷ [])) fits, lt-ltb (length (indented [])) line_length room) (refl, sym (append-nil (written_line head ++ [] ++ [])))
+goes_long line_length text b (Broken true head []) broken' wide is ink more shrinks = rw is (at (is_white b)) where
   at : (t : Bool) →
-      (left_last (cut_at (cut_of limit) (text ++ b ∷ []) (Broken true head (cond t [] (b ∷ [])))).last ≡ (cond {A = ByteStep} t (Swallowing, []) (Collecting (indented (b ∷ [])), [])).0)
-      × (sure_cut (cut_at (cut_of limit) (text ++ b ∷ []) (Broken true head (cond t [] (b ∷ [])))) ≡ (written_line head ++ [] ++ []) ++ (cond {A = ByteStep} t (Swallowing, []) (Collecting (indented (b ∷ [])), [])).1)
+      (left_last (cut_at (cut_of line_length) (text ++ b ∷ []) (Broken true head (cond t [] (b ∷ [])))).last ≡ (cond {A = ByteStep} t (Swallowing, []) (Collecting (indented (b ∷ [])), [])).0)
+      × (sure_cut (cut_at (cut_of line_length) (text ++ b ∷ []) (Broken true head (cond t [] (b ∷ [])))) ≡ (written_line head ++ [] ++ []) ++ (cond {A = ByteStep} t (Swallowing, []) (Collecting (indented (b ∷ [])), [])).1)
   at true = (refl, sym (append-nil (written_line head ++ [] ++ [])))
   at false =
-      let fits : length (indented (b ∷ [])) ≤ limit = omega arith in
-      rw (cut_short limit (indented (b ∷ [])) fits) (refl, sym (append-nil (written_line head ++ [] ++ [])))
+      let fits : length (indented (b ∷ [])) ≤ line_length = omega arith in
+      rw (cut_short line_length (indented (b ∷ [])) fits) (refl, sym (append-nil (written_line head ++ [] ++ [])))
 
-goes : (n limit : ℕ) (text : List ℕ) (b : ℕ) → 3 ≤ limit → length text ≤ n → Goes limit b (cut_of limit text) (cut_of limit (text ++ b ∷ []))
-goes zero limit text b wide h = goes_short limit text b (omega arith)
-goes (suc n) limit text b wide h = ⊎_elim (λ lt. goes_short limit text b lt)
-    (λ above. ⊎_elim (λ lt. at lt (λ rest lt. goes n limit rest b wide (omega arith))) (λ below. goes_full limit text b wide (omega arith)) (cases_lt limit (length text))) (cases_lt (length text) limit) where
-      at : limit < length text → ((rest : List ℕ) → length rest < length text → Goes limit b (cut_of limit rest) (cut_of limit (rest ++ b ∷ []))) → Goes limit b (cut_of limit text) (cut_of limit (text ++ b ∷ []))
+goes : (n line_length : ℕ) (text : List ℕ) (b : ℕ) → 3 ≤ line_length → length text ≤ n → Goes line_length b (cut_of line_length text) (cut_of line_length (text ++ b ∷ []))
+goes zero line_length text b wide h = goes_short line_length text b (omega arith)
+goes (suc n) line_length text b wide h = ⊎_elim (λ lt. goes_short line_length text b lt)
+    (λ above. ⊎_elim (λ lt. at lt (λ rest lt. goes n line_length rest b wide (omega arith))) (λ below. goes_full line_length text b wide (omega arith)) (cases_lt line_length (length text))) (cases_lt (length text) line_length) where
+      at : line_length < length text → ((rest : List ℕ) → length rest < length text → Goes line_length b (cut_of line_length rest) (cut_of line_length (rest ++ b ∷ []))) → Goes line_length b (cut_of line_length text) (cut_of line_length (text ++ b ∷ []))
       at long more =
           let some : 0 < length text = omega arith in
-          let long' : limit < length (text ++ b ∷ []) = omega (arith, length-append text (b ∷ [])) in
-          rw (cut_long limit text wide long, cut_long limit (text ++ b ∷ []) wide long')
-          (goes_long limit text b (break_of limit text) (break_of limit (text ++ b ∷ [])) wide (break_of-grows limit text b long)
-          (λ is. line_ink text some (unbroken_ink limit text wide long is)) more (break_of-shrinks limit text wide long))
+          let long' : line_length < length (text ++ b ∷ []) = omega (arith, length-append text (b ∷ [])) in
+          rw (cut_long line_length text wide long, cut_long line_length (text ++ b ∷ []) wide long')
+          (goes_long line_length text b (break_of line_length text) (break_of line_length (text ++ b ∷ [])) wide (break_of-grows line_length text b long)
+          (λ is. line_ink text some (unbroken_ink line_length text wide long is)) more (break_of-shrinks line_length text wide long))
 
 -- ---- more bytes
 
-pub go_on : (limit : ℕ) (u t : List ℕ) → 3 ≤ limit → (left limit (t ++ u) ≡ left_after limit (left limit t) u) × (sure limit (t ++ u) ≡ sure limit t ++ sure_after limit (left limit t) u)
+pub go_on : (line_length : ℕ) (u t : List ℕ) → 3 ≤ line_length → (left line_length (t ++ u) ≡ left_after line_length (left line_length t) u) × (sure line_length (t ++ u) ≡ sure line_length t ++ sure_after line_length (left line_length t) u)
 unfolding left_after sure_after
-go_on limit [] t wide = rw (append-nil, append-nil) (refl, refl)
-go_on limit (b ∷ bs) t wide =
-    let here = goes (length t) limit t b wide (omega arith) in
-    let more = rw (append_assoc t (b ∷ []) bs, here.0, here.1) at (go_on limit bs (t ++ b ∷ []) wide) in
-    (more.0, more.1 ∙ append_assoc (sure limit t) (step limit (left limit t) b).1 (sure_after limit (step limit (left limit t) b).0 bs))
+go_on line_length [] t wide = rw (append-nil, append-nil) (refl, refl)
+go_on line_length (b ∷ bs) t wide =
+    let here = goes (length t) line_length t b wide (omega arith) in
+    let more = rw (append_assoc t (b ∷ []) bs, here.0, here.1) at (go_on line_length bs (t ++ b ∷ []) wide) in
+    (more.0, more.1 ∙ append_assoc (sure line_length t) (step line_length (left line_length t) b).1 (sure_after line_length (step line_length (left line_length t) b).0 bs))
 
-pub wrap_is : (limit : ℕ) (t : List ℕ) → wrap limit t ≡ sure limit t ++ end_written (left limit t)
+pub wrap_is : (line_length : ℕ) (t : List ℕ) → wrap line_length t ≡ sure line_length t ++ end_written (left line_length t)
 unfolding trimmed
-wrap_is limit t = at (flat_map written_line (cut_of limit t).heads) (cut_of limit t).last where
+wrap_is line_length t = at (flat_map written_line (cut_of line_length t).heads) (cut_of line_length t).last where
   at : (written : List ℕ) (last : Last) → written ++ written_last last ≡ (written ++ sure_last last) ++ end_written (left_last last)
   at written (Short text) = rw append-nil refl
   at written (Long text) = rw append_assoc refl
   at written (Nothing true) = sym (append-nil (written ++ []))
   at written (Nothing false) = sym (append-nil (written ++ []))
 
-pub wrap_on : (limit : ℕ) (t u : List ℕ) → 3 ≤ limit → wrap limit (t ++ u) ≡ sure limit t ++ wrap_after limit (left limit t) u
-wrap_on limit t u wide =
-    let more = go_on limit u t wide in
-    wrap_is limit (t ++ u) ∙ rw (more.0, more.1) (append_assoc (sure limit t) (sure_after limit (left limit t) u) (end_written (left_after limit (left limit t) u)))
+pub wrap_on : (line_length : ℕ) (t u : List ℕ) → 3 ≤ line_length → wrap line_length (t ++ u) ≡ sure line_length t ++ wrap_after line_length (left line_length t) u
+wrap_on line_length t u wide =
+    let more = go_on line_length u t wide in
+    wrap_is line_length (t ++ u) ∙ rw (more.0, more.1) (append_assoc (sure line_length t) (sure_after line_length (left line_length t) u) (end_written (left_after line_length (left line_length t) u)))
 
 -- ---- row by row
 
-pub table_ends : (limit : ℕ) (t head : List ℕ) (past : Bool) → 3 ≤ limit → limit < length t → break_of limit t ≡ Broken past head [] →
-    (wrap limit t ≡ written_line head) × (sure limit t ≡ written_line head) × (left limit t ≡ cond past Swallowing (Collecting (indented [])))
-table_ends limit t head past wide long is = rw (cut_long limit t wide long, is) (at past) where
+pub table_ends : (line_length : ℕ) (t head : List ℕ) (past : Bool) → 3 ≤ line_length → line_length < length t → break_of line_length t ≡ Broken past head [] →
+    (wrap line_length t ≡ written_line head) × (sure line_length t ≡ written_line head) × (left line_length t ≡ cond past Swallowing (Collecting (indented [])))
+table_ends line_length t head past wide long is = rw (cut_long line_length t wide long, is) (at past) where
   whole : written_line head ++ [] ++ [] ≡ written_line head
   whole = rw (append-nil, append-nil) refl
 
@@ -352,10 +352,10 @@ table_ends limit t head past wide long is = rw (cut_long limit t wide long, is) 
   at true = (whole, whole, refl)
   at false = (whole, whole, refl)
 
-pub table_more : (limit : ℕ) (t head rest : List ℕ) (b : ℕ) (past : Bool) → 3 ≤ limit → limit < length t → break_of limit t ≡ Broken past head (b ∷ rest) →
+pub table_more : (line_length : ℕ) (t head rest : List ℕ) (b : ℕ) (past : Bool) → 3 ≤ line_length → line_length < length t → break_of line_length t ≡ Broken past head (b ∷ rest) →
     let more = indented (b ∷ rest) in
-    (wrap limit t ≡ written_line head ++ wrap limit more) × (sure limit t ≡ written_line head ++ sure limit more) × (left limit t ≡ left limit more)
-table_more limit t head rest b past wide long is =
-    let cut = cut_of limit (indented (b ∷ rest)) in
-    rw (cut_long limit t wide long, is)
+    (wrap line_length t ≡ written_line head ++ wrap line_length more) × (sure line_length t ≡ written_line head ++ sure line_length more) × (left line_length t ≡ left line_length more)
+table_more line_length t head rest b past wide long is =
+    let cut = cut_of line_length (indented (b ∷ rest)) in
+    rw (cut_long line_length t wide long, is)
     (append_assoc (written_line head) (flat_map written_line cut.heads) (written_last cut.last), append_assoc (written_line head) (flat_map written_line cut.heads) (sure_last cut.last), refl)

@@ -8,7 +8,7 @@ use Rattle.btx_out.specs.language.Breaking.{last_white, indented, cut_of, cut_wi
 use Rattle.btx_out.specs.laws.Breaking.{Left, Collecting, Passing, Swallowing, left}
 use Rattle.btx_out.specs.language.Breakers.{written_at_end}
 use Rattle.btx_out.specs.refinement.Breakers.{Held, holding, AppendsRest, AppendsPartOfRest, is_fresh}
-use Rattle.btx_out.specs.language.Pieces.{AppendsBeginning}
+use Rattle.btx_out.specs.language.Pieces.{AppendsPrefix}
 use Rattle.btx_out.specs.laws.States.{ByteStep, break_full, step, left_after, sure_after, end_written}
 use Rattle.btx_out.proofs.BreakLemmas.{go_on, wrap_is}
 
@@ -16,47 +16,47 @@ same_some : (a b : Left) → Some a ≡ Some b → a ≡ b
 same_some a b is = cc
 
 -- what a breaker holds is left of the text
-holds_left : (limit : ℕ) (state : Left) (old : Held) (text : List ℕ) → holding limit state ≡ old → old.pending ≡ Some (left old.limit text) → state ≡ left limit text
-holds_left limit state old text view held = same_some state (left limit text) (rw (← view) at held)
+holds_left : (line_length : ℕ) (state : Left) (old : Held) (text : List ℕ) → holding line_length state ≡ old → old.pending ≡ Some (left old.line_length text) → state ≡ left line_length text
+holds_left line_length state old text view held = same_some state (left line_length text) (rw (← view) at held)
 
 -- ---- more bytes
 
-pub puts_more : (limit : ℕ) (state next : Left) (old : Held) (text bytes : List ℕ) (before after : Option (List ℕ)) → holding limit state ≡ old → IsLineLength limit →
-    old.pending ≡ Some (left old.limit text) → next ≡ left_after limit state bytes → Appends before after (sure_after limit state bytes) →
-    (holding limit next ≡ holding old.limit (left old.limit (text ++ bytes))) × AppendsRest before after (sure old.limit text) (sure old.limit (text ++ bytes))
-puts_more limit state next old text bytes before after view range held is received =
-    let state_is = holds_left limit state old text view held in
-    let wide : 3 ≤ limit = omega arith in
-    let more = go_on limit bytes text wide in
+pub puts_more : (line_length : ℕ) (state next : Left) (old : Held) (text bytes : List ℕ) (before after : Option (List ℕ)) → holding line_length state ≡ old → IsLineLength line_length →
+    old.pending ≡ Some (left old.line_length text) → next ≡ left_after line_length state bytes → Appends before after (sure_after line_length state bytes) →
+    (holding line_length next ≡ holding old.line_length (left old.line_length (text ++ bytes))) × AppendsRest before after (sure old.line_length text) (sure old.line_length (text ++ bytes))
+puts_more line_length state next old text bytes before after view range held is received =
+    let state_is = holds_left line_length state old text view held in
+    let wide : 3 ≤ line_length = omega arith in
+    let more = go_on line_length bytes text wide in
     let is' = rw state_is at is in
     let received' = rw state_is at received in
-    rw (← view) (ap (holding limit) (is' ∙ sym more.0), record { written = sure_after limit (left limit text) bytes; joined = sym more.1; received = received' })
+    rw (← view) (ap (holding line_length) (is' ∙ sym more.0), record { written = sure_after line_length (left line_length text) bytes; joined = sym more.1; received = received' })
 
-pub puts_part : (limit : ℕ) (state : Left) (old : Held) (text bytes : List ℕ) (before after : Option (List ℕ)) → holding limit state ≡ old → IsLineLength limit →
-    old.pending ≡ Some (left old.limit text) → AppendsBeginning before after (sure_after limit state bytes) →
-    AppendsPartOfRest before after (sure old.limit text) (sure old.limit (text ++ bytes))
-puts_part limit state old text bytes before after view range held begins =
-    let state_is = holds_left limit state old text view held in
-    let wide : 3 ≤ limit = omega arith in
-    let more = go_on limit bytes text wide in
+pub puts_part : (line_length : ℕ) (state : Left) (old : Held) (text bytes : List ℕ) (before after : Option (List ℕ)) → holding line_length state ≡ old → IsLineLength line_length →
+    old.pending ≡ Some (left old.line_length text) → AppendsPrefix before after (sure_after line_length state bytes) →
+    AppendsPartOfRest before after (sure old.line_length text) (sure old.line_length (text ++ bytes))
+puts_part line_length state old text bytes before after view range held begins =
+    let state_is = holds_left line_length state old text view held in
+    let wide : 3 ≤ line_length = omega arith in
+    let more = go_on line_length bytes text wide in
     let begins' = rw state_is at begins in
-    rw (← view) (record { written = sure_after limit (left limit text) bytes; joined = sym more.1; received = begins' })
+    rw (← view) (record { written = sure_after line_length (left line_length text) bytes; joined = sym more.1; received = begins' })
 
 -- ---- the end of the line
 
-pub ends_all : (limit : ℕ) (state : Left) (old : Held) (text : List ℕ) (before after : Option (List ℕ)) → holding limit state ≡ old →
-    old.pending ≡ Some (left old.limit text) → Appends before after (end_written state) → AppendsRest before after (sure old.limit text) (wrap old.limit text)
-ends_all limit state old text before after view held received =
-    let state_is = holds_left limit state old text view held in
+pub ends_all : (line_length : ℕ) (state : Left) (old : Held) (text : List ℕ) (before after : Option (List ℕ)) → holding line_length state ≡ old →
+    old.pending ≡ Some (left old.line_length text) → Appends before after (end_written state) → AppendsRest before after (sure old.line_length text) (wrap old.line_length text)
+ends_all line_length state old text before after view held received =
+    let state_is = holds_left line_length state old text view held in
     let received' = rw state_is at received in
-    rw (← view) (record { written = end_written (left limit text); joined = sym (wrap_is limit text); received = received' })
+    rw (← view) (record { written = end_written (left line_length text); joined = sym (wrap_is line_length text); received = received' })
 
-pub ends_part : (limit : ℕ) (state : Left) (old : Held) (text : List ℕ) (before after : Option (List ℕ)) → holding limit state ≡ old →
-    old.pending ≡ Some (left old.limit text) → AppendsBeginning before after (end_written state) → AppendsPartOfRest before after (sure old.limit text) (wrap old.limit text)
-ends_part limit state old text before after view held begins =
-    let state_is = holds_left limit state old text view held in
+pub ends_part : (line_length : ℕ) (state : Left) (old : Held) (text : List ℕ) (before after : Option (List ℕ)) → holding line_length state ≡ old →
+    old.pending ≡ Some (left old.line_length text) → AppendsPrefix before after (end_written state) → AppendsPartOfRest before after (sure old.line_length text) (wrap old.line_length text)
+ends_part line_length state old text before after view held begins =
+    let state_is = holds_left line_length state old text view held in
     let begins' = rw state_is at begins in
-    rw (← view) (record { written = end_written (left limit text); joined = sym (wrap_is limit text); received = begins' })
+    rw (← view) (record { written = end_written (left line_length text); joined = sym (wrap_is line_length text); received = begins' })
 
 -- ---- a text of which nothing is left is empty
 
@@ -68,36 +68,36 @@ more_not_fresh : (text : List ℕ) (b : ℕ) → NotFresh (Collecting (text ++ b
 more_not_fresh [] b = tt
 more_not_fresh (c ∷ text) b = tt
 
-step_not_fresh : (limit : ℕ) (state : Left) (b : ℕ) → NotFresh (step limit state b).0
-step_not_fresh limit (Collecting text) b = at (ltb (length text) limit) (last_white (limit + 1) (text ++ b ∷ [])) where
+step_not_fresh : (line_length : ℕ) (state : Left) (b : ℕ) → NotFresh (step line_length state b).0
+step_not_fresh line_length (Collecting text) b = at (ltb (length text) line_length) (last_white (line_length + 1) (text ++ b ∷ [])) where
   at : (t : Bool) (o : Option ℕ) → NotFresh (cond {A = ByteStep} t (Collecting (text ++ b ∷ []), []) (break_full (text ++ b ∷ []) o)).0
   at true o = more_not_fresh text b
   at false (Some i) = tt
   at false None = tt
-step_not_fresh limit Passing b = at (is_white b) where
+step_not_fresh line_length Passing b = at (is_white b) where
   at : (t : Bool) → NotFresh (cond {A = ByteStep} t (Swallowing, 10 ∷ []) (Passing, b ∷ [])).0
   at true = tt
   at false = tt
-step_not_fresh limit Swallowing b = at (is_white b) where
+step_not_fresh line_length Swallowing b = at (is_white b) where
   at : (t : Bool) → NotFresh (cond {A = ByteStep} t (Swallowing, []) (Collecting (indented (b ∷ [])), [])).0
   at true = tt
   at false = tt
 
-left_after_not_fresh : (limit : ℕ) (state : Left) (bs : List ℕ) → NotFresh state → NotFresh (left_after limit state bs)
+left_after_not_fresh : (line_length : ℕ) (state : Left) (bs : List ℕ) → NotFresh state → NotFresh (left_after line_length state bs)
 unfolding left_after
-left_after_not_fresh limit state [] h = h
-left_after_not_fresh limit state (b ∷ bs) h = left_after_not_fresh limit (step limit state b).0 bs (step_not_fresh limit state b)
+left_after_not_fresh line_length state [] h = h
+left_after_not_fresh line_length state (b ∷ bs) h = left_after_not_fresh line_length (step line_length state b).0 bs (step_not_fresh line_length state b)
 
-left_after_some : (limit : ℕ) (state : Left) (b : ℕ) (bs : List ℕ) → NotFresh (left_after limit state (b ∷ bs))
+left_after_some : (line_length : ℕ) (state : Left) (b : ℕ) (bs : List ℕ) → NotFresh (left_after line_length state (b ∷ bs))
 unfolding left_after
-left_after_some limit state b bs = left_after_not_fresh limit (step limit state b).0 bs (step_not_fresh limit state b)
+left_after_some line_length state b bs = left_after_not_fresh line_length (step line_length state b).0 bs (step_not_fresh line_length state b)
 
-left_not_fresh : (limit b : ℕ) (bs : List ℕ) → 3 ≤ limit → NotFresh (left limit (b ∷ bs))
-left_not_fresh limit b bs wide = let more = go_on limit (b ∷ bs) [] wide in rw more.0 (left_after_some limit (left limit []) b bs)
+left_not_fresh : (line_length b : ℕ) (bs : List ℕ) → 3 ≤ line_length → NotFresh (left line_length (b ∷ bs))
+left_not_fresh line_length b bs wide = let more = go_on line_length (b ∷ bs) [] wide in rw more.0 (left_after_some line_length (left line_length []) b bs)
 
-fresh_is_empty : (limit : ℕ) (v : Option Left) (text : List ℕ) → 3 ≤ limit → v ≡ Some (left limit text) → is_fresh v ≡ true → text ≡ []
-fresh_is_empty limit v [] wide is fresh = refl
-fresh_is_empty limit v (b ∷ bs) wide is fresh = absurd (none (left limit (b ∷ bs)) (left_not_fresh limit b bs wide) (rw is at fresh)) where
+fresh_is_empty : (line_length : ℕ) (v : Option Left) (text : List ℕ) → 3 ≤ line_length → v ≡ Some (left line_length text) → is_fresh v ≡ true → text ≡ []
+fresh_is_empty line_length v [] wide is fresh = refl
+fresh_is_empty line_length v (b ∷ bs) wide is fresh = absurd (none (left line_length (b ∷ bs)) (left_not_fresh line_length b bs wide) (rw is at fresh)) where
   none : (state : Left) → NotFresh state → is_fresh (Some state) ≡ true → ⊥
   none (Collecting []) h e = h
   none (Collecting (c ∷ cs)) h e = cc
@@ -107,34 +107,34 @@ fresh_is_empty limit v (b ∷ bs) wide is fresh = absurd (none (left limit (b �
 -- ---- the very end
 
 -- nothing is pending, and nothing is written
-pub finish_fresh : (old : Held) (text : List ℕ) (received : Option (List ℕ)) → IsLineLength old.limit → old.pending ≡ Some (left old.limit text) → is_fresh old.pending ≡ true →
-    AppendsRest received received (sure old.limit text) (written_at_end old.limit text)
+pub finish_fresh : (old : Held) (text : List ℕ) (received : Option (List ℕ)) → IsLineLength old.line_length → old.pending ≡ Some (left old.line_length text) → is_fresh old.pending ≡ true →
+    AppendsRest received received (sure old.line_length text) (written_at_end old.line_length text)
 unfolding cut_of cut_within
 finish_fresh old text received range held fresh =
-    let wide : 3 ≤ old.limit = omega arith in
-    let empty = fresh_is_empty old.limit old.pending text wide held fresh in
+    let wide : 3 ≤ old.line_length = omega arith in
+    let empty = fresh_is_empty old.line_length old.pending text wide held fresh in
     record { written = []; joined = rw empty refl; received = Appends-nil received }
 
 -- such a breaker is as a new one
-pub fresh_is_new : (old : Held) → is_fresh old.pending ≡ true → old ≡ holding old.limit (Collecting [])
+pub fresh_is_new : (old : Held) → is_fresh old.pending ≡ true → old ≡ holding old.line_length (Collecting [])
 fresh_is_new old fresh = at old.pending refl fresh where
-  at : (v : Option Left) → old.pending ≡ v → is_fresh v ≡ true → old ≡ holding old.limit (Collecting [])
-  at (Some (Collecting [])) is fresh = ap (λ p. record { limit = old.limit; pending = p }) is
+  at : (v : Option Left) → old.pending ≡ v → is_fresh v ≡ true → old ≡ holding old.line_length (Collecting [])
+  at (Some (Collecting [])) is fresh = ap (λ p. record { line_length = old.line_length; pending = p }) is
   at (Some (Collecting (b ∷ bs))) is fresh = cc
   at (Some Passing) is fresh = cc
   at (Some Swallowing) is fresh = cc
   at None is fresh = cc
 
 -- something is pending
-some_pending : (limit : ℕ) (v : Option Left) (text : List ℕ) → v ≡ Some (left limit text) → is_fresh v ≡ false → written_at_end limit text ≡ wrap limit text
+some_pending : (line_length : ℕ) (v : Option Left) (text : List ℕ) → v ≡ Some (left line_length text) → is_fresh v ≡ false → written_at_end line_length text ≡ wrap line_length text
 unfolding cut_of cut_within
-some_pending limit v [] held fresh = let fresh' : is_fresh (Some (left limit [])) ≡ false = rw held at fresh in cc
-some_pending limit v (b ∷ bs) held fresh = refl
+some_pending line_length v [] held fresh = let fresh' : is_fresh (Some (left line_length [])) ≡ false = rw held at fresh in cc
+some_pending line_length v (b ∷ bs) held fresh = refl
 
-pub finish_ends : (old : Held) (text : List ℕ) (before after : Option (List ℕ)) → is_fresh old.pending ≡ false → old.pending ≡ Some (left old.limit text) →
-    AppendsRest before after (sure old.limit text) (wrap old.limit text) → AppendsRest before after (sure old.limit text) (written_at_end old.limit text)
-finish_ends old text before after fresh held h = rw (some_pending old.limit old.pending text held fresh) h
+pub finish_ends : (old : Held) (text : List ℕ) (before after : Option (List ℕ)) → is_fresh old.pending ≡ false → old.pending ≡ Some (left old.line_length text) →
+    AppendsRest before after (sure old.line_length text) (wrap old.line_length text) → AppendsRest before after (sure old.line_length text) (written_at_end old.line_length text)
+finish_ends old text before after fresh held h = rw (some_pending old.line_length old.pending text held fresh) h
 
-pub finish_part : (old : Held) (text : List ℕ) (before after : Option (List ℕ)) → is_fresh old.pending ≡ false → old.pending ≡ Some (left old.limit text) →
-    AppendsPartOfRest before after (sure old.limit text) (wrap old.limit text) → AppendsPartOfRest before after (sure old.limit text) (written_at_end old.limit text)
-finish_part old text before after fresh held h = rw (some_pending old.limit old.pending text held fresh) h
+pub finish_part : (old : Held) (text : List ℕ) (before after : Option (List ℕ)) → is_fresh old.pending ≡ false → old.pending ≡ Some (left old.line_length text) →
+    AppendsPartOfRest before after (sure old.line_length text) (wrap old.line_length text) → AppendsPartOfRest before after (sure old.line_length text) (written_at_end old.line_length text)
+finish_part old text before after fresh held h = rw (some_pending old.line_length old.pending text held fresh) h

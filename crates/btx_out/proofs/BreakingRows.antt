@@ -5,12 +5,12 @@ use Rattle.btx_out.specs.language.Breakers.{written_at_end}
 use Rattle.btx_out.specs.language.Breaking.{wrap, sure, skip_white, till_white, from_white, last_white, break_of, cut_within, cut_of}
 use Rattle.btx_out.specs.laws.Breaking.{left, Collecting, Passing, Swallowing}
 
--- the white behind a full line breaks it
+-- the whitespace behind a full line breaks it
 broken_at_limit : wrap 79 (replicate 79 97 ++ codes " b") ≡ replicate 79 97 ++ 10 ∷ codes "  b" ++ 10 ∷ []
 unfolding trimmed skip_white till_white from_white last_white break_of cut_within cut_of
 broken_at_limit = refl
 
--- one byte of white goes at a break inside the line, and the next line has the other
+-- one byte of whitespace goes at a break inside the line, and the next line has the other
 one_white_goes : wrap 79 (replicate 79 97 ++ codes "  b") ≡ replicate 79 97 ++ 10 ∷ codes "   b" ++ 10 ∷ []
 unfolding trimmed skip_white till_white from_white last_white break_of cut_within cut_of
 one_white_goes = refl
@@ -29,7 +29,7 @@ long_word_pending : sure 79 (codes "aaa " ++ replicate 80 98) ≡ codes "aaa" ++
 unfolding trimmed skip_white till_white from_white last_white break_of cut_within cut_of
 long_word_pending = refl
 
--- an empty line is written, white alone isn't
+-- an empty line is written, whitespace alone isn't
 empty : wrap 79 [] ≡ 10 ∷ []
 unfolding trimmed cut_within cut_of
 empty = refl
@@ -72,27 +72,27 @@ full_pending : sure 20 (replicate 20 97) ≡ []
 unfolding cut_within cut_of
 full_pending = refl
 
--- white at index 2 is no break
+-- whitespace at index 2 is no break
 early_white : wrap 20 (codes "ab " ++ replicate 20 99) ≡ codes "ab " ++ replicate 20 99 ++ 10 ∷ []
 unfolding trimmed skip_white till_white from_white last_white break_of cut_within cut_of
 early_white = refl
 
--- a head of white alone isn't written
+-- a head of whitespace alone isn't written
 white_head : wrap 20 (replicate 5 32 ++ replicate 20 98) ≡ codes "  " ++ replicate 20 98 ++ 10 ∷ []
 unfolding trimmed skip_white till_white from_white last_white break_of cut_within cut_of
 white_head = refl
 
--- a head loses all the white at its end
+-- a head loses all the whitespace at its end
 white_at_head : wrap 20 (codes "aaaa    " ++ replicate 13 98) ≡ codes "aaaa" ++ 10 ∷ codes "  " ++ replicate 13 98 ++ 10 ∷ []
 unfolding trimmed skip_white till_white from_white last_white break_of cut_within cut_of
 white_at_head = refl
 
--- a tab and a carriage return are white; byte 11 isn't
+-- a tab and a carriage return are whitespace; byte 11 isn't
 other_white : wrap 20 (replicate 10 97 ++ 13 ∷ replicate 4 97 ++ 9 ∷ replicate 5 97 ++ 11 ∷ replicate 4 97) ≡ replicate 10 97 ++ 13 ∷ replicate 4 97 ++ 10 ∷ codes "  aaaaa" ++ 11 ∷ codes "aaaa" ++ 10 ∷ []
 unfolding trimmed skip_white till_white from_white last_white break_of cut_within cut_of
 other_white = refl
 
--- after a break past the line the white that follows goes too; after one inside the line the next line has its spaces
+-- after a break past the line the whitespace that follows goes too; after one inside the line the next line has its spaces
 left_past : left 20 (replicate 21 97 ++ codes " ") ≡ Swallowing
 unfolding skip_white till_white from_white last_white break_of cut_within cut_of
 left_past = refl
@@ -105,7 +105,7 @@ left_long : left 20 (replicate 21 97) ≡ Passing
 unfolding skip_white till_white from_white last_white break_of cut_within cut_of
 left_long = refl
 
--- a line that ended past the limit is sure, whether or not something follows
+-- a line that ended past the greatest length is sure, whether or not something follows
 sure_past : sure 20 (replicate 21 97 ++ codes " ") ≡ replicate 21 97 ++ 10 ∷ []
 unfolding trimmed skip_white till_white from_white last_white break_of cut_within cut_of
 sure_past = refl

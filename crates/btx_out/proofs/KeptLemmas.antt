@@ -11,7 +11,7 @@ use Rattle.btx_text.specs.language.Lines.{trimmed, white_before}
 use Rattle.btx_out.specs.language.Breaking.{written_line, with_line_feed, last_white, indented, skip_white, till_white, from_white}
 use Rattle.btx_out.specs.refinement.Breaking.{is_not_white}
 
--- ---- the last white
+-- ---- the last whitespace byte
 
 pub last_white_step : (end : ℕ) (text : List ℕ) → 3 ≤ end → last_white (end + 1) text ≡ cond (is_white (get_or text end 0)) (Some end) (last_white end text)
 unfolding last_white
@@ -40,7 +40,7 @@ trimmed_front (b ∷ bs) = at (is_white b) (trimmed bs) (trimmed_front bs) where
   at true (c ∷ cs) h = (omega (arith, h.0), ap (λ xs. b ∷ xs) h.1)
   at false kept h = (omega (arith, h.0), ap (λ xs. b ∷ xs) h.1)
 
--- a line of white alone is nothing
+-- a line of whitespace alone is nothing
 pub line_gone : (text : List ℕ) → 0 < length text → length (trimmed text) ≡ 0 → written_line text ≡ []
 line_gone [] some h = absurd (omega arith)
 line_gone (b ∷ bs) some h = at (trimmed (b ∷ bs)) h where
@@ -86,7 +86,7 @@ kept_line text kept at inside is either =
 pub kept_rest : (text kept : List ℕ) (at : ℕ) → at < length text → kept ≡ trimmed (take at text) → drop (at + 1) (set text (length kept) 10) ≡ drop (at + 1) text
 kept_rest text kept at inside is = let within = kept_within text kept at inside is in drop-set-lt (at + 1) text (length kept) 10 (omega arith)
 
--- a line of white alone is not written
+-- a line of whitespace alone is not written
 pub kept_none : (text kept : List ℕ) (at : ℕ) → at < length text → kept ≡ trimmed (take at text) → length kept ≡ 0 → 0 < at → written_line (take at text) ≡ []
 kept_none text kept at inside is none some =
     let len : length (take at text) ≡ at = length-take-le at text (omega arith) in
@@ -129,9 +129,9 @@ carried text moved at some inside is len = carried_from (at - 1) (omega arith) (
       let gap = spaced text start (omega arith) in
       front ∙ rw (more, ← same, next) gap
 
--- ---- the first white
+-- ---- the first whitespace byte
 
--- the front without white is what stands before the first white, and the rest what stands from it on
+-- the front without whitespace is what stands before the first whitespace byte, and the rest what stands from it on
 ink_within : (bytes : List ℕ) → length (take_while is_not_white bytes) ≤ length bytes
 ink_within [] = omega arith
 ink_within (b ∷ bs) = rw (take_while-cons is_not_white b bs) (at (is_white b) (ink_within bs)) where
@@ -166,7 +166,7 @@ split_front bytes n is = rw is (ink_front bytes)
 pub split_rest : (bytes : List ℕ) (n : ℕ) → n ≡ length (take_while is_not_white bytes) → drop n bytes ≡ from_white bytes
 split_rest bytes n is = rw is (ink_rest bytes)
 
--- ---- the white at the front
+-- ---- the whitespace at the front
 
 white_within : (bytes : List ℕ) → length (take_while is_white bytes) ≤ length bytes
 white_within [] = omega arith

@@ -4,7 +4,7 @@ use Rattle.std.proofs.Math.Seq.{take-add}
 use Rattle.std.proofs.lemmas.List.{take_rest}
 use Rattle.std.specs.Io.KnownBytes.{Appends, Keeps}
 use Rattle.std.proofs.KnownBytes.{Appends-trans, Appends-nil}
-use Rattle.btx_out.specs.language.Pieces.{AppendsBeginning}
+use Rattle.btx_out.specs.language.Pieces.{AppendsPrefix}
 
 pub Appends-kept : (a b c : Option (List ℕ)) (bs : List ℕ) → Appends a b bs → Keeps b c → Appends a c bs
 Appends-kept None b c bs p q = tt
@@ -18,28 +18,28 @@ Appends-take_more a b c at n bs p q =
     let rest = subst (λ (l : List ℕ). Appends b c (take n l)) (take_rest bs at) q in
     subst (Appends a c) (sym (take-add at n bs)) (Appends-trans a b c _ _ p rest)
 
--- the first bytes are a beginning
-pub beginning-take : (a b c : Option (List ℕ)) (at : ℕ) (bs : List ℕ) → Appends a b (take at bs) → Keeps b c → AppendsBeginning a c bs
-beginning-take a b c at bs p q = record { front = take at bs; rest = drop at bs; whole = sym (take-append-drop at bs); received = Appends-kept a b c _ p q }
+-- the first bytes are a prefix
+pub prefix-take : (a b c : Option (List ℕ)) (at : ℕ) (bs : List ℕ) → Appends a b (take at bs) → Keeps b c → AppendsPrefix a c bs
+prefix-take a b c at bs p q = record { front = take at bs; rest = drop at bs; whole = sym (take-append-drop at bs); received = Appends-kept a b c _ p q }
 
--- nothing is a beginning
-pub beginning-none : (a b : Option (List ℕ)) (bs : List ℕ) → Keeps a b → AppendsBeginning a b bs
-beginning-none a b bs p = record { front = []; rest = bs; whole = refl; received = Appends-kept a a b [] (Appends-nil a) p }
+-- nothing is a prefix
+pub prefix-none : (a b : Option (List ℕ)) (bs : List ℕ) → Keeps a b → AppendsPrefix a b bs
+prefix-none a b bs p = record { front = []; rest = bs; whole = refl; received = Appends-kept a a b [] (Appends-nil a) p }
 
-pub beginning-none_same : (a : Option (List ℕ)) (bs : List ℕ) → AppendsBeginning a a bs
-beginning-none_same a bs = record { front = []; rest = bs; whole = refl; received = Appends-nil a }
+pub prefix-none_same : (a : Option (List ℕ)) (bs : List ℕ) → AppendsPrefix a a bs
+prefix-none_same a bs = record { front = []; rest = bs; whole = refl; received = Appends-nil a }
 
--- all of it is a beginning
-pub beginning-all : (a b : Option (List ℕ)) (bs : List ℕ) → Appends a b bs → AppendsBeginning a b bs
-beginning-all a b bs p = record { front = bs; rest = []; whole = sym (append-nil bs); received = p }
+-- all of it is a prefix
+pub prefix-all : (a b : Option (List ℕ)) (bs : List ℕ) → Appends a b bs → AppendsPrefix a b bs
+prefix-all a b bs p = record { front = bs; rest = []; whole = sym (append-nil bs); received = p }
 
--- a beginning stays one where more was to follow
-pub beginning-longer : (a b : Option (List ℕ)) (bs cs : List ℕ) → AppendsBeginning a b bs → AppendsBeginning a b (bs ++ cs)
-beginning-longer a b bs cs p = record { front = p.front; rest = p.rest ++ cs; whole = ap (λ l. l ++ cs) p.whole ∙ append_assoc p.front p.rest cs; received = p.received }
+-- a prefix stays one where more was to follow
+pub prefix-longer : (a b : Option (List ℕ)) (bs cs : List ℕ) → AppendsPrefix a b bs → AppendsPrefix a b (bs ++ cs)
+prefix-longer a b bs cs p = record { front = p.front; rest = p.rest ++ cs; whole = ap (λ l. l ++ cs) p.whole ∙ append_assoc p.front p.rest cs; received = p.received }
 
--- a whole piece, and then a beginning of the next
-pub beginning-after : (a b c : Option (List ℕ)) (bs cs : List ℕ) → Appends a b bs → AppendsBeginning b c cs → AppendsBeginning a c (bs ++ cs)
-beginning-after a b c bs cs p q = record {
+-- a whole piece, and then a prefix of the next
+pub prefix-after : (a b c : Option (List ℕ)) (bs cs : List ℕ) → Appends a b bs → AppendsPrefix b c cs → AppendsPrefix a c (bs ++ cs)
+prefix-after a b c bs cs p q = record {
   front = bs ++ q.front;
   rest = q.rest;
   whole = ap (λ l. bs ++ l) q.whole ∙ sym (append_assoc bs q.front q.rest);
@@ -52,4 +52,4 @@ on_err (Ok x) P p = tt
 on_err (Err e) P p = p
 
 -- the lemmas on pieces, for `search`
-pub ruleset pieces = (Appends-take_more, Appends-kept, beginning-take, beginning-none, beginning-longer, beginning-after, beginning-all, Appends-trans, on_err)
+pub ruleset pieces = (Appends-take_more, Appends-kept, prefix-take, prefix-none, prefix-longer, prefix-after, prefix-all, Appends-trans, on_err)

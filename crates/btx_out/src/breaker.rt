@@ -11,7 +11,7 @@ ghost use Rattle.btx_out.specs.laws.Breaking.{Collecting, Passing, Swallowing};
 ghost use Rattle.btx_out.specs.refinement.Breaking.{is_not_white};
 ghost use Rattle.btx_out.specs.laws.Lengths.{IsLineLength};
 ghost use Rattle.btx_out.specs.refinement.Parts.{Advances, left_of};
-ghost use Rattle.btx_out.specs.language.Pieces.{AppendsBeginning};
+ghost use Rattle.btx_out.specs.language.Pieces.{AppendsPrefix};
 ghost use Rattle.btx_out.specs.laws.States.{break_full, end_written, left_after, sure_after};
 
 use crate::line_length::LineLength;
@@ -33,13 +33,13 @@ type Gathered = ArrayVec<u8, 1024>;
 pub const FIRST_BREAK: usize = 3;
 
 // What is done with the bytes that come.
-#[derive(Clone, Copy, Debug, PartialEq, Eq)]
+#[derive(Clone, Copy, PartialEq, Eq)]
 enum State {
-    // They are kept: the line may still be broken at its last white.
+    // They are kept: the line may still be broken at its last whitespace byte.
     Collecting,
-    // They are passed on up to the next white, which ends the line: it had no white where it could be broken.
+    // They are passed on up to the next whitespace byte, which ends the line: it had no whitespace where it could be broken.
     Passing,
-    // White is dropped: it follows a break past the line.
+    // Whitespace is dropped: it follows a break past the line.
     Swallowing,
 }
 
@@ -51,7 +51,7 @@ struct Next<'a> {
 }
 
 // Puts byte 10 behind the line that stands before an index, where the byte is no longer needed, and answers the length of both, or 0 for
-// a line of white alone.
+// a line of whitespace alone.
 fn end_line(text: &mut [u8], at: usize) -> usize
     requires { at < length text.old }
     ensures line { take result text.new ≡ line_of (take at text.old) }
@@ -80,7 +80,7 @@ fn carry_over(text: &mut [u8], at: usize) -> usize
     text.len() - start
 }
 
-// The last white at which a line is broken.
+// The last whitespace byte at which a line is broken.
 #[tactic(auto, using(crate::proofs::KeptLemmas::last_whites))]
 fn last_white(text: &[u8]) -> Option<usize>
     ensures value { result ≡ last_white (length text.now) text.now }
@@ -96,7 +96,7 @@ fn last_white(text: &[u8]) -> Option<usize>
     None
 }
 
-// Breaks a line of one byte more than fits at its last white, and gathers what becomes sure. One without such white is passed on.
+// Breaks a line of one byte more than fits at its last whitespace byte, and gathers what becomes sure. One without such whitespace is passed on.
 fn break_full(line: &mut Kept, gathered: &mut Gathered) -> State
     requires room { array_vec_len gathered.old + array_vec_len line.old ≤ 1024 }
     ensures state { left_of result line.new.items
@@ -123,14 +123,14 @@ fn break_full(line: &mut Kept, gathered: &mut Gathered) -> State
     }
 }
 
-// How many bytes stand before the first white.
+// How many bytes stand before the first whitespace byte.
 fn ink_len(bytes: &[u8]) -> usize
     ensures { result ≡ length (take_while is_not_white bytes.now) }
 {
     bytes.iter().take_while(|byte| !is_white(**byte)).count()
 }
 
-// What stands before the first white, and what stands from it on.
+// What stands before the first whitespace byte, and what stands from it on.
 fn split_at_white(bytes: &[u8]) -> (&[u8], &[u8])
     ensures before { result.0.now ≡ till_white bytes.now }
     ensures from { result.1.now ≡ from_white bytes.now }
@@ -138,14 +138,14 @@ fn split_at_white(bytes: &[u8]) -> (&[u8], &[u8])
     bytes.split_at(ink_len(bytes))
 }
 
-// How many white bytes stand at the front.
+// How many whitespace bytes stand at the front.
 fn white_len(bytes: &[u8]) -> usize
     ensures { result ≡ length (take_while is_white bytes.now) }
 {
     bytes.iter().take_while(|byte| is_white(**byte)).count()
 }
 
-// What stands behind the white at the front.
+// What stands behind the whitespace at the front.
 fn after_white(bytes: &[u8]) -> &[u8]
     ensures { result.now ≡ skip_white bytes.now }
 {
@@ -154,18 +154,23 @@ fn after_white(bytes: &[u8]) -> &[u8]
 
 // Keeps bytes up to one more than fits a line, where the line is broken and what becomes sure is gathered. Answers what is done with the bytes
 // that are left.
-fn collect<'a>(limit: usize, line: &mut Kept, bytes: &'a [u8], gathered: &mut Gathered) -> Next<'a>
+fn collect<'a>(
+    line_length: usize,
+    line: &mut Kept,
+    bytes: &'a [u8],
+    gathered: &mut Gathered,
+) -> Next<'a>
     requires some { 0 < length bytes.now }
-    requires kept { array_vec_len line.old ≤ limit }
-    requires range { IsLineLength limit }
-    requires room { array_vec_len gathered.old + limit < 1024 }
-    ensures goes_on { Advances limit (Collecting line.old.items) bytes.now (left_of result.state line.new.items) result.rest.now
+    requires kept { array_vec_len line.old ≤ line_length }
+    requires range { IsLineLength line_length }
+    requires room { array_vec_len gathered.old + line_length < 1024 }
+    ensures goes_on { Advances line_length (Collecting line.old.items) bytes.now (left_of result.state line.new.items) result.rest.now
         (Some gathered.old.items) (Some gathered.new.items) }
     ensures fewer { length result.rest.now < length bytes.now }
-    ensures fits { array_vec_len line.new ≤ limit }
+    ensures fits { array_vec_len line.new ≤ line_length }
 {
     // One byte more than a line has room.
-    let room = limit + 1 - line.len();
+    let room = line_length + 1 - line.len();
     if bytes.len() < room {
         line.try_extend_from_slice(bytes).unwrap();
         return Next {
@@ -180,53 +185,58 @@ fn collect<'a>(limit: usize, line: &mut Kept, bytes: &'a [u8], gathered: &mut Ga
 }
 
 // Whether more bytes are collected: there are some, the line may still be broken, and there is room to gather another.
-fn gathers_more(limit: usize, next: Next<'_>, gathered: &Gathered) -> bool
-    ensures { IsTrue result → (next.entry.state ≡ states.Collecting) × (0 < length next.entry.rest.now) × (array_vec_len gathered.now + limit < 1024) }
+fn gathers_more(line_length: usize, next: Next<'_>, gathered: &Gathered) -> bool
+    ensures { IsTrue result → (next.entry.state ≡ states.Collecting) × (0 < length next.entry.rest.now) × (array_vec_len gathered.now + line_length < 1024) }
 {
     matches!(next.state, State::Collecting)
         && !next.rest.is_empty()
-        && gathered.remaining_capacity() > limit
+        && gathered.remaining_capacity() > line_length
 }
 
 // Collects bytes, and gathers the lines that become sure, as many as there is room for. Answers what is done with the bytes that are left.
-fn gather<'a>(limit: usize, line: &mut Kept, bytes: &'a [u8], gathered: &mut Gathered) -> Next<'a>
+fn gather<'a>(
+    line_length: usize,
+    line: &mut Kept,
+    bytes: &'a [u8],
+    gathered: &mut Gathered,
+) -> Next<'a>
     requires some { 0 < length bytes.now }
-    requires kept { array_vec_len line.old ≤ limit }
-    requires range { IsLineLength limit }
-    requires room { array_vec_len gathered.old + limit < 1024 }
-    ensures goes_on { Advances limit (Collecting line.old.items) bytes.now (left_of result.state line.new.items) result.rest.now
+    requires kept { array_vec_len line.old ≤ line_length }
+    requires range { IsLineLength line_length }
+    requires room { array_vec_len gathered.old + line_length < 1024 }
+    ensures goes_on { Advances line_length (Collecting line.old.items) bytes.now (left_of result.state line.new.items) result.rest.now
         (Some gathered.old.items) (Some gathered.new.items) }
     ensures fewer { length result.rest.now < length bytes.now }
-    ensures fits { array_vec_len line.new ≤ limit }
+    ensures fits { array_vec_len line.new ≤ line_length }
 {
-    let mut next = collect(limit, line, bytes, gathered);
-    while gathers_more(limit, next, gathered) {
-        next = collect(limit, line, next.rest, gathered);
+    let mut next = collect(line_length, line, bytes, gathered);
+    while gathers_more(line_length, next, gathered) {
+        next = collect(line_length, line, next.rest, gathered);
     }
     next
 }
 
 // Collects bytes, and writes the lines that become sure, those that can be gathered at once. Answers what is done with the bytes that are left.
 fn collect_lines<'a, W: Sink>(
-    limit: usize,
+    line_length: usize,
     line: &mut Kept,
     bytes: &'a [u8],
     sink: &mut W,
 ) -> Result<Next<'a>, Fault>
     requires some { 0 < length bytes.now }
-    requires kept { array_vec_len line.old ≤ limit }
-    requires range { IsLineLength limit }
-    ensures goes_on { IfOk result (λ next. Advances limit (Collecting line.old.items) bytes.now (left_of next.state line.new.items) next.rest.now
+    requires kept { array_vec_len line.old ≤ line_length }
+    requires range { IsLineLength line_length }
+    ensures goes_on { IfOk result (λ next. Advances line_length (Collecting line.old.items) bytes.now (left_of next.state line.new.items) next.rest.now
         (W.received sink.old) (W.received sink.new)) }
     ensures fewer { IfOk result (λ next. length next.rest.now < length bytes.now) }
-    ensures fits { OnOk result (array_vec_len line.new ≤ limit) }
-    ensures err { OnErr result (AppendsBeginning (W.received sink.old) (W.received sink.new)
-        (sure_after limit (Collecting line.old.items) bytes.now)) }
+    ensures fits { OnOk result (array_vec_len line.new ≤ line_length) }
+    ensures err { OnErr result (AppendsPrefix (W.received sink.old) (W.received sink.new)
+        (sure_after line_length (Collecting line.old.items) bytes.now)) }
     ensures fault { IfErr result (λ fault. fault ≡ Fault.Device) }
     ensures counts { W.failures sink.new ≡ count_after (is_err result) (W.failures sink.old) }
 {
     // Most bytes fit the line, and nothing becomes sure.
-    if bytes.len() <= limit - line.len() {
+    if bytes.len() <= line_length - line.len() {
         line.try_extend_from_slice(bytes).unwrap();
         return Ok(Next {
             state: State::Collecting,
@@ -234,18 +244,18 @@ fn collect_lines<'a, W: Sink>(
         });
     }
     let mut gathered = Gathered::new();
-    let next = gather(limit, line, bytes, &mut gathered);
+    let next = gather(line_length, line, bytes, &mut gathered);
     write_whole(gathered.as_slice(), sink)?;
     Ok(next)
 }
 
-// Passes on what stands before the first white, which ends the line. Answers what is done with the bytes that are left.
+// Passes on what stands before the first whitespace byte, which ends the line. Answers what is done with the bytes that are left.
 fn pass<'a, W: Sink>(bytes: &'a [u8], sink: &mut W) -> Result<Next<'a>, Fault>
     requires { 0 < length bytes.now }
-    ensures goes_on { IfOk result (λ next. (limit : ℕ) (kept : List ℕ) → Advances limit Passing bytes.now (left_of next.state kept) next.rest.now
+    ensures goes_on { IfOk result (λ next. (line_length : ℕ) (kept : List ℕ) → Advances line_length Passing bytes.now (left_of next.state kept) next.rest.now
         (W.received sink.old) (W.received sink.new)) }
     ensures fewer { IfOk result (λ next. length next.rest.now < length bytes.now) }
-    ensures err { OnErr result ((limit : ℕ) → AppendsBeginning (W.received sink.old) (W.received sink.new) (sure_after limit Passing bytes.now)) }
+    ensures err { OnErr result ((line_length : ℕ) → AppendsPrefix (W.received sink.old) (W.received sink.new) (sure_after line_length Passing bytes.now)) }
     ensures fault { IfErr result (λ fault. fault ≡ Fault.Device) }
     ensures counts { W.failures sink.new ≡ count_after (is_err result) (W.failures sink.old) }
 {
@@ -264,13 +274,13 @@ fn pass<'a, W: Sink>(bytes: &'a [u8], sink: &mut W) -> Result<Next<'a>, Fault>
     })
 }
 
-// Drops the white at the front. What follows it goes on behind two spaces. Answers what is done with the bytes that are left.
+// Drops the whitespace at the front. What follows it goes on behind two spaces. Answers what is done with the bytes that are left.
 fn swallow<'a>(line: &mut Kept, bytes: &'a [u8]) -> Next<'a>
     requires some { 0 < length bytes.now }
-    ensures goes_on { (limit : ℕ) (received : Option (List ℕ)) →
-        Advances limit Swallowing bytes.now (left_of result.state line.new.items) result.rest.now received received }
+    ensures goes_on { (line_length : ℕ) (received : Option (List ℕ)) →
+        Advances line_length Swallowing bytes.now (left_of result.state line.new.items) result.rest.now received received }
     ensures fewer { length result.rest.now < length bytes.now }
-    ensures fits { (limit : ℕ) → IsLineLength limit → array_vec_len line.old ≤ limit → array_vec_len line.new ≤ limit }
+    ensures fits { (line_length : ℕ) → IsLineLength line_length → array_vec_len line.old ≤ line_length → array_vec_len line.new ≤ line_length }
 {
     let Some((first, rest)) = after_white(bytes).split_first() else {
         return Next {
@@ -290,26 +300,26 @@ fn swallow<'a>(line: &mut Kept, bytes: &'a [u8]) -> Next<'a>
 
 // Takes the first bytes of those that come. Answers what is done with the rest.
 fn take_some<'a, W: Sink>(
-    limit: usize,
+    line_length: usize,
     state: State,
     line: &mut Kept,
     bytes: &'a [u8],
     sink: &mut W,
 ) -> Result<Next<'a>, Fault>
     requires some { 0 < length bytes.now }
-    requires kept { array_vec_len line.old ≤ limit }
-    requires range { IsLineLength limit }
-    ensures goes_on { IfOk result (λ next. Advances limit (left_of state line.old.items) bytes.now (left_of next.state line.new.items) next.rest.now
+    requires kept { array_vec_len line.old ≤ line_length }
+    requires range { IsLineLength line_length }
+    ensures goes_on { IfOk result (λ next. Advances line_length (left_of state line.old.items) bytes.now (left_of next.state line.new.items) next.rest.now
         (W.received sink.old) (W.received sink.new)) }
     ensures fewer { IfOk result (λ next. length next.rest.now < length bytes.now) }
-    ensures fits { OnOk result (array_vec_len line.new ≤ limit) }
-    ensures err { OnErr result (AppendsBeginning (W.received sink.old) (W.received sink.new)
-        (sure_after limit (left_of state line.old.items) bytes.now)) }
+    ensures fits { OnOk result (array_vec_len line.new ≤ line_length) }
+    ensures err { OnErr result (AppendsPrefix (W.received sink.old) (W.received sink.new)
+        (sure_after line_length (left_of state line.old.items) bytes.now)) }
     ensures fault { IfErr result (λ fault. fault ≡ Fault.Device) }
     ensures counts { W.failures sink.new ≡ count_after (is_err result) (W.failures sink.old) }
 {
     match state {
-        State::Collecting => collect_lines(limit, line, bytes, sink),
+        State::Collecting => collect_lines(line_length, line, bytes, sink),
         State::Passing => pass(bytes, sink),
         State::Swallowing => Ok(swallow(line, bytes)),
     }
@@ -317,27 +327,27 @@ fn take_some<'a, W: Sink>(
 
 // Takes all bytes that come.
 fn take_all<W: Sink>(
-    limit: usize,
+    line_length: usize,
     state: State,
     line: &mut Kept,
     bytes: &[u8],
     sink: &mut W,
 ) -> Result<State, Fault>
-    requires kept { array_vec_len line.old ≤ limit }
-    requires range { IsLineLength limit }
-    ensures state { IfOk result (λ after. left_of after line.new.items ≡ left_after limit (left_of state line.old.items) bytes.now) }
-    ensures fits { OnOk result (array_vec_len line.new ≤ limit) }
+    requires kept { array_vec_len line.old ≤ line_length }
+    requires range { IsLineLength line_length }
+    ensures state { IfOk result (λ after. left_of after line.new.items ≡ left_after line_length (left_of state line.old.items) bytes.now) }
+    ensures fits { OnOk result (array_vec_len line.new ≤ line_length) }
     ensures ok { OnOk result (Appends (W.received sink.old) (W.received sink.new)
-        (sure_after limit (left_of state line.old.items) bytes.now)) }
-    ensures err { OnErr result (AppendsBeginning (W.received sink.old) (W.received sink.new)
-        (sure_after limit (left_of state line.old.items) bytes.now)) }
+        (sure_after line_length (left_of state line.old.items) bytes.now)) }
+    ensures err { OnErr result (AppendsPrefix (W.received sink.old) (W.received sink.new)
+        (sure_after line_length (left_of state line.old.items) bytes.now)) }
     ensures fault { IfErr result (λ fault. fault ≡ Fault.Device) }
     ensures counts { W.failures sink.new ≡ count_after (is_err result) (W.failures sink.old) }
 {
     let mut state = state;
     let mut rest = bytes;
     while !rest.is_empty() {
-        let next = take_some(limit, state, line, rest, sink)?;
+        let next = take_some(line_length, state, line, rest, sink)?;
         state = next.state;
         rest = next.rest;
     }
@@ -348,7 +358,7 @@ fn take_all<W: Sink>(
 fn write_end<W: Sink>(state: State, line: &mut Kept, sink: &mut W) -> Result<(), Fault>
     requires { array_vec_len line.old ≤ 1000 }
     ensures ok { OnOk result (Appends (W.received sink.old) (W.received sink.new) (end_written (left_of state line.old.items))) }
-    ensures err { OnErr result (AppendsBeginning (W.received sink.old) (W.received sink.new) (end_written (left_of state line.old.items))) }
+    ensures err { OnErr result (AppendsPrefix (W.received sink.old) (W.received sink.new) (end_written (left_of state line.old.items))) }
     ensures fault { IfErr result (λ fault. fault ≡ Fault.Device) }
     ensures counts { W.failures sink.new ≡ count_after (is_err result) (W.failures sink.old) }
 {
@@ -364,11 +374,11 @@ fn write_end<W: Sink>(state: State, line: &mut Kept, sink: &mut W) -> Result<(),
     }
 }
 
-/// Breaks logical lines into lines of at most a given number of bytes, where white allows it. It is seen as that length and what is left of the
+/// Breaks logical lines into lines of at most a given number of bytes, where whitespace allows it. It is seen as that length and what is left of the
 /// pending line. It takes no memory. After a failed write every call answers Device and writes nothing.
 #[derive(Drop)]
 pub struct Breaker {
-    limit: usize,
+    line_length: usize,
     line: Kept,
     // None after a failed write.
     state: Option<State>,
@@ -384,31 +394,31 @@ impl Model for Breaker {
 
     ghost use Rattle.btx_out.specs.refinement.Parts.{held_of};
 
-    ghost view = { λ breaker. held_of breaker.limit breaker.state breaker.line.items };
+    ghost view = { λ breaker. held_of breaker.line_length breaker.state breaker.line.items };
 
-    ghost invariant = { λ breaker. IsLineLength breaker.limit × (array_vec_len breaker.line ≤ breaker.limit) };
+    ghost invariant = { λ breaker. IsLineLength breaker.line_length × (array_vec_len breaker.line ≤ breaker.line_length) };
 }
 
 impl Breaker {
     /// A breaker with nothing pending.
-    pub fn new(limit: LineLength) -> Self
-        ensures held { result ≡ holding limit (Collecting []) }
-        ensures range { IsLineLength limit }
+    pub fn new(line_length: LineLength) -> Self
+        ensures held { result ≡ holding line_length (Collecting []) }
+        ensures range { IsLineLength line_length }
     {
         Breaker {
-            limit: limit.get() as usize,
+            line_length: line_length.get() as usize,
             line: ArrayVec::new(),
             state: Some(State::Collecting),
         }
     }
 
-    /// Takes more bytes of the pending line, and writes what becomes sure. The only fault is the device's: a beginning of that was then
+    /// Takes more bytes of the pending line, and writes what becomes sure. The only fault is the device's: a prefix of that was then
     /// written, and nothing after the write that failed.
     pub fn put<W: Sink>(&mut self, bytes: &[u8], sink: &mut W) -> Result<(), Fault>
         ensures ok { OnOk result (Puts self.old self.new bytes.now (W.received sink.old) (W.received sink.new)) }
         ensures holds { OnOk result (IsSome self.new.pending) }
 
-        ensures err { OnErr result (self.new ≡ failed self.old.limit) }
+        ensures err { OnErr result (self.new ≡ failed self.old.line_length) }
         ensures part { OnErr result (PutsPart self.old bytes.now (W.received sink.old) (W.received sink.new)) }
         ensures fault { IfErr result (λ fault. fault ≡ Fault.Device) }
 
@@ -416,7 +426,7 @@ impl Breaker {
         ensures after_failure { self.old.pending ≡ None → (result ≡ Err Fault.Device) × (sink.new ≡ sink.old) }
     {
         let state = self.state.ok_or(Fault::Device)?;
-        match take_all(self.limit, state, &mut self.line, bytes, sink) {
+        match take_all(self.line_length, state, &mut self.line, bytes, sink) {
             Ok(next) => {
                 self.state = Some(next);
                 Ok(())
@@ -429,13 +439,13 @@ impl Breaker {
         }
     }
 
-    /// Ends the pending line: writes the rest of its lines, and begins a new one. The only fault is the device's: a beginning of that
+    /// Ends the pending line: writes the rest of its lines, and begins a new one. The only fault is the device's: a prefix of that
     /// was then written, and nothing after the write that failed.
     pub fn newline<W: Sink>(&mut self, sink: &mut W) -> Result<(), Fault>
         ensures ok { OnOk result (Ends self.old (W.received sink.old) (W.received sink.new)) }
-        ensures fresh { OnOk result (self.new ≡ holding self.old.limit (Collecting [])) }
+        ensures fresh { OnOk result (self.new ≡ holding self.old.line_length (Collecting [])) }
 
-        ensures err { OnErr result (self.new ≡ failed self.old.limit) }
+        ensures err { OnErr result (self.new ≡ failed self.old.line_length) }
         ensures part { OnErr result (EndsPart self.old (W.received sink.old) (W.received sink.new)) }
         ensures fault { IfErr result (λ fault. fault ≡ Fault.Device) }
 
@@ -452,9 +462,9 @@ impl Breaker {
     /// Ends the pending line as `newline` does, if there is anything in it, and writes nothing else.
     pub fn finish<W: Sink>(&mut self, sink: &mut W) -> Result<(), Fault>
         ensures ok { OnOk result (Finishes self.old (W.received sink.old) (W.received sink.new)) }
-        ensures fresh { OnOk result (self.new ≡ holding self.old.limit (Collecting [])) }
+        ensures fresh { OnOk result (self.new ≡ holding self.old.line_length (Collecting [])) }
 
-        ensures err { OnErr result (self.new ≡ failed self.old.limit) }
+        ensures err { OnErr result (self.new ≡ failed self.old.line_length) }
         ensures part { OnErr result (FinishesPart self.old (W.received sink.old) (W.received sink.new)) }
         ensures fault { IfErr result (λ fault. fault ≡ Fault.Device) }
 
@@ -470,7 +480,7 @@ impl Breaker {
     // Whether nothing is pending.
     fn is_fresh(&self) -> bool
         ensures fresh { result ≡ is_fresh self.now.pending }
-        ensures range { IsLineLength self.now.limit }
+        ensures range { IsLineLength self.now.line_length }
     {
         matches!(self.state, Some(State::Collecting)) && self.line.is_empty()
     }

@@ -2,7 +2,7 @@
 ghost use Rattle.std.specs.Prelude.{◌≡◌, ◌∷◌, ◌++◌, [], IfErr, OnOk, OnErr, is_err};
 ghost use Rattle.std.specs.Io.KnownBytes.{Appends};
 ghost use Rattle.btx_text.specs.language.Counts.{count_after};
-ghost use Rattle.btx_out.specs.language.Pieces.{AppendsBeginning};
+ghost use Rattle.btx_out.specs.language.Pieces.{AppendsPrefix};
 
 use crate::sink::Sink;
 use btx_text::Fault;
@@ -17,11 +17,11 @@ impl Log {
         Log {}
     }
 
-    /// Writes a line and byte 10. The only fault is the device's; the sink then received a beginning of them, and nothing was
+    /// Writes a line and byte 10. The only fault is the device's; the sink then received a prefix of them, and nothing was
     /// written after the write that failed.
     pub fn line<L: Sink>(&mut self, line: &[u8], sink: &mut L) -> Result<(), Fault>
         ensures ok { OnOk result (Appends (L.received sink.old) (L.received sink.new) (line.now ++ 10 ∷ [])) }
-        ensures err { OnErr result (AppendsBeginning (L.received sink.old) (L.received sink.new) (line.now ++ 10 ∷ [])) }
+        ensures err { OnErr result (AppendsPrefix (L.received sink.old) (L.received sink.new) (line.now ++ 10 ∷ [])) }
         ensures fault { IfErr result (λ fault. fault ≡ Fault.Device) }
         ensures counts { L.failures sink.new ≡ count_after (is_err result) (L.failures sink.old) }
     {
@@ -30,10 +30,10 @@ impl Log {
     }
 }
 
-/// Writes all of a piece, or stops at the first failure, with a beginning of the piece received.
+/// Writes all of a piece, or stops at the first failure, with a prefix of the piece received.
 pub(crate) fn write_whole<S: Sink>(bytes: &[u8], sink: &mut S) -> Result<(), Fault>
     ensures ok { OnOk result (Appends (S.received sink.old) (S.received sink.new) bytes.now) }
-    ensures err { OnErr result (AppendsBeginning (S.received sink.old) (S.received sink.new) bytes.now) }
+    ensures err { OnErr result (AppendsPrefix (S.received sink.old) (S.received sink.new) bytes.now) }
     ensures fault { IfErr result (λ fault. fault ≡ Fault.Device) }
     ensures counts { S.failures sink.new ≡ count_after (is_err result) (S.failures sink.old) }
 {

@@ -7,8 +7,8 @@ use Rattle.std.specs.Prelude.{cond, count_by, sum_by}
 use Rattle.std.specs.Io.KnownBytes.{Appends}
 use Rattle.std.proofs.KnownBytes.{Appends-trans, Appends-nil}
 use Rattle.btx_text.specs.language.LogLines.{Line, is_error, is_warning}
-use Rattle.btx_out.specs.language.Pieces.{AppendsBeginning}
-use Rattle.btx_out.proofs.PieceLemmas.{beginning-after, beginning-all, beginning-longer}
+use Rattle.btx_out.specs.language.Pieces.{AppendsPrefix}
+use Rattle.btx_out.proofs.PieceLemmas.{prefix-after, prefix-all, prefix-longer}
 use Rattle.btx_machine.specs.declared.report.LogCounts.{LogCounts}
 use Rattle.btx_run.specs.language.Files.Counts.{counts_of}
 use Rattle.btx_run.specs.refinement.Files.Counts.{at_most_greatest, counts_at}
@@ -30,24 +30,24 @@ logs_nothing counts log = record {
 
 -- lines, and then further ones
 pub logs_both : (a b c : LogCounts) (x y z : Option (List ℕ)) (first more : List Line) → Logs (a, b) (x, y) first → Logs (b, c) (y, z) more → Logs (a, c) (x, z) (first ++ more)
-logs_both a b c x y z first more told told' = record {
-  counts = λ before is. told'.counts (before ++ first) (told.counts before is) ∙ ap counts_of (append_assoc before first more);
-  received = subst (Appends x z) (sym (bytes_of_both first more)) (Appends-trans x y z _ _ told.received told'.received);
+logs_both a b c x y z first more logs logs' = record {
+  counts = λ before is. logs'.counts (before ++ first) (logs.counts before is) ∙ ap counts_of (append_assoc before first more);
+  received = subst (Appends x z) (sym (bytes_of_both first more)) (Appends-trans x y z _ _ logs.received logs'.received);
 }
 
--- all of the first lines is a beginning
-pub logged_begins : (x y : Option (List ℕ)) (a b : LogCounts) (first more : List Line) → Logs (a, b) (x, y) first → AppendsBeginning x y (bytes_of_lines (first ++ more))
-logged_begins x y a b first more told =
-    subst (AppendsBeginning x y) (sym (bytes_of_both first more)) (beginning-longer x y _ _ (beginning-all x y _ told.received))
+-- all of the first lines is a prefix
+pub logged_begins : (x y : Option (List ℕ)) (a b : LogCounts) (first more : List Line) → Logs (a, b) (x, y) first → AppendsPrefix x y (bytes_of_lines (first ++ more))
+logged_begins x y a b first more logs =
+    subst (AppendsPrefix x y) (sym (bytes_of_both first more)) (prefix-longer x y _ _ (prefix-all x y _ logs.received))
 
--- a beginning of the first lines is one of all
-pub part_begins : (x y : Option (List ℕ)) (first more : List Line) → AppendsBeginning x y (bytes_of_lines first) → AppendsBeginning x y (bytes_of_lines (first ++ more))
-part_begins x y first more part = subst (AppendsBeginning x y) (sym (bytes_of_both first more)) (beginning-longer x y _ _ part)
+-- a prefix of the first lines is one of all
+pub part_begins : (x y : Option (List ℕ)) (first more : List Line) → AppendsPrefix x y (bytes_of_lines first) → AppendsPrefix x y (bytes_of_lines (first ++ more))
+part_begins x y first more part = subst (AppendsPrefix x y) (sym (bytes_of_both first more)) (prefix-longer x y _ _ part)
 
--- all of the first lines, and then a beginning of the further ones
-pub rest_begins : (x y z : Option (List ℕ)) (a b : LogCounts) (first more : List Line) → Logs (a, b) (x, y) first → AppendsBeginning y z (bytes_of_lines more) → AppendsBeginning x z (bytes_of_lines (first ++ more))
-rest_begins x y z a b first more told part =
-    subst (AppendsBeginning x z) (sym (bytes_of_both first more)) (beginning-after x y z _ _ told.received part)
+-- all of the first lines, and then a prefix of the further ones
+pub rest_begins : (x y z : Option (List ℕ)) (a b : LogCounts) (first more : List Line) → Logs (a, b) (x, y) first → AppendsPrefix y z (bytes_of_lines more) → AppendsPrefix x z (bytes_of_lines (first ++ more))
+rest_begins x y z a b first more logs part =
+    subst (AppendsPrefix x z) (sym (bytes_of_both first more)) (prefix-after x y z _ _ logs.received part)
 
 -- ---- one line
 
@@ -76,8 +76,8 @@ logs_line line old new appends warnings errors = record {
 }
 
 -- a line was begun
-pub line_begun : (line : Line) (x y : Option (List ℕ)) → AppendsBeginning x y (ended_line line.text) → AppendsBeginning x y (bytes_of_lines (line ∷ []))
-line_begun line x y part = subst (AppendsBeginning x y) (bytes_of_one line) part
+pub line_begun : (line : Line) (x y : Option (List ℕ)) → AppendsPrefix x y (ended_line line.text) → AppendsPrefix x y (bytes_of_lines (line ∷ []))
+line_begun line x y part = subst (AppendsPrefix x y) (bytes_of_one line) part
 
 -- ---- lines, one after another
 
@@ -90,12 +90,12 @@ at_line lines i line lt is =
 -- one line more
 pub logs_one_more : (lines : List Line) (i : ℕ) (line : Line) (a b c : LogCounts) (x y z : Option (List ℕ)) → i < length lines → line ≡ get_or lines i line
     → Logs (a, b) (x, y) (take i lines) → Logs (b, c) (y, z) (line ∷ []) → Logs (a, c) (x, z) (take (i + 1) lines)
-logs_one_more lines i line a b c x y z lt is told next =
-    subst (Logs (a, c) (x, z)) (sym (take_more lines i line lt ∙ ap (λ l. take i lines ++ l ∷ []) (sym is))) (logs_both a b c x y z _ _ told next)
+logs_one_more lines i line a b c x y z lt is logs next =
+    subst (Logs (a, c) (x, z)) (sym (take_more lines i line lt ∙ ap (λ l. take i lines ++ l ∷ []) (sym is))) (logs_both a b c x y z _ _ logs next)
 
--- the lines so far, and a beginning of the next
+-- the lines so far, and a prefix of the next
 pub line_begins : (lines : List Line) (i : ℕ) (line : Line) (a b : LogCounts) (x y z : Option (List ℕ)) → i < length lines → line ≡ get_or lines i line
-    → Logs (a, b) (x, y) (take i lines) → AppendsBeginning y z (bytes_of_lines (line ∷ [])) → AppendsBeginning x z (bytes_of_lines lines)
-line_begins lines i line a b x y z lt is told part =
-    subst (λ l. AppendsBeginning x z (bytes_of_lines l)) (sym (at_line lines i line lt is))
-    (part_begins x z (take i lines ++ line ∷ []) (drop (i + 1) lines) (rest_begins x y z a b _ _ told part))
+    → Logs (a, b) (x, y) (take i lines) → AppendsPrefix y z (bytes_of_lines (line ∷ [])) → AppendsPrefix x z (bytes_of_lines lines)
+line_begins lines i line a b x y z lt is logs part =
+    subst (λ l. AppendsPrefix x z (bytes_of_lines l)) (sym (at_line lines i line lt is))
+    (part_begins x z (take i lines ++ line ∷ []) (drop (i + 1) lines) (rest_begins x y z a b _ _ logs part))

@@ -9,8 +9,8 @@ use Rattle.btx_text.specs.language.Limits.{greatest_file}
 use Rattle.btx_text.specs.language.LogLines.{Line}
 use Rattle.btx_aux.specs.language.Files.{Files}
 use Rattle.btx_aux.specs.language.Job.{AuxJob}
-use Rattle.btx_out.specs.language.Pieces.{AppendsBeginning}
-use Rattle.btx_out.proofs.PieceLemmas.{beginning-after, beginning-longer, beginning-none_same}
+use Rattle.btx_out.specs.language.Pieces.{AppendsPrefix}
+use Rattle.btx_out.proofs.PieceLemmas.{prefix-after, prefix-longer, prefix-none_same}
 use Rattle.btx_bst.specs.language.Style.{Style}
 use Rattle.btx_bst.specs.refinement.StyleReads.{Reads}
 use Rattle.btx_bib.specs.language.Databases.{library_of}
@@ -56,13 +56,13 @@ found_is job found options style library is_style is_library =
     ap (λ (library : Library). work_of style library options) is_library
     ∙ ap (λ (style : Style). work_of style (library_of (asked style job options.min_crossrefs) style.macros (map database_of found.databases)) options) is_style
 
-pub completes_of : (a b : Received) (counts : LogCounts) (limit budget : ℕ) (here there : Job) → here ≡ there → (r : Result Report Fault)
-    → IfOk r (λ report. Completes report a b (style_product here counts limit budget)) → IfOk r (λ report. Completes report a b (style_product there counts limit budget))
-completes_of a b counts limit budget here there is r h = subst (λ work. IfOk r (λ report. Completes report a b (style_product work counts limit budget))) is h
+pub completes_of : (a b : Received) (counts : LogCounts) (line_length budget : ℕ) (here there : Job) → here ≡ there → (r : Result Report Fault)
+    → IfOk r (λ report. Completes report a b (style_product here counts line_length budget)) → IfOk r (λ report. Completes report a b (style_product there counts line_length budget))
+completes_of a b counts line_length budget here there is r h = subst (λ work. IfOk r (λ report. Completes report a b (style_product work counts line_length budget))) is h
 
-pub fails_of : (a b : Received) (counts : LogCounts) (limit budget : ℕ) (here there : Job) → here ≡ there → (r : Result Report Fault)
-    → OnErr r (AtFault a b (style_product here counts limit) budget) → OnErr r (AtFault a b (style_product there counts limit) budget)
-fails_of a b counts limit budget here there is r h = subst (λ work. OnErr r (AtFault a b (style_product work counts limit) budget)) is h
+pub fails_of : (a b : Received) (counts : LogCounts) (line_length budget : ℕ) (here there : Job) → here ≡ there → (r : Result Report Fault)
+    → OnErr r (AtFault a b (style_product here counts line_length) budget) → OnErr r (AtFault a b (style_product there counts line_length) budget)
+fails_of a b counts line_length budget here there is r h = subst (λ work. OnErr r (AtFault a b (style_product work counts line_length) budget)) is h
 
 -- what a log counted, as one value
 pub counts_are : (counted : LogCounts) (warnings errors : ℕ) → counted.warnings ≡ warnings → counted.errors ≡ errors → counted ≡ log_counts warnings errors
@@ -73,21 +73,21 @@ pub counts_of_none : (journal : Journal) → journal.warnings ≡ 0 → journal.
 counts_of_none journal none_warns none_errs = ap (λ warnings. log_counts warnings journal.errors) none_warns ∙ ap (log_counts 0) none_errs
 
 -- no more than 4,096 bodies are open at once
-pub never_deeper : (a b : Received) (work : Job) (counts : LogCounts) (limit budget : ℕ) (r : Result Report Fault)
-    → IfOk r (λ report. Completes report a b (style_product work counts limit budget)) → IfOk r (λ report. report.deepest ≤ 4096)
-never_deeper a b work counts limit budget =
-    ok_map (λ report completes. subst (λ (report : Report). report.deepest ≤ 4096) (sym completes.report_is) (depth.holds work counts limit budget))
+pub never_deeper : (a b : Received) (work : Job) (counts : LogCounts) (line_length budget : ℕ) (r : Result Report Fault)
+    → IfOk r (λ report. Completes report a b (style_product work counts line_length budget)) → IfOk r (λ report. report.deepest ≤ 4096)
+never_deeper a b work counts line_length budget =
+    ok_map (λ report completes. subst (λ (report : Report). report.deepest ≤ 4096) (sym completes.report_is) (depth.holds work counts line_length budget))
 
 -- a run whose style was executed had its top file
-had_top_file : (limit budget : ℕ) (outcome : Outcome) → (product_of limit budget outcome).report.end ≡ NoTopFile → ⊥
-had_top_file limit budget (Done s left) is = cc
-had_top_file limit budget (Stopped s) is = cc
-had_top_file limit budget (Limit kind s left) is = cc
+had_top_file : (line_length budget : ℕ) (outcome : Outcome) → (product_of line_length budget outcome).report.end ≡ NoTopFile → ⊥
+had_top_file line_length budget (Done s left) is = cc
+had_top_file line_length budget (Stopped s) is = cc
+had_top_file line_length budget (Limit kind s left) is = cc
 
-pub touched_with_top_file : {W : Type 0} (bbl after : W) (a b : Received) (work : Job) (counts : LogCounts) (limit budget : ℕ) (r : Result Report Fault)
-    → IfOk r (λ report. Completes report a b (style_product work counts limit budget)) → IfOk r (λ report. report.end ≡ NoTopFile → after ≡ bbl)
-touched_with_top_file bbl after a b work counts limit budget =
-    ok_map (λ report completes is. absurd (had_top_file limit budget (executed work counts budget) (sym (ap (λ (report : Report). report.end) completes.report_is) ∙ is)))
+pub touched_with_top_file : {W : Type 0} (bbl after : W) (a b : Received) (work : Job) (counts : LogCounts) (line_length budget : ℕ) (r : Result Report Fault)
+    → IfOk r (λ report. Completes report a b (style_product work counts line_length budget)) → IfOk r (λ report. report.end ≡ NoTopFile → after ≡ bbl)
+touched_with_top_file bbl after a b work counts line_length budget =
+    ok_map (λ report completes is. absurd (had_top_file line_length budget (executed work counts budget) (sym (ap (λ (report : Report). report.end) completes.report_is) ∙ is)))
 
 -- ---- a run that ends at once
 
@@ -101,12 +101,12 @@ completes_early b l m answered report is (Ok answer) same writes = record {
 }
 completes_early b l m answered report is (Err fault) same writes = tt
 
-pub fails_early : (b l m : Option (List ℕ)) (answered report : Report) (budget : ℕ) → answered ≡ report → AppendsBeginning l m (ended_line (last_line answered))
+pub fails_early : (b l m : Option (List ℕ)) (answered report : Report) (budget : ℕ) → answered ≡ report → AppendsPrefix l m (ended_line (last_line answered))
     → AtFault (b, l) (b, m) (λ steps. product_early report) budget
-fails_early b l m answered report budget is part = record { beginnings = begins; last_line = inl (Appends-nil b); step = inl begins }
+fails_early b l m answered report budget is part = record { prefixes = begins; last_line = inl (Appends-nil b); step = inl begins }
   where
     begins : BothBegin (b, l) (b, m) (product_early report)
-    begins = record { bbl_begins = beginning-none_same b []; log_begins = subst (λ report. AppendsBeginning l m (ended_line (last_line report))) is part }
+    begins = record { bbl_begins = prefix-none_same b []; log_begins = subst (λ report. AppendsPrefix l m (ended_line (last_line report))) is part }
 
 -- ---- behind the lines that were logged before
 
@@ -121,12 +121,12 @@ module _ (lines : List Line) (b c l m n : Option (List ℕ)) (lines_logged : App
   begins_behind : (whole : Product) → BothBegin (b, m) (c, n) whole → BothBegin (b, l) (c, n) (logged_before lines whole)
   begins_behind whole begins = record {
     bbl_begins = begins.bbl_begins;
-    log_begins = subst (AppendsBeginning l n) (sym (append_assoc (bytes_of_lines lines) whole.log_so_far _)) (beginning-after l m n _ _ lines_logged begins.log_begins);
+    log_begins = subst (AppendsPrefix l n) (sym (append_assoc (bytes_of_lines lines) whole.log_so_far _)) (prefix-after l m n _ _ lines_logged begins.log_begins);
   }
 
   last_behind : (whole : Product) → LastLineBehindList (b, m) (c, n) whole → LastLineBehindList (b, l) (c, n) (logged_before lines whole)
   last_behind whole (inl list) = inl list
-  last_behind whole (inr part) = inr (beginning-after l m n _ _ lines_logged part)
+  last_behind whole (inr part) = inr (prefix-after l m n _ _ lines_logged part)
 
   extends_behind : (whole : Product) → BothExtend (b, m) (c, n) whole → BothExtend (b, l) (c, n) (logged_before lines whole)
   extends_behind whole extends = record {
@@ -147,15 +147,15 @@ module _ (lines : List Line) (b c l m n : Option (List ℕ)) (lines_logged : App
   })
 
   pub fails_behind : (make : ℕ → Product) (budget : ℕ) → AtFault (b, m) (c, n) make budget → AtFault (b, l) (c, n) (λ steps. logged_before lines (make steps)) budget
-  fails_behind make budget fault = record { beginnings = begins_behind (make budget) fault.beginnings; last_line = last_behind (make budget) fault.last_line; step = keeps_behind make budget fault.step }
+  fails_behind make budget fault = record { prefixes = begins_behind (make budget) fault.prefixes; last_line = last_behind (make budget) fault.last_line; step = keeps_behind make budget fault.step }
 
 -- a fault while these lines were logged
-pub fails_in_lines : (lines : List Line) (b l m : Option (List ℕ)) (make : ℕ → Product) (budget : ℕ) → AppendsBeginning l m (bytes_of_lines lines)
+pub fails_in_lines : (lines : List Line) (b l m : Option (List ℕ)) (make : ℕ → Product) (budget : ℕ) → AppendsPrefix l m (bytes_of_lines lines)
     → AtFault (b, l) (b, m) (λ steps. logged_before lines (make steps)) budget
-fails_in_lines lines b l m make budget part = record { beginnings = begins budget; last_line = inr (beginning-longer l m _ _ part); step = inl (begins 0) }
+fails_in_lines lines b l m make budget part = record { prefixes = begins budget; last_line = inr (prefix-longer l m _ _ part); step = inl (begins 0) }
   where
     begins : (steps : ℕ) → BothBegin (b, l) (b, m) (logged_before lines (make steps))
-    begins steps = record { bbl_begins = beginning-none_same b _; log_begins = beginning-longer l m _ _ (beginning-longer l m _ _ part) }
+    begins steps = record { bbl_begins = prefix-none_same b _; log_begins = prefix-longer l m _ _ (prefix-longer l m _ _ part) }
 
 -- ---- behind the reading of the files
 

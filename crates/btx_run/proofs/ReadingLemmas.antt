@@ -9,8 +9,8 @@ use Rattle.btx_text.specs.language.Limits.{greatest_file, is_too_long}
 use Rattle.btx_text.specs.language.LogLines.{Line}
 use Rattle.btx_aux.specs.refinement.Entries.{Bytes, texts_of}
 use Rattle.btx_aux.specs.language.Files.{Files, file_of}
-use Rattle.btx_out.specs.language.Pieces.{AppendsBeginning}
-use Rattle.btx_out.proofs.PieceLemmas.{beginning-none_same}
+use Rattle.btx_out.specs.language.Pieces.{AppendsPrefix}
+use Rattle.btx_out.proofs.PieceLemmas.{prefix-none_same}
 use Rattle.btx_machine.specs.declared.report.LogCounts.{LogCounts}
 use Rattle.btx_run.specs.language.Files.Found.{NamedFile, file_at}
 use Rattle.btx_aux.specs.language.Job.{AuxJob}
@@ -74,24 +74,24 @@ untrue h = cc
 -- a fault before anything was written
 pub reads_nothing : {T : Type 0} (r : Result T Fault) (a b : LogCounts) (x : Option (List ℕ)) (part : Logged T) → IsErr r → ReadsAs r (a, b) (x, x) part
 reads_nothing (Ok value) a b x part err = absurd (untrue err)
-reads_nothing (Err fault) a b x part err = beginning-none_same x _
+reads_nothing (Err fault) a b x part err = prefix-none_same x _
 
--- a fault, where a beginning of the part was written
-pub reads_failing : {T : Type 0} (r : Result T Fault) (a b : LogCounts) (x y : Option (List ℕ)) (part : Logged T) → IsErr r → AppendsBeginning x y (bytes_of_lines part.lines) → ReadsAs r (a, b) (x, y) part
+-- a fault, where a prefix of the part was written
+pub reads_failing : {T : Type 0} (r : Result T Fault) (a b : LogCounts) (x y : Option (List ℕ)) (part : Logged T) → IsErr r → AppendsPrefix x y (bytes_of_lines part.lines) → ReadsAs r (a, b) (x, y) part
 reads_failing (Ok value) a b x y part err begins = absurd (untrue err)
 reads_failing (Err fault) a b x y part err begins = begins
 
 -- lines, and then a part
 pub reads_behind : {T : Type 0} (r : Result T Fault) (a b c : LogCounts) (x y z : Option (List ℕ)) (lines : List Line) (part : Logged T)
     → Logs (a, b) (x, y) lines → ReadsAs r (b, c) (y, z) part → ReadsAs r (a, c) (x, z) (behind lines part)
-reads_behind (Ok value) a b c x y z lines part told read = record { gives = read.gives; logs = logs_both a b c x y z _ _ told read.logs }
-reads_behind (Err fault) a b c x y z lines part told read = rest_begins x y z a b _ _ told read
+reads_behind (Ok value) a b c x y z lines part logs read = record { gives = read.gives; logs = logs_both a b c x y z _ _ logs read.logs }
+reads_behind (Err fault) a b c x y z lines part logs read = rest_begins x y z a b _ _ logs read
 
 -- a fault while the lines before a part were written
 pub reads_part : {T : Type 0} (r : Result T Fault) (a b : LogCounts) (x y : Option (List ℕ)) (lines : List Line) (part : Logged T)
-    → IsErr r → AppendsBeginning x y (bytes_of_lines lines) → ReadsAs r (a, b) (x, y) (behind lines part)
-reads_part (Ok value) a b x y lines part err told = absurd (untrue err)
-reads_part (Err fault) a b x y lines part err told = part_begins x y _ _ told
+    → IsErr r → AppendsPrefix x y (bytes_of_lines lines) → ReadsAs r (a, b) (x, y) (behind lines part)
+reads_part (Ok value) a b x y lines part err begins = absurd (untrue err)
+reads_part (Err fault) a b x y lines part err begins = part_begins x y _ _ begins
 
 -- a part without a line
 pub reads_at_once : {T : Type 0} (value : T) (a : LogCounts) (x : Option (List ℕ)) → IsRead value (a, a) (x, x) (logged [] value)
@@ -132,16 +132,16 @@ found_more files names i name lt is =
 -- a database's line was logged
 pub database_is_read : (files : Files) (number : ℕ) (name : List ℕ) (found : Option NamedFile) (line : Line) (a b : LogCounts) (x y : Option (List ℕ)) → found ≡ file_at files name
     → line ≡ database_logged number name found → Logs (a, b) (x, y) (line ∷ []) → IsRead found (a, b) (x, y) (database_read files number name)
-database_is_read files number name found line a b x y is is_line told = record {
+database_is_read files number name found line a b x y is is_line logs = record {
   gives = is;
-  logs = subst (λ line. Logs (a, b) (x, y) (line ∷ [])) (is_line ∙ ap (database_logged number name) is) told;
+  logs = subst (λ line. Logs (a, b) (x, y) (line ∷ [])) (is_line ∙ ap (database_logged number name) is) logs;
 }
 
--- a beginning of it
+-- a prefix of it
 pub database_is_begun : (files : Files) (number : ℕ) (name : List ℕ) (found : Option NamedFile) (line : Line) (r : Result (Option NamedFile) Fault) (a b : LogCounts) (x y : Option (List ℕ))
-    → IsErr r → found ≡ file_at files name → line ≡ database_logged number name found → AppendsBeginning x y (bytes_of_lines (line ∷ [])) → ReadsAs r (a, b) (x, y) (database_read files number name)
+    → IsErr r → found ≡ file_at files name → line ≡ database_logged number name found → AppendsPrefix x y (bytes_of_lines (line ∷ [])) → ReadsAs r (a, b) (x, y) (database_read files number name)
 database_is_begun files number name found line r a b x y err is is_line part =
-    reads_failing r a b x y _ err (subst (λ line. AppendsBeginning x y (bytes_of_lines (line ∷ []))) (is_line ∙ ap (database_logged number name) is) part)
+    reads_failing r a b x y _ err (subst (λ line. AppendsPrefix x y (bytes_of_lines (line ∷ []))) (is_line ∙ ap (database_logged number name) is) part)
 
 -- a database that was read as the next one is kept
 pub adds_found : (files : Files) (before after : List NamedFile) (number : ℕ) (name : List ℕ) (found : Option NamedFile) (a b : LogCounts) (x y : Option (List ℕ))
@@ -154,9 +154,9 @@ adds_found files before after number name found a b x y next kept read = record 
 
 -- a fault at a database
 pub adds_begun : (files : Files) (before after : List NamedFile) (number : ℕ) (name : List ℕ) (r : Result (Unit {0}) Fault) (a b : LogCounts) (x y : Option (List ℕ))
-    → IsErr r → number ≡ length before + 1 → AppendsBeginning x y (bytes_of_lines (database_read files number name).lines) → AddsAs r before after (a, b) (x, y) (database_read files (length before + 1) name)
+    → IsErr r → number ≡ length before + 1 → AppendsPrefix x y (bytes_of_lines (database_read files number name).lines) → AddsAs r before after (a, b) (x, y) (database_read files (length before + 1) name)
 adds_begun files before after number name (Ok done) a b x y err next part = absurd (untrue err)
-adds_begun files before after number name (Err fault) a b x y err next part = subst (λ number. AppendsBeginning x y (bytes_of_lines (database_read files number name).lines)) next part
+adds_begun files before after number name (Err fault) a b x y err next part = subst (λ number. AppendsPrefix x y (bytes_of_lines (database_read files number name).lines)) next part
 
 -- one database more
 pub databases_more : (files : Files) (names : List Bytes) (i : ℕ) (name : Bytes) (text : List ℕ) (found later : List NamedFile) (a b c : LogCounts) (x y z : Option (List ℕ))
@@ -176,18 +176,18 @@ databases_more files names i name text found later a b c x y z lt is same read a
 pub databases_begin : (files : Files) (names : List Bytes) (i : ℕ) (name : Bytes) (text : List ℕ) (found : List NamedFile) (a b : LogCounts) (x y z : Option (List ℕ))
     → i < length names → name ≡ get_or names i name → text ≡ name.items
     → IsRead found (a, b) (x, y) (databases_read files (texts_of (take i names)))
-    → AppendsBeginning y z (bytes_of_lines (database_logged (length found + 1) text (file_at files text) ∷ []))
-    → AppendsBeginning x z (bytes_of_lines (databases_logged files [] (texts_of names)))
+    → AppendsPrefix y z (bytes_of_lines (database_logged (length found + 1) text (file_at files text) ∷ []))
+    → AppendsPrefix x z (bytes_of_lines (databases_logged files [] (texts_of names)))
 databases_begin files names i name text found a b x y z lt is same read part =
-    let here = subst (λ text. AppendsBeginning y z (bytes_of_lines (database_logged (length found + 1) text (file_at files text) ∷ []))) same part in
-    let next = subst (λ l. AppendsBeginning y z (bytes_of_lines (database_logged (length l + 1) name.items (file_at files name.items) ∷ []))) read.gives here in
+    let here = subst (λ text. AppendsPrefix y z (bytes_of_lines (database_logged (length found + 1) text (file_at files text) ∷ []))) same part in
+    let next = subst (λ l. AppendsPrefix y z (bytes_of_lines (database_logged (length l + 1) name.items (file_at files name.items) ∷ []))) read.gives here in
     let first = rest_begins x y z a b _ _ read.logs next in
-    let so_far = subst (λ l. AppendsBeginning x z (bytes_of_lines l)) (sym (logged_more files names i name lt is)) first in
+    let so_far = subst (λ l. AppendsPrefix x z (bytes_of_lines l)) (sym (logged_more files names i name lt is)) first in
     let whole : texts_of names ≡ texts_of (take (i + 1) names) ++ texts_of (drop (i + 1) names) =
     ap texts_of (sym (take-append-drop (i + 1) names)) ∙ map-append (λ (name : Bytes). name.items) (take (i + 1) names) (drop (i + 1) names) in
     let lines : databases_logged files [] (texts_of names) ≡ databases_logged files [] (texts_of (take (i + 1) names)) ++ databases_logged files (texts_of (take (i + 1) names)) (texts_of (drop (i + 1) names)) =
     ap (databases_logged files []) whole ∙ databases_logged-append files [] (texts_of (take (i + 1) names)) (texts_of (drop (i + 1) names)) in
-    subst (λ l. AppendsBeginning x z (bytes_of_lines l)) (sym lines) (part_begins x z _ _ so_far)
+    subst (λ l. AppendsPrefix x z (bytes_of_lines l)) (sym lines) (part_begins x z _ _ so_far)
 
 -- ---- the style
 
@@ -209,12 +209,12 @@ databases_found files job style names found a b x y short is read =
     rw short (record { gives = ap (λ l. Found (record { style = style; databases = l })) here.gives; logs = here.logs })
 
 pub databases_fail : (r : Result FilesRead Fault) (files : Files) (job : AuxJob) (style : NamedFile) (names : List (List ℕ)) (a b : LogCounts) (x y : Option (List ℕ))
-    → IsErr r → is_too_long style.bytes ≡ false → names ≡ job.databases → AppendsBeginning x y (bytes_of_lines (databases_logged files [] names))
+    → IsErr r → is_too_long style.bytes ≡ false → names ≡ job.databases → AppendsPrefix x y (bytes_of_lines (databases_logged files [] names))
     → ReadsAs r (a, b) (x, y) (after_style files job style)
 unfolding after_style
 databases_fail (Ok value) files job style names a b x y err short is part = absurd (untrue err)
 databases_fail (Err fault) files job style names a b x y err short is part =
-    rw short (subst (λ names. AppendsBeginning x y (bytes_of_lines (databases_logged files [] names))) is part)
+    rw short (subst (λ names. AppendsPrefix x y (bytes_of_lines (databases_logged files [] names))) is part)
 
 pub style_is_read : (files : Files) (job : AuxJob) (name : List ℕ) (style : NamedFile) → style_read files job name (Some style) ≡ behind (style_line name ∷ []) (after_style files job style)
 unfolding style_read after_style
@@ -227,7 +227,7 @@ style_is_missed files job name = refl
 pub style_missed : (files : Files) (job : AuxJob) (name : List ℕ) (line : Line) (a b : LogCounts) (x y : Option (List ℕ))
     → line ≡ no_style_line name → Logs (a, b) (x, y) (line ∷ []) → IsRead (Ends ended.Finished) (a, b) (x, y) (style_read files job name None)
 unfolding style_read
-style_missed files job name line a b x y is told = record { gives = refl; logs = subst (λ line. Logs (a, b) (x, y) (line ∷ [])) is told }
+style_missed files job name line a b x y is logs = record { gives = refl; logs = subst (λ line. Logs (a, b) (x, y) (line ∷ [])) is logs }
 
 -- the same answer for the same part
 pub reads_is : {T : Type 0} (r : Result T Fault) (counted : Counted) (log : LogReceived) (part same : Logged T) → part ≡ same → ReadsAs r counted log same → ReadsAs r counted log part

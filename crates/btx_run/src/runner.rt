@@ -182,14 +182,14 @@ pub fn run<F: Finder, W: Sink, L: Sink>(
     ensures direct { IfOk result (λ report. IfSome (F.content finder.old) (λ files.
         WhereDirect (reading_of files name.now).gives (λ functions. StaysWithin functions report))) }
 
-    // After a fault both outputs are beginnings of the product's, and keep step; the log's last line is begun only behind the whole list.
+    // After a fault both outputs are prefixes of the product's, and keep step; the log's last line is begun only behind the whole list.
     // The device's fault is answered exactly where one of the three counts of failures rose, by one.
     ensures fault { OnErr result (IfSome (F.content finder.old) (λ files.
         AtFault (W.received bbl.old, L.received log.old) (W.received bbl.new, L.received log.new) (product_with files name.now options.now) options.now.budget)) }
     ensures counts { CountsOfRun result (F.failures finder.old, F.failures finder.new) (W.failures bbl.old, W.failures bbl.new) (L.failures log.old, L.failures log.new) }
 
     // Of every finder, whether it shows its content or not, as one over the files of a disk: there are files such that the report is that of their
-    // product for this name, and both outputs received its bytes. After a fault there are files such that both outputs are beginnings of their
+    // product for this name, and both outputs received its bytes. After a fault there are files such that both outputs are prefixes of their
     // product's, and keep step.
     ensures answered { IfOk result (CompletesAsAnswered name.now options.now (W.received bbl.old, L.received log.old) (W.received bbl.new, L.received log.new)) }
     ensures begun { OnErr result (FailsAsAnswered name.now options.now (W.received bbl.old, L.received log.old) (W.received bbl.new, L.received log.new)) }

@@ -1,5 +1,5 @@
 //! Runs whose devices fail: what they have written then.
-use crate::jobs::{AUX, DATABASE, File, STYLE, job_of, options};
+use crate::jobs::{AUX, DATABASE, FOUND, File, STYLE, job_of, options, status_of};
 use btx_run::{FetchFault, MemoryFinder, Over, RunFault, run};
 use btx_tests::fakes::{Failing, FakeWriter};
 use btx_tests::finders::FailingFinder;
@@ -14,16 +14,8 @@ const LINES: &[u8] =
 const BBL: &[u8] =
     b"one\n\naaaaaaaaaaaaaaaaaaaaaaaaaaaaaaaaaaaaaaaa\n  aaaaaaaaaaaaaaaaaaaaaaaaaaaaaaaaaaaaaaaaaaaaaaa b\n";
 
-const TOLD: &[u8] =
-    b"The top-level auxiliary file: job.aux\nThe style file: s.bst\nDatabase file #1: d.bib\n";
-
 const LOG: &[u8] =
     b"The top-level auxiliary file: job.aux\nThe style file: s.bst\nDatabase file #1: d.bib\nEnded: finished, warnings 0, errors 0, steps 9\n";
-
-// The job of several lines.
-fn lines_job() -> [File<'static>; 3] {
-    job_of(AUX, LINES, DATABASE)
-}
 
 // How an output takes what it is given: the most bytes at a time, how it fails and at which write, and how often it failed before.
 #[derive(Clone, Copy)]
@@ -34,12 +26,12 @@ struct Device {
     before: u64,
 }
 
-// A device that takes so many bytes at a time, and fails at no write.
+// A device that takes at most `most` bytes at a time, and fails at no write.
 fn sound(most: usize) -> Device {
     failing(most, Failing::Never, 0)
 }
 
-// A device that takes so many bytes at a time, and fails at one write.
+// A device that takes at most `most` bytes at a time, and fails at one write.
 fn failing(most: usize, how: Failing, at: u64) -> Device {
     Device {
         most,
@@ -49,12 +41,12 @@ fn failing(most: usize, how: Failing, at: u64) -> Device {
     }
 }
 
-// What an output has received, how often it was written to, and how often it failed.
-#[derive(Drop)]
-struct Output {
-    bytes: Vec<u8>,
-    writes: u64,
-    failures: u64,
+// A device that has failed as often as can be counted.
+fn worn(device: Device) -> Device {
+    Device {
+        before: u64::MAX,
+        ..device
+    }
 }
 
 // A sink over a device.
@@ -65,24 +57,13 @@ fn sink(alloc: Global, device: Device) -> Over<FakeWriter> {
     }
 }
 
-// What a sink has received.
-fn output_of(sink: Over<FakeWriter>) -> Output {
-    let Over { writer, failures } = sink;
-    let FakeWriter { bytes, writes, .. } = writer;
-    Output {
-        bytes,
-        writes,
-        failures,
-    }
-}
-
-// What a run has done whose devices may fail: its status, and its outputs. A test that holds the devices themselves takes long to
-// prove, since each `?` is a way out on which all of them is dropped.
+// What a run has done whose devices may fail: its status, and its outputs. What holds one takes long to prove where a `?` follows, since
+// that is a way out on which all of it is dropped.
 #[derive(Drop)]
 struct Tried {
     answer: Result<u8, RunFault>,
-    bbl: Output,
-    log: Output,
+    bbl: Over<FakeWriter>,
+    log: Over<FakeWriter>,
     // How often the finder was asked, and how often it failed.
     fetches: (u64, u64),
 }
@@ -105,68 +86,103 @@ fn try_job(
     let mut log = sink(alloc, log);
     let report = run(alloc, &mut finder, b"job", &options(9), &mut bbl, &mut log);
     Ok(Tried {
-        answer: report.map(|report| report.status),
-        bbl: output_of(bbl),
-        log: output_of(log),
+        answer: status_of(report),
+        bbl,
+        log,
         fetches: (finder.fetches, finder.failures),
     })
 }
 
-// Runs the job of several lines over two devices.
-fn try_lines(alloc: Global, bbl: Device, log: Device) -> Result<Tried, FetchFault> {
-    try_job(alloc, &lines_job(), u64::MAX, bbl, log)
+// Runs the job of a style over two devices.
+fn try_style(alloc: Global, style: &[u8], bbl: Device, log: Device) -> Result<Tried, FetchFault> {
+    try_job(alloc, &job_of(AUX, style, DATABASE), u64::MAX, bbl, log)
 }
 
-// Asserts that an output failed once, was not written to again, and holds a beginning of a text.
-fn failed(rt: &impl Abort, output: &Output, at: u64, whole: &[u8]) {
-    assert!(rt; output.failures == 1 && output.writes == at.saturating_add(1));
-    assert!(rt; whole.starts_with(&output.bytes));
-    assert!(rt; output.bytes.len() < whole.len());
+// The output that fails.
+#[derive(Clone, Copy)]
+enum Side {
+    Bbl,
+    Log,
 }
 
-// Whether a run was past the write at which its `.bbl` fails. If it wasn't, the log lacks its last line alone.
-fn is_past_bbl(
-    rt: &impl Abort,
-    tried: Result<Tried, FetchFault>,
+// Runs the job of several lines, where one output fails at one write.
+fn try_side(
+    alloc: Global,
+    side: Side,
+    most: usize,
+    how: Failing,
     at: u64,
-) -> Result<bool, FetchFault> {
-    let tried = tried?;
-    assert!(rt; tried.log.failures == 0);
+) -> Result<Tried, FetchFault> {
+    let device = failing(most, how, at);
+    match side {
+        Side::Bbl => try_style(alloc, LINES, device, sound(most)),
+        Side::Log => try_style(alloc, LINES, sound(most), device),
+    }
+}
+
+// Whether an output failed once, was not written to again, and holds the beginning of a text.
+fn is_cut(output: &Over<FakeWriter>, at: u64, whole: &[u8]) -> bool {
+    let writer = &output.writer;
+    output.failures == 1
+        && writer.writes == at.saturating_add(1)
+        && whole.starts_with(&writer.bytes)
+        && writer.bytes.len() < whole.len()
+}
+
+// Whether a run stopped at the write at which its `.bbl` fails. The log lacks its last line alone.
+fn stops_at_bbl(tried: &Tried, at: u64) -> bool {
+    is_cut(&tried.bbl, at, BBL) && tried.log.writer.bytes.as_slice() == FOUND
+}
+
+// Whether a run stopped at the write at which its log fails. The `.bbl` is empty before the log's last line, and whole at it.
+fn stops_at_log(tried: &Tried, at: u64) -> bool {
+    let is_last = tried.log.writer.bytes.len() >= FOUND.len();
+    let list = if is_last { BBL } else { b"" };
+    is_cut(&tried.log, at, LOG) && tried.bbl.writer.bytes.as_slice() == list
+}
+
+// Asserts that a run stopped where one output fails, or was past that write, and answers whether it was past it.
+fn is_past(rt: &impl Abort, tried: &Tried, side: Side, at: u64) -> bool {
+    let (output, other) = match side {
+        Side::Bbl => (&tried.bbl, &tried.log),
+        Side::Log => (&tried.log, &tried.bbl),
+    };
+    assert!(rt; other.failures == 0);
     if tried.answer == Ok(0) {
-        assert!(rt; tried.bbl.writes == at);
-        return Ok(true);
+        assert!(rt; output.writer.writes == at);
+        return true;
     }
     assert!(rt; tried.answer == Err(RunFault::Device));
-    failed(rt, &tried.bbl, at, BBL);
-    assert!(rt; tried.log.bytes.as_slice() == TOLD);
-    Ok(false)
+    assert!(rt;
+        match side {
+            Side::Bbl => stops_at_bbl(tried, at),
+            Side::Log => stops_at_log(tried, at),
+        }
+    );
+    false
 }
 
-// Whether a run was past the write at which its log fails. If it wasn't, the `.bbl` is empty before the log's last line, and whole at
-// it.
-fn is_past_log(
-    rt: &impl Abort,
-    tried: Result<Tried, FetchFault>,
+// Whether a run was past the write at which one output fails.
+fn passes(
+    rt: &(impl Abort + AllocGlobal),
+    side: Side,
+    most: usize,
+    how: Failing,
     at: u64,
 ) -> Result<bool, FetchFault> {
-    let tried = tried?;
-    assert!(rt; tried.bbl.failures == 0);
-    if tried.answer == Ok(0) {
-        assert!(rt; tried.log.writes == at);
-        return Ok(true);
-    }
-    assert!(rt; tried.answer == Err(RunFault::Device));
-    failed(rt, &tried.log, at, LOG);
-    let is_last = tried.log.bytes.len() >= TOLD.len();
-    assert!(rt; tried.bbl.bytes.as_slice() == if is_last { BBL } else { b"".as_slice() });
-    Ok(false)
+    let tried = try_side(rt.alloc(), side, most, how, at)?;
+    Ok(is_past(rt, &tried, side, at))
 }
 
-// Fails the `.bbl` at one write after another, until the run is past them all.
-fn fail_bbl(rt: &(impl Abort + AllocGlobal), most: usize, how: Failing) -> Result<(), Fail> {
+// Fails one output at one write after another, until the run is past them all.
+fn fail_side(
+    rt: &(impl Abort + AllocGlobal),
+    side: Side,
+    most: usize,
+    how: Failing,
+) -> Result<(), Fail> {
     for at in 0..1000u64 {
-        let tried = try_lines(rt.alloc(), failing(most, how, at), sound(most));
-        if is_past_bbl(rt, tried, at)? {
+        if passes(rt, side, most, how, at)? {
             return Ok(());
         }
     }
@@ -174,27 +190,25 @@ fn fail_bbl(rt: &(impl Abort + AllocGlobal), most: usize, how: Failing) -> Resul
     Ok(())
 }
 
-// Fails the log at one write after another, until the run is past them all.
-fn fail_log(rt: &(impl Abort + AllocGlobal), most: usize, how: Failing) -> Result<(), Fail> {
-    for at in 0..1000u64 {
-        let tried = try_lines(rt.alloc(), sound(most), failing(most, how, at));
-        if is_past_log(rt, tried, at)? {
-            return Ok(());
+// Fails each output in each way, where it takes at most so many bytes at a time.
+fn fail_sides(
+    rt: &(impl Abort + AllocGlobal),
+    hows: &[Failing],
+    sizes: &[usize],
+) -> Result<(), Fail> {
+    for how in hows {
+        for most in sizes {
+            fail_side(rt, Side::Bbl, *most, *how)?;
+            fail_side(rt, Side::Log, *most, *how)?;
         }
     }
-    assert!(rt; false, "a run that is never done");
     Ok(())
 }
 
 #[test]
 fn keeps_step(rt: HostRuntime) -> Result<(), Fail> {
-    for how in [Failing::Error, Failing::Zero, Failing::Interrupted] {
-        for most in [1, 2, 3, 4, 5, 6, 7, 1000] {
-            fail_bbl(&rt, most, how)?;
-            fail_log(&rt, most, how)?;
-        }
-    }
-    Ok(())
+    let hows = [Failing::Error, Failing::Zero, Failing::Interrupted];
+    fail_sides(&rt, &hows, &[1, 2, 3, 4, 5, 6, 7, 1000])
 }
 
 // A style that writes a line, warns, and writes another line.
@@ -204,14 +218,9 @@ const WARNING: &[u8] =
 const WARNED: &[u8] =
     b"The top-level auxiliary file: job.aux\nThe style file: s.bst\nDatabase file #1: d.bib\nWarning--w\n";
 
-// Runs the job that warns over two devices.
-fn try_warning(alloc: Global, bbl: Device, log: Device) -> Result<Tried, FetchFault> {
-    try_job(alloc, &job_of(AUX, WARNING, DATABASE), u64::MAX, bbl, log)
-}
-
-// What the `.bbl` holds where the log broke off with so many bytes.
+// What the `.bbl` holds where the log broke off behind `log` bytes.
 fn list_behind(log: usize) -> &'static [u8] {
-    if log < TOLD.len() {
+    if log < FOUND.len() {
         b""
     } else if log < WARNED.len() {
         b"a\n"
@@ -220,128 +229,147 @@ fn list_behind(log: usize) -> &'static [u8] {
     }
 }
 
-// Asserts that both outputs broke off in the same step, where the log failed.
-fn stands_in_step(rt: &impl Abort, tried: Result<Tried, FetchFault>) -> Result<(), FetchFault> {
-    let tried = tried?;
-    assert!(rt; tried.answer == Err(RunFault::Device));
-    assert!(rt; tried.bbl.bytes.as_slice() == list_behind(tried.log.bytes.len()));
-    Ok(())
+// Whether both outputs of the job that warns break off in the same step, where the log fails.
+fn warns_in_step(alloc: Global, at: u64) -> Result<bool, FetchFault> {
+    let device = failing(1000, Failing::Error, at);
+    let tried = try_style(alloc, WARNING, sound(1000), device)?;
+    let list = list_behind(tried.log.writer.bytes.len());
+    Ok(tried.answer == Err(RunFault::Device) && tried.bbl.writer.bytes.as_slice() == list)
 }
 
-// Asserts that nothing of the list was written, and nothing told behind it.
-fn stands_before_the_list(
-    rt: &impl Abort,
-    tried: Result<Tried, FetchFault>,
-) -> Result<(), FetchFault> {
-    let tried = tried?;
-    assert!(rt; tried.answer == Err(RunFault::Device));
-    assert!(rt; tried.bbl.bytes.is_empty() && tried.log.bytes.as_slice() == TOLD);
-    Ok(())
+// Whether the log of the job that warns ends with the lines of the files where nothing of the list is written.
+fn warns_behind_the_list(alloc: Global) -> Result<bool, FetchFault> {
+    let device = failing(1000, Failing::Error, 0);
+    let tried = try_style(alloc, WARNING, device, sound(1000))?;
+    Ok(
+        tried.answer == Err(RunFault::Device)
+            && tried.bbl.writer.bytes.is_empty()
+            && tried.log.writer.bytes.as_slice() == FOUND,
+    )
 }
 
-// A warning between two lines of the list is told only if the first was written, and the second is written only if it was told.
+// A warning between two lines of the list is logged only if the first was written, and the second is written only if the warning was logged.
 #[test]
 fn keeps_step_at_a_warning(rt: HostRuntime) -> Result<(), Fail> {
-    let alloc = rt.alloc();
-    let whole = sound(1000);
-    stands_before_the_list(
-        &rt,
-        try_warning(alloc, failing(1000, Failing::Error, 0), whole),
-    )?;
+    assert!(rt; warns_behind_the_list(rt.alloc())?);
     for at in 0..10u64 {
-        stands_in_step(
-            &rt,
-            try_warning(alloc, whole, failing(1000, Failing::Error, at)),
-        )?;
+        assert!(rt; warns_in_step(rt.alloc(), at)?);
     }
     Ok(())
 }
 
-// Asserts that a run was whole.
-fn is_whole(rt: &impl Abort, tried: Result<Tried, FetchFault>) -> Result<(), Fail> {
-    let tried = tried?;
-    assert!(rt; tried.answer == Ok(0) && tried.bbl.failures == 0 && tried.log.failures == 0);
-    assert!(rt; tried.bbl.bytes.as_slice() == BBL && tried.log.bytes.as_slice() == LOG);
-    Ok(())
+// Whether a run is whole whose outputs take at most so many bytes at a time.
+fn is_whole(alloc: Global, most: usize) -> Result<bool, FetchFault> {
+    let tried = try_style(alloc, LINES, sound(most), sound(most))?;
+    Ok(
+        tried.answer == Ok(0)
+            && (tried.bbl.failures == 0 && tried.bbl.writer.bytes.as_slice() == BBL)
+            && (tried.log.failures == 0 && tried.log.writer.bytes.as_slice() == LOG),
+    )
 }
 
 #[test]
 fn writes_in_pieces(rt: HostRuntime) -> Result<(), Fail> {
-    for most in [1, 2, 3, 4, 5, 6, 7] {
-        is_whole(&rt, try_lines(rt.alloc(), sound(most), sound(most)))?;
+    for most in 1..8usize {
+        assert!(rt; is_whole(rt.alloc(), most)?);
     }
     Ok(())
 }
 
-// What a run answered, and how often its outputs have failed.
-fn failures_of(
-    tried: Result<Tried, FetchFault>,
-) -> Result<(Result<u8, RunFault>, u64, u64), FetchFault> {
-    let tried = tried?;
-    Ok((tried.answer, tried.bbl.failures, tried.log.failures))
+// Whether a count of failures goes from its greatest value to 0, where the list fails.
+fn goes_round(alloc: Global) -> Result<bool, FetchFault> {
+    let device = worn(failing(9, Failing::Error, 2));
+    let tried = try_style(alloc, LINES, device, worn(sound(9)))?;
+    Ok(
+        tried.answer == Err(RunFault::Device)
+            && tried.bbl.failures == 0
+            && tried.log.failures == u64::MAX,
+    )
 }
 
-// A count of failures goes from its greatest value to 0.
 #[test]
 fn counts_round(rt: HostRuntime) -> Result<(), Fail> {
-    let bbl = Device {
-        before: u64::MAX,
-        ..failing(9, Failing::Error, 2)
-    };
-    let log = Device {
-        before: u64::MAX,
-        ..sound(9)
-    };
-    let counts = failures_of(try_lines(rt.alloc(), bbl, log))?;
-    assert!(rt; counts == (Err(RunFault::Device), 0, u64::MAX));
+    assert!(rt; goes_round(rt.alloc())?);
     Ok(())
 }
 
-// Asserts how a run ended of which one fetch may have failed, and how often it fetched: the list is begun behind the last fetch alone.
-fn fetched(
-    rt: &impl Abort,
-    tried: Result<Tried, FetchFault>,
-    answer: Result<u8, RunFault>,
-    fetches: (u64, u64),
-) -> Result<(), Fail> {
-    let tried = tried?;
-    assert!(rt; tried.answer == answer);
-    assert!(rt; tried.fetches == fetches);
-    assert!(rt; tried.bbl.writes == 0 || answer != Err(RunFault::Device));
-    Ok(())
-}
-
-// Fails each fetch of a job in turn, of which there are so many.
-fn fail_fetches(
-    rt: &(impl Abort + AllocGlobal),
-    files: &[File<'_>],
+// A job, how often it fetches, and how its run ends.
+struct Fetching {
+    files: &'static [File<'static>],
     count: u64,
-    end: Result<u8, RunFault>,
-) -> Result<(), Fail> {
-    for fails_at in 0..count {
-        let tried = try_job(rt.alloc(), files, fails_at, sound(9), sound(9));
-        let fetches = (fails_at.saturating_add(1), 0);
-        fetched(rt, tried, Err(RunFault::Device), fetches)?;
-    }
-    let tried = try_job(rt.alloc(), files, count, sound(9), sound(9));
-    fetched(rt, tried, end, (count, u64::MAX))
+    answer: Result<u8, RunFault>,
 }
 
-const INPUTTING: [File<'static>; 4] = [
-    (
-        b"job.aux",
-        b"\\@input{a.aux}\n\\@input{missing.aux}\n\\citation{k}\n\\bibdata{d}\n\\bibstyle{s}\n",
-    ),
-    (b"s.bst", STYLE),
-    (b"d.bib", DATABASE),
-    (b"a.aux", b"\\citation{k}"),
+const FETCHING: [Fetching; 5] = [
+    Fetching {
+        files: &[
+            (
+                b"job.aux",
+                b"\\@input{a.aux}\n\\@input{missing.aux}\n\\citation{k}\n\\bibdata{d}\n\\bibstyle{s}\n",
+            ),
+            (b"s.bst", STYLE),
+            (b"d.bib", DATABASE),
+            (b"a.aux", b"\\citation{k}"),
+        ],
+        count: 5,
+        answer: Ok(2),
+    },
+    Fetching {
+        files: &[(b"job.aux", AUX), (b"s.bst", STYLE), (b"d.bib", DATABASE)],
+        count: 3,
+        answer: Ok(0),
+    },
+    Fetching {
+        files: &[(b"job.aux", AUX), (b"s.bst", STYLE), (b"d.bib", b"")],
+        count: 3,
+        answer: Ok(0),
+    },
+    Fetching {
+        files: &[(b"job.aux", AUX), (b"s.bst", b""), (b"d.bib", DATABASE)],
+        count: 3,
+        answer: Ok(0),
+    },
+    Fetching {
+        files: &[(b"job.aux", b""), (b"s.bst", STYLE), (b"d.bib", DATABASE)],
+        count: 1,
+        answer: Ok(2),
+    },
 ];
+
+// Whether a run ended so whose finder fails at one fetch, or behind the last: the list is begun behind the last fetch alone.
+fn is_fetched(tried: &Tried, row: &Fetching, fails_at: u64) -> bool {
+    if fails_at < row.count {
+        tried.answer == Err(RunFault::Device)
+            && tried.fetches == (fails_at.saturating_add(1), 0)
+            && tried.bbl.writer.writes == 0
+    } else {
+        tried.answer == row.answer && tried.fetches == (row.count, u64::MAX)
+    }
+}
+
+// Whether the run of a row ends so where its finder fails at one fetch.
+fn fetches(alloc: Global, row: &Fetching, fails_at: u64) -> Result<bool, FetchFault> {
+    let tried = try_job(alloc, row.files, fails_at, sound(9), sound(9))?;
+    Ok(is_fetched(&tried, row, fails_at))
+}
+
+// Fails each of a job's fetches in turn, and then none.
+fn fail_fetches(rt: &(impl Abort + AllocGlobal), row: &Fetching) -> Result<(), Fail> {
+    for fails_at in 0..row.count.saturating_add(1) {
+        assert!(rt; fetches(rt.alloc(), row, fails_at)?);
+    }
+    Ok(())
+}
+
+// Fails the fetches of each job.
+fn fail_jobs(rt: &(impl Abort + AllocGlobal), rows: &[Fetching]) -> Result<(), Fail> {
+    for row in rows {
+        fail_fetches(rt, row)?;
+    }
+    Ok(())
+}
 
 #[test]
 fn stops_at_a_failing_fetch(rt: HostRuntime) -> Result<(), Fail> {
-    fail_fetches(&rt, &INPUTTING, 5, Ok(2))?;
-    fail_fetches(&rt, &job_of(AUX, STYLE, DATABASE), 3, Ok(0))?;
-    fail_fetches(&rt, &job_of(AUX, STYLE, b""), 3, Ok(0))?;
-    fail_fetches(&rt, &job_of(AUX, b"", DATABASE), 3, Ok(0))?;
-    fail_fetches(&rt, &job_of(b"", STYLE, DATABASE), 1, Ok(2))
+    fail_jobs(&rt, &FETCHING)
 }

@@ -2,9 +2,8 @@
 use btx_run::{
     End, KeptBytes, Limit, LineLength, MemoryFinder, Options, Over, Report, RunFault, TextMode, run,
 };
-use btx_tests::texts::joined;
 use btx_text::Fault;
-use std::alloc::{AllocError, Global};
+use std::alloc::Global;
 use std::process::Abort;
 use std::test::Fail;
 
@@ -73,46 +72,40 @@ pub fn run_named(
     })
 }
 
+/// What a run answered, of its report the status alone.
+pub fn status_of(answer: Result<Report, RunFault>) -> Result<u8, RunFault> {
+    Ok(answer?.status)
+}
+
 /// Runs the job `job` over `files`, with at most `budget` steps.
 pub fn run_over(alloc: Global, files: &[File<'_>], budget: u64) -> Result<Outputs, Fault> {
     run_named(alloc, files, b"job", budget)
 }
 
-/// How a run has to end, without a warning.
+/// How a run has to end.
 #[derive(Clone, Copy)]
 pub enum Ending {
-    /// It finished with so many errors, steps and bodies open at once.
+    /// It finished without a warning: the errors, the steps, and the most bodies open at once.
     Finished(u64, u64, usize),
-    /// It was stopped behind so many steps.
+    /// It finished with one warning: the errors. It took no steps.
+    Warned(u64),
+    /// It was stopped: the steps done, and the most bodies open at once.
     Stopped(u64, usize),
-    /// It pushed a string that is too long, at this step.
-    PastString(u64),
-    /// Too many `.aux` files would have been open.
-    TooManyOpen,
+    /// It went past a limit: the steps done, and the most bodies open at once.
+    Past(Limit, u64, usize),
     /// There was no top file.
     NoTopFile,
 }
 
 impl Ending {
-    // The log's word for it.
-    fn word(self) -> &'static str {
-        match self {
-            Ending::Finished(..) => "finished",
-            Ending::Stopped(..) => "stopped",
-            Ending::PastString(_) => "limit string",
-            Ending::TooManyOpen => "limit files",
-            Ending::NoTopFile => "no top file",
-        }
-    }
-
     // The report.
     fn report(self) -> Report {
         let (status, end, errors, steps, deepest) = match self {
             Ending::Finished(0, steps, deepest) => (0, End::Finished, 0, steps, deepest),
             Ending::Finished(errors, steps, deepest) => (2, End::Finished, errors, steps, deepest),
+            Ending::Warned(errors) => (2, End::Finished, errors, 0, 0),
             Ending::Stopped(steps, deepest) => (4, End::Stopped, 0, steps, deepest),
-            Ending::PastString(steps) => (3, End::Limit(Limit::String), 0, steps, 1),
-            Ending::TooManyOpen => (3, End::Limit(Limit::Files), 0, 0, 0),
+            Ending::Past(limit, steps, deepest) => (3, End::Limit(limit), 0, steps, deepest),
             Ending::NoTopFile => (3, End::NoTopFile, 0, 0, 0),
         };
         Report {
@@ -120,39 +113,68 @@ impl Ending {
             end,
             steps,
             deepest,
-            warnings: 0,
+            warnings: if matches!(self, Ending::Warned(_)) {
+                1
+            } else {
+                0
+            },
             errors,
         }
     }
 }
 
-// A log of these lines and its last.
-fn log_of(
-    alloc: Global,
-    lines: &[&[u8]],
-    word: &str,
-    report: Report,
-) -> Result<Vec<u8>, AllocError> {
-    let (errors, steps) = (report.errors, report.steps);
-    let last = format!(in alloc; "Ended: {word}, warnings 0, errors {errors}, steps {steps}\n")?;
-    let mut log = joined(alloc, lines)?;
-    log.extend_from_slice(last.as_bytes())?;
-    Ok(log)
+// Whether a text is made of these pieces.
+fn is_made_of(text: &[u8], pieces: &[&[u8]]) -> bool {
+    let mut rest = text;
+    for piece in pieces {
+        match rest.strip_prefix(*piece) {
+            Some(after) => rest = after,
+            None => return false,
+        }
+    }
+    rest.is_empty()
 }
 
-/// Asserts what a run wrote and answered; the log's lines before the last are given in pieces.
+// Whether a run wrote and answered so.
+fn is_ended(ran: &Outputs, bbl: &[u8], log: &[&[u8]], ending: Ending) -> bool {
+    ran.answer == Ok(ending.report())
+        && ran.bbl.as_slice() == bbl
+        && is_made_of(ran.log.as_slice(), log)
+}
+
+/// Asserts what a run wrote and answered; the log is given in pieces.
 pub fn ends_as(
-    rt: &(impl Abort + AllocGlobal),
+    rt: &impl Abort,
     ran: Result<Outputs, Fault>,
     bbl: &[u8],
-    lines: &[&[u8]],
+    log: &[&[u8]],
     ending: Ending,
 ) -> Result<(), Fail> {
     let ran = ran?;
-    let report = ending.report();
-    assert!(rt; ran.answer == Ok(report));
-    let log = log_of(rt.alloc(), lines, ending.word(), report)?;
-    assert!(rt; ran.log.as_slice() == log.as_slice());
-    assert!(rt; ran.bbl.as_slice() == bbl);
+    assert!(rt; is_ended(&ran, bbl, log, ending));
+    Ok(())
+}
+
+/// A job, and what comes of it: the list, the log in pieces, and how the run ends.
+pub struct Row {
+    pub aux: &'static [u8],
+    pub database: &'static [u8],
+    pub style: &'static [u8],
+    pub budget: u64,
+    pub bbl: &'static [u8],
+    pub log: &'static [&'static [u8]],
+    pub ending: Ending,
+}
+
+// Runs the job of a row.
+fn run_row(alloc: Global, row: &Row) -> Result<Outputs, Fault> {
+    run_over(alloc, &job_of(row.aux, row.style, row.database), row.budget)
+}
+
+/// Asserts what comes of each job.
+pub fn all_end(rt: &(impl Abort + AllocGlobal), rows: &[Row]) -> Result<(), Fail> {
+    for row in rows {
+        ends_as(rt, run_row(rt.alloc(), row), row.bbl, row.log, row.ending)?;
+    }
     Ok(())
 }

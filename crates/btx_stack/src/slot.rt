@@ -11,7 +11,7 @@ use btx_code::Op;
 use btx_code::op::callee_of;
 
 /// What a slot holds.
-#[derive(Clone, Copy, PartialEq, Eq, Debug)]
+#[derive(Clone, Copy, PartialEq, Eq)]
 pub enum Kind {
     Integer,
     Function,

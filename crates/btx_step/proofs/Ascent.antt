@@ -54,7 +54,7 @@ module _ {X : Type 0} (lt : X → X → Bool) (o : IsStrictWeakOrder lt) where
       (λ f. f)
       (cases_Bool (ties lt z y))
 
-  -- a test that tells what is less than x from x
+  -- where an element passes the test, none that is less passes it
   abbrev pub Splits : (X → Bool) → Type 0
   Splits p = (x y : X) → lt y x ≡ true → p x ≡ true → p y ≡ false
 

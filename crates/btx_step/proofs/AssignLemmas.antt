@@ -14,7 +14,7 @@ use Rattle.btx_step.specs.language.Operands.{on_operands}
 use Rattle.btx_step.specs.language.Table.{row}
 use Rattle.btx_step.specs.language.Variables as variables
 
--- these literals stand, this entry is the current one, all entries but one are these, and so many bodies were open at once
+-- the literals `below` stand, the current entry is `current`, all entries but `changed` are as in `entries`, and `deepest` bodies were open at once
 pub record Leaves (below : List Literal) (current : Option ℕ) (entries : List EntryVariables) (deepest : ℕ) (changed : Option ℕ) (a : Answer) : Type 0 where
   pub stand : StandUnder below a.store.literals
   pub stays : a.store.current ≡ current

@@ -16,3 +16,4 @@ pub mod EntryValueLemmas
 pub mod FunctionRows
 pub mod StartLemmas
 pub mod ApartLemmas
+pub mod LowLemmas

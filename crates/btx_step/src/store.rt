@@ -132,14 +132,14 @@ impl<'a> Store<'a> {
             BuiltIn::AddPeriod => self.end_sentence(said),
             BuiltIn::CallType => self.call_type(job, said),
             BuiltIn::ChangeCase => self.change_case(said),
-            BuiltIn::CharacterToInteger => self.push_code(said),
+            BuiltIn::ChrToInt => self.push_code(said),
             BuiltIn::Cite => self.cite(job, said),
             BuiltIn::Duplicate => self.duplicate(said),
             BuiltIn::Empty => self.find_empty(said),
             BuiltIn::FormatName => self.format_name(job, said),
             BuiltIn::If => self.choose(said),
-            BuiltIn::IntegerToCharacter => self.push_character(said),
-            BuiltIn::IntegerToString => self.push_decimal(said),
+            BuiltIn::IntToChr => self.push_character(said),
+            BuiltIn::IntToStr => self.push_decimal(said),
             BuiltIn::Missing => self.find_missing(said),
             BuiltIn::NewLine => Ok(end_line(said)),
             BuiltIn::NumNames => self.count_names(said),
@@ -294,7 +294,7 @@ impl<'a> Store<'a> {
         Ok(self.complain_all(notes, instead, said))
     }
 
-    // The stack was empty, so many times.
+    // The stack was empty `missing` times.
     #[cold]
     fn log_lack(
         &mut self,
@@ -340,7 +340,7 @@ impl<'a> Store<'a> {
         Ok(next)
     }
 
-    // The stack was empty, so many times.
+    // The stack was empty `missing` times.
     #[inline(always)]
     fn lack(
         &mut self,

@@ -140,7 +140,7 @@ impl<'a> EntryValues<'a> {
             return Ok(false);
         }
         let text = mem::replace(&mut self.strings[place], Text::empty());
-        self.strings[place] = text.beginning(alloc, 0)?.followed_by(alloc, bytes)?;
+        self.strings[place] = text.prefix(alloc, 0)?.followed_by(alloc, bytes)?;
         Ok(true)
     }
 }

@@ -104,52 +104,56 @@ fn body_of(alloc: Global, function: &str, way: usize, count: usize) -> Result<Ve
     Ok(body)
 }
 
-/// Adds an error, and what was executed, behind the other answers in `told`.
-fn add_error(told: &mut Vec<u8>, pieces: &[&str], function: &str) -> Result<(), AllocError> {
-    told.extend_from_slice(b"Error--")?;
+/// Adds an error, and what was executed, behind the others in `answers`.
+fn add_error(answers: &mut Vec<u8>, pieces: &[&str], function: &str) -> Result<(), AllocError> {
+    answers.extend_from_slice(b"Error--")?;
     for piece in pieces {
-        told.extend_from_slice(piece.as_bytes())?;
+        answers.extend_from_slice(piece.as_bytes())?;
     }
-    told.extend_from_slice(b" while executing ")?;
-    told.extend_from_slice(function.as_bytes())?;
-    told.extend_from_slice(b" for entry k")?;
+    answers.extend_from_slice(b" while executing ")?;
+    answers.extend_from_slice(function.as_bytes())?;
+    answers.extend_from_slice(b" for entry k")?;
     Ok(())
 }
 
-/// Adds what stands in for a result behind the other answers in `told`.
-fn add_instead(told: &mut Vec<u8>, instead: &str) -> Result<(), AllocError> {
+/// Adds what stands in for a result behind the others in `answers`.
+fn add_instead(answers: &mut Vec<u8>, instead: &str) -> Result<(), AllocError> {
     if instead.is_empty() {
         return Ok(());
     }
-    told.extend_from_slice(b" | ")?;
-    told.extend_from_slice(instead.as_bytes())?;
+    answers.extend_from_slice(b" | ")?;
+    answers.extend_from_slice(instead.as_bytes())?;
     Ok(())
 }
 
 /// Makes the answers of a function that has `missing` literals too few.
 fn lack_of(alloc: Global, row: Row, missing: usize) -> Result<Vec<u8>, AllocError> {
-    let mut told = Vec::new(alloc);
+    let mut answers = Vec::new(alloc);
     for number in 0..missing {
         if number > 0 {
-            told.extend_from_slice(b" | ")?;
+            answers.extend_from_slice(b" | ")?;
         }
-        add_error(&mut told, &["You can't pop an empty literal stack"], row.0)?;
+        add_error(
+            &mut answers,
+            &["You can't pop an empty literal stack"],
+            row.0,
+        )?;
     }
-    add_instead(&mut told, row.2)?;
-    Ok(told)
+    add_instead(&mut answers, row.2)?;
+    Ok(answers)
 }
 
 /// Makes the answers of a function that doesn't take the literal `given`.
 fn refusal_of(alloc: Global, row: Row, wanted: u8, given: Sample) -> Result<Vec<u8>, AllocError> {
-    let mut told = Vec::new(alloc);
-    add_error(&mut told, &[given.2, complaint(wanted)], row.0)?;
-    add_instead(&mut told, row.2)?;
-    Ok(told)
+    let mut answers = Vec::new(alloc);
+    add_error(&mut answers, &[given.2, complaint(wanted)], row.0)?;
+    add_instead(&mut answers, row.2)?;
+    Ok(answers)
 }
 
 fn plays_as(rt: &impl Abort, alloc: Global, body: Vec<u8>, wanted: Vec<u8>) -> Result<(), Fail> {
-    let told = play(alloc, &usual(Some(0)), &body)?;
-    assert!(rt; told.as_slice() == wanted.as_slice());
+    let answers = play(alloc, &usual(Some(0)), &body)?;
+    assert!(rt; answers.as_slice() == wanted.as_slice());
     Ok(())
 }
 
@@ -166,35 +170,53 @@ fn refuses(rt: &impl Abort, alloc: Global, row: Row, way: usize) -> Result<(), F
         return Ok(());
     };
     let body = body_of(alloc, row.0, way, row.1.len())?;
-    let told = refusal_of(alloc, row, wanted, given)?;
-    plays_as(rt, alloc, body, told)
+    let answers = refusal_of(alloc, row, wanted, given)?;
+    plays_as(rt, alloc, body, answers)
+}
+
+fn row_lacks(rt: &impl Abort, alloc: Global, row: Row) -> Result<(), Fail> {
+    for given in 0..row.1.len() {
+        lacks(rt, alloc, row, given)?;
+    }
+    Ok(())
+}
+
+fn rows_lack(rt: &impl Abort, alloc: Global, rows: &[Row]) -> Result<(), Fail> {
+    for row in rows {
+        row_lacks(rt, alloc, *row)?;
+    }
+    Ok(())
 }
 
 #[test]
 fn too_few_operands(rt: HostRuntime) -> Result<(), Fail> {
-    for row in ROWS {
-        for given in 0..row.1.len() {
-            lacks(&rt, rt.alloc(), row, given)?;
-        }
+    rows_lack(&rt, rt.alloc(), &ROWS)
+}
+
+fn row_refuses(rt: &impl Abort, alloc: Global, row: Row) -> Result<(), Fail> {
+    for way in 0..ways(row.1) {
+        refuses(rt, alloc, row, way)?;
+    }
+    Ok(())
+}
+
+fn rows_refuse(rt: &impl Abort, alloc: Global, rows: &[Row]) -> Result<(), Fail> {
+    for row in rows {
+        row_refuses(rt, alloc, *row)?;
     }
     Ok(())
 }
 
 #[test]
 fn operands_of_a_wrong_kind(rt: HostRuntime) -> Result<(), Fail> {
-    for row in ROWS {
-        for way in 0..ways(row.1) {
-            refuses(&rt, rt.alloc(), row, way)?;
-        }
-    }
-    Ok(())
+    rows_refuse(&rt, rt.alloc(), &ROWS)
 }
 
 #[test]
 fn one_literal_of_two_to_be_swapped(rt: HostRuntime) -> Result<(), Fail> {
-    let told = play(rt.alloc(), &usual(Some(0)), b"#7 swap$")?;
+    let answers = play(rt.alloc(), &usual(Some(0)), b"#7 swap$")?;
     let wanted =
         b"Error--You can't pop an empty literal stack while executing swap$ for entry k | 7";
-    assert!(rt; told.as_slice() == wanted.as_slice());
+    assert!(rt; answers.as_slice() == wanted.as_slice());
     Ok(())
 }

@@ -1,16 +1,17 @@
-//! Takes the tokens of a function one after another, and tells all that they answer as one text.
+//! Takes the tokens of a function one after another, and makes one text of all that they answer.
+use crate::sorts::order_of;
 use btx_aux::{AuxJob, MemoryFinder, read_aux};
 use btx_bib::{Library, Source, read_databases};
 use btx_bst::{Style, Token, read_style};
 use btx_step::lines::line_of;
-use btx_step::{Job, KeptBytes, Next, Note, Said, Store};
+use btx_step::{Job, KeptBytes, Next, Note, Notes, Said, Store};
 use btx_text::{Fault, Limit, TextMode};
 use std::alloc::{AllocError, Global};
 
 /// Two entries are cited, the second of a type that the style doesn't know.
 const CITATIONS: &[u8] = b"\\citation{k,j}\n\\bibdata{d}\n\\bibstyle{s}\n";
 
-/// The entries. The first one has no author, and a note of white alone.
+/// The entries. The first one has no author, and a note of whitespace alone.
 const DATABASE: &[u8] =
     b"@preamble{\"pre\"}\n@misc{k, title = {T t}, note = {  }}\n@odd{j, title = {J}, author = {A}}\n";
 
@@ -18,8 +19,8 @@ const DATABASE: &[u8] =
 const DECLARATIONS: &[u8] =
     b"ENTRY {title author note}{n}{t} INTEGERS {i} STRINGS {s} FUNCTION {misc} {} READ ";
 
-/// How a function is run: in which entry, if in one; how text is read; and how many bytes of a string variables keep.
-#[derive(Drop)]
+/// How a style is tried: in which entry, if in one; how text is read; and how many bytes of a string variables keep.
+#[derive(Clone, Copy)]
 pub struct Setting {
     pub entry: Option<usize>,
     pub mode: TextMode,
@@ -37,10 +38,34 @@ pub fn usual(entry: Option<usize>) -> Setting {
     }
 }
 
+/// What is wanted of a style: what its last function answers, or the order of the entries that have the keys which that function gives.
+#[derive(Clone, Copy)]
+pub enum Outcome {
+    Answers,
+    Order,
+}
+
+/// A job to be tried: its files, its setting, and what is wanted of its style.
+#[derive(Clone, Copy)]
+pub struct Trial<'a> {
+    pub aux: &'a [u8],
+    pub style: &'a [u8],
+    pub database: &'a [u8],
+    pub setting: &'a Setting,
+    pub wanted: Outcome,
+}
+
 /// Executes the tokens of a body. Answers what they write and log and the literals that they leave, top first, with ` | ` between the items.
 pub fn play(alloc: Global, setting: &Setting, body: &[u8]) -> Result<Vec<u8>, Fault> {
-    let text = body_text(alloc, body)?;
-    play_style(alloc, setting, &text)
+    let style = body_text(alloc, body)?;
+    let trial = Trial {
+        aux: CITATIONS,
+        style: &style,
+        database: DATABASE,
+        setting,
+        wanted: Outcome::Answers,
+    };
+    tried(alloc, trial)
 }
 
 /// Makes the text of a style whose last function has the body `body`.
@@ -52,26 +77,45 @@ fn body_text(alloc: Global, body: &[u8]) -> Result<Vec<u8>, AllocError> {
     Ok(text)
 }
 
-/// Does the same for the last function of the style `text`.
-fn play_style(alloc: Global, setting: &Setting, text: &[u8]) -> Result<Vec<u8>, Fault> {
-    let mut finder = MemoryFinder::new(alloc, &[(b"job.aux", CITATIONS)])?;
-    let citations = read_aux(alloc, &mut finder, b"job.aux")?;
-    play_cited(alloc, setting, text, &citations)
+/// Answers what a trial gives. This function and those below it make one heavy value each, and hand it to the next as the last thing that
+/// they do. A function of several such values, or with a `?` where one is held, takes long to prove.
+pub fn tried(alloc: Global, trial: Trial<'_>) -> Result<Vec<u8>, Fault> {
+    match citations_of(alloc, trial.aux) {
+        Ok(citations) => tried_cited(alloc, trial, &citations),
+        Err(fault) => Err(fault),
+    }
 }
 
-fn play_cited<'a>(
+fn citations_of(alloc: Global, aux: &[u8]) -> Result<AuxJob, Fault> {
+    let mut finder = MemoryFinder::new(alloc, &[(b"job.aux", aux)])?;
+    read_aux(alloc, &mut finder, b"job.aux")
+}
+
+fn tried_cited<'a>(
     alloc: Global,
-    setting: &Setting,
-    text: &'a [u8],
+    trial: Trial<'a>,
     citations: &'a AuxJob,
 ) -> Result<Vec<u8>, Fault> {
-    let style = read_style(alloc, b"s.bst", text)?;
-    let library = library_of(alloc, &style, citations, DATABASE)?;
-    Ok(play_read(alloc, setting, &style, &library)?)
+    match read_style(alloc, b"s.bst", trial.style) {
+        Ok(style) => tried_styled(alloc, trial, citations, &style),
+        Err(fault) => Err(fault),
+    }
+}
+
+fn tried_styled<'a>(
+    alloc: Global,
+    trial: Trial<'a>,
+    citations: &'a AuxJob,
+    style: &Style<'a>,
+) -> Result<Vec<u8>, Fault> {
+    match library_of(alloc, style, citations, trial.database) {
+        Ok(library) => tried_read(alloc, trial, style, &library),
+        Err(fault) => Err(fault),
+    }
 }
 
 /// Reads the library that one database gives to a job.
-pub fn library_of<'a>(
+fn library_of<'a>(
     alloc: Global,
     style: &Style<'a>,
     citations: &'a AuxJob,
@@ -84,12 +128,13 @@ pub fn library_of<'a>(
     read_databases(alloc, style, citations, &sources, 2)
 }
 
-fn play_read<'a>(
+fn tried_read(
     alloc: Global,
-    setting: &Setting,
-    style: &'a Style<'_>,
-    library: &'a Library<'_>,
-) -> Result<Vec<u8>, AllocError> {
+    trial: Trial<'_>,
+    style: &Style<'_>,
+    library: &Library<'_>,
+) -> Result<Vec<u8>, Fault> {
+    let setting = trial.setting;
     let job = Job::new(
         style,
         library,
@@ -97,16 +142,51 @@ fn play_read<'a>(
         setting.entry_max,
         setting.global_max,
     );
-    let mut store = Store::new(alloc, &job)?;
-    store.set_current(setting.entry);
-    let mut told = Vec::new(alloc);
-    for token in last_body(style) {
-        if !play_token(alloc, &job, &mut store, *token, &mut told)? {
+    match Store::new(alloc, &job) {
+        Ok(mut store) => tried_stored(alloc, trial, &job, &mut store),
+        Err(error) => Err(Fault::from(error)),
+    }
+}
+
+fn tried_stored<'a>(
+    alloc: Global,
+    trial: Trial<'_>,
+    job: &Job<'a>,
+    store: &mut Store<'a>,
+) -> Result<Vec<u8>, Fault> {
+    match trial.wanted {
+        Outcome::Answers => answers_of(alloc, trial.setting.entry, job, store),
+        Outcome::Order => order_of(alloc, job, store),
+    }
+}
+
+fn answers_of<'a>(
+    alloc: Global,
+    entry: Option<usize>,
+    job: &Job<'a>,
+    store: &mut Store<'a>,
+) -> Result<Vec<u8>, Fault> {
+    store.set_current(entry);
+    let mut answers = Vec::new(alloc);
+    play_tokens(alloc, job, store, last_body(job.style()), &mut answers)?;
+    write_literals(alloc, job.style(), store, &mut answers)?;
+    Ok(answers)
+}
+
+/// Executes tokens until one ends the run.
+fn play_tokens<'a>(
+    alloc: Global,
+    job: &Job<'a>,
+    store: &mut Store<'a>,
+    tokens: &[Token],
+    answers: &mut Vec<u8>,
+) -> Result<(), AllocError> {
+    for token in tokens {
+        if !play_token(alloc, job, store, *token, answers)? {
             break;
         }
     }
-    write_literals(alloc, &job, &mut store, &mut told)?;
-    Ok(told)
+    Ok(())
 }
 
 /// Answers the tokens of the last function, or none if there is no function.
@@ -118,18 +198,32 @@ pub fn last_body<'a>(style: &'a Style<'_>) -> &'a [Token] {
     style.body(functions - 1)
 }
 
-/// Executes a token, and adds what it answers to `told`. Answers whether another may follow.
+/// Executes a token, and adds what it answers to `answers`. Answers whether another may follow.
 fn play_token<'a>(
     alloc: Global,
     job: &Job<'a>,
     store: &mut Store<'a>,
     token: Token,
-    told: &mut Vec<u8>,
+    answers: &mut Vec<u8>,
 ) -> Result<bool, AllocError> {
     let mut said = Said::Nothing;
-    let next = store.step(job, token, &mut said)?;
-    write_said(alloc, job, store.current(), token, said, told)?;
-    write_next(job, next, told)?;
+    let next = store.step(job, token, &mut said);
+    write_step(alloc, job, store.current(), token, &said, next, answers)
+}
+
+/// Adds what a step has said and what follows it.
+fn write_step(
+    alloc: Global,
+    job: &Job<'_>,
+    entry: Option<usize>,
+    token: Token,
+    said: &Said<'_>,
+    next: Result<Next, AllocError>,
+    answers: &mut Vec<u8>,
+) -> Result<bool, AllocError> {
+    write_said(alloc, job, entry, token, said, answers)?;
+    let next = next?;
+    write_next(job.style(), next, answers)?;
     Ok(!matches!(next, Next::End(_)))
 }
 
@@ -138,58 +232,35 @@ fn write_said(
     job: &Job<'_>,
     entry: Option<usize>,
     token: Token,
-    said: Said<'_>,
-    told: &mut Vec<u8>,
+    said: &Said<'_>,
+    answers: &mut Vec<u8>,
 ) -> Result<(), AllocError> {
     match said {
         Said::Nothing => Ok(()),
-        Said::Wrote(text) => write_written(told, text.as_bytes()),
-        Said::EndedLine => write_line(told, &[b"newline"]),
-        Said::Noted(notes) => write_notes(alloc, job, entry, token, notes.as_slice(), told),
+        Said::Wrote(text) => write_line(answers, b"write ", text.as_bytes()),
+        Said::EndedLine => write_line(answers, b"newline", b""),
+        Said::Noted(notes) => {
+            let executed = executed_name(job.style(), token);
+            write_notes(
+                alloc,
+                job.style(),
+                executed,
+                key_of(job, entry),
+                notes,
+                answers,
+            )
+        }
     }
 }
 
-fn write_written(told: &mut Vec<u8>, text: &[u8]) -> Result<(), AllocError> {
-    write_line(told, &[b"write ", text])
-}
-
-/// Adds an item, in pieces, behind the others in `told`.
-fn write_line(told: &mut Vec<u8>, pieces: &[&[u8]]) -> Result<(), AllocError> {
-    if !told.is_empty() {
-        told.extend_from_slice(b" | ")?;
+/// Adds an item of two parts behind the others in `answers`.
+fn write_line(answers: &mut Vec<u8>, front: &[u8], back: &[u8]) -> Result<(), AllocError> {
+    if !answers.is_empty() {
+        answers.extend_from_slice(b" | ")?;
     }
-    for piece in pieces {
-        told.extend_from_slice(piece)?;
-    }
+    answers.extend_from_slice(front)?;
+    answers.extend_from_slice(back)?;
     Ok(())
-}
-
-fn write_notes(
-    alloc: Global,
-    job: &Job<'_>,
-    entry: Option<usize>,
-    token: Token,
-    notes: &[Note<'_>],
-    told: &mut Vec<u8>,
-) -> Result<(), AllocError> {
-    let executed = executed_name(job.style(), token);
-    let key = entry.map(|entry| job.key(entry));
-    for note in notes {
-        write_note(alloc, job, executed, key, note, told)?;
-    }
-    Ok(())
-}
-
-fn write_note(
-    alloc: Global,
-    job: &Job<'_>,
-    executed: &[u8],
-    key: Option<&[u8]>,
-    note: &Note<'_>,
-    told: &mut Vec<u8>,
-) -> Result<(), AllocError> {
-    let line = line_of(alloc, job.style(), executed, key, note)?;
-    write_line(told, &[line.text()])
 }
 
 /// Answers the name of what a token executes.
@@ -200,41 +271,65 @@ fn executed_name<'a>(style: &'a Style<'_>, token: Token) -> &'a [u8] {
     }
 }
 
-fn write_next(job: &Job<'_>, next: Next, told: &mut Vec<u8>) -> Result<(), AllocError> {
-    let style = job.style();
-    match next {
-        Next::Nothing => Ok(()),
-        Next::End(Limit::Literals) => write_line(told, &[b"limit literals"]),
-        Next::End(_) => write_line(told, &[b"limit string"]),
-        Next::Run(function) => write_line(told, &[b"run ", style.name(function)]),
-        Next::Open(_) => write_line(told, &[b"open"]),
-        Next::Loop(test, body) => write_line(
-            told,
-            &[b"loop ", style.name(test), b" ", style.name(body)],
-        ),
+/// Answers the key of the current entry, if there is one.
+fn key_of<'a>(job: &Job<'a>, entry: Option<usize>) -> Option<&'a [u8]> {
+    match entry {
+        Some(entry) => Some(job.key(entry)),
+        None => None,
     }
 }
 
-fn write_literals(
+fn write_notes(
     alloc: Global,
-    job: &Job<'_>,
-    store: &mut Store<'_>,
-    told: &mut Vec<u8>,
+    style: &Style<'_>,
+    executed: &[u8],
+    key: Option<&[u8]>,
+    notes: &Notes<'_>,
+    answers: &mut Vec<u8>,
 ) -> Result<(), AllocError> {
-    for _ in 0..store.depth() {
-        write_top(alloc, job, store, told)?;
+    for note in notes.as_slice() {
+        let line = line_of(alloc, style, executed, key, note)?;
+        write_line(answers, line.text(), b"")?;
     }
     Ok(())
 }
 
-fn write_top(
+fn write_next(style: &Style<'_>, next: Next, answers: &mut Vec<u8>) -> Result<(), AllocError> {
+    match next {
+        Next::Nothing => Ok(()),
+        Next::End(Limit::Literals) => write_line(answers, b"limit ", b"literals"),
+        Next::End(_) => write_line(answers, b"limit ", b"string"),
+        Next::Run(function) => write_line(answers, b"run ", style.name(function)),
+        Next::Open(_) => write_line(answers, b"open", b""),
+        Next::Loop(test, body) => write_loop(answers, style.name(test), style.name(body)),
+    }
+}
+
+fn write_loop(answers: &mut Vec<u8>, test: &[u8], body: &[u8]) -> Result<(), AllocError> {
+    write_line(answers, b"loop ", test)?;
+    answers.extend_from_slice(b" ")?;
+    answers.extend_from_slice(body)?;
+    Ok(())
+}
+
+/// Adds the literals of the stack, top first.
+fn write_literals(
     alloc: Global,
-    job: &Job<'_>,
+    style: &Style<'_>,
     store: &mut Store<'_>,
-    told: &mut Vec<u8>,
+    answers: &mut Vec<u8>,
 ) -> Result<(), AllocError> {
+    let mut notes = Notes::new(alloc);
+    for _ in 0..store.depth() {
+        pop_into(store, &mut notes)?;
+    }
+    write_notes(alloc, style, b"", None, &notes, answers)
+}
+
+/// Pops a literal, and adds how it is shown.
+fn pop_into<'a>(store: &mut Store<'a>, notes: &mut Notes<'a>) -> Result<(), AllocError> {
     match store.pop()? {
-        Some(value) => write_note(alloc, job, b"", None, &Note::Shown(value), told),
+        Some(value) => notes.push(Note::Shown(value)),
         None => Ok(()),
     }
 }

@@ -212,11 +212,9 @@ title => "J""#
 
 // Whether a row answers what it says.
 fn plays_row(rt: &impl Abort, alloc: Global, setting: &Setting, row: &str) -> Result<(), Fail> {
-    let mut parts = row.split(" => ");
-    let body = parts.next().unwrap_or("");
-    let wanted = parts.next().unwrap_or("");
-    let told = play(alloc, setting, body.as_bytes())?;
-    assert!(rt; told.as_slice() == wanted.as_bytes());
+    let (body, wanted) = row.split_once(" => ").ok_or("a row")?;
+    let answers = play(alloc, setting, body.as_bytes())?;
+    assert!(rt; answers.as_slice() == wanted.as_bytes());
     Ok(())
 }
 
@@ -227,19 +225,29 @@ fn plays_rows(rt: &impl Abort, alloc: Global, setting: &Setting, rows: &str) -> 
     Ok(())
 }
 
+fn plays_tables(
+    rt: &impl Abort,
+    alloc: Global,
+    setting: &Setting,
+    tables: &[&str],
+) -> Result<(), Fail> {
+    for rows in tables {
+        plays_rows(rt, alloc, setting, rows)?;
+    }
+    Ok(())
+}
+
 #[test]
 fn functions_do_what_the_rules_say(rt: HostRuntime) -> Result<(), Fail> {
-    for rows in [
+    let tables = [
         integers_rows(),
         strings_rows(),
         names_rows(),
         control_rows(),
         stack_rows(),
         entry_rows(),
-    ] {
-        plays_rows(&rt, rt.alloc(), &usual(Some(0)), rows)?;
-    }
-    Ok(())
+    ];
+    plays_tables(&rt, rt.alloc(), &usual(Some(0)), &tables)
 }
 
 #[test]

@@ -1,11 +1,9 @@
 //! The order that SORT gives to entries.
-use crate::plays::{last_body, library_of};
-use btx_aux::{AuxJob, MemoryFinder, read_aux};
-use btx_bib::Library;
-use btx_bst::{Style, read_style};
+use crate::plays::{Outcome, Trial, last_body, tried, usual};
+use btx_bst::Token;
 use btx_step::sorting::sort;
-use btx_step::{Job, KeptBytes, Said, Store};
-use btx_text::{Fault, TextMode};
+use btx_step::{Job, Next, Said, Store};
+use btx_text::Fault;
 use std::alloc::{AllocError, Global};
 use std::process::Abort;
 use std::test::Fail;
@@ -31,10 +29,15 @@ const ROWS: [(&str, &str); 9] = [
 ];
 
 fn sorted(alloc: Global, titles: &str) -> Result<Vec<u8>, Fault> {
-    let mut finder = MemoryFinder::new(alloc, &[(b"job.aux", CITATIONS)])?;
-    let citations = read_aux(alloc, &mut finder, b"job.aux")?;
     let database = database_of(alloc, titles)?;
-    sorted_cited(alloc, &database, &citations)
+    let trial = Trial {
+        aux: CITATIONS,
+        style: STYLE,
+        database: &database,
+        setting: &usual(None),
+        wanted: Outcome::Order,
+    };
+    tried(alloc, trial)
 }
 
 /// Makes a database of entries with the titles in `titles`.
@@ -57,32 +60,11 @@ fn add_entry(text: &mut Vec<u8>, key: u8, title: &str) -> Result<(), AllocError>
     Ok(())
 }
 
-fn sorted_cited<'a>(
-    alloc: Global,
-    database: &'a [u8],
-    citations: &'a AuxJob,
-) -> Result<Vec<u8>, Fault> {
-    let style = read_style(alloc, b"s.bst", STYLE)?;
-    let library = library_of(alloc, &style, citations, database)?;
-    Ok(sorted_read(alloc, &style, &library)?)
-}
-
-fn sorted_read<'a>(
-    alloc: Global,
-    style: &'a Style<'_>,
-    library: &'a Library<'_>,
-) -> Result<Vec<u8>, AllocError> {
-    let job = Job::new(
-        style,
-        library,
-        TextMode::Bytes,
-        KeptBytes::of_entries(),
-        KeptBytes::of_globals(),
-    );
-    let mut store = Store::new(alloc, &job)?;
-    let mut list = keyed(alloc, &job, &mut store, library.len())?;
-    sort(&mut list, &store, 0)?;
-    listed(alloc, &list)
+/// Answers the order of the entries whose keys the last function of the style gives.
+pub fn order_of<'a>(alloc: Global, job: &Job<'a>, store: &mut Store<'a>) -> Result<Vec<u8>, Fault> {
+    let mut list = keyed(alloc, job, store, job.library().len())?;
+    sort(&mut list, store, 0)?;
+    Ok(listed(alloc, &list)?)
 }
 
 /// Gives each of the `entries` entries its key, and answers their numbers.
@@ -104,10 +86,14 @@ fn keyed<'a>(
 /// Executes the tokens that give the current entry its key.
 fn give_key<'a>(job: &Job<'a>, store: &mut Store<'a>) -> Result<(), AllocError> {
     for token in last_body(job.style()) {
-        let mut said = Said::Nothing;
-        let _next = store.step(job, *token, &mut said)?;
+        step(job, store, *token)?;
     }
     Ok(())
+}
+
+fn step<'a>(job: &Job<'a>, store: &mut Store<'a>, token: Token) -> Result<Next, AllocError> {
+    let mut said = Said::Nothing;
+    store.step(job, token, &mut said)
 }
 
 /// Shows numbers below ten, each with a space.
@@ -126,10 +112,14 @@ fn sorts_row(rt: &impl Abort, alloc: Global, titles: &str, wanted: &str) -> Resu
     Ok(())
 }
 
-#[test]
-fn entries_in_the_order_of_their_keys(rt: HostRuntime) -> Result<(), Fail> {
-    for (titles, wanted) in ROWS {
-        sorts_row(&rt, rt.alloc(), titles, wanted)?;
+fn sorts_rows(rt: &impl Abort, alloc: Global, rows: &[(&str, &str)]) -> Result<(), Fail> {
+    for (titles, wanted) in rows {
+        sorts_row(rt, alloc, titles, wanted)?;
     }
     Ok(())
+}
+
+#[test]
+fn entries_in_the_order_of_their_keys(rt: HostRuntime) -> Result<(), Fail> {
+    sorts_rows(&rt, rt.alloc(), &ROWS)
 }

@@ -47,9 +47,9 @@ length-control_name s =
 
 pub ruleset glyph_steps = (glyphs_of-control, glyphs_of-plain, glyphs_of-nil, control_name_front, length-control_name)
 
--- ---- white after a control sequence
+-- ---- whitespace after a control sequence
 
--- the glyphs without that white, by what is carried on
+-- the glyphs without that whitespace, by what is carried on
 abbrev pub kept_from : (List ℕ → Bool) → Bool → List Glyph → List Glyph
 kept_from test gone [] = []
 kept_from test gone (glyph ∷ glyphs) =

@@ -13,7 +13,7 @@ use Rattle.btx_strings.specs.refinement.Case.{is_colon}
 abbrev is_white_part : Element → Bool
 is_white_part part = is_white_text part.text
 
--- white, and then a colon
+-- whitespace, if there is any, and then a colon
 record EndInColon (before : List Element) : Type 0 where
   white : List Element
   colon : Element
@@ -31,7 +31,7 @@ colon_from (part ∷ before) h = at (is_white_text part.text) refl h (colon_from
       record { white = part ∷ r.white; colon = r.colon; others = r.others; parts = ap (λ ps. part ∷ ps) r.parts; all_white = and_from _ _ is r.all_white; colon_is = r.colon_is }
   at false is e rest = record { white = []; colon = part; others = before; parts = refl; all_white = refl; colon_is = e }
 
--- a colon is no white
+-- a colon is no whitespace
 colon_is_no_white : (part : Element) → is_colon part ≡ true → is_white_text part.text ≡ false
 colon_is_no_white part h = at part.text (and_parts _ _ h).1 where
   at : (text : List ℕ) → bytes_eq text (codes ":") ≡ true → is_white_text text ≡ false

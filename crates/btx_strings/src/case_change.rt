@@ -20,7 +20,7 @@ use std::simd::prelude::*;
 const BLOCK: usize = 8;
 
 // What stands before a piece.
-#[derive(Clone, Copy, Debug, PartialEq, Eq)]
+#[derive(Clone, Copy, PartialEq, Eq)]
 enum Place {
     First,
     Colon,
@@ -31,7 +31,7 @@ enum Place {
 /// A string in the case that a conversion names: `t` for a title, `l` for lower and `u` for upper case, each in either case. Any
 /// other conversion is the complaint `illegal_conversion`, and the string stays.
 ///
-/// Bytes at depth 0 and special characters change. A title keeps the first element, and each that follows a depth-0 colon and white.
+/// Bytes at depth 0 and special characters change. A title keeps the first element, and each that follows a depth-0 colon and whitespace.
 /// Errors: [`Fault::Memory`]; [`Fault::StringLimit`] where the text would be over 1,000,000 bytes.
 pub fn change_case(alloc: Global, string: &[u8], conversion: &[u8]) -> Result<Answer, Fault>
     ensures { Answers result (spec.change_case_of string.now conversion.now) (spec.case_complaints conversion.now) }

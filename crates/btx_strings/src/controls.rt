@@ -16,8 +16,8 @@ pub enum Glyph<'a> {
     Plain(u8),
 }
 
-// The control sequences of which the white that directly follows goes with them.
-#[derive(Clone, Copy, Debug)]
+// The control sequences with which the whitespace directly behind them goes.
+#[derive(Clone, Copy)]
 pub(crate) enum Sequences {
     // All of them.
     All,
@@ -66,7 +66,7 @@ impl<'a> Glyphs<'a> {
 impl<'a> Glyph<'a> {
     ghost use Rattle.btx_strings.specs.refinement.Glyphs.{glyph_of, gone_after, is_of};
 
-    // Whether white goes after this glyph, by whether white before it went: with control sequences of these the white behind them goes.
+    // Whether whitespace behind this glyph goes; `gone` says whether whitespace before it went. Behind a control sequence of `sequences` it goes.
     pub(crate) fn is_white_gone(self, gone: bool, sequences: Sequences) -> bool
         ensures { result ≡ gone_after (is_of sequences) gone (glyph_of self.entry) }
     {
@@ -76,7 +76,7 @@ impl<'a> Glyph<'a> {
         }
     }
 
-    /// Whether it is a byte of white.
+    /// Whether it is a byte of whitespace.
     pub fn is_white(&self) -> bool
         ensures { result ≡ is_white_glyph (glyph_of self.now) }
     {

@@ -5,7 +5,7 @@ ghost use Rattle.btx_strings.specs.language.Case as spec;
 /// What becomes of the letters of a string.
 #[derive(Clone, Copy, Debug, PartialEq, Eq)]
 pub enum Conversion {
-    /// All are lowered but those of the first element and of an element after a colon and white.
+    /// All are lowered but those of the first element and of an element after a colon and whitespace.
     Title,
     /// All are lowered.
     Lower,

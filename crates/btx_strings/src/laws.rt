@@ -14,12 +14,12 @@ pub fn one_reading()
     ensures only { (special : List ℕ) (glyphs : List Glyph) → AreGlyphs special glyphs → glyphs ≡ glyphs_of special }
 {}
 
-/// The beginning with this number of characters of text is the shortest one, or all where there are not as many.
-pub fn shortest_beginning()
+/// The prefix with this number of characters of text is the shortest one, or the whole text where there are not as many.
+pub fn shortest_prefix()
     ensures { (count : ℕ) (parts : List Element) → IsShortest count parts (take_characters count parts) }
 {}
 
-/// An element begins a title or a part of one exactly where nothing stands before it, or white does, and before that white a colon
+/// An element begins a title or a part of one exactly where nothing stands before it, or whitespace does, and before that whitespace a colon
 /// outside all braces. The elements before are given nearest first.
 pub fn title_beginnings()
     ensures { (before : List Element) →

@@ -1,4 +1,4 @@
-//! The functions of the style language on strings: lengths and beginnings in characters of text, case, purified forms, widths, pieces.
+//! The functions of the style language on strings: lengths and prefixes in characters of text, case, purified forms, widths, pieces.
 #![tactic(auto)]
 
 mod answers;

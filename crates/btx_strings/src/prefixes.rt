@@ -1,4 +1,4 @@
-//! The beginning of a string, in characters of text.
+//! The prefix of a string, in characters of text.
 ghost use Rattle.std.specs.Prelude.{◌≡◌};
 ghost use Rattle.btx_text.specs.language.Elements.{elements_of};
 ghost use Rattle.btx_strings.specs.language.Answers.{no_complaints};
@@ -26,7 +26,7 @@ pub fn text_prefix(
     closed(alloc, front(string, wanted(count), mode))
 }
 
-// The shortest beginning of whole elements with this number of characters.
+// The shortest prefix of whole elements with this number of characters.
 fn front(string: &[u8], count: usize, mode: TextMode) -> &[u8]
     ensures { result.now ≡ text_of (take_characters count (elements_of mode string.now)) }
 {

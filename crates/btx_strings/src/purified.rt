@@ -25,7 +25,7 @@ static STAYING: [u8; 256] = *b"\
     xxxxxxxxxxxxxxxxxxxxxxxxxxxxxxxx\
     xxxxxxxxxxxxxxxxxxxxxxxxxxxxxxxx";
 
-/// A string without what isn't text: white and separators become spaces, letters and digits stay, all else goes. Of a special
+/// A string without what isn't text: whitespace and separators become spaces, letters and digits stay, all else goes. Of a special
 /// character the letters and digits stay and foreign control sequences leave the letters that they stand for.
 ///
 /// Errors: [`Fault::Memory`]; [`Fault::StringLimit`] where the text would be over 1,000,000 bytes.

@@ -24,7 +24,7 @@ const WIDTHS: [u16; 127] = [
 ];
 
 /// The width of a string in hundredths of a point. Outside special characters each byte has its own, braces too; in them braces have
-/// none, nor control sequences but the foreign ones, nor the white directly after a control sequence. It takes no memory.
+/// none, nor control sequences but the foreign ones, nor the whitespace directly after a control sequence. It takes no memory.
 pub fn width(string: &[u8]) -> i32
     requires { length string.now ≤ greatest_string }
     ensures { result ≡ pos (spec.width_of string.now) }

@@ -1,19 +1,17 @@
-//! How long lines are broken.
+//! How long lines are broken. Each trial answers whether it holds, and one function holds the breaker and the sink for all of them.
 use crate::fakes::{Failing, FakeWriter};
-use crate::texts::text_of;
+use crate::texts::{joined, text_of};
 use crate::worked_lines::{ROWS, Row};
 use btx_out::{Breaker, LineLength, Over};
 use btx_text::Fault;
 use std::alloc::{AllocError, Global};
-use std::process::Abort;
-use std::test::Fail;
 
-// Whether a byte is white.
+// Whether a byte is whitespace.
 fn is_white(byte: u8) -> bool {
     matches!(byte, b' ' | b'\t' | b'\r')
 }
 
-// A text without the white at its end.
+// A text without the whitespace at its end.
 fn trimmed(text: &[u8]) -> &[u8] {
     let mut rest = text;
     for _turn in 0..text.len() {
@@ -31,15 +29,15 @@ fn trimmed(text: &[u8]) -> &[u8] {
 }
 
 // Where a text that is longer than a line is broken: how long the head is, and where the rest begins.
-fn place(limit: usize, text: &[u8]) -> Option<(usize, usize)> {
+fn place(line_length: usize, text: &[u8]) -> Option<(usize, usize)> {
     let mut inside = None;
     let mut past = None;
     for (at, byte) in text.iter().enumerate() {
         let white = is_white(*byte);
-        if white && at >= 3 && at <= limit {
+        if white && at >= 3 && at <= line_length {
             inside = Some((at, at.saturating_add(1)));
         }
-        if white && at > limit && past.is_none() {
+        if white && at > line_length && past.is_none() {
             past = Some(at);
         }
     }
@@ -55,264 +53,119 @@ fn place(limit: usize, text: &[u8]) -> Option<(usize, usize)> {
     Some((head, text.len()))
 }
 
-// Adds a line, unless it is white alone.
+// Adds a line, unless it is whitespace alone.
 fn add_line(output: &mut Vec<u8>, line: &[u8]) -> Result<(), AllocError> {
     let kept = trimmed(line);
     if kept.is_empty() && !line.is_empty() {
         return Ok(());
     }
     output.extend_from_slice(kept)?;
-    output.push(b'\n')?;
-    Ok(())
+    output.extend_from_slice(b"\n")
 }
 
-// What of a logical line is sure while it is pending, and what comes of it when it ends.
-#[derive(Drop)]
-struct Pieces {
-    sure: Vec<u8>,
-    lines: Vec<u8>,
+// Takes the first line off a text that is longer than a line, and adds it to what is sure: the rest behind two spaces, or nothing if no rest
+// is left. A text that can't be broken is sure as a whole.
+fn take_line(
+    alloc: Global,
+    line_length: usize,
+    text: &[u8],
+    sure: &mut Vec<u8>,
+) -> Result<Vec<u8>, AllocError> {
+    let Some((head, rest)) = place(line_length, text) else {
+        sure.extend_from_slice(text)?;
+        return Ok(Vec::new(alloc));
+    };
+    add_line(sure, text.get(..head).unwrap_or(&[]))?;
+    let after = text.get(rest..).unwrap_or(&[]);
+    let indent = if after.is_empty() {
+        b"".as_slice()
+    } else {
+        b"  "
+    };
+    joined(alloc, &[indent, after])
 }
 
-// A whole logical line, taken apart at one break after another.
-fn taken_apart(alloc: Global, limit: usize, text: &[u8]) -> Result<Pieces, AllocError> {
+// What of a logical line is sure while it is pending: it is taken apart at one break after another.
+fn sure_of(alloc: Global, line_length: usize, text: &[u8]) -> Result<Vec<u8>, AllocError> {
     let mut sure = Vec::new(alloc);
     let mut line = text.to_vec(alloc)?;
     for _turn in 0..text.len() {
-        if line.len() <= limit {
+        if line.len() <= line_length {
             break;
         }
-        let Some((head, rest)) = place(limit, &line) else {
-            sure.extend_from_slice(&line)?;
-            let mut lines = sure.clone()?;
-            lines.push(b'\n')?;
-            return Ok(Pieces { sure, lines });
-        };
-        add_line(&mut sure, line.get(..head).unwrap_or(&[]))?;
-        let after = line.get(rest..).unwrap_or(&[]);
-        if after.is_empty() {
-            let lines = sure.clone()?;
-            return Ok(Pieces { sure, lines });
-        }
-        let mut next = b"  ".to_vec(alloc)?;
-        next.extend_from_slice(after)?;
-        line = next;
+        line = take_line(alloc, line_length, &line, &mut sure)?;
     }
-    let mut lines = sure.clone()?;
-    add_line(&mut lines, &line)?;
-    Ok(Pieces { sure, lines })
+    Ok(sure)
 }
 
-// What a breaker wrote of a logical line: all of it, and how much of that stood there behind each piece.
-#[derive(Drop)]
-struct Written {
-    bytes: Vec<u8>,
-    sure: Vec<usize>,
-    answer: Result<(), Fault>,
-    failures: u64,
+// A row's texts.
+#[derive(Clone, Copy)]
+struct Texts<'a> {
+    line_length: u32,
+    literal: &'a [u8],
+    sure: &'a [u8],
+    lines: &'a [u8],
 }
 
-// Puts a logical line in pieces of a size, and ends it.
-fn put_pieces(
-    breaker: &mut Breaker,
-    literal: &[u8],
+// What is asked of a breaker, or what has been written behind that.
+#[derive(Clone, Copy)]
+enum Step<'a> {
+    Put(&'a [u8]),
+    Newline,
+    Finish,
+    // So many bytes are written.
+    Bytes(usize),
+    // The sink was written to so often.
+    Writes(u64),
+}
+
+// What is tried with a breaker and a sink.
+#[derive(Clone, Copy)]
+enum Trial<'a> {
+    // A row's line in pieces of so many bytes, and its end.
+    Pieces(Texts<'a>, usize),
+    // A row's line in two pieces, and its end, where this write fails.
+    Failing(Texts<'a>, u64),
+    // These steps, and the text that stands first in what they write.
+    Steps(&'a [Step<'a>], &'a [u8]),
+}
+
+// Whether as much is written as is sure of the first bytes of a row's line; and if these are all of it, whether that is as the row says.
+fn is_sure(alloc: Global, texts: &Texts<'_>, taken: usize, written: usize) -> bool {
+    let front = texts.literal.get(..taken).unwrap_or(texts.literal);
+    let found = texts.lines.get(..written).unwrap_or(b"lost");
+    if front.len() == texts.literal.len() && found != texts.sure {
+        return false;
+    }
+    match sure_of(alloc, texts.line_length as usize, front) {
+        Ok(sure) => sure.as_slice() == found,
+        Err(_) => false,
+    }
+}
+
+// Whether what is sure stands there behind each piece.
+fn pieces_hold(
+    alloc: Global,
+    texts: &Texts<'_>,
     size: usize,
-    sink: &mut Over<FakeWriter>,
-    sure: &mut Vec<usize>,
-) -> Result<(), Fault> {
-    for piece in literal.chunks(size.max(1)) {
-        breaker.put(piece, sink)?;
-        sure.push(sink.writer.bytes.len())?;
-    }
-    breaker.newline(sink)
-}
-
-fn breaker_of(rt: &impl Abort, limit: u32) -> Breaker {
-    Breaker::new(LineLength::new(limit).expect(rt, "a length from 20 to 1,000"))
-}
-
-// What a breaker writes of a logical line in pieces of a size, into a sink that takes so many bytes at a time. A test that holds both
-// takes long to prove, since each `?` is a way out on which all of them is dropped.
-fn write_line(
-    rt: &(impl Abort + AllocGlobal),
-    limit: u32,
-    literal: &[u8],
-    size: usize,
-    most: usize,
-) -> Written {
-    let mut breaker = breaker_of(rt, limit);
-    let mut sink = Over::new(FakeWriter::new(rt.alloc(), most, Failing::Never, 0));
-    let mut sure = Vec::new(rt.alloc());
-    let answer = put_pieces(&mut breaker, literal, size, &mut sink, &mut sure);
-    Written {
-        bytes: sink.writer.bytes,
-        sure,
-        answer,
-        failures: sink.failures,
-    }
-}
-
-// Asserts what was written of a logical line when it had ended.
-fn gives(rt: &impl Abort, written: &Written, lines: &[u8]) {
-    assert!(rt; written.answer.is_ok() && written.failures == 0);
-    assert!(rt; written.bytes.as_slice() == lines);
-}
-
-// A row is written so, put in one piece: what is sure of it, and its lines.
-fn is_written(rt: &(impl Abort + AllocGlobal), row: &Row<'_>) -> Result<(), AllocError> {
-    let literal = text_of(rt.alloc(), row.literal)?;
-    let sure = text_of(rt.alloc(), row.sure)?;
-    let lines = text_of(rt.alloc(), row.lines)?;
-    let written = write_line(rt, row.limit, &literal, literal.len(), 10_000);
-    gives(rt, &written, &lines);
-    if let Some(count) = written.sure.first() {
-        assert!(rt; *count == sure.len());
-    }
-    assert!(rt; lines.starts_with(&sure));
-    Ok(())
-}
-
-#[test]
-fn rows(rt: HostRuntime) -> Result<(), Fail> {
-    for row in &ROWS {
-        is_written(&rt, row)?;
-    }
-    Ok(())
-}
-
-// What is sure of the first bytes of a text is what stood there behind them.
-fn is_sure(
-    rt: &(impl Abort + AllocGlobal),
-    limit: usize,
-    front: &[u8],
-    found: &[u8],
-) -> Result<(), AllocError> {
-    let all = taken_apart(rt.alloc(), limit, front)?;
-    assert!(rt; all.sure.as_slice() == found);
-    Ok(())
-}
-
-// A row is written so in pieces of a size: what is sure behind each of them, and its lines.
-fn is_cut(rt: &(impl Abort + AllocGlobal), row: &Row<'_>, size: usize) -> Result<(), AllocError> {
-    let literal = text_of(rt.alloc(), row.literal)?;
-    let lines = text_of(rt.alloc(), row.lines)?;
-    let written = write_line(rt, row.limit, &literal, size, 10_000);
-    gives(rt, &written, &lines);
-    for (number, count) in written.sure.iter().enumerate() {
-        let taken = number.saturating_add(1).saturating_mul(size);
-        let front = literal.get(..taken).unwrap_or(&literal);
-        let found = lines.get(..*count).unwrap_or(b"lost");
-        is_sure(rt, row.limit as usize, front, found)?;
-    }
-    Ok(())
-}
-
-#[test]
-fn cuts(rt: HostRuntime) -> Result<(), Fail> {
-    for row in &ROWS {
-        let limit = row.limit as usize;
-        for size in [
-            1,
-            2,
-            3,
-            limit,
-            limit.saturating_add(1),
-            limit.saturating_add(2),
-        ] {
-            is_cut(&rt, row, size)?;
-        }
-    }
-    Ok(())
-}
-
-// Lines of several pieces, and one that is finished: how much was written at the first `finish`, at the one that ends a line, at the
-// one behind it, and at one behind white alone.
-fn write_several(breaker: &mut Breaker, sink: &mut Over<FakeWriter>) -> Result<[usize; 4], Fault> {
-    breaker.finish(sink)?;
-    let nothing = sink.writer.bytes.len();
-    breaker.put(b"one ", sink)?;
-    breaker.newline(sink)?;
-    breaker.newline(sink)?;
-    breaker.put(b"tw", sink)?;
-    breaker.put(b"o", sink)?;
-    breaker.finish(sink)?;
-    let ended = sink.writer.bytes.len();
-    breaker.finish(sink)?;
-    let again = sink.writer.bytes.len();
-    breaker.put(b" \t", sink)?;
-    breaker.finish(sink)?;
-    Ok([nothing, ended, again, sink.writer.bytes.len()])
-}
-
-#[test]
-fn several_lines(rt: HostRuntime) {
-    let mut breaker = Breaker::new(LineLength::default());
-    let mut sink = Over::new(FakeWriter::new(rt.alloc(), 1000, Failing::Never, 0));
-    let counts = write_several(&mut breaker, &mut sink);
-    assert!(rt; counts == Ok([0, 9, 9, 9]));
-    assert!(rt; sink.writer.bytes.as_slice() == b"one\n\ntwo\n".as_slice());
-}
-
-// How often a breaker of lines of 20 bytes wrote: behind three lines, behind two pieces of a line that can't be broken, and behind
-// that line's end.
-fn count_writes(
     breaker: &mut Breaker,
-    long: &[u8],
     sink: &mut Over<FakeWriter>,
-) -> Result<[u64; 3], Fault> {
-    breaker.put(b"aaa bbb ccc ddd eee fff ggg hhh iii jjj", sink)?;
-    breaker.newline(sink)?;
-    let lines = sink.writer.writes;
-    breaker.put(long, sink)?;
-    breaker.put(long, sink)?;
-    let pieces = sink.writer.writes;
-    breaker.put(b"b  c", sink)?;
-    Ok([lines, pieces, sink.writer.writes])
-}
-
-// A write for the two lines that become sure at once and one for the third, a long line in pieces, and its last piece and its end.
-#[test]
-fn whole_lines(rt: HostRuntime) -> Result<(), Fail> {
-    let long = text_of(rt.alloc(), &[(b'a', 500)])?;
-    let mut breaker = breaker_of(&rt, 20);
-    let mut sink = Over::new(FakeWriter::new(rt.alloc(), 1000, Failing::Never, 0));
-    let counts = count_writes(&mut breaker, &long, &mut sink);
-    assert!(rt; counts == Ok([2, 5, 7]));
-    let lines = b"aaa bbb ccc ddd eee\n  fff ggg hhh iii\n  jjj\n";
-    assert!(rt; sink.writer.bytes.starts_with(lines));
-    Ok(())
-}
-
-#[test]
-fn short_writes(rt: HostRuntime) -> Result<(), Fail> {
-    for row in &ROWS {
-        let literal = text_of(rt.alloc(), row.literal)?;
-        let lines = text_of(rt.alloc(), row.lines)?;
-        for most in 1..8 {
-            gives(
-                &rt,
-                &write_line(&rt, row.limit, &literal, 5000, most),
-                &lines,
-            );
+) -> bool {
+    let mut taken = 0_usize;
+    for piece in texts.literal.chunks(size.max(1)) {
+        taken = taken.saturating_add(piece.len());
+        if breaker.put(piece, sink).is_err()
+            || !is_sure(alloc, texts, taken, sink.writer.bytes.len())
+        {
+            return false;
         }
     }
-    Ok(())
+    true
 }
 
-// What a breaker has done whose sink fails at one write.
-#[derive(Drop)]
-struct Tried {
-    answer: Result<(), Fault>,
-    bytes: Vec<u8>,
-    writes: u64,
-    failures: u64,
-}
-
-// Whether each call answers the device's fault.
-fn stays_failed(breaker: &mut Breaker, sink: &mut Over<FakeWriter>) -> bool {
-    let device = Err(Fault::Device);
-    breaker.put(b"more", sink) == device
-        && breaker.newline(sink) == device
-        && breaker.finish(sink) == device
+// Whether a line's end leaves these lines, and no write failed.
+fn ends_as(breaker: &mut Breaker, sink: &mut Over<FakeWriter>, lines: &[u8]) -> bool {
+    breaker.newline(sink).is_ok() && sink.failures == 0 && sink.writer.bytes.as_slice() == lines
 }
 
 // A logical line in two pieces, and its end.
@@ -323,74 +176,283 @@ fn broken(breaker: &mut Breaker, literal: &[u8], sink: &mut Over<FakeWriter>) ->
     breaker.newline(sink)
 }
 
-// Breaks a logical line into a sink that fails at one write, and tries each call twice after that.
-fn try_failing(
-    rt: &(impl Abort + AllocGlobal),
-    limit: u32,
-    literal: &[u8],
-    how: Failing,
+// Whether each call answers the device's fault.
+fn stays_failed(breaker: &mut Breaker, sink: &mut Over<FakeWriter>) -> bool {
+    let device = Err(Fault::Device);
+    breaker.put(b"more", sink) == device
+        && breaker.newline(sink) == device
+        && breaker.finish(sink) == device
+}
+
+// Whether a write failed, a prefix of the lines stands there, and nothing follows it, although each call is tried twice; None if no write failed.
+fn failing_holds(
+    texts: &Texts<'_>,
     at: u64,
-) -> Tried {
-    let mut breaker = breaker_of(rt, limit);
-    let mut sink = Over::new(FakeWriter::new(rt.alloc(), 7, how, at));
-    let answer = broken(&mut breaker, literal, &mut sink);
-    if answer.is_err() {
-        assert!(rt; stays_failed(&mut breaker, &mut sink));
-        assert!(rt; stays_failed(&mut breaker, &mut sink));
+    breaker: &mut Breaker,
+    sink: &mut Over<FakeWriter>,
+) -> Option<bool> {
+    if broken(breaker, texts.literal, sink).is_ok() {
+        return None;
     }
-    Tried {
-        answer,
-        bytes: sink.writer.bytes,
-        writes: sink.writer.writes,
-        failures: sink.failures,
+    let stays = stays_failed(breaker, sink) && stays_failed(breaker, sink);
+    let is_last = sink.writer.writes == at.saturating_add(1) && sink.failures == 1;
+    Some(stays && is_last && texts.lines.starts_with(&sink.writer.bytes))
+}
+
+// Whether a step succeeds, or as much has been written as it says.
+fn step_holds(step: Step<'_>, breaker: &mut Breaker, sink: &mut Over<FakeWriter>) -> bool {
+    match step {
+        Step::Put(bytes) => breaker.put(bytes, sink).is_ok(),
+        Step::Newline => breaker.newline(sink).is_ok(),
+        Step::Finish => breaker.finish(sink).is_ok(),
+        Step::Bytes(count) => sink.writer.bytes.len() == count,
+        Step::Writes(count) => sink.writer.writes == count,
     }
 }
 
-// Whether a write failed: a beginning of the lines stands there then, and nothing followed it.
-fn fails(rt: &impl Abort, tried: &Tried, at: u64, lines: &[u8]) -> bool {
-    if tried.answer.is_ok() {
-        return false;
+// Whether each step holds.
+fn steps_hold(steps: &[Step<'_>], breaker: &mut Breaker, sink: &mut Over<FakeWriter>) -> bool {
+    for step in steps {
+        if !step_holds(*step, breaker, sink) {
+            return false;
+        }
     }
-    assert!(rt; lines.starts_with(&tried.bytes), "write {at}");
-    assert!(rt; tried.writes == at.saturating_add(1) && tried.failures == 1);
     true
 }
 
-#[test]
-fn failed_writes(rt: HostRuntime) -> Result<(), Fail> {
-    for row in &ROWS {
-        let literal = text_of(rt.alloc(), row.literal)?;
-        let lines = text_of(rt.alloc(), row.lines)?;
-        for how in [Failing::Error, Failing::Zero, Failing::Interrupted] {
-            for at in 0..1000 {
-                let tried = try_failing(&rt, row.limit, &literal, how, at);
-                if !fails(&rt, &tried, at, &lines) {
-                    break;
-                }
-            }
+// Whether a trial holds; None if no write failed where one was to fail.
+fn holds(
+    alloc: Global,
+    trial: Trial<'_>,
+    breaker: &mut Breaker,
+    sink: &mut Over<FakeWriter>,
+) -> Option<bool> {
+    match trial {
+        Trial::Pieces(texts, size) => Some(
+            pieces_hold(alloc, &texts, size, breaker, sink) && ends_as(breaker, sink, texts.lines),
+        ),
+        Trial::Failing(texts, at) => failing_holds(&texts, at, breaker, sink),
+        Trial::Steps(steps, text) => {
+            Some(steps_hold(steps, breaker, sink) && sink.writer.bytes.starts_with(text))
         }
     }
-    Ok(())
+}
+
+// Whether a trial holds over a writer; None if no write failed where one was to fail. A length that isn't allowed would be the usual one.
+fn tried(alloc: Global, line_length: u32, writer: FakeWriter, trial: Trial<'_>) -> Option<bool> {
+    let mut breaker = Breaker::new(LineLength::new(line_length).unwrap_or(LineLength::default()));
+    let mut sink = Over::new(writer);
+    holds(alloc, trial, &mut breaker, &mut sink)
+}
+
+// Whether a row's line is broken so in pieces of `size` bytes, into a sink that takes at most `most` bytes at a time.
+fn is_broken(alloc: Global, texts: Texts<'_>, size: usize, most: usize) -> bool {
+    let writer = FakeWriter::new(alloc, most, Failing::Never, 0);
+    tried(alloc, texts.line_length, writer, Trial::Pieces(texts, size)) == Some(true)
+}
+
+// Whether a row's line is broken so in pieces of each of these sizes.
+fn sizes_hold(alloc: Global, texts: Texts<'_>, sizes: &[usize]) -> bool {
+    for size in sizes {
+        if !is_broken(alloc, texts, *size, 10_000) {
+            return false;
+        }
+    }
+    true
+}
+
+// Whether a row's line is broken so in pieces of 1, 2 and 3 bytes, of a line's length, and of one and two more.
+fn cuts_hold(alloc: Global, texts: Texts<'_>) -> bool {
+    let length = texts.line_length as usize;
+    let (longer, longest) = (length.saturating_add(1), length.saturating_add(2));
+    sizes_hold(alloc, texts, &[1, 2, 3, length, longer, longest])
+}
+
+// Whether a row's line is broken so into sinks that take few bytes at a time.
+fn short_writes_hold(alloc: Global, texts: Texts<'_>) -> bool {
+    for most in 1..8 {
+        if !is_broken(alloc, texts, 5000, most) {
+            return false;
+        }
+    }
+    true
+}
+
+// Whether a row's line is broken so into a sink that fails in one way: at each of its writes, up to one that is never asked for.
+fn failures_hold(alloc: Global, texts: Texts<'_>, how: Failing) -> bool {
+    for at in 0..1000 {
+        let writer = FakeWriter::new(alloc, 7, how, at);
+        match tried(alloc, texts.line_length, writer, Trial::Failing(texts, at)) {
+            Some(true) => {}
+            Some(false) => return false,
+            None => return true,
+        }
+    }
+    true
+}
+
+// What is tried with each row.
+#[derive(Clone, Copy)]
+enum Way {
+    Whole,
+    Cuts,
+    ShortWrites,
+    FailedWrites,
+}
+
+// Whether a row's line is broken so in a way.
+fn way_holds(alloc: Global, way: Way, texts: Texts<'_>) -> bool {
+    match way {
+        Way::Whole => {
+            texts.lines.starts_with(texts.sure)
+                && is_broken(alloc, texts, texts.literal.len(), 10_000)
+        }
+        Way::Cuts => cuts_hold(alloc, texts),
+        Way::ShortWrites => short_writes_hold(alloc, texts),
+        Way::FailedWrites => {
+            failures_hold(alloc, texts, Failing::Error)
+                && failures_hold(alloc, texts, Failing::Zero)
+                && failures_hold(alloc, texts, Failing::Interrupted)
+        }
+    }
+}
+
+// Whether a row is broken so in a way.
+fn row_holds(alloc: Global, row: &Row<'_>, way: Way) -> Result<bool, AllocError> {
+    let literal = text_of(alloc, row.literal)?;
+    let sure = text_of(alloc, row.sure)?;
+    let lines = text_of(alloc, row.lines)?;
+    let texts = Texts {
+        line_length: row.line_length,
+        literal: &literal,
+        sure: &sure,
+        lines: &lines,
+    };
+    Ok(way_holds(alloc, way, texts))
+}
+
+// The number of the first row that isn't broken so in a way, which is that of all where each is.
+fn first_wrong_row(alloc: Global, rows: &[Row<'_>], way: Way) -> usize {
+    for (number, row) in rows.iter().enumerate() {
+        if row_holds(alloc, row, way) != Ok(true) {
+            return number;
+        }
+    }
+    rows.len()
+}
+
+fn wrong_row(alloc: Global, way: Way) -> usize {
+    first_wrong_row(alloc, &ROWS, way)
+}
+
+#[test]
+fn rows(rt: HostRuntime) {
+    let row = wrong_row(rt.alloc(), Way::Whole);
+    assert!(rt; row == 19, "row {row}");
+}
+
+#[test]
+fn cuts(rt: HostRuntime) {
+    let row = wrong_row(rt.alloc(), Way::Cuts);
+    assert!(rt; row == 19, "row {row}");
+}
+
+#[test]
+fn short_writes(rt: HostRuntime) {
+    let row = wrong_row(rt.alloc(), Way::ShortWrites);
+    assert!(rt; row == 19, "row {row}");
+}
+
+#[test]
+fn failed_writes(rt: HostRuntime) {
+    let row = wrong_row(rt.alloc(), Way::FailedWrites);
+    assert!(rt; row == 19, "row {row}");
+}
+
+// Whether each of these steps holds over a sink that takes 1,000 bytes at a time, and this text stands first in what they write.
+fn do_steps(alloc: Global, line_length: u32, steps: &[Step<'_>], text: &[u8]) -> bool {
+    let writer = FakeWriter::new(alloc, 1000, Failing::Never, 0);
+    tried(alloc, line_length, writer, Trial::Steps(steps, text)) == Some(true)
+}
+
+// Lines of several pieces, and one that is finished: how much is written at the first `finish`, at the one that ends a line, at the
+// one behind it, and at one behind whitespace alone.
+const SEVERAL: [Step<'static>; 14] = [
+    Step::Finish,
+    Step::Bytes(0),
+    Step::Put(b"one "),
+    Step::Newline,
+    Step::Newline,
+    Step::Put(b"tw"),
+    Step::Put(b"o"),
+    Step::Finish,
+    Step::Bytes(9),
+    Step::Finish,
+    Step::Bytes(9),
+    Step::Put(b" \t"),
+    Step::Finish,
+    Step::Bytes(9),
+];
+
+#[test]
+fn several_lines(rt: HostRuntime) {
+    assert!(rt; do_steps(rt.alloc(), 79, &SEVERAL, b"one\n\ntwo\n") == true);
+}
+
+// Of lines of 20 bytes: a write for the two lines that become sure at once and one for the third, a long line in pieces, and its last
+// piece and its end.
+fn writes_hold(alloc: Global, long: &[u8]) -> bool {
+    let steps = [
+        Step::Put(b"aaa bbb ccc ddd eee fff ggg hhh iii jjj"),
+        Step::Newline,
+        Step::Writes(2),
+        Step::Put(long),
+        Step::Put(long),
+        Step::Writes(5),
+        Step::Put(b"b  c"),
+        Step::Writes(7),
+    ];
+    let lines = b"aaa bbb ccc ddd eee\n  fff ggg hhh iii\n  jjj\n";
+    do_steps(alloc, 20, &steps, lines)
+}
+
+#[test]
+fn whole_lines(rt: HostRuntime) {
+    assert!(rt; writes_hold(rt.alloc(), &[b'a'; 500]) == true);
+}
+
+// Lengths, and whether they are allowed.
+const LENGTHS: [(u32, bool); 7] = [
+    (0, false),
+    (19, false),
+    (20, true),
+    (79, true),
+    (1000, true),
+    (1001, false),
+    (u32::MAX, false),
+];
+
+// Whether a length is as allowed as it is to be.
+fn is_right(bytes: u32, allowed: bool) -> bool {
+    match LineLength::new(bytes) {
+        Some(length) => allowed && length.get() == bytes,
+        None => !allowed,
+    }
+}
+
+// The number of the first length that isn't, which is that of all where each is.
+fn first_wrong_length(lengths: &[(u32, bool)]) -> usize {
+    for (number, (bytes, allowed)) in lengths.iter().enumerate() {
+        if !is_right(*bytes, *allowed) {
+            return number;
+        }
+    }
+    lengths.len()
 }
 
 #[test]
 fn lengths(rt: HostRuntime) {
-    for (bytes, allowed) in [
-        (0, false),
-        (19, false),
-        (20, true),
-        (79, true),
-        (1000, true),
-        (1001, false),
-        (u32::MAX, false),
-    ] {
-        match LineLength::new(bytes) {
-            Some(length) => {
-                assert!(rt; allowed, "{bytes}");
-                assert!(rt; length.get() == bytes);
-            }
-            None => assert!(rt; !allowed, "{bytes}"),
-        }
-    }
+    let length = first_wrong_length(&LENGTHS);
+    assert!(rt; length == 7, "length {length}");
     assert!(rt; LineLength::default().get() == 79);
 }

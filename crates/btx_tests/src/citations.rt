@@ -1,17 +1,16 @@
-//! What the `.aux` files of a job say, and files in memory.
+//! What the `.aux` files of a job say, and files in memory. A helper answers whether a job says what it is to say, so no test holds a job or a finder.
 use crate::finders::{EveryFinder, FailingFinder, RefusedFinder};
 use crate::texts::joined;
 use btx_aux::{AuxJob, End, FetchFault, Finder, MemoryFinder, read_aux};
 use btx_text::{Fault, LineKind, LogLine};
 use std::alloc::{AllocError, Global};
 use std::ops::Range;
-use std::process::Abort;
 use std::test::Fail;
 
 // How many lines, errors and keys a job has, and how its reading ended.
 type Counts = (usize, usize, usize, End);
 
-// A top file's first lines, before one for a database and one for a style; its keys, its log and its counts, in the form of `JobTexts`.
+// A top file's first lines, before one for a database and one for a style; its keys, its log and its counts, in the form of `Wanted::Job`.
 #[derive(Clone, Copy)]
 struct Row {
     lines: &'static [u8],
@@ -111,156 +110,132 @@ const ROWS: [Row; 14] = [
 
 const FOUND_TOP: &[u8] = b"The top-level auxiliary file: job.aux\n";
 
-// What a job says, as plain texts: the log's lines, each with its end and an error behind a `!`; the keys, each with a semicolon;
-// and the databases, each with a semicolon, with the style behind a colon. A test that holds a job or a finder itself takes long to
-// prove, since each `?` is a way out on which all of it is dropped.
-#[derive(Drop)]
-struct JobTexts {
-    log: Vec<u8>,
-    keys: Vec<u8>,
-    files: Vec<u8>,
-    all: Option<usize>,
-    counts: Counts,
+// What a job is to say: keys, each with a semicolon; the log's lines, each with its end and an error behind a `!`; and databases, each with a
+// semicolon, with the style behind a colon.
+#[derive(Clone, Copy)]
+enum Wanted<'a> {
+    // Its keys, its log and its counts.
+    Job(&'a [u8], &'a [u8], Counts),
+    // Its keys and its counts.
+    Keys(&'a [u8], Counts),
+    // Its databases and its style, and the place of `*`.
+    Files(&'a [u8], Option<usize>),
+    // A key's lowered form, and its place.
+    Place(&'a [u8], Option<usize>),
 }
 
-// Lines of a log, each with its end, and an error behind a `!`.
-fn log_of(alloc: Global, lines: &[LogLine]) -> Result<Vec<u8>, AllocError> {
-    let mut text = Vec::new(alloc);
-    for line in lines {
-        if line.kind() == LineKind::Error {
-            text.push(b'!')?;
-        }
-        text.extend_from_slice(line.text())?;
-        text.push(b'\n')?;
-    }
-    Ok(text)
-}
-
-// Names or keys, each with a semicolon.
-fn listed(alloc: Global, names: &[Vec<u8>]) -> Result<Vec<u8>, AllocError> {
-    let mut text = Vec::new(alloc);
+// What of a text stands behind these names, each with a semicolon; None if it doesn't begin so.
+fn behind_names<'a>(text: &'a [u8], names: &[Vec<u8>]) -> Option<&'a [u8]> {
+    let mut rest = text;
     for name in names {
-        text.extend_from_slice(name)?;
-        text.push(b';')?;
+        rest = rest.strip_prefix(name.as_slice())?.strip_prefix(b";")?;
     }
-    Ok(text)
+    Some(rest)
 }
 
-// The databases of a job, each with a semicolon, and its style behind a colon.
-fn files_of(alloc: Global, job: &AuxJob) -> Result<Vec<u8>, AllocError> {
-    let mut text = listed(alloc, job.databases())?;
-    if let Some(style) = job.style() {
-        text.push(b':')?;
-        text.extend_from_slice(style)?;
+// What of a text stands behind a line of a log, with its end; None if it doesn't begin so.
+fn behind_line<'a>(text: &'a [u8], line: &LogLine) -> Option<&'a [u8]> {
+    let mark = if line.kind() == LineKind::Error {
+        b"!".as_slice()
+    } else {
+        b""
+    };
+    text.strip_prefix(mark)?
+        .strip_prefix(line.text())?
+        .strip_prefix(b"\n")
+}
+
+// What of a text stands behind these lines of a log; None if it doesn't begin so.
+fn behind_lines<'a>(text: &'a [u8], lines: &[LogLine]) -> Option<&'a [u8]> {
+    let mut rest = text;
+    for line in lines {
+        rest = behind_line(rest, line)?;
     }
-    Ok(text)
+    Some(rest)
 }
 
-// How many lines, errors and keys a job has, and how its reading ended.
-fn counts_of(job: &AuxJob) -> Counts {
-    (job.log().len(), job.errors(), job.keys().len(), job.end())
+// Whether nothing is left of a text that began as it was to begin.
+fn is_all(rest: Option<&[u8]>) -> bool {
+    match rest {
+        Some(rest) => rest.is_empty(),
+        None => false,
+    }
 }
 
-// What a job says.
-fn texts_of(alloc: Global, job: &AuxJob) -> Result<JobTexts, AllocError> {
-    Ok(JobTexts {
-        log: log_of(alloc, job.log())?,
-        keys: listed(alloc, job.keys())?,
-        files: files_of(alloc, job)?,
-        all: job.all(),
-        counts: counts_of(job),
-    })
+// Whether a job has these databases, and this style.
+fn has_files(job: &AuxJob, files: &[u8]) -> bool {
+    let Some(rest) = behind_names(files, job.databases()) else {
+        return false;
+    };
+    match job.style() {
+        Some(style) => rest.strip_prefix(b":") == Some(style),
+        None => rest.is_empty(),
+    }
 }
 
-// What the job of a name says, over a finder.
-fn read_from<F: Finder>(alloc: Global, finder: &mut F, name: &[u8]) -> Result<JobTexts, Fault> {
-    let job = read_aux(alloc, finder, name)?;
-    texts_of(alloc, &job).map_err(Fault::from)
+// Whether a job has these keys and these counts.
+fn has_keys(job: &AuxJob, keys: &[u8], counts: Counts) -> bool {
+    let found = (job.log().len(), job.errors(), job.keys().len(), job.end());
+    found == counts && is_all(behind_names(keys, job.keys()))
+}
+
+// Whether a job says what it is to say.
+fn job_says(job: &AuxJob, wanted: Wanted<'_>) -> bool {
+    match wanted {
+        Wanted::Job(keys, log, counts) => {
+            has_keys(job, keys, counts) && is_all(behind_lines(log, job.log()))
+        }
+        Wanted::Keys(keys, counts) => has_keys(job, keys, counts),
+        Wanted::Files(files, all) => has_files(job, files) && job.all() == all,
+        Wanted::Place(lowered, place) => job.position(lowered) == place,
+    }
+}
+
+// Whether the job of a name says that, over a finder.
+fn says_over<F: Finder>(
+    alloc: Global,
+    finder: &mut F,
+    name: &[u8],
+    wanted: Wanted<'_>,
+) -> Result<bool, Fault> {
+    match read_aux(alloc, finder, name) {
+        Ok(job) => Ok(job_says(&job, wanted)),
+        Err(fault) => Err(fault),
+    }
 }
 
 // A file's name and bytes.
 type File<'a> = (&'a [u8], &'a [u8]);
 
-// What the job of a name says, over files in memory.
-fn read_named(alloc: Global, files: &[File<'_>], name: &[u8]) -> Result<JobTexts, Fault> {
-    let mut finder = MemoryFinder::new(alloc, files)?;
-    read_from(alloc, &mut finder, name)
+// Whether the job of a name says that, over files in memory.
+fn says_named(alloc: Global, files: &[File<'_>], name: &[u8], wanted: Wanted<'_>) -> bool {
+    match MemoryFinder::new(alloc, files) {
+        Ok(finder) => says_in(alloc, finder, name, wanted),
+        Err(_) => false,
+    }
 }
 
-// What the job `job.aux` says, over files in memory.
-fn read(alloc: Global, files: &[File<'_>]) -> Result<JobTexts, Fault> {
-    read_named(alloc, files, b"job.aux")
+fn says_in(alloc: Global, finder: MemoryFinder, name: &[u8], wanted: Wanted<'_>) -> bool {
+    let mut finder = finder;
+    says_over(alloc, &mut finder, name, wanted) == Ok(true)
 }
 
-// What a job says whose top file ends in one line for a database and one for a style.
-fn read_lines(alloc: Global, lines: &[u8]) -> Result<JobTexts, Fault> {
-    let top = joined(alloc, &[lines, b"\n\\bibdata{d}\n\\bibstyle{s}\n"])?;
-    read(alloc, &[(b"job.aux", &top)])
+// Whether the job `job.aux` says that, over files in memory.
+fn says(alloc: Global, files: &[File<'_>], wanted: Wanted<'_>) -> bool {
+    says_named(alloc, files, b"job.aux", wanted)
 }
 
-// The place of a key, given by its lowered form, in the job of these lines.
-fn place_of(alloc: Global, lines: &[u8], lowered: &[u8]) -> Result<Option<usize>, Fault> {
-    let mut finder = MemoryFinder::new(alloc, &[(b"job.aux", lines)])?;
-    let job = read_aux(alloc, &mut finder, b"job.aux")?;
-    Ok(job.position(lowered))
+// Whether the job of one file of these bytes says that.
+fn top_says(alloc: Global, top: &[u8], wanted: Wanted<'_>) -> bool {
+    says(alloc, &[(b"job.aux", top)], wanted)
 }
 
-// Asserts that two texts are the same.
-fn same(rt: &impl Abort, found: &[u8], wanted: &[u8]) {
-    assert!(rt; found == wanted);
-}
-
-// Asserts a job's keys, its log and its counts.
-fn says(
-    rt: &impl Abort,
-    found: Result<JobTexts, Fault>,
-    keys: &[u8],
-    log: &[u8],
-    counts: Counts,
-) -> Result<(), Fail> {
-    let found = found?;
-    same(rt, &found.keys, keys);
-    same(rt, &found.log, log);
-    assert!(rt; found.counts == counts);
-    Ok(())
-}
-
-// Asserts a job's files, and the place of `*`.
-fn uses(
-    rt: &impl Abort,
-    found: Result<JobTexts, Fault>,
-    files: &[u8],
-    all: Option<usize>,
-) -> Result<(), Fail> {
-    let found = found?;
-    same(rt, &found.files, files);
-    assert!(rt; found.all == all);
-    Ok(())
-}
-
-// Asserts at which place a key stands.
-fn stands(
-    rt: &impl Abort,
-    place: Result<Option<usize>, Fault>,
-    wanted: Option<usize>,
-) -> Result<(), Fail> {
-    let place = place?;
-    assert!(rt; place == wanted);
-    Ok(())
-}
-
-// Asserts how long the text of a job's keys is and how it ends, and the job's counts.
-fn ends(
-    rt: &impl Abort,
-    found: Result<JobTexts, Fault>,
-    size: usize,
-    last: &[u8],
-    counts: Counts,
-) -> Result<(), Fail> {
-    let found = found?;
-    assert!(rt; found.keys.len() == size && found.keys.ends_with(last));
-    assert!(rt; found.counts == counts);
-    Ok(())
+// Whether a job says that whose top file ends in one line for a database and one for a style.
+fn lines_say(alloc: Global, lines: &[u8], wanted: Wanted<'_>) -> bool {
+    match joined(alloc, &[lines, b"\n\\bibdata{d}\n\\bibstyle{s}\n"]) {
+        Ok(top) => top_says(alloc, &top, wanted),
+        Err(_) => false,
+    }
 }
 
 // Files that input one another, one of them given twice.
@@ -300,13 +275,24 @@ const CHAIN: [File<'static>; 21] = [
     (b"f20.aux", b"\\@input{f21.aux}\n\\citation{k20}"),
 ];
 
-#[test]
-fn logs_what_is_wrong(rt: HostRuntime) -> Result<(), Fail> {
-    for row in &ROWS {
-        let found = read_lines(rt.alloc(), row.lines);
-        says(&rt, found, row.keys, row.log, row.counts)?;
+// The number of the first row that isn't so, which is that of all where each is.
+fn first_wrong_row(alloc: Global, rows: &[Row]) -> usize {
+    for (number, row) in rows.iter().enumerate() {
+        if !lines_say(alloc, row.lines, Wanted::Job(row.keys, row.log, row.counts)) {
+            return number;
+        }
     }
-    Ok(())
+    rows.len()
+}
+
+fn wrong_row(alloc: Global) -> usize {
+    first_wrong_row(alloc, &ROWS)
+}
+
+#[test]
+fn logs_what_is_wrong(rt: HostRuntime) {
+    let row = wrong_row(rt.alloc());
+    assert!(rt; row == 14, "row {row}");
 }
 
 const PARTS: &[u8] = b"\\citation{a,B}\n\\citation{*,c}\n\\bibdata{x,y.bib}";
@@ -316,19 +302,29 @@ fn two_bibdata() -> &'static [u8] {
     b"The top-level auxiliary file: job.aux\n!Error--Illegal, another \\bibdata command--line 4 of file job.aux\n"
 }
 
-#[test]
-fn gives_each_part(rt: HostRuntime) -> Result<(), Fail> {
-    let found = read_lines(rt.alloc(), PARTS);
-    says(&rt, found, b"a;B;c;", two_bibdata(), (2, 1, 3, End::Whole))?;
-    let found = read_lines(rt.alloc(), PARTS);
-    uses(&rt, found, b"x.bib;y.bib;:s.bst", Some(2))
+// Whether these lines' job says that.
+fn parts_say(alloc: Global, wanted: Wanted<'_>) -> bool {
+    lines_say(alloc, PARTS, wanted)
 }
 
 #[test]
-fn finds_keys_by_their_lowered_forms(rt: HostRuntime) -> Result<(), Fail> {
-    stands(&rt, place_of(rt.alloc(), PARTS, b"b"), Some(1))?;
-    stands(&rt, place_of(rt.alloc(), PARTS, b"c"), Some(2))?;
-    stands(&rt, place_of(rt.alloc(), PARTS, b"B"), None)
+fn gives_each_part(rt: HostRuntime) {
+    let job = Wanted::Job(b"a;B;c;", two_bibdata(), (2, 1, 3, End::Whole));
+    assert!(rt; parts_say(rt.alloc(), job) == true);
+    let files = Wanted::Files(b"x.bib;y.bib;:s.bst", Some(2));
+    assert!(rt; parts_say(rt.alloc(), files) == true);
+}
+
+// Whether the key of a lowered form has this place among the keys of these lines.
+fn stands(alloc: Global, lowered: &[u8], place: Option<usize>) -> bool {
+    top_says(alloc, PARTS, Wanted::Place(lowered, place))
+}
+
+#[test]
+fn finds_keys_by_their_lowered_forms(rt: HostRuntime) {
+    assert!(rt; stands(rt.alloc(), b"b", Some(1)) == true);
+    assert!(rt; stands(rt.alloc(), b"c", Some(2)) == true);
+    assert!(rt; stands(rt.alloc(), b"B", None) == true);
 }
 
 // The log of an empty top file.
@@ -336,17 +332,19 @@ fn all_missing() -> &'static [u8] {
     b"The top-level auxiliary file: job.aux\n!Error--I found no \\citation commands\n!Error--I found no \\bibdata command\n!Error--I found no \\bibstyle command\n"
 }
 
-// An empty top file.
-const EMPTY: [File<'static>; 1] = [(b"job.aux", b"")];
+// Whether the job of a name says that, over an empty `job.aux`.
+fn empty_says(alloc: Global, name: &[u8], wanted: Wanted<'_>) -> bool {
+    says_named(alloc, &[(b"job.aux", b"")], name, wanted)
+}
 
 #[test]
-fn logs_what_is_missing(rt: HostRuntime) -> Result<(), Fail> {
-    let found = read(rt.alloc(), &EMPTY);
-    says(&rt, found, b"", all_missing(), (4, 3, 0, End::Whole))?;
-    let found = read_named(rt.alloc(), &EMPTY, b"other.aux");
-    says(&rt, found, b"", b"", (0, 0, 0, End::TopMissing))?;
-    let found = read_named(rt.alloc(), &EMPTY, b"other.aux");
-    uses(&rt, found, b"", None)
+fn logs_what_is_missing(rt: HostRuntime) {
+    let job = Wanted::Job(b"", all_missing(), (4, 3, 0, End::Whole));
+    assert!(rt; empty_says(rt.alloc(), b"job.aux", job) == true);
+    let nothing = Wanted::Job(b"", b"", (0, 0, 0, End::TopMissing));
+    assert!(rt; empty_says(rt.alloc(), b"other.aux", nothing) == true);
+    let no_files = Wanted::Files(b"", None);
+    assert!(rt; empty_says(rt.alloc(), b"other.aux", no_files) == true);
 }
 
 // The log of files that input one another.
@@ -354,24 +352,41 @@ fn through_log() -> &'static [u8] {
     b"The top-level auxiliary file: job.aux\nA level-1 auxiliary file: a.aux\n!Error--Already encountered file job.aux--line 2 of file a.aux\n"
 }
 
+// What the job of files that input one another says.
+fn through_job() -> Wanted<'static> {
+    Wanted::Job(b"k;", through_log(), (3, 1, 1, End::Whole))
+}
+
 #[test]
-fn reads_no_file_twice(rt: HostRuntime) -> Result<(), Fail> {
-    let found = read(rt.alloc(), &through());
-    says(&rt, found, b"k;", through_log(), (3, 1, 1, End::Whole))
+fn reads_no_file_twice(rt: HostRuntime) {
+    assert!(rt; says(rt.alloc(), &through(), through_job()) == true);
+}
+
+// Adds a text, in which these digits stand in the place of each `#`.
+fn add_numbered(whole: &mut Vec<u8>, digits: &[u8], text: &[u8]) -> Result<(), AllocError> {
+    for byte in text {
+        let piece = [*byte];
+        let added = if *byte == b'#' {
+            digits
+        } else {
+            piece.as_slice()
+        };
+        whole.extend_from_slice(added)?;
+    }
+    Ok(())
+}
+
+// Adds a text, in which a number stands in the place of each `#`.
+fn add_number(alloc: Global, whole: &mut Vec<u8>, number: u32, text: &[u8]) -> Result<(), Fail> {
+    let digits = format!(in alloc; "{number}")?;
+    Ok(add_numbered(whole, digits.as_bytes(), text)?)
 }
 
 // A text once for each of these numbers, which stands there in the place of each `#`.
 fn numbered(alloc: Global, numbers: Range<u32>, text: &[u8]) -> Result<Vec<u8>, Fail> {
     let mut whole = Vec::new(alloc);
     for number in numbers {
-        let digits = format!(in alloc; "{number}")?;
-        for byte in text {
-            if *byte == b'#' {
-                whole.extend_from_slice(digits.as_bytes())?;
-            } else {
-                whole.push(*byte)?;
-            }
-        }
+        add_number(alloc, &mut whole, number, text)?;
     }
     Ok(whole)
 }
@@ -382,11 +397,20 @@ fn chain_log(alloc: Global, lines: &[u8]) -> Result<Vec<u8>, Fail> {
     Ok(joined(alloc, &[FOUND_TOP, &found, lines])?)
 }
 
+// Whether the chain of all files stops so.
+fn chain_stops(alloc: Global, log: &[u8]) -> bool {
+    says(
+        alloc,
+        &CHAIN,
+        Wanted::Job(b"", log, (20, 0, 0, End::TooManyOpen)),
+    )
+}
+
 #[test]
 fn opens_twenty_files(rt: HostRuntime) -> Result<(), Fail> {
     let log = chain_log(rt.alloc(), b"")?;
-    let found = read(rt.alloc(), &CHAIN);
-    says(&rt, found, b"", &log, (20, 0, 0, End::TooManyOpen))
+    assert!(rt; chain_stops(rt.alloc(), &log) == true);
+    Ok(())
 }
 
 // The log's last lines for a chain of twenty files, the last of which inputs one that isn't there.
@@ -399,101 +423,128 @@ fn twenty_keys() -> &'static [u8] {
     b"k19;k18;k17;k16;k15;k14;k13;k12;k11;k10;k9;k8;k7;k6;k5;k4;k3;k2;k1;k0;"
 }
 
+// Whether the chain of twenty files ends so.
+fn chain_ends(alloc: Global, log: &[u8]) -> bool {
+    let wanted = Wanted::Job(twenty_keys(), log, (23, 3, 20, End::Whole));
+    says(alloc, &CHAIN[..20], wanted)
+}
+
 #[test]
 fn goes_on_behind_the_twentieth(rt: HostRuntime) -> Result<(), Fail> {
     let log = chain_log(rt.alloc(), missing_file())?;
-    let found = read(rt.alloc(), &CHAIN[..20]);
-    says(&rt, found, twenty_keys(), &log, (23, 3, 20, End::Whole))
+    assert!(rt; chain_ends(rt.alloc(), &log) == true);
+    Ok(())
 }
 
 // How a read ended whose finder fails: its fault, and how often the finder was asked and failed.
 type Tried = (Option<Fault>, u64, u64);
 
 // Reads the files that input one another, where the device fails at one fetch.
-fn try_failing(alloc: Global, fails_at: u64) -> Result<Tried, FetchFault> {
+fn read_failing(alloc: Global, inner: MemoryFinder, fails_at: u64) -> Tried {
     let mut finder = FailingFinder {
-        inner: MemoryFinder::new(alloc, &through())?,
+        inner,
         fails_at,
         fetches: 0,
         failures: 0,
     };
-    let fault = read_from(alloc, &mut finder, b"job.aux").err();
-    Ok((fault, finder.fetches, finder.failures))
+    let fault = says_over(alloc, &mut finder, b"job.aux", through_job()).err();
+    (fault, finder.fetches, finder.failures)
 }
 
 // Reads the files that input one another, where one fetch is refused memory.
-fn try_refused(alloc: Global, refused_at: u64) -> Result<Tried, FetchFault> {
+fn read_refused(alloc: Global, inner: MemoryFinder, refused_at: u64) -> Tried {
     let mut finder = RefusedFinder {
-        inner: MemoryFinder::new(alloc, &through())?,
+        inner,
         refused_at,
         fetches: 0,
     };
-    let fault = read_from(alloc, &mut finder, b"job.aux").err();
-    Ok((fault, finder.fetches, 0))
+    let fault = says_over(alloc, &mut finder, b"job.aux", through_job()).err();
+    (fault, finder.fetches, 0)
 }
 
-// Asserts how a read ended.
-fn ended(rt: &impl Abort, tried: Tried, wanted: Tried) {
-    assert!(rt; tried == wanted);
+// Reads them so over files in memory. Without memory for these nothing is fetched.
+fn try_failing(alloc: Global, fails_at: u64) -> Tried {
+    match MemoryFinder::new(alloc, &through()) {
+        Ok(inner) => read_failing(alloc, inner, fails_at),
+        Err(_) => (None, 0, 0),
+    }
+}
+
+fn try_refused(alloc: Global, refused_at: u64) -> Tried {
+    match MemoryFinder::new(alloc, &through()) {
+        Ok(inner) => read_refused(alloc, inner, refused_at),
+        Err(_) => (None, 0, 0),
+    }
 }
 
 // Two files are fetched: a fault at a third fetch is never met.
 #[test]
-fn stops_at_a_failing_fetch(rt: HostRuntime) -> Result<(), Fail> {
+fn stops_at_a_failing_fetch(rt: HostRuntime) {
     let device = Some(Fault::Device);
-    for (fails_at, wanted) in [(0, (device, 1, 1)), (1, (device, 2, 1)), (2, (None, 2, 0))] {
-        ended(&rt, try_failing(rt.alloc(), fails_at)?, wanted);
-    }
-    Ok(())
+    assert!(rt; try_failing(rt.alloc(), 0) == (device, 1, 1));
+    assert!(rt; try_failing(rt.alloc(), 1) == (device, 2, 1));
+    assert!(rt; try_failing(rt.alloc(), 2) == (None, 2, 0));
 }
 
 #[test]
-fn stops_at_a_refused_fetch(rt: HostRuntime) -> Result<(), Fail> {
+fn stops_at_a_refused_fetch(rt: HostRuntime) {
     let memory = Some(Fault::Memory);
-    for (refused_at, wanted) in [(0, (memory, 1, 0)), (1, (memory, 2, 0)), (2, (None, 2, 0))] {
-        ended(&rt, try_refused(rt.alloc(), refused_at)?, wanted);
-    }
-    Ok(())
+    assert!(rt; try_refused(rt.alloc(), 0) == (memory, 1, 0));
+    assert!(rt; try_refused(rt.alloc(), 1) == (memory, 2, 0));
+    assert!(rt; try_refused(rt.alloc(), 2) == (None, 2, 0));
+}
+
+// Whether a job of 100,000 lines has these keys.
+fn many_say(alloc: Global, top: &[u8], keys: &[u8]) -> bool {
+    let counts = (100_003, 100_002, 100_000, End::Whole);
+    keys.len() == 888_890 && top_says(alloc, top, Wanted::Keys(keys, counts))
 }
 
 // Each line cites a key, the same in another case, and the first again.
 #[test]
 fn reads_many_citations(rt: HostRuntime) -> Result<(), Fail> {
     let top = numbered(rt.alloc(), 0..100_000, b"\\citation{Key#,key#,Key#}\n")?;
-    let found = read(rt.alloc(), &[(b"job.aux", &top)]);
-    let counts = (100_003, 100_002, 100_000, End::Whole);
-    ends(&rt, found, 888_890, b";Key99999;", counts)
+    let keys = numbered(rt.alloc(), 0..100_000, b"Key#;")?;
+    assert!(rt; many_say(rt.alloc(), &top, &keys) == true);
+    Ok(())
+}
+
+// Whether a top file that inputs 5,000 others has the key of these alone.
+fn inputs_say(alloc: Global, top: &[u8]) -> bool {
+    let mut finder = EveryFinder {
+        name: b"job.aux",
+        bytes: top,
+        others: b"\\citation{k}",
+    };
+    let wanted = Wanted::Keys(b"k;", (5_003, 2, 1, End::Whole));
+    says_over(alloc, &mut finder, b"job.aux", wanted) == Ok(true)
 }
 
 // Each line inputs a file of its own.
 #[test]
 fn reads_many_files(rt: HostRuntime) -> Result<(), Fail> {
     let top = numbered(rt.alloc(), 0..5_000, b"\\@input{i#.aux}\n")?;
-    let mut finder = EveryFinder {
-        name: b"job.aux",
-        bytes: &top,
-        others: b"\\citation{k}",
-    };
-    let found = read_from(rt.alloc(), &mut finder, b"job.aux");
-    ends(&rt, found, 2, b"k;", (5_003, 2, 1, End::Whole))
+    assert!(rt; inputs_say(rt.alloc(), &top) == true);
+    Ok(())
 }
 
-// A line that cites a key of 10,000,000 bytes.
-fn long_line(alloc: Global) -> Result<Vec<u8>, AllocError> {
-    let mut top = Vec::from_slice(alloc, b"\\citation{")?;
-    for _ in 0..10_000_000u32 {
-        top.push(b'K')?;
-    }
-    top.push(b'}')?;
-    Ok(top)
+// Whether a line that cites this key says so, where the text of its keys has a semicolon more.
+fn key_says(alloc: Global, key: Vec<u8>) -> Result<bool, AllocError> {
+    let top = joined(alloc, &[b"\\citation{", &key, b"}"])?;
+    let mut keys = key;
+    keys.push(b';')?;
+    let wanted = Wanted::Keys(&keys, (3, 2, 1, End::Whole));
+    Ok(top_says(alloc, &top, wanted))
 }
 
-// The text of the keys has a semicolon more than the key.
+// Whether it is so of a key of `length` bytes.
+fn long_key_says(alloc: Global, length: usize) -> Result<bool, AllocError> {
+    key_says(alloc, vec![in alloc; b'K'; length]?)
+}
+
 #[test]
-fn reads_a_long_line(rt: HostRuntime) -> Result<(), Fail> {
-    let top = long_line(rt.alloc())?;
-    let found = read(rt.alloc(), &[(b"job.aux", &top)]);
-    ends(&rt, found, 10_000_001, b"K;", (3, 2, 1, End::Whole))
+fn reads_a_long_line(rt: HostRuntime) {
+    assert!(rt; long_key_says(rt.alloc(), 10_000_000) == Ok(true));
 }
 
 // Fetches one of the files that input one another.
@@ -502,31 +553,34 @@ fn fetch(alloc: Global, name: &[u8], into: &mut Vec<u8>) -> Result<bool, FetchFa
     finder.fetch(alloc, name, into)
 }
 
-#[test]
-fn fetches_from_memory(rt: HostRuntime) -> Result<(), Fail> {
-    let mut into = Vec::from_slice(rt.alloc(), b"what was there")?;
-    for (name, is_found, bytes) in [
-        (
-            b"a.aux",
-            true,
-            b"\\citation{k}\n\\@input{job.aux}\n".as_slice(),
-        ),
-        (b"A.aux", false, b""),
-    ] {
-        assert!(rt; fetch(rt.alloc(), name, &mut into)? == is_found);
-        same(&rt, &into, bytes);
-    }
-    Ok(())
+// Whether a file is fetched, or isn't there, and these bytes stand in place of what was there.
+fn fetches(alloc: Global, name: &[u8], is_found: bool, bytes: &[u8], into: &mut Vec<u8>) -> bool {
+    fetch(alloc, name, into) == Ok(is_found) && into.as_slice() == bytes
+}
+
+// Whether the later of two files of a name is fetched, and none whose name has another case.
+fn both_hold(alloc: Global, into: &mut Vec<u8>) -> bool {
+    let bytes = b"\\citation{k}\n\\@input{job.aux}\n";
+    fetches(alloc, b"a.aux", true, bytes, into) && fetches(alloc, b"A.aux", false, b"", into)
 }
 
 #[test]
-fn says_what_failed(rt: HostRuntime) -> Result<(), Fail> {
-    for (fault, text) in [
-        (FetchFault::Device, "device error"),
-        (FetchFault::Memory, "out of memory"),
-    ] {
-        let found = fault.to_string(rt.alloc())?;
-        same(&rt, found.as_bytes(), text.as_bytes());
-    }
+fn fetches_from_memory(rt: HostRuntime) -> Result<(), Fail> {
+    let mut into = Vec::from_slice(rt.alloc(), b"what was there")?;
+    assert!(rt; both_hold(rt.alloc(), &mut into) == true);
     Ok(())
+}
+
+// Whether a fault says this.
+fn reads(alloc: Global, fault: FetchFault, text: &str) -> bool {
+    match fault.to_string(alloc) {
+        Ok(found) => found.as_bytes() == text.as_bytes(),
+        Err(_) => false,
+    }
+}
+
+#[test]
+fn says_what_failed(rt: HostRuntime) {
+    assert!(rt; reads(rt.alloc(), FetchFault::Device, "device error") == true);
+    assert!(rt; reads(rt.alloc(), FetchFault::Memory, "out of memory") == true);
 }

@@ -4,7 +4,7 @@ use std::io;
 use std::io::{ErrorKind, Write};
 
 /// What a writer does at the write where it fails.
-#[derive(Clone, Copy, Debug, PartialEq, Eq)]
+#[derive(Clone, Copy)]
 pub enum Failing {
     /// It doesn't fail.
     Never,

@@ -4,8 +4,6 @@ use btx_names::{format_name, num_names};
 use btx_strings::Complaints;
 use btx_text::{Fault, TextMode};
 use std::alloc::{AllocError, Global};
-use std::process::Abort;
-use std::test::Fail;
 
 const LIMIT: usize = 1_000_000;
 
@@ -68,10 +66,21 @@ fn has_text(
     mode: TextMode,
     complaints: Complaints,
 ) -> bool {
+    let name = (names, number);
+    has_bytes(alloc, name, format, text.as_bytes(), mode, complaints)
+}
+
+// Whether a name has these bytes in a format, and these complaints.
+fn has_bytes(
+    alloc: Global,
+    (names, number): (&str, i32),
+    format: &str,
+    bytes: &[u8],
+    mode: TextMode,
+    complaints: Complaints,
+) -> bool {
     match format_name(alloc, names.as_bytes(), number, format.as_bytes(), mode) {
-        Ok(answer) => {
-            answer.text.as_slice() == text.as_bytes() && answer.complaints == complaints
-        }
+        Ok(answer) => answer.text.as_slice() == bytes && answer.complaints == complaints,
         Err(_) => false,
     }
 }
@@ -431,7 +440,7 @@ const IN_BYTES: &str = r#"|Élie Cartan|{f. }{ll}|Cartan|
 |Ōe Kenzaburō|{vv~}{ll}|Ōe Kenzaburō|
 |Wu, {É}{Ö} Ab Cd|{ff}|{É}{Ö} Ab~Cd|"#;
 
-// Names of other white.
+// A name with other whitespace.
 const OTHER_WHITE: &str = "|\tBob\tSmith\t|{ff~}{vv~}{ll}{, jj}|Bob Smith|";
 // A name and a format with every complaint but that of the number.
 const EVERY_COMPLAINT: &str = "|a, b, c, d,|{ll}}||";
@@ -554,19 +563,15 @@ fn first_wrong_pick(alloc: Global, rows: &[Pick]) -> usize {
 
 // A text where half of a sequence is left, which is no text in UTF-8.
 fn leaves_half(alloc: Global) -> bool {
-    match format_name(
+    let (name, mode) = (("Cartan, Élie", 1), TextMode::Bytes);
+    has_bytes(
         alloc,
-        "Cartan, Élie".as_bytes(),
-        1,
-        b"{f. }{ll}",
-        TextMode::Bytes,
-    ) {
-        Ok(answer) => {
-            answer.text.as_slice() == b"\xC3. Cartan".as_slice()
-                && answer.complaints == Complaints::NONE
-        }
-        Err(_) => false,
-    }
+        name,
+        "{f. }{ll}",
+        b"\xC3. Cartan",
+        mode,
+        Complaints::NONE,
+    )
 }
 
 #[test]
@@ -598,84 +603,7 @@ fn length_of(alloc: Global, name: &[u8], format: &[u8]) -> usize {
     }
 }
 
-// Of two ties one goes; a literal; a name; a name and a byte; a longer literal; a longer name.
-fn longest_lengths(alloc: Global) -> Result<[usize; 6], AllocError> {
-    let mut long = vec![in alloc; b'x'; LIMIT - 1]?;
-    let ties = length_of(alloc, &long, b"{ll~~}");
-    long.push(b'x')?;
-    let (literal, name) = (
-        length_of(alloc, b"A", &long),
-        length_of(alloc, &long, b"{ll}"),
-    );
-    let longer = length_of(alloc, &long, b"{ll}.");
-    long.push(b'x')?;
-    let (longer_literal, longer_name) = (
-        length_of(alloc, b"A", &long),
-        length_of(alloc, &long, b"{ll}"),
-    );
-    Ok([ties, literal, name, longer, longer_literal, longer_name])
-}
-
-// 500,000 first names, with 400,000 bytes between any two of them.
-fn far_length(alloc: Global) -> Result<usize, AllocError> {
-    let mut name = Vec::new(alloc);
-    for _first in 0..500_000 {
-        name.extend_from_slice(b"A ")?;
-    }
-    name.push(b'B')?;
-    let mut format = Vec::from_slice(alloc, b"{ff{")?;
-    format.resize(400_004, b'-')?;
-    format.extend_from_slice(b"}}")?;
-    Ok(length_of(alloc, &name, &format))
-}
-
-#[test]
-fn longest_texts(rt: HostRuntime) -> Result<(), Fail> {
-    let over = usize::MAX;
-    assert!(rt; longest_lengths(rt.alloc())? == [LIMIT, LIMIT, LIMIT, over, over, over]);
-    assert!(rt; far_length(rt.alloc())? == over);
-    Ok(())
-}
-
-// Whether of so many names the one before the last but one, the last, and one beyond it are as they are to be.
-fn last_names_hold(alloc: Global, last: i32) -> Result<bool, AllocError> {
-    let mut names = String::new(alloc);
-    for _name in 1..last {
-        names.push_str("Ab Cd and ")?;
-    }
-    names.push_str("Ef Gh")?;
-    let (format, mode) = ("{f.~}{ll}", TextMode::Bytes);
-    let beyond = last.saturating_add(1);
-    Ok(
-        count(&names) == last
-            && has_text(
-                alloc,
-                (&names, 999),
-                format,
-                "A.~Cd",
-                mode,
-                Complaints::NONE,
-            )
-            && has_text(
-                alloc,
-                (&names, last),
-                format,
-                "E.~Gh",
-                mode,
-                Complaints::NONE,
-            )
-            && has_text(alloc, (&names, beyond), "{ll}", "", mode, NUMBER),
-    )
-}
-
-#[test]
-fn a_thousand_names_and_one(rt: HostRuntime) -> Result<(), Fail> {
-    assert!(rt; last_names_hold(rt.alloc(), 1000)? == true);
-    assert!(rt; last_names_hold(rt.alloc(), 1001)? == true);
-    Ok(())
-}
-
-// A text of parts: its front, one so many times, and its end.
+// A text of parts: `front`, `count` times `part`, and `end`.
 fn parts(
     alloc: Global,
     front: &str,
@@ -691,20 +619,78 @@ fn parts(
     Ok(text)
 }
 
-// A name of 2,000 first names, in full and abbreviated: from the second up to the 1,998th they stand apart.
-fn thousands_hold(alloc: Global) -> Result<bool, AllocError> {
-    let name = parts(alloc, "", "Ab ", 2000, "Cd")?;
-    let in_full = parts(alloc, "Ab~", "Ab ", 1997, "Ab~Ab Cd")?;
-    let abbreviated = parts(alloc, "A.~", "A. ", 1997, "A.~A. Cd")?;
-    let (mode, none) = (TextMode::Bytes, Complaints::NONE);
-    Ok(
-        has_text(alloc, (&name, 1), "{ff~}{ll}", &in_full, mode, none)
-            && has_text(alloc, (&name, 1), "{f.~}{ll}", &abbreviated, mode, none),
-    )
+// How long the text is of a name of `length` bytes in a format, and of such a literal.
+fn length_of_name(alloc: Global, length: usize, format: &[u8]) -> Result<usize, AllocError> {
+    let name = vec![in alloc; b'x'; length]?;
+    Ok(length_of(alloc, &name, format))
+}
+
+fn length_of_literal(alloc: Global, length: usize) -> Result<usize, AllocError> {
+    let format = vec![in alloc; b'x'; length]?;
+    Ok(length_of(alloc, b"A", &format))
+}
+
+// 500,000 first names, with 400,000 bytes between any two of them.
+fn far_length(alloc: Global) -> Result<usize, AllocError> {
+    let name = parts(alloc, "", "A ", 500_000, "B")?;
+    let format = parts(alloc, "{ff{", "-", 400_000, "}}")?;
+    Ok(length_of(alloc, name.as_bytes(), format.as_bytes()))
+}
+
+// Of two ties one goes; a literal; a name; a name and a byte; a longer literal; a longer name.
+#[test]
+fn longest_texts(rt: HostRuntime) {
+    let over = Ok(usize::MAX);
+    assert!(rt; length_of_name(rt.alloc(), LIMIT - 1, b"{ll~~}") == Ok(LIMIT));
+    assert!(rt; length_of_literal(rt.alloc(), LIMIT) == Ok(LIMIT));
+    assert!(rt; length_of_name(rt.alloc(), LIMIT, b"{ll}") == Ok(LIMIT));
+    assert!(rt; length_of_name(rt.alloc(), LIMIT, b"{ll}.") == over);
+    assert!(rt; length_of_literal(rt.alloc(), LIMIT + 1) == over);
+    assert!(rt; length_of_name(rt.alloc(), LIMIT + 1, b"{ll}") == over);
+    assert!(rt; far_length(rt.alloc()) == over);
+}
+
+// Whether of `last` names the one before the last but one, the last, and one beyond it are as they are to be.
+fn are_last(alloc: Global, names: &str, last: i32) -> bool {
+    let (format, mode, none) = ("{f.~}{ll}", TextMode::Bytes, Complaints::NONE);
+    let beyond = last.saturating_add(1);
+    count(names) == last
+        && has_text(alloc, (names, 999), format, "A.~Cd", mode, none)
+        && has_text(alloc, (names, last), format, "E.~Gh", mode, none)
+        && has_text(alloc, (names, beyond), "{ll}", "", mode, NUMBER)
+}
+
+// Whether it is so of a list with `before` names before the last.
+fn last_names_hold(alloc: Global, before: u32, last: i32) -> Result<bool, AllocError> {
+    let names = parts(alloc, "", "Ab Cd and ", before, "Ef Gh")?;
+    Ok(are_last(alloc, &names, last))
 }
 
 #[test]
-fn thousands_of_bytes(rt: HostRuntime) -> Result<(), Fail> {
-    assert!(rt; thousands_hold(rt.alloc())? == true);
-    Ok(())
+fn a_thousand_names_and_one(rt: HostRuntime) {
+    assert!(rt; last_names_hold(rt.alloc(), 999, 1000) == Ok(true));
+    assert!(rt; last_names_hold(rt.alloc(), 1000, 1001) == Ok(true));
+}
+
+// Whether a name of 2,000 first names has such a text in a format: from the second up to the 1,998th they stand apart.
+fn thousands_hold(
+    alloc: Global,
+    format: &str,
+    first: &str,
+    part: &str,
+    end: &str,
+) -> Result<bool, AllocError> {
+    let name = parts(alloc, "", "Ab ", 2000, "Cd")?;
+    let text = parts(alloc, first, part, 1997, end)?;
+    let mode = TextMode::Bytes;
+    Ok(has_text(alloc, (&name, 1), format, &text, mode, Complaints::NONE))
+}
+
+// In full, and abbreviated.
+#[test]
+fn thousands_of_bytes(rt: HostRuntime) {
+    let in_full = thousands_hold(rt.alloc(), "{ff~}{ll}", "Ab~", "Ab ", "Ab~Ab Cd");
+    assert!(rt; in_full == Ok(true));
+    let abbreviated = thousands_hold(rt.alloc(), "{f.~}{ll}", "A.~", "A. ", "A.~A. Cd");
+    assert!(rt; abbreviated == Ok(true));
 }

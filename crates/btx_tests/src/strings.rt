@@ -4,11 +4,10 @@ use btx_strings::{
     Answer, Complaints, add_period, change_case, purify, substring, text_length, text_prefix, width,
 };
 use btx_text::{
-    Class, Elements, Fault, Kind, Text, TextMode, class, depth_at, fold_key, lines, same_key,
+    Class, Element, Elements, Fault, Kind, Text, TextMode, class, depth_at, fold_key, lines,
+    same_key,
 };
 use std::alloc::{AllocError, Global};
-use std::process::Abort;
-use std::test::Fail;
 
 // A call of a function that answers a text, but for its string.
 #[derive(Clone, Copy)]
@@ -38,156 +37,191 @@ fn answers(alloc: Global, call: Call, string: &[u8], want: &[u8], complaints: Co
     }
 }
 
-// Whether a call answers a text of so many bytes.
-fn has_length(alloc: Global, call: Call, string: &[u8], want: usize) -> bool {
+// How long the text is that a call answers.
+fn length_of(alloc: Global, call: Call, string: &[u8]) -> Result<usize, Fault> {
     match answer_of(alloc, call, string) {
-        Ok(answer) => answer.text.len() == want,
-        Err(_) => false,
+        Ok(answer) => Ok(answer.text.len()),
+        Err(fault) => Err(fault),
     }
 }
 
-// Whether the text would be too long.
-fn is_too_long(alloc: Global, call: Call, string: &[u8]) -> bool {
-    match answer_of(alloc, call, string) {
-        Ok(_) => false,
-        Err(fault) => fault == Fault::StringLimit,
-    }
-}
+// Tables of calls: what is given beside the string, the string, and the text that is answered without a complaint. A table is handed to the loop
+// over it: a loop over a constant has all of its text at each of its steps, and takes long to prove; and so does a table that has calls in it.
+type Substring = (i32, i32, &'static [u8], &'static [u8]);
 
-// A call, its string, and the text that it answers without a complaint.
-type Row = (Call, &'static [u8], &'static [u8]);
-
-const ROWS: [Row; 52] = [
-    (Call::Substring(-2, 3), b"abcdef", b"cde"),
-    (Call::Substring(-2, 10), b"abcdef", b"abcde"),
-    (Call::Substring(0, 3), b"abcdef", b""),
-    (Call::Substring(1, 2), b"abcdef", b"ab"),
-    (Call::Substring(6, 9), b"abcdef", b"f"),
-    (Call::Substring(7, 1), b"abcdef", b""),
-    (Call::Substring(-6, 1), b"abcdef", b"a"),
-    (Call::Substring(-7, 1), b"abcdef", b""),
-    (Call::Substring(2, 0), b"abcdef", b""),
-    (Call::Substring(2, -1), b"abcdef", b""),
-    (Call::Substring(1, i32::MAX), b"abcdef", b"abcdef"),
-    (Call::Substring(-1, i32::MAX), b"abcdef", b"abcdef"),
-    (Call::Substring(i32::MAX, 1), b"abcdef", b""),
-    (Call::Substring(i32::MIN, i32::MAX), b"abcdef", b""),
-    (Call::Substring(1, i32::MIN), b"abcdef", b""),
-    (Call::Substring(4, 1), b"abc", b""),
-    (Call::AddPeriod, b"a.}", b"a.}"),
-    (Call::AddPeriod, b"}", b"}."),
-    (Call::AddPeriod, b"a)", b"a)."),
-    (Call::AddPeriod, b"a?}}", b"a?}}"),
-    (Call::AddPeriod, b"a!", b"a!"),
-    (Call::AddPeriod, b"a.{", b"a.{."),
-    (Call::AddPeriod, b"", b""),
-    (
-        Call::TextPrefix(4, TextMode::Bytes),
-        b"{\\\"O}zg{ab}c",
-        b"{\\\"O}zg{a}",
-    ),
-    (
-        Call::TextPrefix(1, TextMode::Bytes),
-        b"{\\\"O}zg{ab}c",
-        b"{\\\"O}",
-    ),
-    (
-        Call::TextPrefix(9, TextMode::Bytes),
-        b"{\\\"O}zg{ab}c",
-        b"{\\\"O}zg{ab}c",
-    ),
-    (Call::TextPrefix(1, TextMode::Bytes), b"{{a", b"{{a}}"),
-    (Call::TextPrefix(1, TextMode::Bytes), b"{\\'E{", b"{\\'E{}}"),
-    (Call::TextPrefix(2, TextMode::Bytes), b"a}b", b"a}b"),
-    (Call::TextPrefix(0, TextMode::Bytes), b"abc", b""),
-    (Call::TextPrefix(i32::MIN, TextMode::Bytes), b"abc", b""),
-    (Call::TextPrefix(i32::MAX, TextMode::Bytes), b"abc", b"abc"),
-    (
-        Call::TextPrefix(1, TextMode::Bytes),
-        b"\xC3\x89\x61",
-        b"\xC3",
-    ),
-    (
-        Call::TextPrefix(1, TextMode::Utf8),
-        b"\xC3\x89\x61",
-        b"\xC3\x89",
-    ),
-    (
-        Call::ChangeCase(b"t"),
-        b"The {TeX}book: A {\\AE}ON",
-        b"The {TeX}book: A {\\ae}on",
-    ),
-    (Call::ChangeCase(b"u"), b"{\\ss}a", b"{SS}A"),
-    (Call::ChangeCase(b"t"), b"A:B", b"A:b"),
-    (Call::ChangeCase(b"t"), b"A: {\\'E} B", b"A: {\\'E} b"),
-    (Call::ChangeCase(b"l"), b"A: {\\'E} B", b"a: {\\'e} b"),
-    (Call::ChangeCase(b"T"), b"A:\tB", b"A:\tB"),
-    (Call::ChangeCase(b"t"), b"{A: B} C", b"{A: B} c"),
-    (Call::ChangeCase(b"t"), b" A", b" a"),
-    (
-        Call::ChangeCase(b"U"),
-        b"{\\i  x\\oe y\\H o}",
-        b"{IX\\OE Y\\H O}",
-    ),
-    (Call::ChangeCase(b"L"), b"{\\O\\L\\H A}", b"{\\o\\l\\H a}"),
-    (Call::ChangeCase(b"u"), b"\xE9\xC9", b"\xE9\xC9"),
-    (
-        Call::Purify,
-        b"{\\\"o}sterreich--{\\oe}uvre~1",
-        b"osterreich  oeuvre 1",
-    ),
-    (Call::Purify, b"{\\'e}-{\\relax x}", b"e x"),
-    (Call::Purify, b"{\\ss}{\\OE}{\\aa}{\\L}", b"ssOEaL"),
-    (Call::Purify, b"{\\o\xE9}a", b"a"),
-    (Call::Purify, b"{\\i 1-2}", b"i12"),
-    (Call::Purify, b"{{\\'e}}\\o", b"eo"),
-    (Call::Purify, b"a\tb\rc\nd", b"a b cd"),
+const SUBSTRINGS: [Substring; 16] = [
+    (-2, 3, b"abcdef", b"cde"),
+    (-2, 10, b"abcdef", b"abcde"),
+    (0, 3, b"abcdef", b""),
+    (1, 2, b"abcdef", b"ab"),
+    (6, 9, b"abcdef", b"f"),
+    (7, 1, b"abcdef", b""),
+    (-6, 1, b"abcdef", b"a"),
+    (-7, 1, b"abcdef", b""),
+    (2, 0, b"abcdef", b""),
+    (2, -1, b"abcdef", b""),
+    (1, i32::MAX, b"abcdef", b"abcdef"),
+    (-1, i32::MAX, b"abcdef", b"abcdef"),
+    (i32::MAX, 1, b"abcdef", b""),
+    (i32::MIN, i32::MAX, b"abcdef", b""),
+    (1, i32::MIN, b"abcdef", b""),
+    (4, 1, b"abc", b""),
 ];
 
-// A table is handed to the loop over it: a loop over a constant has all of its text at each of its steps, and takes long to prove.
-fn first_wrong_text(alloc: Global, rows: &[Row]) -> usize {
-    for (number, (call, string, want)) in rows.iter().enumerate() {
-        if !answers(alloc, *call, string, want, Complaints::NONE) {
+fn first_wrong_substring(alloc: Global, rows: &[Substring]) -> usize {
+    for (number, (start, length, string, want)) in rows.iter().enumerate() {
+        let call = Call::Substring(*start, *length);
+        if !answers(alloc, call, string, want, Complaints::NONE) {
             return number;
         }
     }
     rows.len()
 }
 
-fn wrong_text(alloc: Global) -> usize {
-    first_wrong_text(alloc, &ROWS)
+type Prefix = (i32, TextMode, &'static [u8], &'static [u8]);
+
+const PREFIXES: [Prefix; 11] = [
+    (4, TextMode::Bytes, b"{\\\"O}zg{ab}c", b"{\\\"O}zg{a}"),
+    (1, TextMode::Bytes, b"{\\\"O}zg{ab}c", b"{\\\"O}"),
+    (9, TextMode::Bytes, b"{\\\"O}zg{ab}c", b"{\\\"O}zg{ab}c"),
+    (1, TextMode::Bytes, b"{{a", b"{{a}}"),
+    (1, TextMode::Bytes, b"{\\'E{", b"{\\'E{}}"),
+    (2, TextMode::Bytes, b"a}b", b"a}b"),
+    (0, TextMode::Bytes, b"abc", b""),
+    (i32::MIN, TextMode::Bytes, b"abc", b""),
+    (i32::MAX, TextMode::Bytes, b"abc", b"abc"),
+    (1, TextMode::Bytes, b"\xC3\x89\x61", b"\xC3"),
+    (1, TextMode::Utf8, b"\xC3\x89\x61", b"\xC3\x89"),
+];
+
+fn first_wrong_prefix(alloc: Global, rows: &[Prefix]) -> usize {
+    for (number, (count, mode, string, want)) in rows.iter().enumerate() {
+        let call = Call::TextPrefix(*count, *mode);
+        if !answers(alloc, call, string, want, Complaints::NONE) {
+            return number;
+        }
+    }
+    rows.len()
 }
 
-// No letter that is a conversion.
-const NO_CONVERSIONS: [&[u8]; 4] = [b"x", b"", b"tt", b"t "];
+type Case = (&'static [u8], &'static [u8], &'static [u8]);
 
-fn first_conversion(alloc: Global) -> usize {
+const CASES: [Case; 11] = [
+    (
+        b"t",
+        b"The {TeX}book: A {\\AE}ON",
+        b"The {TeX}book: A {\\ae}on",
+    ),
+    (b"u", b"{\\ss}a", b"{SS}A"),
+    (b"t", b"A:B", b"A:b"),
+    (b"t", b"A: {\\'E} B", b"A: {\\'E} b"),
+    (b"l", b"A: {\\'E} B", b"a: {\\'e} b"),
+    (b"T", b"A:\tB", b"A:\tB"),
+    (b"t", b"{A: B} C", b"{A: B} c"),
+    (b"t", b" A", b" a"),
+    (b"U", b"{\\i  x\\oe y\\H o}", b"{IX\\OE Y\\H O}"),
+    (b"L", b"{\\O\\L\\H A}", b"{\\o\\l\\H a}"),
+    (b"u", b"\xE9\xC9", b"\xE9\xC9"),
+];
+
+// No letter that is a conversion.
+const NO_CASES: [Case; 4] = [
+    (b"x", b"Ab", b"Ab"),
+    (b"", b"Ab", b"Ab"),
+    (b"tt", b"Ab", b"Ab"),
+    (b"t ", b"Ab", b"Ab"),
+];
+
+fn first_wrong_case(alloc: Global, rows: &[Case], illegal_conversion: bool) -> usize {
     let complaints = Complaints {
-        illegal_conversion: true,
+        illegal_conversion,
         ..Complaints::NONE
     };
-    for (number, conversion) in NO_CONVERSIONS.iter().enumerate() {
+    for (number, (conversion, string, want)) in rows.iter().enumerate() {
         if !answers(
             alloc,
             Call::ChangeCase(conversion),
-            b"Ab",
-            b"Ab",
+            string,
+            want,
             complaints,
         ) {
             return number;
         }
     }
-    NO_CONVERSIONS.len()
+    rows.len()
+}
+
+// Nothing is given beside the string.
+type Alone = (&'static [u8], &'static [u8]);
+
+const PERIODS: [Alone; 7] = [
+    (b"a.}", b"a.}"),
+    (b"}", b"}."),
+    (b"a)", b"a)."),
+    (b"a?}}", b"a?}}"),
+    (b"a!", b"a!"),
+    (b"a.{", b"a.{."),
+    (b"", b""),
+];
+
+const PURIFIED: [Alone; 7] = [
+    (b"{\\\"o}sterreich--{\\oe}uvre~1", b"osterreich  oeuvre 1"),
+    (b"{\\'e}-{\\relax x}", b"e x"),
+    (b"{\\ss}{\\OE}{\\aa}{\\L}", b"ssOEaL"),
+    (b"{\\o\xE9}a", b"a"),
+    (b"{\\i 1-2}", b"i12"),
+    (b"{{\\'e}}\\o", b"eo"),
+    (b"a\tb\rc\nd", b"a b cd"),
+];
+
+fn first_wrong_alone(alloc: Global, call: Call, rows: &[Alone]) -> usize {
+    for (number, (string, want)) in rows.iter().enumerate() {
+        if !answers(alloc, call, string, want, Complaints::NONE) {
+            return number;
+        }
+    }
+    rows.len()
+}
+
+// Each table by itself.
+fn wrong_substring(alloc: Global) -> usize {
+    first_wrong_substring(alloc, &SUBSTRINGS)
+}
+
+fn wrong_prefix(alloc: Global) -> usize {
+    first_wrong_prefix(alloc, &PREFIXES)
+}
+
+fn wrong_period(alloc: Global) -> usize {
+    first_wrong_alone(alloc, Call::AddPeriod, &PERIODS)
+}
+
+fn wrong_purified(alloc: Global) -> usize {
+    first_wrong_alone(alloc, Call::Purify, &PURIFIED)
+}
+
+fn wrong_case(alloc: Global) -> usize {
+    first_wrong_case(alloc, &CASES, false)
+}
+
+fn wrong_conversion(alloc: Global) -> usize {
+    first_wrong_case(alloc, &NO_CASES, true)
 }
 
 #[test]
 fn texts(rt: HostRuntime) {
-    let (text, conversion) = (wrong_text(rt.alloc()), first_conversion(rt.alloc()));
-    assert!(rt; text == 52, "row {text}");
-    assert!(rt;
-        conversion == NO_CONVERSIONS.len(),
-        "conversion {conversion}"
-    );
+    let substring = wrong_substring(rt.alloc());
+    assert!(rt; substring == 16, "substring {substring}");
+    let prefix = wrong_prefix(rt.alloc());
+    assert!(rt; prefix == 11, "prefix {prefix}");
+    let period = wrong_period(rt.alloc());
+    assert!(rt; period == 7, "period {period}");
+    let purified = wrong_purified(rt.alloc());
+    assert!(rt; purified == 7, "purified {purified}");
+    let case = wrong_case(rt.alloc());
+    assert!(rt; case == 11, "case {case}");
+    let conversion = wrong_conversion(rt.alloc());
+    assert!(rt; conversion == 4, "conversion {conversion}");
 }
 
 // The string's length in both modes, and its width; -1 for a string that is longer than a string can be.
@@ -216,14 +250,14 @@ const LENGTHS: [(&[u8], i32, i32); 10] = [
     (b"{\\\xC3\x89\xC3\x89}", 1, 1),
 ];
 
-fn first_wrong_length() -> usize {
-    for (number, (string, bytes, wide)) in LENGTHS.iter().enumerate() {
+fn first_wrong_length(rows: &[(&[u8], i32, i32)]) -> usize {
+    for (number, (string, bytes, wide)) in rows.iter().enumerate() {
         let found = numbers_of(string);
         if found.0 != *bytes || found.1 != *wide {
             return number;
         }
     }
-    LENGTHS.len()
+    rows.len()
 }
 
 // A string, and its width.
@@ -240,13 +274,13 @@ const WIDTHS: [(&[u8], i32); 10] = [
     (b"\xE9", 0),
 ];
 
-fn first_wrong_width() -> usize {
-    for (number, (string, want)) in WIDTHS.iter().enumerate() {
+fn first_wrong_width(rows: &[(&[u8], i32)]) -> usize {
+    for (number, (string, want)) in rows.iter().enumerate() {
         if numbers_of(string).2 != *want {
             return number;
         }
     }
-    WIDTHS.len()
+    rows.len()
 }
 
 const MARKS: [i32; 16] = [
@@ -296,9 +330,9 @@ fn byte_of_wrong_width() -> Option<u8> {
 
 #[test]
 fn numbers(rt: HostRuntime) {
-    let (length, width) = (first_wrong_length(), first_wrong_width());
-    assert!(rt; length == LENGTHS.len(), "length {length}");
-    assert!(rt; width == WIDTHS.len(), "width {width}");
+    let (length, width) = (first_wrong_length(&LENGTHS), first_wrong_width(&WIDTHS));
+    assert!(rt; length == 10, "length {length}");
+    assert!(rt; width == 10, "width {width}");
     assert!(rt; byte_of_wrong_width().is_none() == true);
 }
 
@@ -377,17 +411,18 @@ const ELEMENTS: [(Kind, usize, usize); 5] = [
     (Kind::Close, 8, 1),
 ];
 
-// The depth before a place, or of the whole string.
-fn depth_before(place: usize) -> usize {
-    depth_at(STRING, place.min(STRING.len()))
+// Whether an element is as it is to be, and the depth before it.
+fn is_element(element: Element, wanted: Option<&(Kind, usize, usize)>) -> bool {
+    let found = (element.kind, element.start, element.depth);
+    let place = element.start.min(STRING.len());
+    wanted == Some(&found) && depth_at(STRING, place) == element.depth
 }
 
 // How many of the elements are as they are to be, up to the first that isn't; one more where there are more elements.
-fn right_elements() -> usize {
+fn right_elements(wanted: &[(Kind, usize, usize)]) -> usize {
     let mut count = 0_usize;
     for element in Elements::of(STRING) {
-        let found = (element.kind, element.start, element.depth);
-        if ELEMENTS.get(count) != Some(&found) || depth_before(element.start) != element.depth {
+        if !is_element(element, wanted.get(count)) {
             return count;
         }
         count = count.saturating_add(1);
@@ -397,7 +432,7 @@ fn right_elements() -> usize {
 
 #[test]
 fn elements(rt: HostRuntime) {
-    assert!(rt; right_elements() == 5);
+    assert!(rt; right_elements(&ELEMENTS) == 5);
     assert!(rt; depth_at(b"}{{", 3) == 2);
     let wide = Elements::of_text(b"\xC3\x89a", TextMode::Utf8)
         .next()
@@ -405,14 +440,13 @@ fn elements(rt: HostRuntime) {
     assert!(rt; wide == Some(Kind::Wide));
 }
 
-// A text's lines, each behind a bar.
-fn lines_of(alloc: Global, text: &[u8]) -> Result<Vec<u8>, AllocError> {
-    let mut found = Vec::new(alloc);
+// What of a text stands behind another one's lines, each of them behind a bar; None if it doesn't begin so.
+fn behind_lines<'a>(wanted: &'a [u8], text: &[u8]) -> Option<&'a [u8]> {
+    let mut rest = wanted;
     for line in lines(text) {
-        found.push(b'|')?;
-        found.extend_from_slice(line)?;
+        rest = rest.strip_prefix(b"|")?.strip_prefix(line)?;
     }
-    Ok(found)
+    Some(rest)
 }
 
 // A text, and its lines.
@@ -424,13 +458,13 @@ const LINES: [(&[u8], &[u8]); 5] = [
     (b"", b""),
 ];
 
-fn first_wrong_lines(alloc: Global) -> Result<usize, AllocError> {
-    for (number, (text, want)) in LINES.iter().enumerate() {
-        if lines_of(alloc, text)?.as_slice() != *want {
-            return Ok(number);
+fn first_wrong_lines(rows: &[(&[u8], &[u8])]) -> usize {
+    for (number, (text, want)) in rows.iter().enumerate() {
+        if behind_lines(want, text) != Some(b"".as_slice()) {
+            return number;
         }
     }
-    Ok(LINES.len())
+    rows.len()
 }
 
 // Two keys, and whether they are the same.
@@ -443,24 +477,28 @@ const KEYS: [(&[u8], &[u8], bool); 6] = [
     (b"\xC9", b"\xE9", false),
 ];
 
-fn first_wrong_key() -> usize {
-    for (number, (one, other, same)) in KEYS.iter().enumerate() {
+fn first_wrong_key(rows: &[(&[u8], &[u8], bool)]) -> usize {
+    for (number, (one, other, same)) in rows.iter().enumerate() {
         if same_key(one, other) != *same {
             return number;
         }
     }
-    KEYS.len()
+    rows.len()
+}
+
+// Whether a key is folded.
+fn is_folded() -> bool {
+    let mut key = *b"Knuth:84@[Z\xC9";
+    fold_key(&mut key);
+    key.as_slice() == b"knuth:84@[z\xC9".as_slice()
 }
 
 #[test]
-fn lines_and_keys(rt: HostRuntime) -> Result<(), Fail> {
-    let (line, pair) = (first_wrong_lines(rt.alloc())?, first_wrong_key());
-    assert!(rt; line == LINES.len(), "lines {line}");
-    assert!(rt; pair == KEYS.len(), "keys {pair}");
-    let mut key = *b"Knuth:84@[Z\xC9";
-    fold_key(&mut key);
-    assert!(rt; key.as_slice() == b"knuth:84@[z\xC9".as_slice());
-    Ok(())
+fn lines_and_keys(rt: HostRuntime) {
+    let (line, pair) = (first_wrong_lines(&LINES), first_wrong_key(&KEYS));
+    assert!(rt; line == 5, "lines {line}");
+    assert!(rt; pair == 6, "keys {pair}");
+    assert!(rt; is_folded() == true);
 }
 
 // Whether the bytes of a text are these once several places share them, and again as a text.
@@ -470,27 +508,29 @@ fn is_shared_as(alloc: Global, text: Text<'_>, want: &[u8]) -> Result<bool, Allo
     Ok(shared.as_slice() == want && again.as_bytes() == want)
 }
 
+// Whether it is so of a text that is shared already.
+fn is_shared_again(alloc: Global, text: Text<'_>, want: &[u8]) -> Result<bool, AllocError> {
+    is_shared_as(alloc, text.share()?, want)
+}
+
 // Whether it is so of a text that is lent, of one that was computed, and of one that is shared.
 fn sharing_holds(alloc: Global, string: &[u8]) -> Result<bool, AllocError> {
     if string.len() > 1_000_000 {
         return Ok(false);
     }
-    let owned = Text::owned(Vec::from_slice(alloc, string)?);
-    let shared = Text::owned(Vec::from_slice(alloc, string)?).share()?;
     Ok(
         is_shared_as(alloc, Text::borrowed(string), string)?
-            && is_shared_as(alloc, owned, string)?
-            && is_shared_as(alloc, shared, string)?,
+            && is_shared_as(alloc, Text::owned(Vec::from_slice(alloc, string)?), string)?
+            && is_shared_again(alloc, Text::owned(Vec::from_slice(alloc, string)?), string)?,
     )
 }
 
 #[test]
-fn shared_texts(rt: HostRuntime) -> Result<(), Fail> {
-    assert!(rt; sharing_holds(rt.alloc(), STRING)? == true);
-    Ok(())
+fn shared_texts(rt: HostRuntime) {
+    assert!(rt; sharing_holds(rt.alloc(), STRING) == Ok(true));
 }
 
-// A string of so many bytes, one at least: a first one, and `W`s.
+// A string of `length` bytes, one at least: `first`, and `W`s.
 fn long(alloc: Global, first: u8, length: usize) -> Result<Vec<u8>, AllocError> {
     let mut string = Vec::new(alloc);
     string.push(first)?;
@@ -498,78 +538,92 @@ fn long(alloc: Global, first: u8, length: usize) -> Result<Vec<u8>, AllocError> 
     Ok(string)
 }
 
-fn periods_hold(alloc: Global, string: &mut Vec<u8>) -> Result<bool, AllocError> {
-    let fits = has_length(alloc, Call::AddPeriod, string, 1_000_000);
-    string.push(b'W')?;
-    let is_over = is_too_long(alloc, Call::AddPeriod, string);
-    string.pop();
-    string.push(b'.')?;
-    Ok(fits && is_over && has_length(alloc, Call::AddPeriod, string, 1_000_000))
+// How long the text is that `add_period` answers for a string of `length` `W`s and this end.
+fn length_with_period(alloc: Global, length: usize, end: &[u8]) -> Result<usize, Fault> {
+    let mut string = long(alloc, b'W', length)?;
+    string.extend_from_slice(end)?;
+    length_of(alloc, Call::AddPeriod, &string)
 }
 
-// Of a string of 1,000,001 braces: the longest beginning, and one that is too long.
-fn beginnings_hold(alloc: Global, string: &[u8], mode: TextMode) -> bool {
-    has_length(alloc, Call::TextPrefix(999_998, mode), string, 1_000_000)
-        && is_too_long(alloc, Call::TextPrefix(999_999, mode), string)
+#[test]
+fn longest_with_period(rt: HostRuntime) {
+    assert!(rt; length_with_period(rt.alloc(), 999_999, b"") == Ok(1_000_000));
+    assert!(rt; length_with_period(rt.alloc(), 1_000_000, b"") == Err(Fault::StringLimit));
+    assert!(rt; length_with_period(rt.alloc(), 999_999, b".") == Ok(1_000_000));
 }
 
-// Whether the forms of a string of this length are as long.
-fn forms_hold(alloc: Global, length: usize) -> Result<bool, AllocError> {
-    let string = long(alloc, b'a', length)?;
-    Ok(
-        has_length(alloc, Call::Purify, &string, length)
-            && has_length(alloc, Call::ChangeCase(b"t"), &string, length)
-            && has_length(alloc, Call::ChangeCase(b"none"), &string, length),
-    )
+// A call, and how long the text is that it answers; None where that would be too long.
+type Length = (Call, Option<usize>);
+
+// Of a string of 1,000,001 braces: the longest prefix, and one that is too long.
+const BRACES: [Length; 4] = [
+    (Call::TextPrefix(999_998, TextMode::Bytes), Some(1_000_000)),
+    (Call::TextPrefix(999_999, TextMode::Bytes), None),
+    (Call::TextPrefix(999_998, TextMode::Utf8), Some(1_000_000)),
+    (Call::TextPrefix(999_999, TextMode::Utf8), None),
+];
+
+// Of 1,000,001 letters: their forms and the whole of them are too long, and the longest pieces are there.
+const LETTERS: [Length; 12] = [
+    (Call::Purify, None),
+    (Call::ChangeCase(b"t"), None),
+    (Call::ChangeCase(b"none"), None),
+    (Call::Substring(1, i32::MAX), None),
+    (Call::Substring(1, 999_999), Some(999_999)),
+    (Call::Substring(1, 1_000_000), Some(1_000_000)),
+    (Call::Substring(2, 999_999), Some(999_999)),
+    (Call::Substring(2, 1_000_000), Some(1_000_000)),
+    (Call::Substring(-1, 999_999), Some(999_999)),
+    (Call::Substring(-1, 1_000_000), Some(1_000_000)),
+    (Call::Substring(-2, 999_999), Some(999_999)),
+    (Call::Substring(-2, 1_000_000), Some(1_000_000)),
+];
+
+// The forms of a string are as long as it is.
+fn forms(length: usize) -> [Length; 3] {
+    [
+        (Call::Purify, Some(length)),
+        (Call::ChangeCase(b"t"), Some(length)),
+        (Call::ChangeCase(b"none"), Some(length)),
+    ]
 }
 
-// Whether the forms of a string, and the whole of it, are too long.
-fn all_too_long(alloc: Global, string: &[u8]) -> bool {
-    is_too_long(alloc, Call::Purify, string)
-        && is_too_long(alloc, Call::ChangeCase(b"t"), string)
-        && is_too_long(alloc, Call::ChangeCase(b"none"), string)
-        && is_too_long(alloc, Call::Substring(1, i32::MAX), string)
-}
-
-// Whether the longest pieces of a string of 1,000,001 bytes are there.
-fn pieces_hold(alloc: Global, string: &[u8]) -> bool {
-    for start in [1, 2, -1, -2] {
-        let (shorter, longer) = (
-            Call::Substring(start, 999_999),
-            Call::Substring(start, 1_000_000),
-        );
-        if !has_length(alloc, shorter, string, 999_999)
-            || !has_length(alloc, longer, string, 1_000_000)
-        {
+// Whether each call answers a text of its length.
+fn lengths_hold(alloc: Global, string: &[u8], rows: &[Length]) -> bool {
+    for (call, length) in rows {
+        if length_of(alloc, *call, string) != length.ok_or(Fault::StringLimit) {
             return false;
         }
     }
     true
 }
 
-#[test]
-fn longest_with_period(rt: HostRuntime) -> Result<(), Fail> {
-    let mut string = long(rt.alloc(), b'W', 999_999)?;
-    assert!(rt; periods_hold(rt.alloc(), &mut string)? == true);
-    Ok(())
+// Whether it is so for the string of `length` bytes that is `first` and `W`s.
+fn long_holds(alloc: Global, first: u8, length: usize, rows: &[Length]) -> bool {
+    match long(alloc, first, length) {
+        Ok(string) => lengths_hold(alloc, &string, rows),
+        Err(_) => false,
+    }
 }
 
 #[test]
-fn longest_texts(rt: HostRuntime) -> Result<(), Fail> {
-    let braces = long(rt.alloc(), b'{', 1_000_001)?;
-    assert!(rt; beginnings_hold(rt.alloc(), &braces, TextMode::Bytes) == true);
-    assert!(rt; beginnings_hold(rt.alloc(), &braces, TextMode::Utf8) == true);
-    assert!(rt; forms_hold(rt.alloc(), 999_999)? == true);
-    assert!(rt; forms_hold(rt.alloc(), 1_000_000)? == true);
-    let letters = long(rt.alloc(), b'a', 1_000_001)?;
-    assert!(rt; all_too_long(rt.alloc(), &letters) == true);
-    assert!(rt; pieces_hold(rt.alloc(), &letters) == true);
-    Ok(())
+fn longest_texts(rt: HostRuntime) {
+    assert!(rt; long_holds(rt.alloc(), b'{', 1_000_001, &BRACES) == true);
+    assert!(rt; long_holds(rt.alloc(), b'a', 999_999, &forms(999_999)) == true);
+    assert!(rt; long_holds(rt.alloc(), b'a', 1_000_000, &forms(1_000_000)) == true);
+    assert!(rt; long_holds(rt.alloc(), b'a', 1_000_001, &LETTERS) == true);
+}
+
+// Whether the numbers of a string of so many `W`s are these.
+fn has_numbers(alloc: Global, length: usize, wanted: (i32, i32, i32)) -> bool {
+    match long(alloc, b'W', length) {
+        Ok(string) => numbers_of(&string) == wanted,
+        Err(_) => false,
+    }
 }
 
 #[test]
-fn greatest_numbers(rt: HostRuntime) -> Result<(), Fail> {
-    let string = long(rt.alloc(), b'W', 1_000_000)?;
-    assert!(rt; numbers_of(&string) == (1_000_000, 1_000_000, 1_028_000_000));
-    Ok(())
+fn greatest_numbers(rt: HostRuntime) {
+    let numbers = (1_000_000, 1_000_000, 1_028_000_000);
+    assert!(rt; has_numbers(rt.alloc(), 1_000_000, numbers) == true);
 }

@@ -3,7 +3,7 @@ use crate::texts::Run;
 
 /// A logical line, what of it is sure while it is pending, and the lines that come of it.
 pub struct Row<'a> {
-    pub limit: u32,
+    pub line_length: u32,
     pub literal: &'a [Run],
     pub sure: &'a [Run],
     pub lines: &'a [Run],
@@ -11,67 +11,67 @@ pub struct Row<'a> {
 
 /// The lines by hand from the rules.
 pub const ROWS: [Row<'static>; 19] = [
-    // White directly behind a full line breaks it.
+    // Whitespace directly behind a full line breaks it.
     Row {
-        limit: 79,
+        line_length: 79,
         literal: &[(b'a', 79), (b' ', 1), (b'b', 1)],
         sure: &[(b'a', 79), (b'\n', 1)],
         lines: &[(b'a', 79), (b'\n', 1), (b' ', 2), (b'b', 1), (b'\n', 1)],
     },
-    // The whole run of white behind a longer one goes.
+    // The whole run of whitespace behind a longer one goes.
     Row {
-        limit: 79,
+        line_length: 79,
         literal: &[(b'a', 80), (b' ', 2), (b'b', 1)],
         sure: &[(b'a', 80), (b'\n', 1)],
         lines: &[(b'a', 80), (b'\n', 1), (b' ', 2), (b'b', 1), (b'\n', 1)],
     },
-    // Of the white behind a full line one byte goes.
+    // Of the whitespace behind a full line one byte goes.
     Row {
-        limit: 79,
+        line_length: 79,
         literal: &[(b'a', 79), (b' ', 2), (b'b', 1)],
         sure: &[(b'a', 79), (b'\n', 1)],
         lines: &[(b'a', 79), (b'\n', 1), (b' ', 3), (b'b', 1), (b'\n', 1)],
     },
     // A line that can't be broken is sure from its beginning.
     Row {
-        limit: 79,
+        line_length: 79,
         literal: &[(b'a', 3), (b' ', 1), (b'b', 80)],
         sure: &[(b'a', 3), (b'\n', 1), (b' ', 2), (b'b', 80)],
         lines: &[(b'a', 3), (b'\n', 1), (b' ', 2), (b'b', 80), (b'\n', 1)],
     },
-    // An empty line is written, white alone isn't.
+    // An empty line is written, whitespace alone isn't.
     Row {
-        limit: 79,
+        line_length: 79,
         literal: &[],
         sure: &[],
         lines: &[(b'\n', 1)],
     },
     Row {
-        limit: 79,
+        line_length: 79,
         literal: &[(b' ', 1)],
         sure: &[],
         lines: &[],
     },
     Row {
-        limit: 79,
+        line_length: 79,
         literal: &[(b' ', 80)],
         sure: &[],
         lines: &[],
     },
     Row {
-        limit: 20,
+        line_length: 20,
         literal: &[(b'a', 20), (b' ', 1), (b'b', 1)],
         sure: &[(b'a', 20), (b'\n', 1)],
         lines: &[(b'a', 20), (b'\n', 1), (b' ', 2), (b'b', 1), (b'\n', 1)],
     },
     Row {
-        limit: 20,
+        line_length: 20,
         literal: &[(b'a', 21), (b' ', 2), (b'b', 1)],
         sure: &[(b'a', 21), (b'\n', 1)],
         lines: &[(b'a', 21), (b'\n', 1), (b' ', 2), (b'b', 1), (b'\n', 1)],
     },
     Row {
-        limit: 20,
+        line_length: 20,
         literal: &[
             (b'a', 3),
             (b' ', 1),
@@ -119,60 +119,60 @@ pub const ROWS: [Row<'static>; 19] = [
     },
     // A full line isn't broken, and nothing of it is sure; of one byte more all is.
     Row {
-        limit: 80,
+        line_length: 80,
         literal: &[(b'a', 80)],
         sure: &[],
         lines: &[(b'a', 80), (b'\n', 1)],
     },
     Row {
-        limit: 80,
+        line_length: 80,
         literal: &[(b'a', 81)],
         sure: &[(b'a', 81)],
         lines: &[(b'a', 81), (b'\n', 1)],
     },
-    // White at index 2 is no break, at index 3 it is one.
+    // Whitespace at index 2 is no break, at index 3 it is one.
     Row {
-        limit: 20,
+        line_length: 20,
         literal: &[(b'a', 2), (b' ', 1), (b'b', 20)],
         sure: &[(b'a', 2), (b' ', 1), (b'b', 20)],
         lines: &[(b'a', 2), (b' ', 1), (b'b', 20), (b'\n', 1)],
     },
     Row {
-        limit: 20,
+        line_length: 20,
         literal: &[(b'a', 3), (b'\t', 1), (b'b', 20)],
         sure: &[(b'a', 3), (b'\n', 1), (b' ', 2), (b'b', 20)],
         lines: &[(b'a', 3), (b'\n', 1), (b' ', 2), (b'b', 20), (b'\n', 1)],
     },
-    // A head of white alone isn't written, and the two spaces of the next line count.
+    // A head of whitespace alone isn't written, and the two spaces of the next line count.
     Row {
-        limit: 20,
+        line_length: 20,
         literal: &[(b' ', 5), (b'b', 20)],
         sure: &[(b' ', 2), (b'b', 20)],
         lines: &[(b' ', 2), (b'b', 20), (b'\n', 1)],
     },
-    // A head loses all the white at its end.
+    // A head loses all the whitespace at its end.
     Row {
-        limit: 20,
+        line_length: 20,
         literal: &[(b'a', 4), (b' ', 4), (b'b', 13), (b'\r', 3)],
         sure: &[(b'a', 4), (b'\n', 1)],
         lines: &[(b'a', 4), (b'\n', 1), (b' ', 2), (b'b', 13), (b'\n', 1)],
     },
     // A line that ends with its break writes nothing more.
     Row {
-        limit: 20,
+        line_length: 20,
         literal: &[(b'a', 21), (b' ', 1), (b'\t', 1), (b' ', 1)],
         sure: &[(b'a', 21), (b'\n', 1)],
         lines: &[(b'a', 21), (b'\n', 1)],
     },
     // The longest lines.
     Row {
-        limit: 1000,
+        line_length: 1000,
         literal: &[(b'a', 1000), (b' ', 1), (b'b', 1)],
         sure: &[(b'a', 1000), (b'\n', 1)],
         lines: &[(b'a', 1000), (b'\n', 1), (b' ', 2), (b'b', 1), (b'\n', 1)],
     },
     Row {
-        limit: 1000,
+        line_length: 1000,
         literal: &[(b'a', 1001), (b' ', 2), (b'b', 1)],
         sure: &[(b'a', 1001), (b'\n', 1)],
         lines: &[(b'a', 1001), (b'\n', 1), (b' ', 2), (b'b', 1), (b'\n', 1)],

@@ -45,7 +45,7 @@ lines_of-nil (b ∷ bs) h = absurd (omega arith)
 
 pub ruleset line_steps = (lines_of-some, lines_of-none, lines_of-nil, take_rest)
 
--- ---- white at the end
+-- ---- whitespace at the end
 
 trimmed-white : (s : List ℕ) (b : ℕ) → is_white b ≡ true → trimmed (s ++ b ∷ []) ≡ trimmed s
 unfolding trimmed

@@ -63,7 +63,7 @@ inside = refl
 
 -- ---- lines
 
--- white at the end of a line goes, white at its beginning stays; a last line may be white alone
+-- whitespace at the end of a line goes, whitespace at its beginning stays; a last line may be whitespace alone
 pub cut_lines : lines_of (0x61 ∷ 0x20 ∷ 0x0D ∷ 0x0A ∷ 0x0A ∷ 0x20 ∷ 0x62 ∷ 0x0A ∷ 0x09 ∷ []) ≡ (0x61 ∷ []) ∷ [] ∷ (0x20 ∷ 0x62 ∷ []) ∷ [] ∷ []
 unfolding line_pieces trimmed
 cut_lines = refl

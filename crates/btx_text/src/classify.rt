@@ -20,7 +20,7 @@ pub fn class(byte: u8) -> Class
     }
 }
 
-/// Whether a byte is white: a space, a tab or a carriage return.
+/// Whether a byte is whitespace: a space, a tab or a carriage return.
 pub fn is_white(byte: u8) -> bool
     ensures { result ≡ is_white byte }
 {

@@ -159,7 +159,7 @@ impl<'a> Text<'a> {
     }
 
     /// The first bytes of this string.
-    pub fn beginning(self, alloc: Global, count: usize) -> Result<Text<'a>, AllocError>
+    pub fn prefix(self, alloc: Global, count: usize) -> Result<Text<'a>, AllocError>
         requires { count ≤ length self }
         ensures { IfOk result (λ text. text ≡ take count self.entry) }
     {

@@ -6,7 +6,7 @@ use crate::trimming::without_trailing_white;
 use memchr::memchr;
 use std::marker::Model;
 
-/// The lines of a text, first to last: it is cut at its line feeds, and each line loses the white at its end.
+/// The lines of a text, first to last: it is cut at its line feeds, and each line loses the whitespace at its end.
 #[derive(Drop)]
 pub struct Lines<'a> {
     rest: &'a [u8],

@@ -1,4 +1,4 @@
-//! Lines and the white at their ends.
+//! Lines and the whitespace at their ends.
 ghost use Rattle.std.specs.Prelude.{◌≡◌};
 ghost use Rattle.btx_text.specs.language.Lines.{lines_of, trimmed};
 
@@ -12,7 +12,7 @@ pub fn lines(text: &[u8]) -> Lines<'_>
     Lines::of(text)
 }
 
-/// A text without the white at its end.
+/// A text without the whitespace at its end.
 #[tactic(auto, using(crate::proofs::LineLemmas::trim_steps))]
 pub fn without_trailing_white(text: &[u8]) -> &[u8]
     ensures { result.now ≡ trimmed text.now }

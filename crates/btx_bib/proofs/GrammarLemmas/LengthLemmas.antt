@@ -24,7 +24,7 @@ use Rattle.std.specs.Char.{is_ascii_digit}
 use Rattle.btx_bib.specs.laws.Grammar.Fields.{more_at}
 use Rattle.btx_bib.specs.refinement.Grammar.Values.{joined}
 
--- the text that follows isn't longer than so many bytes
+-- the text that follows isn't longer than `n` bytes
 abbrev pub Stays : {A : Type 0} → ℕ → Parsed A → Type 0
 Stays n (Ok got) = length got.1 ≤ n
 Stays n (Err wrong) = length wrong.1 ≤ n

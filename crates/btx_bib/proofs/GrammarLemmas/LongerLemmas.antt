@@ -29,7 +29,7 @@ abbrev Left : List ℕ → Type 0
 Left [] = ⊥
 Left (b ∷ bs) = Unit {0}
 
--- something that isn't white
+-- something that isn't whitespace
 abbrev NotWhite : List ℕ → Type 0
 NotWhite [] = ⊥
 NotWhite (b ∷ bs) = (is_gap b ≡ false) ⊎ NotWhite bs
@@ -268,7 +268,7 @@ module _ (more : List ℕ) where
   more_on None = None
   more_on (Some field) = Some (field_on field)
 
-  -- behind a field something stands that isn't white
+  -- behind a field something stands that isn't whitespace
   abbrev SeenField : Option Field → List ℕ → Type 0
   SeenField None rest = Unit {0}
   SeenField (Some field) rest = NotWhite rest
@@ -298,7 +298,7 @@ module _ (more : List ℕ) where
   abbrev head_on : Event × Wanted → Event × Wanted
   head_on got = (event_on got.0, got.1)
 
-  -- where something is wanted of the item, something stands that isn't white
+  -- where something is wanted of the item, something stands that isn't whitespace
   abbrev After : Wanted → List ℕ → Type 0
   After Item rest = Unit {0}
   After (Closing d) rest = NotWhite rest
@@ -532,7 +532,7 @@ module _ (more : List ℕ) where
     err-left p (q ∷ events) state (Err slip) next ends outcome others =
         item-left q events (keeping.after state p.event) p.rest (subst (λ n. IsReading keeping (keeping.after state p.event) n p.rest (q ∷ events)) outcome.1 others)
 
-    -- where an event stands something is left, and what isn't white where something of an item is wanted
+    -- where an event stands something is left, and what isn't whitespace where something of an item is wanted
     there : (p : Placed) (events : List Placed) (state : S) (next : Wanted) (text : List ℕ) → EndsOutside (p ∷ events) more → IsReading keeping state next text (p ∷ events) → Left text × After next text
     there p events state Item text ends h = (item-left p events state text h, tt)
     there p events state (Closing d) text ends (o, next, front, whole, outcome, r, others) =

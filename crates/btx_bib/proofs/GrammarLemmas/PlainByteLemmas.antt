@@ -104,7 +104,7 @@ plain-on e s (suc n) i d behind room plain so =
 
 -- ---- the lanes of a byte and the one before it
 
--- white is no more than a space
+-- a whitespace byte is at most the space
 no-white : (w : ℕ) → w < 256 → leb w 32 ≡ false → is_gap w ≡ false
 no-white w fits more = at (leb w 32) (is_gap w) more (agree_below_at (λ w. leb w 32 || not (is_gap w)) (λ _. true) 256 w refl fits) where
   at : (t g : Bool) → t ≡ false → (t || not g) ≡ true → g ≡ false
@@ -122,7 +122,7 @@ apart a b = cond (not (eqb a b)) 255 0
 abbrev at_most : ℕ → ℕ → ℕ
 at_most a b = cond (leb a b) 255 0
 
--- a word byte, or a space where no white stands before it
+-- a word byte, or a space where no whitespace stands before it
 abbrev is_plain_behind : Bool → ℕ → Bool
 is_plain_behind white b = is_word_byte b || (eqb b 32 && not white)
 

@@ -323,7 +323,7 @@ part-decides = spaced-decides PartHere part_in part_here-decides
 abbrev AfterPart : ℕ → Part → Grammar (List Part)
 AfterPart n part o front rest = EndsThere part o front rest ⊎ OthersFollow (ValueOf n) part o front rest
 
--- a value of so many parts is a value
+-- a value of `n` parts is a value
 value-from : (n : ℕ) (s : List ℕ) (q : Parsed (List Part)) → Splits (ValueOf n) s q → Splits ValueSpelling s q
 value-from n s (Ok got) h = (h.0, h.1, (n, h.2))
 value-from n s (Err wrong) h = (h.0, h.1, (n, h.2))

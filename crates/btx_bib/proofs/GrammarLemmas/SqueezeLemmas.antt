@@ -1,4 +1,4 @@
--- Lemmas on the text of a value: white is made one space while the bytes are read.
+-- Lemmas on the text of a value: whitespace is made one space while the bytes are read.
 use Rattle.std.proofs.Common.{◌≡◌, ℕ, suc, ◌+◌, ◌<◌, ◌≤◌, Bool, true, false, cond, List, [], ◌∷◌, ◌++◌, length, take, drop, get_or, ◌-◌, ◌&&◌, ◌||◌, not, eqb, refl, sym, ◌∙◌, ap, arith, append_assoc, Err}
 use Rattle.std.proofs.lemmas.List.{append-nil, drop_all, drop_more, length-append, length-take, take_all, take_at, take_more}
 use Rattle.std.proofs.lemmas.Bool.{and_parts, eqb-true, true≢false}
@@ -90,7 +90,7 @@ first-space (b ∷ bs) = at (is_gap b) refl (both (b ∷ bs)).1 where
   at true is e = rw e refl
   at false is e = rw (is, gap-space b is) (ap (λ x. b ∷ x) (both bs).0)
 
--- a field's text is what is squeezed after white, without a last space
+-- a field's text is what is squeezed after whitespace, without a last space
 pub shaped-trimmed : (s : List ℕ) → shaped Trimmed s ≡ without_last_space (squeezed_after true s)
 shaped-trimmed s = ap without_last_space (sym (first-space s))
 
@@ -134,7 +134,7 @@ not-true false h = refl
 last-no-gap : (s : List ℕ) → ends_in_gap s ≡ false → without_last_space s ≡ s
 last-no-gap s h = rw (gap-space (get_or s (length s - 1) 0) h) refl
 
--- the white at the beginning goes
+-- the whitespace at the beginning goes
 squeezed_after-past : (s : List ℕ) → squeezed_after true s ≡ squeezed_after true (past Gap s)
 unfolding longest_run_len
 squeezed_after-past [] = refl
@@ -157,7 +157,7 @@ snoc-take s b = take_at s (b ∷ []) (length (s ++ b ∷ []) - 1) (omega (arith,
 space-snoc : (s : List ℕ) → without_last_space (s ++ 32 ∷ []) ≡ s
 space-snoc s = rw (snoc-last s 32) (snoc-take s 32)
 
--- one byte of white at the end goes
+-- one byte of whitespace at the end goes
 last-gap : (u : List ℕ) (g : ℕ) → is_gap g ≡ true → squeezed_after true u ≡ u → ends_in_gap u ≡ false → without_last_space (squeezed_after true (u ++ g ∷ [])) ≡ u
 last-gap u g is plain ends = rw (squeezed_after-append true u (g ∷ []), plain, is) (at (white_after true u)) where
   at : (w : Bool) → without_last_space (u ++ cond w [] (32 ∷ [])) ≡ u
@@ -194,7 +194,7 @@ unfolding squeezed
 shaped-nothing Kept = refl
 shaped-nothing Trimmed = refl
 
--- so does a field's text with white round it
+-- so does a field's text with whitespace round it
 pub shaped-inner : (s : List ℕ) → stands Trimmed (without_gaps s) ≡ true → shaped Trimmed s ≡ without_gaps s
 shaped-inner s h =
     let parts = and_parts (is_squeezed true (without_gaps s)) _ h in
@@ -202,7 +202,7 @@ shaped-inner s h =
 
 pub ruleset standing = (shaped-stands, shaped-inner)
 
--- what is squeezed has no white but single spaces
+-- what is squeezed has no whitespace but single spaces
 squeezed_after-squeezed : (white : Bool) (s : List ℕ) → is_squeezed white (squeezed_after white s) ≡ true
 unfolding is_squeezed
 squeezed_after-squeezed white [] = refl
@@ -216,7 +216,7 @@ squeezed_after-squeezed white (b ∷ bs) = at (is_gap b) white refl (squeezed_af
 pub squeezed-squeezed : (s : List ℕ) → is_squeezed false (squeezed s) ≡ true
 squeezed-squeezed s = ap (is_squeezed false) (squeezed-from s) ∙ squeezed_after-squeezed false s
 
--- of a squeezed text the ends alone tell whether it stands
+-- of a squeezed text the ends alone show whether it stands
 squeezed-begins : (s : List ℕ) → is_squeezed false s ≡ true → is_squeezed true s ≡ not (begins is_gap s)
 unfolding is_squeezed
 squeezed-begins [] h = refl
@@ -279,7 +279,7 @@ white_after-snoc : (w : Bool) (s : List ℕ) (b : ℕ) → white_after w (s ++ b
 white_after-snoc w [] b = refl
 white_after-snoc w (c ∷ cs) b = white_after-snoc (is_gap c) cs b
 
--- the bytes before a place are squeezed, and the last of them is white or not
+-- the bytes before a place are squeezed, and the last of them is whitespace or not
 pub record IsSqueezedTo (s : List ℕ) (i : ℕ) (white : Bool) : Type 0 where
   pub squeezed : is_squeezed true (take i s) ≡ true
   pub last : white_after true (take i s) ≡ white

@@ -1,4 +1,4 @@
--- A squeezed text stays squeezed without the white at its ends.
+-- A squeezed text stays squeezed without the whitespace at its ends.
 use Rattle.std.proofs.Common.{◌≡◌, ℕ, zero, suc, ◌-◌, Bool, true, false, cond, List, [], ◌∷◌, length, take, drop, ◌&&◌, not, eqb, refl, sym, ◌∙◌, ap}
 use Rattle.std.proofs.lemmas.Bool.{true≢false}
 use Rattle.btx_bib.specs.declared.grammar.byte_sets.ByteSet.TheVariants.{Gap}
@@ -27,7 +27,7 @@ squeezed-less (b ∷ bs) h = at (is_gap b) (eqb b 32) h where
   at true false h = absurd (true≢false (sym h))
   at false t h = h
 
--- behind white
+-- behind whitespace
 squeezed-behind : (b : ℕ) (bs : List ℕ) → is_gap b ≡ true → is_squeezed false (b ∷ bs) ≡ true → is_squeezed true bs ≡ true
 unfolding is_squeezed
 squeezed-behind b bs is h = at (eqb b 32) (ap (λ (g : Bool). cond g ((eqb b 32 && true) && is_squeezed true bs) (is_squeezed false bs)) (sym is) ∙ h) where

@@ -62,7 +62,7 @@ part_in-leaves (b ∷ bs) = at (eqb b 123) (eqb b 34) (is_ascii_digit b) (begins
   at false false false true d n = past-less NameByte b bs (begins_name-byte b n)
   at false false false false d n = tt
 
--- a part leaves less than there was before the white in front of it
+-- a part leaves less than there was before the whitespace in front of it
 less : {A : Type 0} (r : Parsed A) (n m : ℕ) → n ≤ m → Leaves n r → Leaves m r
 less (Ok got) n m le h = omega arith
 less (Err wrong) n m le h = tt

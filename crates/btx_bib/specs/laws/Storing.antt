@@ -44,7 +44,7 @@ OthersKeepTheirs = (wanted : Request) (known : Known) (events : List Placed) (na
 abbrev pub is_macro_in : List ℕ → List (List ℕ × List ℕ) → Bool
 is_macro_in name macros = list_any (λ (macro : List ℕ × List ℕ). is_same_key name macro.0) macros
 
--- before the first database, a name that macros of the style have stands for the text of the last of them, with its white squeezed
+-- before the first database, a name that macros of the style have stands for the text of the last of them, with its whitespace squeezed
 abbrev pub LastMacroCounts : Type 0
 LastMacroCounts = (before behind : List (List ℕ × List ℕ)) (name own text : List ℕ) → is_same_key name own ≡ true → is_macro_in name behind ≡ false
     → (let known = with_macros (before ++ (own, text) ∷ behind) in goes_on known.ending ≡ true → string_value known.strings name ≡ Some (squeezed text))

@@ -80,7 +80,7 @@ library_row wanted text library = record { wanted = wanted; macros = []; databas
 -- worked libraries: what an entry, its fields and strings give
 abbrev pub entries : List WorkedLibrary
 entries =
-    -- a string that names itself, a name that stands for no string, and white over parts
+    -- a string that names itself, a name that stands for no string, and whitespace over parts
     library_row (citing (codes "k" ∷ []) 2) (codes "@string{s = \"x\" # s}\n@misc{k, title = s # \" y \" # zz # {  z}}")
     (whole_library (worked_entry misc (codes "k") None (Some (codes "x y z")) None ∷ []) (message.OwnString (codes "s") (at_line 1) ∷ message.UndefinedString (codes "zz") (at_line 2) ∷ []))
     -- the case of a string's name doesn't count, in its own definition either

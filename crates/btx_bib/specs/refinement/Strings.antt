@@ -8,7 +8,7 @@ use Rattle.btx_bib.specs.refinement.Grammar.Squeezing.{is_squeezed}
 abbrev pub Strings : Type 0
 Strings = List (List ℕ × List ℕ)
 
--- each value is squeezed: it has no white but single spaces
+-- each value is squeezed: it has no whitespace but single spaces
 abbrev pub AreSqueezed : Strings → Type 0
 AreSqueezed strings = AllByRecursion (λ (string : List ℕ × List ℕ). is_squeezed false string.1 ≡ true) strings
 

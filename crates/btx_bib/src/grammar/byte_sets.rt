@@ -21,7 +21,7 @@ pub enum Delimiter {
 /// The bytes that runs are made of.
 #[derive(Clone, Copy, Debug, PartialEq, Eq)]
 pub enum ByteSet {
-    /// White and the ends of lines.
+    /// Whitespace and the ends of lines.
     Gap,
     /// The bytes of names.
     NameByte,
@@ -40,7 +40,7 @@ pub enum Enclosure {
     Quotes,
 }
 
-// White, or the end of a line.
+// Whitespace, or the end of a line, which comments on values call whitespace too.
 #[inline(always)]
 pub fn is_gap(byte: u8) -> bool
     ensures { result ≡ spec.is_gap byte }
@@ -48,7 +48,7 @@ pub fn is_gap(byte: u8) -> bool
     is_white(byte) || byte == b'\n'
 }
 
-/// Whether a text ends in white.
+/// Whether a text ends in whitespace.
 pub fn ends_in_gap(text: &[u8]) -> bool
     ensures { result ≡ squeezing.ends_in_gap text.now }
 {

@@ -61,7 +61,7 @@ fn feeds_in(text: &[u8]) -> usize
     feeds + feeds_one_by_one(&text[place..])
 }
 
-// How many line feeds a text has before a place, where so many stand before another one.
+// How many line feeds a text has before `place`, where `counted_feeds` stand before `counted`.
 #[tactic(auto, using(crate::proofs::GrammarLemmas::PlaceLemmas::feed_sums))]
 fn feeds_before(text: &[u8], counted: usize, counted_feeds: usize, place: usize) -> usize
     requires within { place ≤ length text.now }
@@ -87,7 +87,7 @@ impl<'a> LineCounter<'a> {
         }
     }
 
-    // How many lines have begun when so many bytes have been read.
+    // How many lines have begun when `count` bytes have been read.
     #[tactic(auto, using(crate::proofs::GrammarLemmas::PlaceLemmas::line_steps))]
     fn lines_begun(&mut self, count: usize) -> usize
         ensures line { result ≡ spec.lines_begun count self.old }

@@ -85,7 +85,7 @@ pub fn read_part(text: &[u8]) -> Read<'_, Part<'_>>
     part_in(past(ByteSet::Gap, text))
 }
 
-/// The text after the `#` that joins another part, where one stands after white.
+/// The text after the `#` that joins another part, where one stands after whitespace.
 #[tactic(auto, using(crate::proofs::GrammarLemmas::ValueLemmas::part_steps))]
 #[inline(always)]
 pub fn next_part(text: &[u8]) -> Option<&[u8]>

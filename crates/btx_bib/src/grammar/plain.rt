@@ -10,7 +10,7 @@ use crate::grammar::byte_sets::{Enclosure, ends_enclosed, ends_in_gap, is_gap};
 use btx_text::depths::depth_after;
 use std::simd::prelude::*;
 
-// Plain bytes are those from `#` to `z`, and a space where no white stands before it: they leave the depth alone, and what is read squeezed. They are
+// Plain bytes are those from `#` to `z`, and a space where no whitespace stands before it: they leave the depth alone, and what is read squeezed. They are
 // passed in blocks of this number of bytes.
 const BLOCK: usize = 16;
 
@@ -26,7 +26,7 @@ fn lanes_before(bits: u64) -> usize
     }
 }
 
-// With how many plain bytes the block at a place begins. A byte below `#` wraps round to one above `z`, and white is taken to be all up to the space, so
+// With how many plain bytes the block at a place begins. A byte below `#` wraps round to one above `z`, and whitespace is taken to be all up to the space, so
 // that each takes one comparison.
 #[inline(always)]
 fn plain_in_block(text: &[u8], place: usize) -> usize
@@ -56,7 +56,7 @@ fn plain_len(text: &[u8], place: usize) -> usize
     plain_in_block(text, place)
 }
 
-// Whether white stands before a place, or nothing.
+// Whether whitespace stands before a place, or nothing.
 #[inline(always)]
 fn is_behind_white(text: &[u8], place: usize) -> bool
     requires { place ≤ length text.now }
@@ -74,7 +74,7 @@ fn stays_squeezed(text: &[u8], place: usize, byte: u8) -> bool
     !is_gap(byte) || (byte == b' ' && !is_behind_white(text, place))
 }
 
-// How many bytes stand before the first that ends what is enclosed, if they are squeezed and don't begin with white. Behind each byte that is looked at
+// How many bytes stand before the first that ends what is enclosed, if they are squeezed and don't begin with whitespace. Behind each byte that is looked at
 // by itself, plain ones are passed at once.
 #[inline(always)]
 fn squeezed_len(enclosure: Enclosure, text: &[u8]) -> Option<usize>

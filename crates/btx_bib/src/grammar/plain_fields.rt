@@ -74,7 +74,7 @@ fn plain_part(rest: &[u8]) -> Option<PlainValue<'_>>
     Some(PlainValue { kind, text, rest })
 }
 
-// What follows the white and the sign that a text begins with.
+// What follows the whitespace and the sign that a text begins with.
 #[inline(always)]
 fn behind_sign(sign: u8, text: &[u8]) -> Option<&[u8]>
     ensures { IfSome result (λ rest. bytes.past set.Gap text.now ≡ sign ∷ rest.now) }

@@ -30,7 +30,7 @@ pub trait Strings<'a> {
         ensures squeezed { IfOk result (λ found. IfSome found (λ text. squeezing.is_squeezed false text.now ≡ true)) };
 }
 
-// Whether a text has no white but single spaces, none of them behind white.
+// Whether a text has no whitespace but single spaces, none of them behind whitespace.
 #[tactic(auto, using(crate::proofs::GrammarLemmas::SqueezeLemmas::plain_steps))]
 fn is_squeezed(was_white: bool, text: &[u8]) -> bool
     ensures { result ≡ squeezing.is_squeezed was_white text.now }
@@ -58,7 +58,7 @@ fn stands(ends: Ends, text: &[u8]) -> bool
     }
 }
 
-// Whether a text begins with white.
+// Whether a text begins with whitespace.
 fn begins_with_gap(text: &[u8]) -> bool
     ensures { result ≡ begins is_gap text.now }
 {
@@ -80,7 +80,7 @@ fn stands_squeezed(ends: Ends, text: &[u8]) -> bool
     }
 }
 
-// A text without the white that it begins with, and without one byte of white at its end.
+// A text without the whitespace that it begins with, and without one byte of whitespace at its end.
 fn without_gaps(text: &[u8]) -> &[u8]
     ensures { result.now ≡ squeezing.without_gaps text.now }
 {
@@ -227,7 +227,7 @@ pub fn plain_text<'a, S: Strings<'a>>(
     }
 }
 
-// Pushes bytes, each run of white as one space; the last byte before them was white or not, and so the last of them is.
+// Pushes bytes, each run of whitespace as one space. `was_white` says whether the last byte before them is whitespace, the answer whether the last one now is.
 #[tactic(auto, using(crate::proofs::GrammarLemmas::SqueezeLemmas::squeeze_steps))]
 fn push_squeezed(text: &mut Vec<u8>, was_white: bool, bytes: &[u8]) -> Result<bool, AllocError>
     ensures text { OnOk result (text.new.items ≡ text.old.items ++ squeezing.squeezed_after was_white bytes.now) }
@@ -269,7 +269,7 @@ fn push_part<'a, S: Strings<'a>>(
     }
 }
 
-// The text of a value whose white stands after white or not, within a limit, which is asked after each part.
+// The text of a value with its whitespace squeezed; `was_white` says whether whitespace stands before it. It has at most `most` bytes, which is checked after each part.
 fn gathered<'a, S: Strings<'a>>(
     alloc: Global,
     value: &Value<'a>,

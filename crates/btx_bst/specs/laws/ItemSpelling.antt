@@ -13,7 +13,7 @@ pub data SpelledCommand : Type 0 where
   Whole : SpelledCommand
   Faulty : (complaint : Complaint) (line : ℕ) → SpelledCommand
 
--- nothing but white and comments is left of a text
+-- nothing but whitespace and comments is left of a text
 abbrev pub IsEnd : Place → Type 0
 IsEnd place = (ink place).line ≡ []
 

@@ -20,7 +20,7 @@ pub record Passage (from to : Place) : Type 0 where
   pub joined : text_from from ≡ between ++ text_from to
   pub counted : to.number + length to.after ≡ from.number + length from.after
 
--- White and comments stand before a command.
+-- Whitespace and comments stand before a command.
 abbrev pub InkLaw : Type 0
 InkLaw = (place : Place) → Passage place (ink place)
 

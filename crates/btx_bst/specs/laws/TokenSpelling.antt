@@ -36,18 +36,18 @@ pub record IsUpTo (test : ℕ → Bool) (text line rest : List ℕ) : Type 0 whe
   pub none : NoneIn test text
   pub ends : EndsBefore test rest
 
--- ---- white and comments
+-- ---- whitespace and comments
 
--- a line has nothing but white, and perhaps a comment, which goes from a `%` to its end
+-- a line has nothing but whitespace, and perhaps a comment, which goes from a `%` to its end
 abbrev pub IsBlank : List ℕ → Type 0
 IsBlank [] = Unit {0}
 IsBlank (b ∷ bs) = (b ≡ percent) ⊎ ((is_white b ≡ true) × IsBlank bs)
 
--- white, or the `%` that begins a comment
+-- whitespace, or the `%` that begins a comment
 abbrev pub is_blank : ℕ → Bool
 is_blank b = is_white b || b == percent
 
--- neither white nor the `%` of a comment
+-- neither whitespace nor the `%` of a comment
 abbrev pub ends_gap : ℕ → Bool
 ends_gap b = not (is_blank b)
 
@@ -66,7 +66,7 @@ abbrev pub GapFrom : ℕ → List ℕ → List (List ℕ) → Place → Type 0
 GapFrom number line [] to = InkIn number line [] to ⊎ (IsBlank line × (to ≡ place_at number [] []))
 GapFrom number line (next ∷ after) to = InkIn number line (next ∷ after) to ⊎ (IsBlank line × GapFrom (number + 1) next after to)
 
--- white, comments and ends of lines stand between two places, and something else or the end of the text at the second
+-- whitespace, comments and ends of lines stand between two places, and something else or the end of the text at the second
 abbrev pub Gap : Place → Place → Type 0
 Gap from to = GapFrom from.number from.line from.after to
 

@@ -13,7 +13,7 @@ use Rattle.btx_text.specs.laws.Bytes.{double_quote, hash, single_quote, open_bra
 abbrev pub minus_sign : ℕ
 minus_sign = 45
 
--- a word goes up to white, `}`, `%` or the end of its line
+-- a word goes up to whitespace, `}`, `%` or the end of its line
 abbrev pub IsBodyWord : List ℕ → List ℕ → List ℕ → Type 0
 IsBodyWord = IsUpTo ends_word
 

@@ -41,7 +41,7 @@ commands =
     ∷ style_row (codes "INTEGERS {a b}") (item.Integers ∷ [])
     ∷ style_row (codes "STRINGS {s t}") (item.Strings ∷ [])
     ∷ style_row (codes "MACRO {jan} {\"January\"}") (item.Macro ∷ [])
-    -- one directly behind another, and with white and comments in the middle
+    -- one directly behind another, and with whitespace and comments in the middle
     ∷ style_row (codes "INTEGERS{a}STRINGS{b}FUNCTION{f}{}") (item.Integers ∷ item.Strings ∷ item.Function 0 ∷ [])
     ∷ style_row (codes "ENTRY % the fields\n\n\t{ title % and }\n} { } {\n}\n") (item.Entry ∷ [])
     -- a nameless function is defined before the one that it stands in
@@ -92,7 +92,7 @@ faults =
     ∷ style_row (codes "FUNCTION {f} {NoSuch\nskip$}") (Message (Unknown (codes "NoSuch")) 1 ∷ item.Function 0 ∷ [])
     ∷ style_row (codes "FUNCTION {f} {\n'nosuch :=}") (Message (Unknown (codes "nosuch")) 2 ∷ item.Function 0 ∷ [])
     ∷ style_row (codes "FUNCTION {f} {f}") (Message (Unknown (codes "f")) 1 ∷ item.Function 0 ∷ [])
-    -- a word of a body goes up to white, `}` or `%`
+    -- a word of a body goes up to whitespace, `}` or `%`
     ∷ style_row (codes "FUNCTION {f} {skip$'pop${% }\n}") (Message (Unknown (codes "skip$'pop${")) 1 ∷ item.Function 0 ∷ [])
     ∷ style_row (codes "FUNCTION {f} {' skip$}") (Message (Unknown []) 1 ∷ item.Function 0 ∷ [])
     -- an integer has no digits, or doesn't fit 32 bits
@@ -129,7 +129,7 @@ faults =
     ∷ style_row (codes "ENTRY {} {} {} READ\nEXECUTE {skip$") (item.Entry ∷ item.Read ∷ Message EndOfFile 2 ∷ [])
     ∷ style_row (codes "MACRO {a} {") (Message EndOfFile 1 ∷ [])
     ∷ style_row (codes "MACRO {a} {\"x\"") (Message EndOfFile 1 ∷ [])
-    -- behind a fault all is skipped up to the next empty line; one of white alone is empty too
+    -- behind a fault all is skipped up to the next empty line; one of whitespace alone is empty too
     ∷ style_row (codes "bogus SORT }\nSORT\n \t\nSORT") (Message (NotCommand (codes "bogus")) 1 ∷ Message (BeforeRead command.Sort) 4 ∷ [])
     ∷ style_row (codes "bogus\nbogus\nbogus") (Message (NotCommand (codes "bogus")) 1 ∷ [])
     ∷ []
@@ -189,14 +189,14 @@ words =
     ∷ word_row (codes "add.period$") built_in.AddPeriod
     ∷ word_row (codes "call.type$") built_in.CallType
     ∷ word_row (codes "change.case$") built_in.ChangeCase
-    ∷ word_row (codes "chr.to.int$") built_in.CharacterToInteger
+    ∷ word_row (codes "chr.to.int$") built_in.ChrToInt
     ∷ word_row (codes "cite$") built_in.Cite
     ∷ word_row (codes "duplicate$") built_in.Duplicate
     ∷ word_row (codes "empty$") built_in.Empty
     ∷ word_row (codes "format.name$") built_in.FormatName
     ∷ word_row (codes "if$") built_in.If
-    ∷ word_row (codes "int.to.chr$") built_in.IntegerToCharacter
-    ∷ word_row (codes "int.to.str$") built_in.IntegerToString
+    ∷ word_row (codes "int.to.chr$") built_in.IntToChr
+    ∷ word_row (codes "int.to.str$") built_in.IntToStr
     ∷ word_row (codes "missing$") built_in.Missing
     ∷ word_row (codes "newline$") built_in.NewLine
     ∷ word_row (codes "num.names$") built_in.NumNames

@@ -1,4 +1,4 @@
--- Styles without a fault, as a style designer writes them: commands, one after another, each its word and its arguments in braces. White and
+-- Styles without a fault, as a style designer writes them: commands, one after another, each its word and its arguments in braces. Whitespace and
 -- comments may stand before each thing that is read here.
 use Rattle.std.specs.Prelude.{ℕ, ◌≡◌, true, false, List, [], ◌∷◌, ◌++◌, length, map, Option, None, Some}
 use Rattle.btx_text.specs.language.Keys.{folded}

@@ -2,7 +2,7 @@
 -- before the run and after it.
 use Rattle.std.specs.Prelude.{◌≡◌, ℕ, ◌+◌, ◌<◌, ◌⊎◌, List, Option}
 use Rattle.std.specs.Io.KnownBytes.{Appends}
-use Rattle.btx_out.specs.language.Pieces.{AppendsBeginning, AppendsAtLeast}
+use Rattle.btx_out.specs.language.Pieces.{AppendsPrefix, AppendsAtLeast}
 use Rattle.btx_machine.specs.declared.report.Report.{Report}
 use Rattle.btx_machine.specs.language.Product.{Product, log_of}
 
@@ -19,8 +19,8 @@ pub record Completes (report : Report) (before after : Received) (product : Prod
 
 -- both outputs are prefixes of a product's
 pub record BothBegin (before after : Received) (product : Product) : Type 0 where
-  pub bbl_begins : AppendsBeginning before.0 after.0 product.bbl
-  pub log_begins : AppendsBeginning before.1 after.1 (log_of product)
+  pub bbl_begins : AppendsPrefix before.0 after.0 product.bbl
+  pub log_begins : AppendsPrefix before.1 after.1 (log_of product)
 
 -- both outputs begin with a product's, the log's last line aside
 pub record BothExtend (before after : Received) (product : Product) : Type 0 where
@@ -38,8 +38,8 @@ pub record WithinOneStep (before after : Received) (make : ℕ → Product) (bud
 -- after a fault both outputs are prefixes of the product's and keep step, and nothing of the log's last line is written before the whole list.
 -- `make` gives the product of the run for each budget, and `budget` is that of this run
 pub record AtFault (before after : Received) (make : ℕ → Product) (budget : ℕ) : Type 0 where
-  pub beginnings : BothBegin before after (make budget)
+  pub prefixes : BothBegin before after (make budget)
   -- nothing of the log's last line was written, or the list was written to its end
-  pub last_line : Appends before.0 after.0 (make budget).bbl ⊎ AppendsBeginning before.1 after.1 (make budget).log_so_far
+  pub last_line : Appends before.0 after.0 (make budget).bbl ⊎ AppendsPrefix before.1 after.1 (make budget).log_so_far
   -- both are prefixes of what a run without a step writes, or both broke off within the same step
   pub step : BothBegin before after (make 0) ⊎ WithinOneStep before after make budget

@@ -25,8 +25,8 @@ StoppedSteps run = (budget : ℕ) → (run budget).report.end ≡ Stopped → (r
 
 -- every run of a style that isn't stopped needs just the steps that it took
 abbrev pub StepsNeededLaw : Type 0
-StepsNeededLaw = (job : Job) (counts : LogCounts) (limit : ℕ) → NeededSteps (style_product job counts limit)
+StepsNeededLaw = (job : Job) (counts : LogCounts) (line_length : ℕ) → NeededSteps (style_product job counts line_length)
 
 -- a stopped run of a style took all steps of its budget
 abbrev pub StoppedStepsLaw : Type 0
-StoppedStepsLaw = (job : Job) (counts : LogCounts) (limit : ℕ) → StoppedSteps (style_product job counts limit)
+StoppedStepsLaw = (job : Job) (counts : LogCounts) (line_length : ℕ) → StoppedSteps (style_product job counts line_length)

@@ -5,7 +5,7 @@ use Rattle.btx_bst.specs.declared.token.Token.{Token}
 use Rattle.btx_out.specs.laws.Breaking.{left}
 use Rattle.btx_out.specs.refinement.Breakers.{holding}
 use Rattle.btx_out.specs.laws.Lengths.{IsLineLength}
-use Rattle.btx_out.specs.language.Pieces.{AppendsAtLeast, AppendsBeginning}
+use Rattle.btx_out.specs.language.Pieces.{AppendsAtLeast, AppendsPrefix}
 use Rattle.btx_step.specs.declared.next.Next.TheVariants as next
 use Rattle.btx_step.specs.language.Jobs.{Job}
 use Rattle.btx_machine.specs.declared.ending.Ending.{Ending}
@@ -24,25 +24,25 @@ received outputs = (outputs.bbl.received, outputs.log.sink.received)
 
 -- where a run begins: the greatest length of a line, and what the two sinks had received
 pub record Start : Type 0 where
-  pub limit : ℕ
-  pub range : IsLineLength limit
+  pub line_length : ℕ
+  pub range : IsLineLength line_length
   pub bbl : Option (List ℕ)
   pub log : Option (List ℕ)
 
 -- the code's outputs stand for these, and their sinks have received what is sure of them since the start
 pub record StandsFor (start : Start) (outputs : Outputs) (out : Out) : Type 0 where
-  pub line : outputs.breaker ≡ holding start.limit (left start.limit out.pending)
+  pub line : outputs.breaker ≡ holding start.line_length (left start.line_length out.pending)
   pub warnings : outputs.log.warnings ≡ out.warnings
   pub errors : outputs.log.errors ≡ out.errors
-  pub bbl : Appends start.bbl outputs.bbl.received (so_far start.limit out)
+  pub bbl : Appends start.bbl outputs.bbl.received (so_far start.line_length out)
   pub log : Appends start.log outputs.log.sink.received out.log
 
 -- since the start the sinks have received at least what is sure of the first, and no more than what is sure of the second
 pub record Between (start : Start) (outputs : Outputs) (least most : Out) : Type 0 where
-  pub bbl_least : AppendsAtLeast start.bbl outputs.bbl.received (so_far start.limit least)
-  pub bbl_most : AppendsBeginning start.bbl outputs.bbl.received (so_far start.limit most)
+  pub bbl_least : AppendsAtLeast start.bbl outputs.bbl.received (so_far start.line_length least)
+  pub bbl_most : AppendsPrefix start.bbl outputs.bbl.received (so_far start.line_length most)
   pub log_least : AppendsAtLeast start.log outputs.log.sink.received least.log
-  pub log_most : AppendsBeginning start.log outputs.log.sink.received most.log
+  pub log_most : AppendsPrefix start.log outputs.log.sink.received most.log
 
 -- the outputs stand for what they stood for, changed so
 abbrev pub Becomes : Outputs → Outputs → (Out → Out) → Type 0

@@ -10,7 +10,7 @@ unfoldable pub pieces_between : ℕ → List NameGap → List ℕ → List (List
 pieces_between from [] string = drop from string ∷ []
 pieces_between from (gap ∷ gaps) string = slice_range string from gap.0 ∷ pieces_between gap.1 gaps string
 
--- the letters of a separator of names, which stand behind the white byte at a place
+-- the letters of a separator of names, which stand behind the whitespace byte at a place
 abbrev pub and_gap : ℕ → NameGap
 and_gap place = (place + 1, place + 4)
 

@@ -17,10 +17,10 @@ is_von_token token = is_von token.text
 abbrev pub is_apart : NameToken → Bool
 is_apart token = not (is_hyphen token.joint)
 
--- a byte that is neither white nor `~` nor `-`
+-- a byte that is neither whitespace nor `~` nor `-`
 abbrev pub is_ink : ℕ → Bool
 is_ink b = not (is_white b || is_sep b)
 
--- the last byte of a text that is neither white nor `~` nor `-`
+-- the last byte of a text that is neither whitespace nor `~` nor `-`
 abbrev pub last_ink : List ℕ → Option ℕ
 last_ink text = find is_ink (reverse text)

@@ -3,7 +3,7 @@ use Rattle.std.specs.Prelude.{ℕ, true, false, List, []}
 use Rattle.btx_out.specs.language.Breaking.{indented, Last, Short, Long, Nothing, cut_of}
 
 -- what there is to know of a pending line beside what is written: a text that is still collected, or that the line's beginning
--- is being passed on, or that the white after a break past the line is being swallowed
+-- is being passed on, or that the whitespace after a break past the line is being swallowed
 pub data Left : Type 0 where
   Collecting : List ℕ → Left
   Passing : Left

@@ -2,11 +2,11 @@
 use Rattle.std.specs.Prelude.{◌≡◌, ℕ, ◌+◌, ◌<◌, ◌≤◌, true, false, List, ◌∷◌, ◌++◌, length, slice_index, All}
 use Rattle.btx_text.specs.language.Class.{is_white}
 
--- a text has no white at the indices from `from` up to, but not including, `end`
+-- a text has no whitespace at the indices from `from` up to, but not including, `end`
 abbrev pub HasInk : List ℕ → ℕ → ℕ → Type 0
 HasInk text from end = (i : ℕ) → from ≤ i → i < end → is_white (slice_index text i) ≡ false
 
--- a break inside the line: no white follows it there, and one byte goes; a head has 3 bytes at least
+-- a break inside the line: no whitespace follows it there, and one byte goes; a head has 3 bytes at least
 pub record IsBreakInside (line_length : ℕ) (text head rest : List ℕ) : Type 0 where
   pub white : ℕ
   pub of_white : is_white white ≡ true
@@ -15,7 +15,7 @@ pub record IsBreakInside (line_length : ℕ) (text head rest : List ℕ) : Type 
   pub last : length head ≤ line_length
   pub none_after : HasInk text (length head + 1) (line_length + 1)
 
--- a break past the line: no white stands before it from index 3 on, and its whole run goes
+-- a break past the line: no whitespace stands before it from index 3 on, and its whole run goes
 pub record IsBreakPast (line_length : ℕ) (text head rest : List ℕ) : Type 0 where
   pub run : List ℕ
   pub whole : text ≡ head ++ (run ++ rest)
@@ -25,6 +25,6 @@ pub record IsBreakPast (line_length : ℕ) (text head rest : List ℕ) : Type 0 
   pub none_before : HasInk text 3 (length head)
   pub ink : 0 < length rest → is_white (slice_index rest 0) ≡ false
 
--- there is no white at index 3 or later
+-- there is no whitespace at index 3 or later
 abbrev pub IsUnbroken : List ℕ → Type 0
 IsUnbroken text = HasInk text 3 (length text)

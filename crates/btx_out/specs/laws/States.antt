@@ -8,7 +8,7 @@ use Rattle.btx_out.specs.laws.Breaking.{Left, Collecting, Passing, Swallowing}
 abbrev pub ByteStep : Type 0
 ByteStep = Left × List ℕ
 
--- a text of one byte more than a line: broken at its last white, or passed on
+-- a text of one byte more than a line: broken at its last whitespace byte, or passed on
 abbrev pub break_full : List ℕ → Option ℕ → ByteStep
 break_full text (Some i) = (Collecting (indented (drop (i + 1) text)), written_line (take i text))
 break_full text None = (Passing, text)

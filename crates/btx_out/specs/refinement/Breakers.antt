@@ -1,23 +1,23 @@
 -- What a breaker of long lines is and does.
 use Rattle.std.specs.Prelude.{◌≡◌, ℕ, Bool, true, false, List, [], ◌++◌, Option, None, Some}
 use Rattle.std.specs.Io.KnownBytes.{Appends}
-use Rattle.btx_out.specs.language.Pieces.{AppendsBeginning}
+use Rattle.btx_out.specs.language.Pieces.{AppendsPrefix}
 use Rattle.btx_out.specs.language.Breaking.{sure, wrap}
 use Rattle.btx_out.specs.laws.Breaking.{Left, Collecting, left}
 use Rattle.btx_out.specs.language.Breakers.{written_at_end}
 
 -- a breaker: the greatest length of a line, and what is left of the pending line; None after a failed write
 pub record Held : Type 0 where
-  pub limit : ℕ
+  pub line_length : ℕ
   pub pending : Option Left
 
 -- a breaker of lines up to a length, with this left of the pending line
 abbrev pub holding : ℕ → Left → Held
-holding limit state = record { limit = limit; pending = Some state }
+holding line_length state = record { line_length = line_length; pending = Some state }
 
 -- a breaker of lines up to a length that has failed
 abbrev pub failed : ℕ → Held
-failed limit = record { limit = limit; pending = None }
+failed line_length = record { line_length = line_length; pending = None }
 
 -- known bytes grow from one text to a longer one that it begins
 pub record AppendsRest (old new : Option (List ℕ)) (done whole : List ℕ) : Type 0 where
@@ -25,43 +25,43 @@ pub record AppendsRest (old new : Option (List ℕ)) (done whole : List ℕ) : T
   pub joined : done ++ written ≡ whole
   pub received : Appends old new written
 
--- known bytes grow from one text to a beginning of a longer one that it begins
+-- known bytes grow from one text to a prefix of a longer one that it begins
 pub record AppendsPartOfRest (old new : Option (List ℕ)) (done whole : List ℕ) : Type 0 where
   pub written : List ℕ
   pub joined : done ++ written ≡ whole
-  pub received : AppendsBeginning old new written
+  pub received : AppendsPrefix old new written
 
 -- What comes of a pending line: for every text of which the breaker holds what is left, it then holds what is left of the text and
 -- the new bytes together, and their sure bytes were written, those of the text before and the rest now.
 abbrev pub Puts : Held → Held → List ℕ → Option (List ℕ) → Option (List ℕ) → Type 0
-Puts old new bytes before after = (text : List ℕ) → old.pending ≡ Some (left old.limit text) →
-    (new ≡ holding old.limit (left old.limit (text ++ bytes))) × AppendsRest before after (sure old.limit text) (sure old.limit (text ++ bytes))
+Puts old new bytes before after = (text : List ℕ) → old.pending ≡ Some (left old.line_length text) →
+    (new ≡ holding old.line_length (left old.line_length (text ++ bytes))) × AppendsRest before after (sure old.line_length text) (sure old.line_length (text ++ bytes))
 
--- At a failure a beginning of those bytes was written.
+-- At a failure a prefix of those bytes was written.
 abbrev pub PutsPart : Held → List ℕ → Option (List ℕ) → Option (List ℕ) → Type 0
-PutsPart old bytes before after = (text : List ℕ) → old.pending ≡ Some (left old.limit text) →
-    AppendsPartOfRest before after (sure old.limit text) (sure old.limit (text ++ bytes))
+PutsPart old bytes before after = (text : List ℕ) → old.pending ≡ Some (left old.line_length text) →
+    AppendsPartOfRest before after (sure old.line_length text) (sure old.line_length (text ++ bytes))
 
 -- What comes of a pending line that ends: for every text of which the breaker holds what is left, the lines of that text were
 -- written, what of them was sure before and the rest now.
 abbrev pub Ends : Held → Option (List ℕ) → Option (List ℕ) → Type 0
-Ends old before after = (text : List ℕ) → old.pending ≡ Some (left old.limit text) →
-    AppendsRest before after (sure old.limit text) (wrap old.limit text)
+Ends old before after = (text : List ℕ) → old.pending ≡ Some (left old.line_length text) →
+    AppendsRest before after (sure old.line_length text) (wrap old.line_length text)
 
--- At a failure a beginning of that was written.
+-- At a failure a prefix of that was written.
 abbrev pub EndsPart : Held → Option (List ℕ) → Option (List ℕ) → Type 0
-EndsPart old before after = (text : List ℕ) → old.pending ≡ Some (left old.limit text) →
-    AppendsPartOfRest before after (sure old.limit text) (wrap old.limit text)
+EndsPart old before after = (text : List ℕ) → old.pending ≡ Some (left old.line_length text) →
+    AppendsPartOfRest before after (sure old.line_length text) (wrap old.line_length text)
 
 -- The same at the very end, where an empty line isn't written.
 abbrev pub Finishes : Held → Option (List ℕ) → Option (List ℕ) → Type 0
-Finishes old before after = (text : List ℕ) → old.pending ≡ Some (left old.limit text) →
-    AppendsRest before after (sure old.limit text) (written_at_end old.limit text)
+Finishes old before after = (text : List ℕ) → old.pending ≡ Some (left old.line_length text) →
+    AppendsRest before after (sure old.line_length text) (written_at_end old.line_length text)
 
--- At a failure a beginning of that was written.
+-- At a failure a prefix of that was written.
 abbrev pub FinishesPart : Held → Option (List ℕ) → Option (List ℕ) → Type 0
-FinishesPart old before after = (text : List ℕ) → old.pending ≡ Some (left old.limit text) →
-    AppendsPartOfRest before after (sure old.limit text) (written_at_end old.limit text)
+FinishesPart old before after = (text : List ℕ) → old.pending ≡ Some (left old.line_length text) →
+    AppendsPartOfRest before after (sure old.line_length text) (written_at_end old.line_length text)
 
 -- nothing is pending
 abbrev pub is_fresh : Option Left → Bool

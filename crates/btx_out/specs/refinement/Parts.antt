@@ -15,13 +15,13 @@ left_of states.Swallowing kept = Swallowing
 
 -- the same of a breaker
 abbrev pub held_of : ℕ → Option State → List ℕ → Held
-held_of limit (Some state) kept = holding limit (left_of state kept)
-held_of limit None kept = failed limit
+held_of line_length (Some state) kept = holding line_length (left_of state kept)
+held_of line_length None kept = failed line_length
 
 -- From a place of the bytes that come to a later one: what is left and what becomes sure in the end stays the same, and what
 -- became sure between the two places was written.
-pub record Advances (limit : ℕ) (state : Left) (bytes : List ℕ) (state' : Left) (bytes' : List ℕ) (before after : Option (List ℕ)) : Type 0 where
+pub record Advances (line_length : ℕ) (state : Left) (bytes : List ℕ) (state' : Left) (bytes' : List ℕ) (before after : Option (List ℕ)) : Type 0 where
   pub written : List ℕ
-  pub lefts : left_after limit state bytes ≡ left_after limit state' bytes'
-  pub sures : sure_after limit state bytes ≡ written ++ sure_after limit state' bytes'
+  pub lefts : left_after line_length state bytes ≡ left_after line_length state' bytes'
+  pub sures : sure_after line_length state bytes ≡ written ++ sure_after line_length state' bytes'
   pub received : Appends before after written

@@ -134,7 +134,7 @@ macros =
     usual
     (codes "VM!\n") (files_logged ++ codes "Ended: finished, warnings 0, errors 0, steps 4\n") 0
 
--- a line that is too long is broken at white
+-- a line that is too long is broken at whitespace
 abbrev pub broken_lines : WorkedJob
 broken_lines =
     worked_job

@@ -49,14 +49,14 @@ fn put(integers: &mut Vec<i32>, place: usize, value: i32)
     }
 }
 
-// The integer 0, so many times.
+// The integer 0, `count` times.
 fn zeros(alloc: Global, count: usize) -> Result<Vec<i32>, AllocError>
     ensures { IfOk result (λ integers. integers.items ≡ replicate count (pos 0)) }
 {
     vec![in alloc; 0; count]
 }
 
-// The variable without bytes, so many times.
+// A variable without bytes, `count` times.
 #[tactic(auto, using(crate::proofs::Replicas::one_more))]
 fn empty_variables<'a>(alloc: Global, count: usize) -> Result<Vec<Variable<'a>>, AllocError>
     ensures { IfOk result (λ strings. strings.items ≡ replicate count []) }

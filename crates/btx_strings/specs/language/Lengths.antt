@@ -1,4 +1,4 @@
--- The length of a string in characters of text, and its beginnings (btxhak, section 5.3, at `text.length$` and `text.prefix$`).
+-- The length of a string in characters of text, and its prefixes (btxhak, section 5.3, at `text.length$` and `text.prefix$`).
 use Rattle.std.specs.Prelude.{ℕ, zero, suc, ℤ, pos, negsuc, List, [], ◌∷◌, ◌++◌, count_by, replicate, if◌then◌else◌}
 use Rattle.std.specs.Str.{byte}
 use Rattle.std.specs.List.{flat_map}

@@ -16,7 +16,7 @@ abbrev pub first_place : Conversion → Place
 first_place Title = First
 first_place _ = Inside
 
--- a colon at depth 0 stands before, with nothing but white after it
+-- a colon at depth 0 stands before, with nothing but whitespace after it
 abbrev pub is_after_colon : Place → Bool
 is_after_colon Colon = true
 is_after_colon ColonAndWhite = true

@@ -18,7 +18,7 @@ abbrev pub is_of : Sequences → List ℕ → Bool
 is_of All name = true
 is_of (MadeLetters conversion) name = becomes_letters conversion name
 
--- white goes after a glyph, carried on from the glyph before: after a control sequence that passes a test, and after white where it went
+-- whitespace goes after a glyph, carried on from the glyph before: after a control sequence that passes a test, and after whitespace where it went
 -- before
 abbrev pub gone_after : (List ℕ → Bool) → Bool → spec.Glyph → Bool
 gone_after test gone (spec.Control name) = test name

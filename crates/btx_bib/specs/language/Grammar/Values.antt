@@ -11,7 +11,7 @@ use Rattle.std.specs.Char.{is_ascii_digit}
 use Rattle.std.specs.Str.{byte}
 use Rattle.std.specs.Option.{option_map_or}
 
--- the name of a string where it stands in a value. `rest` is the text behind it, which tells its place: how much of the file is left.
+-- the name of a string where it stands in a value. `rest` is the text behind it, which shows its place: how much of the file is left.
 pub record StringName : Type 0 where
   pub name : List ℕ
   pub rest : List ℕ

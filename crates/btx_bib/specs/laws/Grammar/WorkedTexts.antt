@@ -106,11 +106,11 @@ value_texts =
     -- a field loses its first and its last space, a string keeps them
     record { ends = Trimmed; strings = λ name. None; parts = Braced (codes "\n  a  b ") ∷ []; text = codes "a b" }
     ∷ record { ends = Kept; strings = λ name. None; parts = Braced (codes "\n  a  b ") ∷ []; text = codes " a b " }
-    -- white over parts is one space
+    -- whitespace over parts is one space
     ∷ record { ends = Kept; strings = λ name. Some (codes "x\t"); parts = name (codes "s") [] ∷ Quoted (codes " y ") ∷ Braced (codes "  z") ∷ []; text = codes "x y z" }
     -- a name that stands for no string is nothing
     ∷ record { ends = Kept; strings = λ name. None; parts = Digits (codes "1") ∷ name (codes "s") [] ∷ Digits (codes "2") ∷ []; text = codes "12" }
-    -- nothing but white
+    -- nothing but whitespace
     ∷ record { ends = Kept; strings = λ name. None; parts = Quoted (codes " \t\n") ∷ []; text = codes " " }
     ∷ record { ends = Trimmed; strings = λ name. None; parts = Quoted (codes " \t\n") ∷ []; text = [] }
     ∷ []

@@ -10,7 +10,7 @@ abbrev pub is_mark : Enclosure → ℕ → Bool
 is_mark Group b = b == open_brace || b == close_brace
 is_mark Quotes b = b == open_brace || b == close_brace || b == double_quote
 
--- one of the bytes that neither are white nor enclose: from `#` to `z`
+-- one of the bytes that are neither whitespace nor delimiters: from `#` to `z`
 abbrev pub is_word_byte : ℕ → Bool
 is_word_byte = is_in_range 35 122
 

@@ -15,19 +15,19 @@ returns-in_err-store-clause-err g c = on_err c.from_residual.result (nothing_wri
 
 pub returns-clause-ok : goal.returns-clause-ok
 returns-clause-ok g c =
-    of_equals (λ a b counts limit. IfOk c.do_all-result.result (λ report. Completes report a b (style_product c.args.job.now counts limit c.args.budget))) _ _ _ _ _ _ _ _
+    of_equals (λ a b counts line_length. IfOk c.do_all-result.result (λ report. Completes report a b (style_product c.args.job.now counts line_length c.args.budget))) _ _ _ _ _ _ _ _
     (pair_is _ _ _ _ c.new-outputs.ensures.received (ap (λ (log : Journal). log.sink.received) c.new-outputs.ensures.log ∙ c.new-2.ensures.received))
     (pair_is _ _ _ _ (ends_as g.W.Sink.received _ c.into_sinks-list.result.0 _ c.do_all-result.new.work.outputs.bbl.received (c.into_sinks-list.ensures.bbl_name ∙ c.do_all-result.ensures.counts.0.0 ∙ c.new-outputs.ensures.name) c.into_sinks-list.ensures.bbl_received (search rules)) (ends_as g.L.Sink.received _ c.into_sinks-list.result.1 _ c.do_all-result.new.work.outputs.log.sink.received (c.into_sinks-list.ensures.log_name ∙ c.do_all-result.ensures.counts.0.1 ∙ ap (λ (log : Journal). log.sink.name) c.new-outputs.ensures.log ∙ c.new-2.ensures.name) c.into_sinks-list.ensures.log_received (search rules)))
     (ap (λ (log : Journal). log_counts log.warnings log.errors) c.new-outputs.ensures.log ∙ ap (λ n. log_counts n c.new-2.result.errors) c.new-2.ensures.warnings ∙ ap (log_counts c.args.counts.warnings) c.new-2.ensures.errors)
-    (ap (λ (held : Held). held.limit) c.new-outputs.ensures.breaker) c.do_all-result.ensures.ok
+    (ap (λ (held : Held). held.line_length) c.new-outputs.ensures.breaker) c.do_all-result.ensures.ok
 
 pub returns-clause-err : goal.returns-clause-err
 returns-clause-err g c =
-    of_equals (λ a b counts limit. OnErr c.do_all-result.result (AtFault a b (style_product c.args.job.now counts limit) c.args.budget)) _ _ _ _ _ _ _ _
+    of_equals (λ a b counts line_length. OnErr c.do_all-result.result (AtFault a b (style_product c.args.job.now counts line_length) c.args.budget)) _ _ _ _ _ _ _ _
     (pair_is _ _ _ _ c.new-outputs.ensures.received (ap (λ (log : Journal). log.sink.received) c.new-outputs.ensures.log ∙ c.new-2.ensures.received))
     (pair_is _ _ _ _ (ends_as g.W.Sink.received _ c.into_sinks-list.result.0 _ c.do_all-result.new.work.outputs.bbl.received (c.into_sinks-list.ensures.bbl_name ∙ c.do_all-result.ensures.counts.0.0 ∙ c.new-outputs.ensures.name) c.into_sinks-list.ensures.bbl_received (search rules)) (ends_as g.L.Sink.received _ c.into_sinks-list.result.1 _ c.do_all-result.new.work.outputs.log.sink.received (c.into_sinks-list.ensures.log_name ∙ c.do_all-result.ensures.counts.0.1 ∙ ap (λ (log : Journal). log.sink.name) c.new-outputs.ensures.log ∙ c.new-2.ensures.name) c.into_sinks-list.ensures.log_received (search rules)))
     (ap (λ (log : Journal). log_counts log.warnings log.errors) c.new-outputs.ensures.log ∙ ap (λ n. log_counts n c.new-2.result.errors) c.new-2.ensures.warnings ∙ ap (log_counts c.args.counts.warnings) c.new-2.ensures.errors)
-    (ap (λ (held : Held). held.limit) c.new-outputs.ensures.breaker) c.do_all-result.ensures.err
+    (ap (λ (held : Held). held.line_length) c.new-outputs.ensures.breaker) c.do_all-result.ensures.err
 
 pub returns-clause-counts : goal.returns-clause-counts
 returns-clause-counts g c =

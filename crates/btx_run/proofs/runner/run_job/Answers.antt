@@ -27,14 +27,14 @@ pub returns-clause-ok : goal.returns-clause-ok
 returns-clause-ok g c =
     let log = g.L.Sink in
     let bbl = g.W.Sink in
-    let told = counts_are c.counts-counts.result _ _ c.counts-counts.ensures.warnings c.counts-counts.ensures.errors in
+    let is_given = counts_are c.counts-counts.result _ _ c.counts-counts.ensures.warnings c.counts-counts.ensures.errors in
     let new = counts_of_none c.new-journal.result c.new-journal.ensures.warnings c.new-journal.ensures.errors in
     ok_map (λ report completes. by_map c.in_ok-read.ensures.answered (λ names among. among)
     (λ files read. behind_ends (λ l n. Completes report (bbl.received c.args.bbl.now, l) (bbl.received c.after_files.new.bbl, n) (product_of_reading c.args.job.now (files_read files c.args.job.now) c.args.options.now c.args.options.now.budget))
     _ _ _ _ c.new-journal.ensures.received (search rules)
     (completes_reading c.args.job.now c.args.options.now c.in_ok-read.field-0 c.counts-counts.result (counts_at c.new-journal.result) (counts_at c.read_files-read.new.journal)
     (bbl.received c.args.bbl.now) (bbl.received c.after_files.new.bbl) c.new-journal.result.sink.received c.read_files-read.new.journal.sink.received (log.received c.after_files.new.log)
-    told new report c.args.options.now.budget (files_read files c.args.job.now) read
+    is_given new report c.args.options.now.budget (files_read files c.args.job.now) read
     (subst (λ m. Completes report (bbl.received c.args.bbl.now, m) (bbl.received c.after_files.new.bbl, log.received c.after_files.new.log)
     (product_of_files c.args.job.now c.in_ok-read.field-0 c.args.options.now c.counts-counts.result c.args.options.now.budget)) c.into_sink-log.ensures.received completes))))
     c.after_files.result c.after_files.ensures.ok
@@ -43,14 +43,14 @@ pub returns-clause-err : goal.returns-clause-err
 returns-clause-err g c =
     let log = g.L.Sink in
     let bbl = g.W.Sink in
-    let told = counts_are c.counts-counts.result _ _ c.counts-counts.ensures.warnings c.counts-counts.ensures.errors in
+    let is_given = counts_are c.counts-counts.result _ _ c.counts-counts.ensures.warnings c.counts-counts.ensures.errors in
     let new = counts_of_none c.new-journal.result c.new-journal.ensures.warnings c.new-journal.ensures.errors in
     err_map (λ fault. by_map c.in_ok-read.ensures.answered (λ names among. among)
     (λ files read. behind_ends (λ l n. AtFault (bbl.received c.args.bbl.now, l) (bbl.received c.after_files.new.bbl, n) (product_of_reading c.args.job.now (files_read files c.args.job.now) c.args.options.now) c.args.options.now.budget)
     _ _ _ _ c.new-journal.ensures.received (search rules)
     (fails_reading c.args.job.now c.args.options.now c.in_ok-read.field-0 c.counts-counts.result (counts_at c.new-journal.result) (counts_at c.read_files-read.new.journal)
     (bbl.received c.args.bbl.now) (bbl.received c.after_files.new.bbl) c.new-journal.result.sink.received c.read_files-read.new.journal.sink.received (log.received c.after_files.new.log)
-    told new c.args.options.now.budget (files_read files c.args.job.now) read
+    is_given new c.args.options.now.budget (files_read files c.args.job.now) read
     (subst (λ m. AtFault (bbl.received c.args.bbl.now, m) (bbl.received c.after_files.new.bbl, log.received c.after_files.new.log)
     (product_of_files c.args.job.now c.in_ok-read.field-0 c.args.options.now c.counts-counts.result) c.args.options.now.budget) c.into_sink-log.ensures.received fault))))
     c.after_files.result c.after_files.ensures.err

@@ -5,7 +5,7 @@ use Rattle.btx_aux.specs.language.Files.{Files}
 use Rattle.btx_aux.specs.language.Job.{AuxJob}
 use Rattle.btx_text.specs.declared.fault.Fault.{Fault}
 use Rattle.btx_text.specs.language.Limits.{greatest_file, is_too_long}
-use Rattle.btx_out.specs.language.Pieces.{AppendsBeginning}
+use Rattle.btx_out.specs.language.Pieces.{AppendsPrefix}
 use Rattle.btx_run.specs.declared.files.found.FilesRead.{FilesRead}
 use Rattle.btx_run.specs.declared.files.found.FilesRead.TheVariants.{Ends, Found}
 use Rattle.btx_run.specs.refinement.Files.Logging.{Counted, LogReceived, Logs, bytes_of_lines}
@@ -55,7 +55,7 @@ pub record IsRead {T : Type 0} (value : T) (counted : Counted) (log : LogReceive
 -- a part that was read, or at a fault a prefix of its lines
 abbrev pub ReadsAs : {T : Type 0} → Result T Fault → Counted → LogReceived → Logged T → Type 0
 ReadsAs (Ok value) counted log part = IsRead value counted log part
-ReadsAs (Err fault) counted log part = AppendsBeginning log.0 log.1 (bytes_of_lines part.lines)
+ReadsAs (Err fault) counted log part = AppendsPrefix log.0 log.1 (bytes_of_lines part.lines)
 
 -- a database was logged, and is kept behind those before it if it was found
 pub record IsAdded (before after : List NamedFile) (counted : Counted) (log : LogReceived) (part : Logged (Option NamedFile)) : Type 0 where
@@ -65,7 +65,7 @@ pub record IsAdded (before after : List NamedFile) (counted : Counted) (log : Lo
 -- a database that was added so, or at a fault a prefix of what is logged of it
 abbrev pub AddsAs : {T : Type 0} → Result T Fault → List NamedFile → List NamedFile → Counted → LogReceived → Logged (Option NamedFile) → Type 0
 AddsAs (Ok value) before after counted log part = IsAdded before after counted log part
-AddsAs (Err fault) before after counted log part = AppendsBeginning log.0 log.1 (bytes_of_lines part.lines)
+AddsAs (Err fault) before after counted log part = AppendsPrefix log.0 log.1 (bytes_of_lines part.lines)
 
 -- a style with the databases that were found
 abbrev pub with_style : NamedFile → Logged (List NamedFile) → Logged FilesRead

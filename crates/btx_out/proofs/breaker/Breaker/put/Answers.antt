@@ -5,10 +5,10 @@ pub returns-in-Ok-clause-ok : goal.returns-in-Ok-clause-ok
 returns-in-Ok-clause-ok g c text held =
     let state = rw c.in_ok-state.was at c.ok_or.ensures.ok_part in
     let view = rw state at c.self.view_is in
-    puts_more c.self.inside.limit _ _ _ text c.args.bytes.now _ _ view c.self.invariant.0 held c.in-Ok.ensures.state c.in-Ok.ensures.ok
+    puts_more c.self.inside.line_length _ _ _ text c.args.bytes.now _ _ view c.self.invariant.0 held c.in-Ok.ensures.state c.in-Ok.ensures.ok
 
 pub returns-in-Err-clause-part : goal.returns-in-Err-clause-part
 returns-in-Err-clause-part g c text held =
     let state = rw c.in_ok-state.was at c.ok_or.ensures.ok_part in
     let view = rw state at c.self.view_is in
-    puts_part c.self.inside.limit _ _ text c.args.bytes.now _ _ view c.self.invariant.0 held c.in-Err.ensures.err
+    puts_part c.self.inside.line_length _ _ text c.args.bytes.now _ _ view c.self.invariant.0 held c.in-Err.ensures.err

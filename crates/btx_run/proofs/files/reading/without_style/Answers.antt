@@ -1,5 +1,5 @@
 use Rattle.std.proofs.Common.{rules, ◌∷◌, [], subst}
-use Rattle.btx_out.specs.language.Pieces.{AppendsBeginning}
+use Rattle.btx_out.specs.language.Pieces.{AppendsPrefix}
 use Rattle.btx_run.specs.language.Files.Lines.{no_style_line}
 use Rattle.btx_run.proofs.ReadingLemmas.{reads_is, reads_part, style_is_missed, style_missed}
 use Rattle.btx_run.proofs.LoggingLemmas.{line_begun, logs_line}
@@ -8,8 +8,8 @@ use Rattle.btx_run.specs.refinement.Files.Logging.{bytes_of_lines}
 
 pub returns-in_err-log_one-clause-reads : goal.returns-in_err-log_one-clause-reads
 returns-in_err-log_one-clause-reads g c = λ files job.
-    let part : AppendsBeginning c.args.journal.now.sink.received c.log_one.new.self.sink.received (bytes_of_lines (no_style_line c.args.name.now ∷ [])) =
-    subst (λ line. AppendsBeginning c.args.journal.now.sink.received c.log_one.new.self.sink.received (bytes_of_lines (line ∷ []))) c.in_ok-line.ensures (line_begun c.in_ok-line.line _ _ c.in_err-log_one.ensures.err) in
+    let part : AppendsPrefix c.args.journal.now.sink.received c.log_one.new.self.sink.received (bytes_of_lines (no_style_line c.args.name.now ∷ [])) =
+    subst (λ line. AppendsPrefix c.args.journal.now.sink.received c.log_one.new.self.sink.received (bytes_of_lines (line ∷ []))) c.in_ok-line.ensures (line_begun c.in_ok-line.line _ _ c.in_err-log_one.ensures.err) in
     reads_is c.from_residual-in_err-log_one.result _ _ _ _ (style_is_missed files job c.args.name.now)
     (reads_part c.from_residual-in_err-log_one.result _ _ _ _ (no_style_line c.args.name.now ∷ []) _ (search rules) part)
 

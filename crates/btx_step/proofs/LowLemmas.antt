@@ -72,7 +72,7 @@ abbrev pub IsCalm : BuiltIn → Type 0
 IsCalm built_in.CallType = ⊥
 IsCalm _ = Unit {0}
 
--- one of the style's first functions, so many, or one that executes none by itself
+-- one of the style's first `r` functions, or one that executes none by itself
 abbrev pub Below : ℕ → Callee → Type 0
 Below r (callee.BuiltIn f) = IsCalm f
 Below r (callee.User i) = i < r
@@ -300,14 +300,14 @@ module _ (r : ℕ) where
   row_low job built_in.AddPeriod c = λ text u s h. text_low said.Nothing (add_period_of text) s h
   row_low job built_in.CallType c = absurd c
   row_low job built_in.ChangeCase c = λ letter u text v s h. text_low (kept_strings.conversion_said (case_complaints letter).illegal_conversion letter) (change_case_of text letter) s h
-  row_low job built_in.CharacterToInteger c = λ text u s h. code_low text s h
+  row_low job built_in.ChrToInt c = λ text u s h. code_low text s h
   row_low job built_in.Cite c = λ s h. cites_low job s.current s h
   row_low job built_in.Duplicate c = λ x u s h. pushes_low said.Nothing x (with_literals (x ∷ s.literals) s) u (u, h)
   row_low job built_in.Empty c = λ field u s h. empty_low field s h
   row_low job built_in.FormatName c = λ format u number v people w s h. text_low (kept_names.name_said (format_name_complaints people number format) people number format) (format_name_text job.mode people number format) s h
   row_low job built_in.If c = λ f u g v n w s h. (chosen_below (control.is_positive n) g f (below_more r g v) (below_more r f u), h)
-  row_low job built_in.IntegerToCharacter c = λ n u s h. character_low n s h
-  row_low job built_in.IntegerToString c = λ n u s h. string_low said.Nothing (signed_decimal n) s h
+  row_low job built_in.IntToChr c = λ n u s h. character_low n s h
+  row_low job built_in.IntToStr c = λ n u s h. string_low said.Nothing (signed_decimal n) s h
   row_low job built_in.Missing c = λ field u s h. missing_low field s h
   row_low job built_in.NewLine c = λ s h. (tt, h)
   row_low job built_in.NumNames c = λ text u s h. integer_low said.Nothing (pos (length (names_of text))) s h
