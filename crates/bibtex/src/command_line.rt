@@ -198,7 +198,7 @@ mod tests {
         text_of(alloc, words.as_slice())
     }
 
-    // What of an answer is given: its text, or the beginning of a longer one.
+    // What of an answer is given: its text, or a prefix of a longer one.
     #[derive(Clone, Copy)]
     enum Part {
         Text,

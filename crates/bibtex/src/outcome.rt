@@ -64,7 +64,7 @@ mod tests {
     use super::*;
     use btx_run::{End, Limit};
 
-    // The program's end for a job that ran to an end with so many errors.
+    // The program's end for a job that ran to an end with `errors` errors.
     fn exit_after(end: End, errors: u64) -> Exit {
         Exit::of(Ok(Report {
             status: end.status(errors),

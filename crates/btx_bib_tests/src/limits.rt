@@ -63,7 +63,7 @@ const LONG: [Long; 9] = [
     ),
 ];
 
-// So many letters, and a text behind them.
+// Adds `letters` letters, and a text behind them.
 fn push_letters(text: &mut Vec<u8>, letters: usize, after: &[u8]) -> Result<(), AllocError> {
     for _ in 0..letters {
         text.push(b'x')?;

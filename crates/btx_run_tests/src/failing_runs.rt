@@ -120,7 +120,7 @@ fn try_side(
     }
 }
 
-// Whether an output failed once, was not written to again, and holds the beginning of a text.
+// Whether an output failed once, was not written to again, and holds a prefix of a text that isn't all of it.
 fn is_cut(output: &Over<FakeWriter>, at: u64, whole: &[u8]) -> bool {
     let writer = &output.writer;
     output.failures == 1
@@ -190,7 +190,7 @@ fn fail_side(
     Ok(())
 }
 
-// Fails each output in each way, where it takes at most so many bytes at a time.
+// Fails each output in each way, where it takes at most one of these numbers of bytes at a time.
 fn fail_sides(
     rt: &(impl Abort + AllocGlobal),
     hows: &[Failing],
@@ -258,7 +258,7 @@ fn keeps_step_at_a_warning(rt: HostRuntime) -> Result<(), Fail> {
     Ok(())
 }
 
-// Whether a run is whole whose outputs take at most so many bytes at a time.
+// Whether a run is whole whose outputs take at most `most` bytes at a time.
 fn is_whole(alloc: Global, most: usize) -> Result<bool, FetchFault> {
     let tried = try_style(alloc, LINES, sound(most), sound(most))?;
     Ok(

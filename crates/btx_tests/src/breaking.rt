@@ -113,16 +113,16 @@ enum Step<'a> {
     Put(&'a [u8]),
     Newline,
     Finish,
-    // So many bytes are written.
+    // This number of bytes is written.
     Bytes(usize),
-    // The sink was written to so often.
+    // The sink was written to this number of times.
     Writes(u64),
 }
 
 // What is tried with a breaker and a sink.
 #[derive(Clone, Copy)]
 enum Trial<'a> {
-    // A row's line in pieces of so many bytes, and its end.
+    // A row's line in pieces of this number of bytes, and its end.
     Pieces(Texts<'a>, usize),
     // A row's line in two pieces, and its end, where this write fails.
     Failing(Texts<'a>, u64),

@@ -614,7 +614,7 @@ fn longest_texts(rt: HostRuntime) {
     assert!(rt; long_holds(rt.alloc(), b'a', 1_000_001, &LETTERS) == true);
 }
 
-// Whether the numbers of a string of so many `W`s are these.
+// Whether the numbers of a string of `length` `W`s are these.
 fn has_numbers(alloc: Global, length: usize, wanted: (i32, i32, i32)) -> bool {
     match long(alloc, b'W', length) {
         Ok(string) => numbers_of(&string) == wanted,
