@@ -1,61 +1,17 @@
 //! Libraries of some databases, worked by hand.
-use crate::rows::{ENDS, FAULTS, REFERENCES, STYLE, VALUES};
+use crate::rows::{ENDS, FAULTS, REFERENCES, Row, STYLE, VALUES};
 use crate::showing::{Asked, seen_of, shown_of};
 use btx_bib::Source;
 use btx_text::Fault;
 use std::alloc::Global;
 
-// A row.
-#[derive(Drop)]
-struct Row<'a> {
-    // How many references keep an entry that isn't cited.
-    least: &'a [u8],
-    // The cited keys.
-    keys: &'a [u8],
-    // Two databases.
-    first: &'a [u8],
-    second: &'a [u8],
-    // What they give.
-    wanted: &'a [u8],
-}
-
-// What stands before the first `|` of a text, and behind it.
-fn cut(text: &[u8]) -> (&[u8], &[u8]) {
-    let mut parts = text.splitn(2, |byte| *byte == b'|');
-    (parts.next().unwrap_or(b""), parts.next().unwrap_or(b""))
-}
-
-// The row of a text.
-fn row_of(text: &[u8]) -> Row<'_> {
-    let (least, rest) = cut(text);
-    let (keys, rest) = cut(rest);
-    let (first, rest) = cut(rest);
-    let (second, wanted) = cut(rest);
-    Row {
-        least,
-        keys,
-        first,
-        second,
-        wanted,
-    }
-}
-
-// The number that a row's `0`, `1` or `2` stands for.
-fn digit(text: &[u8]) -> u32 {
-    match text {
-        b"0" => 0,
-        b"1" => 1,
-        _ => 2,
-    }
-}
-
 // What the databases of a row give.
-fn shown_row(alloc: Global, row: &Row<'_>) -> Result<Vec<u8>, Fault> {
+fn shown_row(alloc: Global, row: &Row) -> Result<Vec<u8>, Fault> {
     let asked = Asked {
         style: STYLE,
         fields: 3,
         keys: row.keys,
-        least: digit(row.least),
+        least: row.least,
     };
     let sources = [
         Source {
@@ -70,16 +26,24 @@ fn shown_row(alloc: Global, row: &Row<'_>) -> Result<Vec<u8>, Fault> {
     shown_of(alloc, asked, &sources)
 }
 
+// Whether this is what a row gives: its entries, the end of a line, and its log.
+fn is_given(found: &[u8], row: &Row) -> bool {
+    match found.strip_prefix(row.entries) {
+        Some(rest) => rest.strip_prefix(b"\n") == Some(row.log),
+        None => false,
+    }
+}
+
 // Whether the databases of a row give what they are to give.
-fn is_right(alloc: Global, row: &Row<'_>) -> Result<bool, Fault> {
+fn is_right(alloc: Global, row: &Row) -> Result<bool, Fault> {
     let found = shown_row(alloc, row)?;
-    Ok(found.as_slice() == row.wanted)
+    Ok(is_given(&found, row))
 }
 
 // The number of the first of these rows that gives something else, if one does.
-fn first_wrong(alloc: Global, rows: &[&[u8]]) -> Result<Option<usize>, Fault> {
+fn first_wrong(alloc: Global, rows: &[Row]) -> Result<Option<usize>, Fault> {
     for (number, row) in rows.iter().enumerate() {
-        if !is_right(alloc, &row_of(row))? {
+        if !is_right(alloc, row)? {
             return Ok(Some(number));
         }
     }

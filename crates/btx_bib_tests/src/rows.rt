@@ -4,158 +4,635 @@
 pub const STYLE: &[u8] =
     b"ENTRY {title booktitle}{}{} MACRO {jan}{\"January\"} FUNCTION {misc}{} FUNCTION {book}{} READ";
 
-// The rows of the next tables have five parts with a `|` between: how many references keep an entry that isn't cited, the cited keys, two
-// databases, and what they give, which is the entries, the preamble in brackets and the log. A row is one text, since a table is dearer to
-// prove the more texts it has.
+/// The keys that are cited, how many references keep an entry that isn't cited, two databases, and what they give: the entries with
+/// the preamble in brackets, and the log.
+#[derive(Clone, Copy)]
+pub struct Row {
+    pub keys: &'static [u8],
+    pub least: u32,
+    pub first: &'static [u8],
+    pub second: &'static [u8],
+    pub entries: &'static [u8],
+    pub log: &'static [u8],
+}
 
 /// Strings, values and what is stored.
-pub const VALUES: [&[u8]; 15] = [
+pub const VALUES: [Row; 15] = [
     // A string in its own definition, a name that is no string, and whitespace across parts.
-    b"2|k|@string{s = \"x\" # s}\n@misc{k, title = s # \" y \" # zz # {  z}}||k=-;x y z;-;\n[]\nWarning--string name \"s\" is used in its own definition--line 1 of file d.bib\nWarning--string name \"zz\" is undefined--line 2 of file d.bib\n",
+    Row {
+        keys: b"k",
+        least: 2,
+        first: b"@string{s = \"x\" # s}\n@misc{k, title = s # \" y \" # zz # {  z}}",
+        second: b"",
+        entries: b"k=-;x y z;-;\n[]",
+        log: b"Warning--string name \"s\" is used in its own definition--line 1 of file d.bib\nWarning--string name \"zz\" is undefined--line 2 of file d.bib\n",
+    },
     // An entry in the braces of a comment.
-    b"2|K|@comment{@misc{k, title = \"a \" # {  b }}}||K=-;a b;-;\n[]\n",
+    Row {
+        keys: b"K",
+        least: 2,
+        first: b"@comment{@misc{k, title = \"a \" # {  b }}}",
+        second: b"",
+        entries: b"K=-;a b;-;\n[]",
+        log: b"",
+    },
     // A name twice in one value, each spelled as it stands.
-    b"2|k|@misc{k, title = zz #\nZZ}||k=-;;-;\n[]\nWarning--string name \"zz\" is undefined--line 1 of file d.bib\nWarning--string name \"ZZ\" is undefined--line 2 of file d.bib\n",
+    Row {
+        keys: b"k",
+        least: 2,
+        first: b"@misc{k, title = zz #\nZZ}",
+        second: b"",
+        entries: b"k=-;;-;\n[]",
+        log: b"Warning--string name \"zz\" is undefined--line 1 of file d.bib\nWarning--string name \"ZZ\" is undefined--line 2 of file d.bib\n",
+    },
     // A string that has a value has none in its own next definition.
-    b"2|k|@string{s={A}}@string{S={B} # s}@misc{k,title=s}||k=-;B;-;\n[]\nWarning--string name \"s\" is used in its own definition--line 1 of file d.bib\n",
+    Row {
+        keys: b"k",
+        least: 2,
+        first: b"@string{s={A}}@string{S={B} # s}@misc{k,title=s}",
+        second: b"",
+        entries: b"k=-;B;-;\n[]",
+        log: b"Warning--string name \"s\" is used in its own definition--line 1 of file d.bib\n",
+    },
     // Macros of the style, and a later string in the place of one.
-    b"2|k,j|@misc{k,title=JAN # { 1}}@string{jan={J}}@misc{j,title=jan}||k=-;January 1;-;\nj=-;J;-;\n[]\n",
+    Row {
+        keys: b"k,j",
+        least: 2,
+        first: b"@misc{k,title=JAN # { 1}}@string{jan={J}}@misc{j,title=jan}",
+        second: b"",
+        entries: b"k=-;January 1;-;\nj=-;J;-;\n[]",
+        log: b"",
+    },
     // A string keeps its ends, a field loses one space at each.
-    b"2|k|@string(s={ x })@misc{k,title={a} # s # {b},booktitle=s}||k=-;a x b;x;\n[]\n",
+    Row {
+        keys: b"k",
+        least: 2,
+        first: b"@string(s={ x })@misc{k,title={a} # s # {b},booktitle=s}",
+        second: b"",
+        entries: b"k=-;a x b;x;\n[]",
+        log: b"",
+    },
     // Preambles are joined, and keep their ends.
-    b"2|k|@preamble{ {a } # {b}}@misc{k}@preamble(\" c\" # zz)||k=-;-;-;\n[a b c]\nWarning--string name \"zz\" is undefined--line 1 of file d.bib\n",
+    Row {
+        keys: b"k",
+        least: 2,
+        first: b"@preamble{ {a } # {b}}@misc{k}@preamble(\" c\" # zz)",
+        second: b"",
+        entries: b"k=-;-;-;\n[a b c]",
+        log: b"Warning--string name \"zz\" is undefined--line 1 of file d.bib\n",
+    },
     // Digits end at a letter.
-    b"2|k|@misc{k,title=12ab}||k=-;12;-;\n[]\n!Error--I was expecting a , or a }--line 1 of file d.bib\n",
+    Row {
+        keys: b"k",
+        least: 2,
+        first: b"@misc{k,title=12ab}",
+        second: b"",
+        entries: b"k=-;12;-;\n[]",
+        log: b"!Error--I was expecting a , or a }--line 1 of file d.bib\n",
+    },
     // Quotes in braces, braces in quotes.
-    b"2|k|@misc{k,title={a \"b\" {c}},booktitle=\"a{\"}b\"}||k=-;a \"b\" {c};a{\"}b;\n[]\n",
+    Row {
+        keys: b"k",
+        least: 2,
+        first: b"@misc{k,title={a \"b\" {c}},booktitle=\"a{\"}b\"}",
+        second: b"",
+        entries: b"k=-;a \"b\" {c};a{\"}b;\n[]",
+        log: b"",
+    },
     // Carriage returns and tabs are whitespace, other bytes below 32 aren't.
-    b"2|k|@misc{k,\r\ntitle={A\r\n\tB\x00\x0b C}\r\n}\r\n||k=-;A B\x00\x0b C;-;\n[]\n",
+    Row {
+        keys: b"k",
+        least: 2,
+        first: b"@misc{k,\r\ntitle={A\r\n\tB\x00\x0b C}\r\n}\r\n",
+        second: b"",
+        entries: b"k=-;A B\x00\x0b C;-;\n[]",
+        log: b"",
+    },
     // Bytes from 128 up.
-    b"2|\xe9|@misc{\xe9,title={\xc3\xa9}}@misc{\xc9,title={B}}||\xe9=-;\xc3\xa9;-;\n[]\n",
+    Row {
+        keys: b"\xe9",
+        least: 2,
+        first: b"@misc{\xe9,title={\xc3\xa9}}@misc{\xc9,title={B}}",
+        second: b"",
+        entries: b"\xe9=-;\xc3\xa9;-;\n[]",
+        log: b"",
+    },
     // A last comma, and both delimiters.
-    b"2|k,j|@misc{k, title={A}, }@MISC(j,TITLE=\"B\",)||k=-;A;-;\nj=-;B;-;\n[]\n",
+    Row {
+        keys: b"k,j",
+        least: 2,
+        first: b"@misc{k, title={A}, }@MISC(j,TITLE=\"B\",)",
+        second: b"",
+        entries: b"k=-;A;-;\nj=-;B;-;\n[]",
+        log: b"",
+    },
     // Of a field that isn't declared nothing is logged but its faults.
-    b"2|k|@misc{k, note = zz, note = zz, title={A}}||k=-;A;-;\n[]\n",
+    Row {
+        keys: b"k",
+        least: 2,
+        first: b"@misc{k, note = zz, note = zz, title={A}}",
+        second: b"",
+        entries: b"k=-;A;-;\n[]",
+        log: b"",
+    },
     // Of an entry that isn't stored nothing is logged but its faults.
-    b"2|k|@misc{j, title = zz, title = {B}, note} @misc{k}||k=-;-;-;\n[]\n!Error--I was expecting an =--line 1 of file d.bib\n",
+    Row {
+        keys: b"k",
+        least: 2,
+        first: b"@misc{j, title = zz, title = {B}, note} @misc{k}",
+        second: b"",
+        entries: b"k=-;-;-;\n[]",
+        log: b"!Error--I was expecting an =--line 1 of file d.bib\n",
+    },
     // A string of a value that ends in a fault isn't logged.
-    b"2|k|@misc{k, title = zz # ,}||k=-;-;-;\n[]\n!Error--I was expecting a value--line 1 of file d.bib\n",
+    Row {
+        keys: b"k",
+        least: 2,
+        first: b"@misc{k, title = zz # ,}",
+        second: b"",
+        entries: b"k=-;-;-;\n[]",
+        log: b"!Error--I was expecting a value--line 1 of file d.bib\n",
+    },
 ];
 
 /// Each fault and each warning, with its line.
-pub const FAULTS: [&[u8]; 19] = [
+pub const FAULTS: [Row; 19] = [
     // No name behind an at sign.
-    b"2|k|@ {k}@misc{k}||k=-;-;-;\n[]\n!Error--I was expecting a name--line 1 of file d.bib\n",
+    Row {
+        keys: b"k",
+        least: 2,
+        first: b"@ {k}@misc{k}",
+        second: b"",
+        entries: b"k=-;-;-;\n[]",
+        log: b"!Error--I was expecting a name--line 1 of file d.bib\n",
+    },
     // No name for a field.
-    b"2|k|@misc{k, title={A}, =}||k=-;A;-;\n[]\n!Error--I was expecting a name--line 1 of file d.bib\n",
+    Row {
+        keys: b"k",
+        least: 2,
+        first: b"@misc{k, title={A}, =}",
+        second: b"",
+        entries: b"k=-;A;-;\n[]",
+        log: b"!Error--I was expecting a name--line 1 of file d.bib\n",
+    },
     // No name for a string.
-    b"2|k|@string{ = {A}}@misc{k}||k=-;-;-;\n[]\n!Error--I was expecting a name--line 1 of file d.bib\n",
+    Row {
+        keys: b"k",
+        least: 2,
+        first: b"@string{ = {A}}@misc{k}",
+        second: b"",
+        entries: b"k=-;-;-;\n[]",
+        log: b"!Error--I was expecting a name--line 1 of file d.bib\n",
+    },
     // No delimiter.
-    b"2|k|@misc k\n@misc{k}||k=-;-;-;\n[]\n!Error--I was expecting a { or a (--line 1 of file d.bib\n",
+    Row {
+        keys: b"k",
+        least: 2,
+        first: b"@misc k\n@misc{k}",
+        second: b"",
+        entries: b"k=-;-;-;\n[]",
+        log: b"!Error--I was expecting a { or a (--line 1 of file d.bib\n",
+    },
     // No comma in braces.
-    b"2|k|@misc{k title={A}}||k=-;-;-;\n[]\n!Error--I was expecting a , or a }--line 1 of file d.bib\n",
+    Row {
+        keys: b"k",
+        least: 2,
+        first: b"@misc{k title={A}}",
+        second: b"",
+        entries: b"k=-;-;-;\n[]",
+        log: b"!Error--I was expecting a , or a }--line 1 of file d.bib\n",
+    },
     // No comma in parentheses.
-    b"2|k|@misc(k,title={A}\n}||k=-;A;-;\n[]\n!Error--I was expecting a , or a )--line 2 of file d.bib\n",
+    Row {
+        keys: b"k",
+        least: 2,
+        first: b"@misc(k,title={A}\n}",
+        second: b"",
+        entries: b"k=-;A;-;\n[]",
+        log: b"!Error--I was expecting a , or a )--line 2 of file d.bib\n",
+    },
     // No equals sign.
-    b"2|k|@misc{k, title {A}}||k=-;-;-;\n[]\n!Error--I was expecting an =--line 1 of file d.bib\n",
+    Row {
+        keys: b"k",
+        least: 2,
+        first: b"@misc{k, title {A}}",
+        second: b"",
+        entries: b"k=-;-;-;\n[]",
+        log: b"!Error--I was expecting an =--line 1 of file d.bib\n",
+    },
     // No closing delimiter, which is the item's own.
-    b"2|k|@string{jan = {x}, t = {y}}@preamble({x}}@misc{k,title=jan}||k=-;x;-;\n[x]\n!Error--I was expecting a }--line 1 of file d.bib\n!Error--I was expecting a )--line 1 of file d.bib\n",
+    Row {
+        keys: b"k",
+        least: 2,
+        first: b"@string{jan = {x}, t = {y}}@preamble({x}}@misc{k,title=jan}",
+        second: b"",
+        entries: b"k=-;x;-;\n[x]",
+        log: b"!Error--I was expecting a }--line 1 of file d.bib\n!Error--I was expecting a )--line 1 of file d.bib\n",
+    },
     // No value.
-    b"2|k|@misc{k, title = \n}||k=-;-;-;\n[]\n!Error--I was expecting a value--line 2 of file d.bib\n",
+    Row {
+        keys: b"k",
+        least: 2,
+        first: b"@misc{k, title = \n}",
+        second: b"",
+        entries: b"k=-;-;-;\n[]",
+        log: b"!Error--I was expecting a value--line 2 of file d.bib\n",
+    },
     // A brace that closes nothing.
-    b"2|k|@misc(k, title = \"a}b\")||k=-;-;-;\n[]\n!Error--Unbalanced braces--line 1 of file d.bib\n",
+    Row {
+        keys: b"k",
+        least: 2,
+        first: b"@misc(k, title = \"a}b\")",
+        second: b"",
+        entries: b"k=-;-;-;\n[]",
+        log: b"!Error--Unbalanced braces--line 1 of file d.bib\n",
+    },
     // Behind a fault an item is wanted from its place on.
-    b"2|k,j|@misc{k, title = \"a}b\" @misc{j}||k=-;-;-;\nj=-;-;-;\n[]\n!Error--Unbalanced braces--line 1 of file d.bib\n",
+    Row {
+        keys: b"k,j",
+        least: 2,
+        first: b"@misc{k, title = \"a}b\" @misc{j}",
+        second: b"",
+        entries: b"k=-;-;-;\nj=-;-;-;\n[]",
+        log: b"!Error--Unbalanced braces--line 1 of file d.bib\n",
+    },
     // An at sign in the place of a comma begins an item.
-    b"2|k,j|@misc{k @misc{j}||k=-;-;-;\nj=-;-;-;\n[]\n!Error--I was expecting a , or a }--line 1 of file d.bib\n",
+    Row {
+        keys: b"k,j",
+        least: 2,
+        first: b"@misc{k @misc{j}",
+        second: b"",
+        entries: b"k=-;-;-;\nj=-;-;-;\n[]",
+        log: b"!Error--I was expecting a , or a }--line 1 of file d.bib\n",
+    },
     // A repeated entry.
-    b"2|k|@misc{k, title={A}}\n@misc{K, title={B}}||k=-;A;-;\n[]\n!Error--Repeated entry--line 2 of file d.bib\n",
+    Row {
+        keys: b"k",
+        least: 2,
+        first: b"@misc{k, title={A}}\n@misc{K, title={B}}",
+        second: b"",
+        entries: b"k=-;A;-;\n[]",
+        log: b"!Error--Repeated entry--line 2 of file d.bib\n",
+    },
     // A repeated entry at the end of the file.
-    b"2|k|@misc{k}@misc{k||k=-;-;-;\n[]\n!Error--Repeated entry--line 1 of file d.bib\n",
+    Row {
+        keys: b"k",
+        least: 2,
+        first: b"@misc{k}@misc{k",
+        second: b"",
+        entries: b"k=-;-;-;\n[]",
+        log: b"!Error--Repeated entry--line 1 of file d.bib\n",
+    },
     // A field that the entry has, met at the end of its value.
-    b"2|k|@misc{k, title={A}, TITLE=\n{B}\n,}||k=-;A;-;\n[]\nWarning--I'm ignoring k's extra \"TITLE\" field--line 2 of file d.bib\n",
+    Row {
+        keys: b"k",
+        least: 2,
+        first: b"@misc{k, title={A}, TITLE=\n{B}\n,}",
+        second: b"",
+        entries: b"k=-;A;-;\n[]",
+        log: b"Warning--I'm ignoring k's extra \"TITLE\" field--line 2 of file d.bib\n",
+    },
     // A type that the style doesn't have.
-    b"2|k|\n@other\n{K\n}||k?-;-;-;\n[]\nWarning--entry type for \"K\" isn't style-file defined--line 3 of file d.bib\n",
+    Row {
+        keys: b"k",
+        least: 2,
+        first: b"\n@other\n{K\n}",
+        second: b"",
+        entries: b"k?-;-;-;\n[]",
+        log: b"Warning--entry type for \"K\" isn't style-file defined--line 3 of file d.bib\n",
+    },
     // At signs are bytes of names.
-    b"2|k,j|@@misc{k}@comment@misc{j}||k?-;-;-;\nj?-;-;-;\n[]\nWarning--entry type for \"k\" isn't style-file defined--line 1 of file d.bib\nWarning--entry type for \"j\" isn't style-file defined--line 1 of file d.bib\n",
+    Row {
+        keys: b"k,j",
+        least: 2,
+        first: b"@@misc{k}@comment@misc{j}",
+        second: b"",
+        entries: b"k?-;-;-;\nj?-;-;-;\n[]",
+        log: b"Warning--entry type for \"k\" isn't style-file defined--line 1 of file d.bib\nWarning--entry type for \"j\" isn't style-file defined--line 1 of file d.bib\n",
+    },
     // A bracket is a byte of names.
-    b"2|k|@misc[k]||[]\n!Error--Illegal end of database file--line 1 of file d.bib\nWarning--I didn't find a database entry for \"k\"\n",
+    Row {
+        keys: b"k",
+        least: 2,
+        first: b"@misc[k]",
+        second: b"",
+        entries: b"[]",
+        log: b"!Error--Illegal end of database file--line 1 of file d.bib\nWarning--I didn't find a database entry for \"k\"\n",
+    },
     // A parenthesis is a byte of keys.
-    b"2|k)|@misc(k) )||k)=-;-;-;\n[]\n",
+    Row {
+        keys: b"k)",
+        least: 2,
+        first: b"@misc(k) )",
+        second: b"",
+        entries: b"k)=-;-;-;\n[]",
+        log: b"",
+    },
 ];
 
 /// Ends of files, and a second file.
-pub const ENDS: [&[u8]; 12] = [
+pub const ENDS: [Row; 12] = [
     // An at sign at the end.
-    b"2|k|@misc{k}\n@ \n||k=-;-;-;\n[]\n!Error--Illegal end of database file--line 2 of file d.bib\n",
+    Row {
+        keys: b"k",
+        least: 2,
+        first: b"@misc{k}\n@ \n",
+        second: b"",
+        entries: b"k=-;-;-;\n[]",
+        log: b"!Error--Illegal end of database file--line 2 of file d.bib\n",
+    },
     // The end before a key.
-    b"2|k|@misc{||[]\n!Error--Illegal end of database file--line 1 of file d.bib\nWarning--I didn't find a database entry for \"k\"\n",
+    Row {
+        keys: b"k",
+        least: 2,
+        first: b"@misc{",
+        second: b"",
+        entries: b"[]",
+        log: b"!Error--Illegal end of database file--line 1 of file d.bib\nWarning--I didn't find a database entry for \"k\"\n",
+    },
     // The end behind a key.
-    b"2|k|@misc{k||k=-;-;-;\n[]\n!Error--Illegal end of database file--line 1 of file d.bib\n",
+    Row {
+        keys: b"k",
+        least: 2,
+        first: b"@misc{k",
+        second: b"",
+        entries: b"k=-;-;-;\n[]",
+        log: b"!Error--Illegal end of database file--line 1 of file d.bib\n",
+    },
     // Blank lines at the end.
-    b"2|k|@misc{k,\n\n||k=-;-;-;\n[]\n!Error--Illegal end of database file--line 2 of file d.bib\n",
+    Row {
+        keys: b"k",
+        least: 2,
+        first: b"@misc{k,\n\n",
+        second: b"",
+        entries: b"k=-;-;-;\n[]",
+        log: b"!Error--Illegal end of database file--line 2 of file d.bib\n",
+    },
     // The end behind a value.
-    b"2|k|@misc{k,title={A}||k=-;A;-;\n[]\n!Error--Illegal end of database file--line 1 of file d.bib\n",
+    Row {
+        keys: b"k",
+        least: 2,
+        first: b"@misc{k,title={A}",
+        second: b"",
+        entries: b"k=-;A;-;\n[]",
+        log: b"!Error--Illegal end of database file--line 1 of file d.bib\n",
+    },
     // The end behind the sign that joins a part.
-    b"2|k|@misc{k,title={A} #||k=-;-;-;\n[]\n!Error--Illegal end of database file--line 1 of file d.bib\n",
+    Row {
+        keys: b"k",
+        least: 2,
+        first: b"@misc{k,title={A} #",
+        second: b"",
+        entries: b"k=-;-;-;\n[]",
+        log: b"!Error--Illegal end of database file--line 1 of file d.bib\n",
+    },
     // The end in a value.
-    b"2|k|@misc{k, title = {A}, booktitle = \"cu||k=-;A;-;\n[]\n!Error--Illegal end of database file--line 1 of file d.bib\n",
+    Row {
+        keys: b"k",
+        least: 2,
+        first: b"@misc{k, title = {A}, booktitle = \"cu",
+        second: b"",
+        entries: b"k=-;A;-;\n[]",
+        log: b"!Error--Illegal end of database file--line 1 of file d.bib\n",
+    },
     // The end in a comment.
-    b"2|k|@misc{k}@comment{||k=-;-;-;\n[]\n",
+    Row {
+        keys: b"k",
+        least: 2,
+        first: b"@misc{k}@comment{",
+        second: b"",
+        entries: b"k=-;-;-;\n[]",
+        log: b"",
+    },
     // The empty key.
-    b"2|,k|@misc{,title={E}}@misc{k}||=-;E;-;\nk=-;-;-;\n[]\n",
+    Row {
+        keys: b",k",
+        least: 2,
+        first: b"@misc{,title={E}}@misc{k}",
+        second: b"",
+        entries: b"=-;E;-;\nk=-;-;-;\n[]",
+        log: b"",
+    },
     // A fault that ends the first file, and strings in the second.
-    b"2|k,j|@string{s={A}}@misc{k|\n@misc{j, title=s\n} @misc{\n|k=-;-;-;\nj=-;A;-;\n[]\n!Error--Illegal end of database file--line 1 of file d.bib\n!Error--Illegal end of database file--line 3 of file e.bib\n",
+    Row {
+        keys: b"k,j",
+        least: 2,
+        first: b"@string{s={A}}@misc{k",
+        second: b"\n@misc{j, title=s\n} @misc{\n",
+        entries: b"k=-;-;-;\nj=-;A;-;\n[]",
+        log: b"!Error--Illegal end of database file--line 1 of file d.bib\n!Error--Illegal end of database file--line 3 of file e.bib\n",
+    },
     // Warnings and faults of a second file.
-    b"2|k,j|@misc{k}|@misc{k,title={A}}\n@article{j,\ntitle=zz # {B},\ntitle={C}}\n@string{s=s} @=\n@misc j|k=-;-;-;\nj?-;B;-;\n[]\n!Error--Repeated entry--line 1 of file e.bib\nWarning--entry type for \"j\" isn't style-file defined--line 2 of file e.bib\nWarning--string name \"zz\" is undefined--line 3 of file e.bib\nWarning--I'm ignoring j's extra \"title\" field--line 4 of file e.bib\nWarning--string name \"s\" is used in its own definition--line 5 of file e.bib\n!Error--I was expecting a name--line 5 of file e.bib\n!Error--I was expecting a { or a (--line 6 of file e.bib\n",
+    Row {
+        keys: b"k,j",
+        least: 2,
+        first: b"@misc{k}",
+        second: b"@misc{k,title={A}}\n@article{j,\ntitle=zz # {B},\ntitle={C}}\n@string{s=s} @=\n@misc j",
+        entries: b"k=-;-;-;\nj?-;B;-;\n[]",
+        log: b"!Error--Repeated entry--line 1 of file e.bib\nWarning--entry type for \"j\" isn't style-file defined--line 2 of file e.bib\nWarning--string name \"zz\" is undefined--line 3 of file e.bib\nWarning--I'm ignoring j's extra \"title\" field--line 4 of file e.bib\nWarning--string name \"s\" is used in its own definition--line 5 of file e.bib\n!Error--I was expecting a name--line 5 of file e.bib\n!Error--I was expecting a { or a (--line 6 of file e.bib\n",
+    },
     // No database entry.
-    b"2|nope|||[]\nWarning--I didn't find a database entry for \"nope\"\n",
+    Row {
+        keys: b"nope",
+        least: 2,
+        first: b"",
+        second: b"",
+        entries: b"[]",
+        log: b"Warning--I didn't find a database entry for \"nope\"\n",
+    },
 ];
 
 /// The list and cross-references.
-pub const REFERENCES: [&[u8]; 21] = [
+pub const REFERENCES: [Row; 21] = [
     // One reference is fewer than two: the parent leaves, and what was inherited stays.
-    b"2|c1|@misc{c1, title = {One}, crossref = {p}}\n@misc{c2, title = {Two}, crossref = {p}}\n@book{P, booktitle = {Vol}}||c1=-;One;Vol;\n[]\n",
+    Row {
+        keys: b"c1",
+        least: 2,
+        first: b"@misc{c1, title = {One}, crossref = {p}}\n@misc{c2, title = {Two}, crossref = {p}}\n@book{P, booktitle = {Vol}}",
+        second: b"",
+        entries: b"c1=-;One;Vol;\n[]",
+        log: b"",
+    },
     // Two references keep a parent.
-    b"2|c1,c2|@misc{c1, title = {One}, crossref = {p}}\n@misc{c2, title = {Two}, crossref = {p}}\n@book{P, booktitle = {Vol}}||c1=P;One;Vol;\nc2=P;Two;Vol;\nP=-;-;Vol;\n[]\n",
+    Row {
+        keys: b"c1,c2",
+        least: 2,
+        first: b"@misc{c1, title = {One}, crossref = {p}}\n@misc{c2, title = {Two}, crossref = {p}}\n@book{P, booktitle = {Vol}}",
+        second: b"",
+        entries: b"c1=P;One;Vol;\nc2=P;Two;Vol;\nP=-;-;Vol;\n[]",
+        log: b"",
+    },
     // Nested references.
-    b"2|c|@misc{c, crossref={p}}\n@misc{p, title={P}, crossref={g}}\n@book{g, booktitle={G}}||c=-;P;-;\n[]\nWarning--you've nested cross references--entry \"c\" refers to entry \"p\"\n",
+    Row {
+        keys: b"c",
+        least: 2,
+        first: b"@misc{c, crossref={p}}\n@misc{p, title={P}, crossref={g}}\n@book{g, booktitle={G}}",
+        second: b"",
+        entries: b"c=-;P;-;\n[]",
+        log: b"Warning--you've nested cross references--entry \"c\" refers to entry \"p\"\n",
+    },
     // Nested references to parents that stay.
-    b"1|c|@misc{c, crossref={p}}\n@misc{p, title={P}, crossref={g}}\n@book{g, booktitle={G}}||c=p;P;-;\np=g;P;G;\ng=-;-;G;\n[]\nWarning--you've nested cross references--entry \"c\" refers to entry \"p\"\n",
+    Row {
+        keys: b"c",
+        least: 1,
+        first: b"@misc{c, crossref={p}}\n@misc{p, title={P}, crossref={g}}\n@book{g, booktitle={G}}",
+        second: b"",
+        entries: b"c=p;P;-;\np=g;P;G;\ng=-;-;G;\n[]",
+        log: b"Warning--you've nested cross references--entry \"c\" refers to entry \"p\"\n",
+    },
     // A parent before its child.
-    b"2|c|@book{p, booktitle={V}}\n@misc{c, crossref={p}}||c=-;-;-;\n[]\n!Error--A bad cross reference--entry \"c\" refers to entry \"p\", which doesn't exist\nWarning--I didn't find a database entry for \"p\"\n",
+    Row {
+        keys: b"c",
+        least: 2,
+        first: b"@book{p, booktitle={V}}\n@misc{c, crossref={p}}",
+        second: b"",
+        entries: b"c=-;-;-;\n[]",
+        log: b"!Error--A bad cross reference--entry \"c\" refers to entry \"p\", which doesn't exist\nWarning--I didn't find a database entry for \"p\"\n",
+    },
     // A parent before its child, where no reference is asked for.
-    b"0|c|@book{p, booktitle={V}}\n@misc{c, crossref={p}}||c=-;-;-;\n[]\n!Error--A bad cross reference--entry \"c\" refers to entry \"p\", which doesn't exist\nWarning--I didn't find a database entry for \"p\"\n",
+    Row {
+        keys: b"c",
+        least: 0,
+        first: b"@book{p, booktitle={V}}\n@misc{c, crossref={p}}",
+        second: b"",
+        entries: b"c=-;-;-;\n[]",
+        log: b"!Error--A bad cross reference--entry \"c\" refers to entry \"p\", which doesn't exist\nWarning--I didn't find a database entry for \"p\"\n",
+    },
     // Where no reference is asked for, each parent stays.
-    b"0|k|@misc{k,crossref={p}}@misc{p,title={T}}||k=p;T;-;\np=-;T;-;\n[]\n",
+    Row {
+        keys: b"k",
+        least: 0,
+        first: b"@misc{k,crossref={p}}@misc{p,title={T}}",
+        second: b"",
+        entries: b"k=p;T;-;\np=-;T;-;\n[]",
+        log: b"",
+    },
     // A parent whose first entry isn't stored.
-    b"2|k|@misc{p,title={1}}@misc{k,crossref={p}}@misc{p,title={2}}||k=-;2;-;\n[]\n",
+    Row {
+        keys: b"k",
+        least: 2,
+        first: b"@misc{p,title={1}}@misc{k,crossref={p}}@misc{p,title={2}}",
+        second: b"",
+        entries: b"k=-;2;-;\n[]",
+        log: b"",
+    },
     // A parent that is cited later.
-    b"2|c,p|@misc{c,crossref={P}}@book{p,title={T}}||c=p;T;-;\np=-;T;-;\n[]\n",
+    Row {
+        keys: b"c,p",
+        least: 2,
+        first: b"@misc{c,crossref={P}}@book{p,title={T}}",
+        second: b"",
+        entries: b"c=p;T;-;\np=-;T;-;\n[]",
+        log: b"",
+    },
     // A cited parent before its child.
-    b"2|c,p|@book{p,title={T}}@misc{c,crossref={P}}||c=p;T;-;\np=-;T;-;\n[]\n",
+    Row {
+        keys: b"c,p",
+        least: 2,
+        first: b"@book{p,title={T}}@misc{c,crossref={P}}",
+        second: b"",
+        entries: b"c=p;T;-;\np=-;T;-;\n[]",
+        log: b"",
+    },
     // An empty reference.
-    b"2|k|@misc{k,crossref={}}||k=-;-;-;\n[]\n!Error--A bad cross reference--entry \"k\" refers to entry \"\", which doesn't exist\nWarning--I didn't find a database entry for \"\"\n",
+    Row {
+        keys: b"k",
+        least: 2,
+        first: b"@misc{k,crossref={}}",
+        second: b"",
+        entries: b"k=-;-;-;\n[]",
+        log: b"!Error--A bad cross reference--entry \"k\" refers to entry \"\", which doesn't exist\nWarning--I didn't find a database entry for \"\"\n",
+    },
     // An entry that refers to itself.
-    b"2|k|@misc{k,crossref={K}}||k=k;-;-;\n[]\nWarning--you've nested cross references--entry \"k\" refers to entry \"k\"\n",
+    Row {
+        keys: b"k",
+        least: 2,
+        first: b"@misc{k,crossref={K}}",
+        second: b"",
+        entries: b"k=k;-;-;\n[]",
+        log: b"Warning--you've nested cross references--entry \"k\" refers to entry \"k\"\n",
+    },
     // Each entry takes what its parent has when its turn comes.
-    b"1|a|@misc{a,crossref={b}}@misc{b,crossref={c}}@misc{c,crossref={d}}@misc{d,title={D}}||a=b;-;-;\nb=c;-;-;\nc=d;D;-;\nd=-;D;-;\n[]\nWarning--you've nested cross references--entry \"a\" refers to entry \"b\"\nWarning--you've nested cross references--entry \"b\" refers to entry \"c\"\n",
+    Row {
+        keys: b"a",
+        least: 1,
+        first: b"@misc{a,crossref={b}}@misc{b,crossref={c}}@misc{c,crossref={d}}@misc{d,title={D}}",
+        second: b"",
+        entries: b"a=b;-;-;\nb=c;-;-;\nc=d;D;-;\nd=-;D;-;\n[]",
+        log: b"Warning--you've nested cross references--entry \"a\" refers to entry \"b\"\nWarning--you've nested cross references--entry \"b\" refers to entry \"c\"\n",
+    },
     // The same list in the other order.
-    b"2|d,c,b,a|@misc{a,crossref={b}}@misc{b,crossref={c}}@misc{c,crossref={d}}@misc{d,title={D}}||d=-;D;-;\nc=d;D;-;\nb=c;D;-;\na=b;D;-;\n[]\nWarning--you've nested cross references--entry \"b\" refers to entry \"c\"\nWarning--you've nested cross references--entry \"a\" refers to entry \"b\"\n",
+    Row {
+        keys: b"d,c,b,a",
+        least: 2,
+        first: b"@misc{a,crossref={b}}@misc{b,crossref={c}}@misc{c,crossref={d}}@misc{d,title={D}}",
+        second: b"",
+        entries: b"d=-;D;-;\nc=d;D;-;\nb=c;D;-;\na=b;D;-;\n[]",
+        log: b"Warning--you've nested cross references--entry \"b\" refers to entry \"c\"\nWarning--you've nested cross references--entry \"a\" refers to entry \"b\"\n",
+    },
     // An ignored second reference counts nothing.
-    b"2|k|@misc{k,crossref={p},crossref={q}}@misc{q}@misc{p}||k=-;-;-;\n[]\nWarning--I'm ignoring k's extra \"crossref\" field--line 1 of file d.bib\n",
+    Row {
+        keys: b"k",
+        least: 2,
+        first: b"@misc{k,crossref={p},crossref={q}}@misc{q}@misc{p}",
+        second: b"",
+        entries: b"k=-;-;-;\n[]",
+        log: b"Warning--I'm ignoring k's extra \"crossref\" field--line 1 of file d.bib\n",
+    },
     // A parent in the second file.
-    b"1|c|@misc{c,crossref={p}}|@book{p,title={T}}|c=p;T;-;\np=-;T;-;\n[]\n",
+    Row {
+        keys: b"c",
+        least: 1,
+        first: b"@misc{c,crossref={p}}",
+        second: b"@book{p,title={T}}",
+        entries: b"c=p;T;-;\np=-;T;-;\n[]",
+        log: b"",
+    },
     // All entries, with keys cited before and after.
-    b"2|b,*,c,e|@misc{a}@misc{b}@misc{c}@misc{d}||b=-;-;-;\na=-;-;-;\nc=-;-;-;\nd=-;-;-;\n[]\nWarning--I didn't find a database entry for \"e\"\n",
+    Row {
+        keys: b"b,*,c,e",
+        least: 2,
+        first: b"@misc{a}@misc{b}@misc{c}@misc{d}",
+        second: b"",
+        entries: b"b=-;-;-;\na=-;-;-;\nc=-;-;-;\nd=-;-;-;\n[]",
+        log: b"Warning--I didn't find a database entry for \"e\"\n",
+    },
     // All entries: a key cited later has its own spelling at its entry's place.
-    b"2|*,K|@misc{a}@misc{k}@misc{b}||a=-;-;-;\nK=-;-;-;\nb=-;-;-;\n[]\n",
+    Row {
+        keys: b"*,K",
+        least: 2,
+        first: b"@misc{a}@misc{k}@misc{b}",
+        second: b"",
+        entries: b"a=-;-;-;\nK=-;-;-;\nb=-;-;-;\n[]",
+        log: b"",
+    },
     // All entries: a reference adds no key.
-    b"2|*|@misc{k,crossref={P}}||k=-;-;-;\n[]\n!Error--A bad cross reference--entry \"k\" refers to entry \"P\", which doesn't exist\n",
+    Row {
+        keys: b"*",
+        least: 2,
+        first: b"@misc{k,crossref={P}}",
+        second: b"",
+        entries: b"k=-;-;-;\n[]",
+        log: b"!Error--A bad cross reference--entry \"k\" refers to entry \"P\", which doesn't exist\n",
+    },
     // All entries: the parent was cited and has no entry.
-    b"2|*,p|@misc{k,crossref={P}}||k=-;-;-;\n[]\n!Error--A bad cross reference--entry \"k\" refers to entry \"p\", which doesn't exist\nWarning--I didn't find a database entry for \"p\"\n",
+    Row {
+        keys: b"*,p",
+        least: 2,
+        first: b"@misc{k,crossref={P}}",
+        second: b"",
+        entries: b"k=-;-;-;\n[]",
+        log: b"!Error--A bad cross reference--entry \"k\" refers to entry \"p\", which doesn't exist\nWarning--I didn't find a database entry for \"p\"\n",
+    },
     // All entries: no parent leaves.
-    b"2|*|@misc{k,crossref={p}}@misc{p,title={T}}||k=p;T;-;\np=-;T;-;\n[]\n",
+    Row {
+        keys: b"*",
+        least: 2,
+        first: b"@misc{k,crossref={p}}@misc{p,title={T}}",
+        second: b"",
+        entries: b"k=p;T;-;\np=-;T;-;\n[]",
+        log: b"",
+    },
 ];
 
 /// A style for the databases that are made of `TEN_ENTRIES`.

@@ -1,5 +1,5 @@
 //! A style of more than a thousand lines, made of parts for fields, types, months and journals, is read without a message.
-use crate::showing::{cut, look_over};
+use crate::showing::look_over;
 use btx_text::Fault;
 use std::alloc::{AllocError, Global};
 
@@ -70,10 +70,16 @@ fn push_part(
     Ok(())
 }
 
+// What stands before the `=` of a word, and behind it.
+fn cut(word: &[u8]) -> (&[u8], &[u8]) {
+    let mut parts = word.splitn(2, |byte| *byte == b'=');
+    (parts.next().unwrap_or(b""), parts.next().unwrap_or(b""))
+}
+
 // A part for each of these words, which are a first one and, behind a `=`, a second.
 fn push_parts(text: &mut Vec<u8>, part: &[u8], words: &[u8]) -> Result<(), AllocError> {
     for word in words.split(|byte| *byte == b' ') {
-        let (first, second) = cut(word, b'=');
+        let (first, second) = cut(word);
         push_part(text, part, first, second)?;
     }
     Ok(())

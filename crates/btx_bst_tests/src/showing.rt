@@ -3,6 +3,9 @@ use btx_bst::{Callee, Item, Message, Style, Token, is_direct, read_style};
 use btx_text::Fault;
 use std::alloc::{AllocError, Global};
 
+/// A style's text, and what is shown of it.
+pub type Row = (&'static [u8], &'static [u8]);
+
 /// What is shown of a style.
 #[derive(Clone, Copy)]
 pub enum Shown {
@@ -82,16 +85,9 @@ fn shows(alloc: Global, text: &[u8], shown: Shown, wanted: &[u8]) -> Result<bool
     style_shows(alloc, &style, shown, wanted)
 }
 
-/// Answers what stands before the first byte of a text that is `mark`, and behind it.
-pub fn cut(text: &[u8], mark: u8) -> (&[u8], &[u8]) {
-    let mut parts = text.splitn(2, |byte| *byte == mark);
-    (parts.next().unwrap_or(b""), parts.next().unwrap_or(b""))
-}
-
-/// Answers the number of the first row that isn't shown as the row says, if there is one: a style's text and what is shown of it, with a `|` between.
-pub fn first_wrong(alloc: Global, rows: &[&[u8]], shown: Shown) -> Result<Option<usize>, Fault> {
-    for (number, row) in rows.iter().enumerate() {
-        let (text, wanted) = cut(row, b'|');
+/// Answers the number of the first row that isn't shown as the row says, if there is one.
+pub fn first_wrong(alloc: Global, rows: &[Row], shown: Shown) -> Result<Option<usize>, Fault> {
+    for (number, (text, wanted)) in rows.iter().enumerate() {
         if !shows(alloc, text, shown, wanted)? {
             return Ok(Some(number));
         }

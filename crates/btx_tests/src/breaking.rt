@@ -238,9 +238,12 @@ fn holds(
     }
 }
 
-// Whether a trial holds over a writer; None if no write failed where one was to fail. A length that isn't allowed would be the usual one.
+// Whether a trial holds over a writer; None if no write failed where one was to fail. For a length that isn't allowed no trial holds.
 fn tried(alloc: Global, line_length: u32, writer: FakeWriter, trial: Trial<'_>) -> Option<bool> {
-    let mut breaker = Breaker::new(LineLength::new(line_length).unwrap_or(LineLength::default()));
+    let Some(line_length) = LineLength::new(line_length) else {
+        return Some(false);
+    };
+    let mut breaker = Breaker::new(line_length);
     let mut sink = Over::new(writer);
     holds(alloc, trial, &mut breaker, &mut sink)
 }
