@@ -1,5 +1,5 @@
 //! The `.aux` files of a job.
-ghost use Rattle.std.specs.Prelude.{◌≡◌, ◌∷◌, ◌++◌, map, not, IfOk, IfSome, OnOk};
+ghost use Rattle.std.specs.Prelude.{◌≡◌, ◌∷◌, ◌++◌, map, not, IfErr, IfOk, IfSome, OnOk};
 ghost use Rattle.btx_aux.specs.refinement.Answers.{AsksTop, ByAnswers};
 ghost use Rattle.btx_aux.specs.refinement.Faults.{CountsOfOne};
 ghost use Rattle.btx_aux.specs.language.Job.{job_of_files};
@@ -31,8 +31,7 @@ pub fn read_aux<F: Finder>(alloc: Global, finder: &mut F, top: &[u8]) -> Result<
 {
     let mut draft = Draft::new(alloc);
     read_top(alloc, finder, &mut draft, top)?;
-    let job = close(alloc, draft)?;
-    Ok(job)
+    close(alloc, draft)
 }
 
 // The top file.
@@ -56,8 +55,9 @@ fn read_top<F: Finder>(
 }
 
 // What is known, with what is missing in the whole.
-fn close(alloc: Global, draft: Draft) -> Result<AuxJob, AllocError>
-    ensures { IfOk result (λ job. job ≡ closed draft) }
+fn close(alloc: Global, draft: Draft) -> Result<AuxJob, Fault>
+    ensures job { IfOk result (λ job. job ≡ closed draft) }
+    ensures fault { IfErr result (λ fault. fault ≡ Fault.Memory) }
 {
     let mut draft = draft;
     if draft.ending == End::Whole {
