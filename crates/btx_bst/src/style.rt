@@ -1,5 +1,5 @@
 //! A style that has been read.
-ghost use Rattle.std.specs.Prelude.{◌≡◌, ◌<◌, ◌≤◌, length, slice_index_or, [], IfOk, option_copied};
+ghost use Rattle.std.specs.Prelude.{◌≡◌, ◌<◌, ◌≤◌, length, slice_index_or, [], IfOk, OnOk, option_copied};
 ghost use Rattle.btx_bst.specs.language.Predefined.{predefined};
 ghost use Rattle.btx_bst.specs.language.StyleText.{style_of};
 ghost use Rattle.btx_bst.specs.refinement.StyleReads.{Reads};
@@ -8,7 +8,7 @@ ghost use Rattle.btx_bst.specs.language.Names.{named_lower, name_of};
 ghost use Rattle.btx_bst.specs.language.Style.{field_of, type_of};
 ghost use Rattle.btx_bst.specs.refinement.Views.{items_view};
 ghost use Rattle.btx_text.specs.language.Limits.{greatest_file};
-ghost use Rattle.btx_bst.specs.laws.Names.{macro_lower};
+ghost use Rattle.btx_bst.specs.laws.Names.{macro_lower, no_names};
 
 use crate::callee::{Callee, Kind};
 use crate::cursor::Cursor;
@@ -74,16 +74,24 @@ fn read_text<'a>(
 }
 
 // The names that are known before a style.
-#[tactic(auto, using(crate::proofs::PredefinedLemmas::new_names))]
 fn predefined<'a>(alloc: Global) -> Result<Names<'a>, AllocError>
     ensures { IfOk result (λ names. names ≡ predefined) }
 {
     let mut names = Names::new(alloc)?;
+    predefine(alloc, &mut names)?;
+    Ok(names)
+}
+
+// Adds those that name no built-in function.
+#[tactic(auto, using(crate::proofs::PredefinedLemmas::new_names))]
+fn predefine(alloc: Global, names: &mut Names<'_>) -> Result<(), AllocError>
+    requires { names.old ≡ no_names }
+    ensures { OnOk result (names.new ≡ predefined) }
+{
     names.add(alloc, Kind::Field, Name::of(alloc, b"crossref")?)?;
     names.add(alloc, Kind::EntryString, Name::of(alloc, b"sort.key$")?)?;
     names.add(alloc, Kind::GlobalInteger, Name::of(alloc, b"entry.max$")?)?;
-    names.add(alloc, Kind::GlobalInteger, Name::of(alloc, b"global.max$")?)?;
-    Ok(names)
+    names.add(alloc, Kind::GlobalInteger, Name::of(alloc, b"global.max$")?)
 }
 
 impl<'a> Style<'a> {
