@@ -76,8 +76,8 @@ impl<'a> Gathering<'a> {
         self.read_short(alloc, request, source, messages)
     }
 
-    /// All databases, one after the other.
-    pub fn read_all(
+    // All databases, one after the other.
+    fn read_all(
         &mut self,
         alloc: Global,
         request: &Request<'_, 'a>,
@@ -127,8 +127,8 @@ impl<'a> Gathering<'a> {
         }
     }
 
-    /// The macros of the style.
-    pub fn define_macros(&mut self, alloc: Global, macros: &Macros<'a>) -> Result<(), AllocError>
+    // The macros of the style.
+    fn define_macros(&mut self, alloc: Global, macros: &Macros<'a>) -> Result<(), AllocError>
         ensures { OnOk result (self.new ≡ kept_macros self.old macros.now) }
     {
         for index in 0..macros.len() {
@@ -137,6 +137,22 @@ impl<'a> Gathering<'a> {
             }
         }
         Ok(())
+    }
+
+    /// The macros of the style, and then all databases.
+    pub fn read(
+        &mut self,
+        alloc: Global,
+        request: &Request<'_, 'a>,
+        macros: &Macros<'a>,
+        sources: &[Source<'a>],
+        messages: &mut Messages<'a>,
+    ) -> Result<(), AllocError>
+        ensures state { OnOk result (self.new ≡ kept_by_all (wanted request.now) (kept_macros self.old macros.now) (source_databases sources.now)) }
+        ensures logged { OnOk result (messages.new ≡ messages.old ++ messages_of_all (wanted request.now) (kept_macros self.old macros.now) (source_databases sources.now)) }
+    {
+        self.define_macros(alloc, macros)?;
+        self.read_all(alloc, request, sources, messages)
     }
 
     // The library of what is kept and reported, where all databases were read.
@@ -195,6 +211,7 @@ ghost use Rattle.std.specs.Prelude.{◌≡◌, IfErr, IfOk};
 ghost use Rattle.btx_text.specs.declared.fault.Fault.TheVariants.{Memory};
 ghost use Rattle.btx_bib.specs.language.Databases.{library_of};
 ghost use Rattle.btx_bib.specs.language.Requests.{asked};
+ghost use Rattle.btx_bib.specs.refinement.Requests.{wanted};
 ghost use Rattle.btx_bib.specs.refinement.Sources.{source_databases};
 
 /// Reads the databases of a job: what they give to it and its style, where an entry that isn't cited stays if at least `min_crossrefs` others refer to it.
@@ -224,9 +241,20 @@ fn library_read<'a>(
     ensures { IfOk result (λ library. library ≡ library_of (asked style.now job.now min_crossrefs) style.now.macros (source_databases sources.now)) }
 {
     let request = Request::of(alloc, style, job, min_crossrefs)?;
+    library_requested(alloc, &request, style.macros(), sources)
+}
+
+// The library that is requested so.
+fn library_requested<'a>(
+    alloc: Global,
+    request: &Request<'_, 'a>,
+    macros: &Macros<'a>,
+    sources: &[Source<'a>],
+) -> Result<Library<'a>, AllocError>
+    ensures { IfOk result (λ library. library ≡ library_of (wanted request.now) macros.now (source_databases sources.now)) }
+{
+    let mut gathering = Gathering::new(alloc, request)?;
     let mut messages = Messages::new(alloc);
-    let mut gathering = Gathering::new(alloc, &request)?;
-    gathering.define_macros(alloc, style.macros())?;
-    gathering.read_all(alloc, &request, sources, &mut messages)?;
-    gathering.library(alloc, &request, messages)
+    gathering.read(alloc, request, macros, sources, &mut messages)?;
+    gathering.library(alloc, request, messages)
 }

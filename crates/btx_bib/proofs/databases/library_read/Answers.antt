@@ -1,35 +1,15 @@
-use Rattle.std.proofs.Common.{◌∙◌, ◌++◌, List, ap}
+use Rattle.std.proofs.Common.{◌∙◌, ap}
 use Rattle.std.proofs.lemmas.Result.{IfOk-weaker}
-use Rattle.btx_bib.specs.declared.gathering.Gathering.{Gathering}
-use Rattle.btx_bib.specs.declared.message.Message.{Message}
+use Rattle.std.specs.Prelude.{List, ℕ}
 use Rattle.btx_bib.specs.language.Databases.{library_of}
-use Rattle.btx_bib.specs.refinement.Sources.{source_databases}
-use Rattle.btx_bib.specs.refinement.Readings.{nothing_gathered, kept_by_all, kept_macros, messages_of_all}
-use Rattle.btx_bib.specs.refinement.Requests.{wanted}
 use Rattle.btx_bib.specs.language.Wanted.{Request}
-use Rattle.btx_bib.proofs.WholeLemmas.{is-listed, library-is}
+use Rattle.btx_bib.specs.refinement.Requests.{wanted}
+use Rattle.btx_bib.specs.refinement.Sources.{source_databases}
 use Rattle.btx_bib.proofs.databases.library_read.Goals as goal
-
-pub library-requires : goal.library-requires
-library-requires c =
-    let w = wanted c.in_ok-request.request in
-    let macros = c.args.style.now.macros in
-    let databases = source_databases c.args.sources.now in
-    let start = c.in_ok-define_macros.ensures ∙ ap (λ (k : Gathering). kept_macros k c.macros.result.now) c.in_ok-gathering.ensures ∙ ap (kept_macros (nothing_gathered w)) c.macros.ensures in
-    is-listed w macros databases c.read_all.new.self (c.in_ok-read_all.ensures.state ∙ ap (λ (k : Gathering). kept_by_all w k databases) start)
 
 pub returns : goal.returns
 returns c =
-    let w = wanted c.in_ok-request.request in
-    let macros = c.args.style.now.macros in
     let databases = source_databases c.args.sources.now in
-    let start = c.in_ok-define_macros.ensures ∙ ap (λ (k : Gathering). kept_macros k c.macros.result.now) c.in_ok-gathering.ensures ∙ ap (kept_macros (nothing_gathered w)) c.macros.ensures in
-    let kept = c.in_ok-read_all.ensures.state ∙ ap (λ (k : Gathering). kept_by_all w k databases) start in
-    let logs =
-    c.in_ok-read_all.ensures.logged
-    ∙ ap (λ (ms : List Message). ms ++ messages_of_all w c.define_macros.new.self databases) c.new-messages.ensures
-    ∙ ap (λ (k : Gathering). messages_of_all w k databases) start in
-    let whole =
-    library-is w macros databases c.read_all.new.self kept c.read_all.new.messages logs
-    ∙ ap (λ (asks : Request). library_of asks macros databases) c.in_ok-request.ensures in
-    IfOk-weaker c.library.result _ _ (λ library is. is ∙ whole) c.library.ensures
+    let of_macros = ap (λ (macros : List (List ℕ × List ℕ)). library_of (wanted c.in_ok-request.request) macros databases) c.macros.ensures in
+    let of_request = ap (λ (asks : Request). library_of asks c.args.style.now.macros databases) c.in_ok-request.ensures in
+    IfOk-weaker c.library_requested.result _ _ (λ library is. is ∙ of_macros ∙ of_request) c.library_requested.ensures
