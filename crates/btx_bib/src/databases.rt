@@ -6,7 +6,6 @@ use crate::grammar::line_counter::LineCounter;
 use crate::grammar::value_texts::squeezed_text;
 use crate::library::Library;
 use crate::message::Messages;
-use crate::passes::entries_of;
 use crate::request::Request;
 use crate::site::Site;
 use crate::spelling::Word;
@@ -160,28 +159,19 @@ impl<'a> Gathering<'a> {
         self,
         alloc: Global,
         request: &Request<'_, 'a>,
-        mut messages: Messages<'a>,
+        messages: Messages<'a>,
     ) -> Result<Library<'a>, AllocError>
         requires { IsListed (listed_draft (wanted request.now) self.draft) }
         ensures { IfOk result (λ library. library ≡ library_kept end.Whole (wanted request.now) self.entry messages.entry) }
     {
         let Gathering {
-            mut draft,
+            draft,
             strings: _,
             current: _,
             preamble,
             ending: _,
         } = self;
-        draft.cite_all(alloc, request, request.last_cited())?;
-        let Draft { names, slots } = draft;
-        let slots = slots.settled(alloc)?;
-        let entries = entries_of(slots, alloc, names, &mut messages)?;
-        Ok(Library {
-            entries,
-            preamble,
-            messages,
-            ending: End::Whole,
-        })
+        draft.library(alloc, request, preamble, messages)
     }
 
     /// The library of what is kept and reported.

@@ -1,7 +1,12 @@
 //! The list of keys, while databases are read.
 use crate::draft_slots::{DraftSlot, DraftSlots};
+use crate::end::End;
+use crate::entry::Entry;
+use crate::library::Library;
 use crate::lowering::in_lower_case;
+use crate::message::Messages;
 use crate::names::Names;
+use crate::passes::entries_of;
 use crate::request::Request;
 use crate::slots::Body;
 use crate::spelling::{Spelling, Word};
@@ -27,9 +32,11 @@ pub enum Standing {
 }
 
 impl<'a> Draft<'a> {
-    ghost use Rattle.std.specs.Prelude.{◌≡◌, OnOk, IfOk};
+    ghost use Rattle.std.specs.Prelude.{◌≡◌, ◌++◌, OnOk, IfOk};
     ghost use Rattle.btx_aux.specs.refinement.Entries.{texts_of};
-    ghost use Rattle.btx_bib.specs.refinement.Drafts.{cited_all, cited_at, empty, has_entry, place_in, put_at, referred, referred_at, standing_at, stored_at};
+    ghost use Rattle.btx_bib.specs.refinement.Drafts.{cited_all, cited_at, empty, has_entry, place_in, put_at, referred, referred_at, settled_all, standing_at, stored_at};
+    ghost use Rattle.btx_bib.specs.refinement.Readings.{IsListed, library_listed, listed_draft};
+    ghost use Rattle.btx_bib.specs.language.Passes.{entries_of, reference_messages};
     ghost use Rattle.btx_bib.specs.refinement.Requests.{wanted};
     ghost use Rattle.btx_bib.specs.language.Listing.{first_cited};
 
@@ -58,6 +65,44 @@ impl<'a> Draft<'a> {
             self.cite(alloc, request, key.as_slice())?;
         }
         Ok(())
+    }
+
+    /// The library, once all databases are read: the keys that are cited last are listed too, and what the passes report is added to the messages.
+    pub fn library(
+        self,
+        alloc: Global,
+        request: &Request<'_, 'a>,
+        preamble: Text<'a>,
+        messages: Messages<'a>,
+    ) -> Result<Library<'a>, AllocError>
+        requires { IsListed (listed_draft (wanted request.now) self) }
+        ensures { IfOk result (λ library. library ≡ library_listed (settled_all (listed_draft (wanted request.now) self.entry).slots) preamble.entry messages.entry) }
+    {
+        let mut draft = self;
+        let mut messages = messages;
+        draft.cite_all(alloc, request, request.last_cited())?;
+        let entries = draft.entries(alloc, &mut messages)?;
+        Ok(Library {
+            entries,
+            preamble,
+            messages,
+            ending: End::Whole,
+        })
+    }
+
+    // The entries that stay, with what they inherit.
+    fn entries(
+        self,
+        alloc: Global,
+        messages: &mut Messages<'a>,
+    ) -> Result<Vec<Entry<'a>>, AllocError>
+        requires { IsListed self }
+        ensures entries { IfOk result (λ entries. entries.items ≡ entries_of (settled_all self.entry.slots)) }
+        ensures messages { OnOk result (messages.new ≡ messages.old ++ reference_messages (settled_all self.entry.slots)) }
+    {
+        let Draft { names, slots } = self;
+        let slots = slots.settled(alloc)?;
+        entries_of(slots, alloc, names, messages)
     }
 
     // Lists a cited key.

@@ -8,6 +8,7 @@ use Rattle.btx_bib.specs.declared.end.End.TheVariants.{FileLimit}
 use Rattle.btx_bib.specs.declared.gathering.Gathering.{Gathering}
 use Rattle.btx_bib.specs.declared.grammar.commands.Wanted.TheVariants.{Item}
 use Rattle.btx_bib.specs.declared.message.Message.{Message}
+use Rattle.btx_bib.specs.declared.slots.Slot.{Slot}
 use Rattle.btx_bib.specs.refinement.Drafts.{cited_all, empty, settled_all}
 use Rattle.btx_bib.specs.language.Grammar.ValueTexts.{squeezed}
 use Rattle.btx_bib.specs.refinement.Gatherings.{closed, events_with, kept_along, kept_messages}
@@ -68,13 +69,12 @@ listed_draft wanted draft = cited_all wanted draft (last_cited wanted.all wanted
 abbrev pub IsListed : Draft → Type 0
 IsListed draft = draft.names ≡ lower_keys (settled_all draft.slots)
 
+-- the library of these places, with this preamble, behind these messages
+abbrev pub library_listed : List Slot → List ℕ → List Message → Library
+library_listed slots preamble messages = record { entries = entries_of slots; preamble = preamble; messages = messages ++ reference_messages slots; ending = end.Whole }
+
 -- the library of what is kept, with these messages
 abbrev pub library_kept : End → Request → Gathering → List Message → Library
-library_kept end.Whole wanted kept messages = record {
-  entries = entries_of (settled_all (listed_draft wanted kept.draft).slots);
-  preamble = kept.preamble;
-  messages = messages ++ reference_messages (settled_all (listed_draft wanted kept.draft).slots);
-  ending = end.Whole;
-}
+library_kept end.Whole wanted kept messages = library_listed (settled_all (listed_draft wanted kept.draft).slots) kept.preamble messages
 library_kept end.FileLimit wanted kept messages = record { entries = []; preamble = []; messages = messages; ending = end.FileLimit }
 library_kept end.StringLimit wanted kept messages = record { entries = []; preamble = []; messages = messages; ending = end.StringLimit }
