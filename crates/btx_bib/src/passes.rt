@@ -70,19 +70,22 @@ fn report_parent<'a>(
 ) -> Result<(), AllocError>
     ensures { OnOk result (messages.new ≡ messages.old ++ parent_messages child.now key.now (option_copied parent.entry)) }
 {
-    let Some(slot) = parent else {
-        let key = Spelling::of_value(key.copy(alloc)?, alloc)?;
-        return messages.push(Message::BadReference(child.copy(alloc)?, key));
+    let is_nested = match parent {
+        Some(slot) if slot.body.is_some() => {
+            if !slot.has_parent() {
+                return Ok(());
+            }
+            true
+        }
+        _ => false,
     };
-    if slot.body.is_none() {
-        let key = Spelling::of_value(key.copy(alloc)?, alloc)?;
-        return messages.push(Message::BadReference(child.copy(alloc)?, key));
-    }
-    if slot.has_parent() {
-        let key = Spelling::of_value(key.copy(alloc)?, alloc)?;
-        return messages.push(Message::NestedReference(child.copy(alloc)?, key));
-    }
-    Ok(())
+    let key = Spelling::of_value(key.copy(alloc)?, alloc)?;
+    let child = child.copy(alloc)?;
+    messages.push(if is_nested {
+        Message::NestedReference(child, key)
+    } else {
+        Message::BadReference(child, key)
+    })
 }
 
 // The second pass, at one place.
