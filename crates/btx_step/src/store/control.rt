@@ -21,28 +21,26 @@ impl<'a> Store<'a> {
         requires { said.old ≡ silence }
         ensures { IfOk result (λ next. answer next said.new self.new ≡ runs built_in.If kept_spec.chooses self.old) }
     {
-        let otherwise = self.literals.pop(self.alloc)?;
-        let then = self.literals.pop(self.alloc)?;
-        let number = self.literals.pop(self.alloc)?;
-        match (otherwise, then, number) {
-            (Some(Literal::Function(f)), Some(Literal::Function(g)), Some(Literal::Integer(n))) => {
-                Ok(Next::Run(if n > 0 { g } else { f }))
-            }
-            (Some(Literal::Function(_)), Some(Literal::Function(_)), Some(other)) => {
-                self.refuse(other, Wanted::Integer, StandIn::Nothing, said)
-            }
-            (Some(Literal::Function(_)), Some(other), Some(_)) => {
-                self.refuse(other, Wanted::Function, StandIn::Nothing, said)
-            }
-            (Some(other), Some(_), Some(_)) => self.refuse(
-                other,
-                Wanted::Function,
-                StandIn::Nothing,
-                said,
-            ),
-            (Some(_top), Some(_below), None) => self.lack(1, StandIn::Nothing, said),
-            (Some(_), None, _) => self.lack(2, StandIn::Nothing, said),
-            (None, _, _) => self.lack(3, StandIn::Nothing, said),
+        let Some(otherwise) = self.literals.pop(self.alloc)? else {
+            return self.lack(3, StandIn::Nothing, said);
+        };
+        let Some(then) = self.literals.pop(self.alloc)? else {
+            return self.lack(2, StandIn::Nothing, said);
+        };
+        let Some(number) = self.literals.pop(self.alloc)? else {
+            return self.lack(1, StandIn::Nothing, said);
+        };
+        let otherwise = match otherwise {
+            Literal::Function(otherwise) => otherwise,
+            other => return self.refuse(other, Wanted::Function, StandIn::Nothing, said),
+        };
+        let then = match then {
+            Literal::Function(then) => then,
+            other => return self.refuse(other, Wanted::Function, StandIn::Nothing, said),
+        };
+        match number {
+            Literal::Integer(n) => Ok(Next::Run(if n > 0 { then } else { otherwise })),
+            other => self.refuse(other, Wanted::Integer, StandIn::Nothing, said),
         }
     }
 
@@ -51,19 +49,19 @@ impl<'a> Store<'a> {
         requires { said.old ≡ silence }
         ensures { IfOk result (λ next. answer next said.new self.new ≡ runs built_in.While kept_spec.loops self.old) }
     {
-        match (
-            self.literals.pop(self.alloc)?,
-            self.literals.pop(self.alloc)?,
-        ) {
-            (Some(Literal::Function(body)), Some(Literal::Function(test))) => Ok(Next::Loop(
-                test, body,
-            )),
-            (Some(Literal::Function(_)), Some(other)) => {
-                self.refuse(other, Wanted::Function, StandIn::Nothing, said)
-            }
-            (Some(other), Some(_)) => self.refuse(other, Wanted::Function, StandIn::Nothing, said),
-            (Some(_), None) => self.lack(1, StandIn::Nothing, said),
-            (None, _) => self.lack(2, StandIn::Nothing, said),
+        let Some(body) = self.literals.pop(self.alloc)? else {
+            return self.lack(2, StandIn::Nothing, said);
+        };
+        let Some(test) = self.literals.pop(self.alloc)? else {
+            return self.lack(1, StandIn::Nothing, said);
+        };
+        let body = match body {
+            Literal::Function(body) => body,
+            other => return self.refuse(other, Wanted::Function, StandIn::Nothing, said),
+        };
+        match test {
+            Literal::Function(test) => Ok(Next::Loop(test, body)),
+            other => self.refuse(other, Wanted::Function, StandIn::Nothing, said),
         }
     }
 

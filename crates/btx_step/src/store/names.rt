@@ -44,30 +44,26 @@ impl<'a> Store<'a> {
         requires { said.old ≡ silence }
         ensures { IfOk result (λ next. answer next said.new self.new ≡ runs built_in.FormatName (spec.formats_name job.now) self.old) }
     {
-        let format = self.literals.pop(self.alloc)?;
-        let number = self.literals.pop(self.alloc)?;
-        let names = self.literals.pop(self.alloc)?;
-        match (format, number, names) {
-            (
-                Some(Literal::Text(format)),
-                Some(Literal::Integer(number)),
-                Some(Literal::Text(names)),
-            ) => { self.push_name(job, names, number, format, said) }
-            (Some(Literal::Text(_)), Some(Literal::Integer(_)), Some(other)) => {
-                self.refuse(other, Wanted::Text, StandIn::Empty, said)
-            }
-            (Some(Literal::Text(_)), Some(other), Some(_)) => {
-                self.refuse(other, Wanted::Integer, StandIn::Empty, said)
-            }
-            (Some(other), Some(_), Some(_)) => self.refuse(
-                other,
-                Wanted::Text,
-                StandIn::Empty,
-                said,
-            ),
-            (Some(_top), Some(_below), None) => self.lack(1, StandIn::Empty, said),
-            (Some(_), None, _) => self.lack(2, StandIn::Empty, said),
-            (None, _, _) => self.lack(3, StandIn::Empty, said),
+        let Some(format) = self.literals.pop(self.alloc)? else {
+            return self.lack(3, StandIn::Empty, said);
+        };
+        let Some(number) = self.literals.pop(self.alloc)? else {
+            return self.lack(2, StandIn::Empty, said);
+        };
+        let Some(names) = self.literals.pop(self.alloc)? else {
+            return self.lack(1, StandIn::Empty, said);
+        };
+        let format = match format {
+            Literal::Text(format) => format,
+            other => return self.refuse(other, Wanted::Text, StandIn::Empty, said),
+        };
+        let number = match number {
+            Literal::Integer(number) => number,
+            other => return self.refuse(other, Wanted::Integer, StandIn::Empty, said),
+        };
+        match names {
+            Literal::Text(names) => self.push_name(job, names, number, format, said),
+            other => self.refuse(other, Wanted::Text, StandIn::Empty, said),
         }
     }
 
