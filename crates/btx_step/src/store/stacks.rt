@@ -37,21 +37,16 @@ impl<'a> Store<'a> {
         requires { said.old ≡ silence }
         ensures { IfOk result (λ next. answer next said.new self.new ≡ runs built_in.Swap spec.swaps self.old) }
     {
-        match (
-            self.literals.pop(self.alloc)?,
-            self.literals.pop(self.alloc)?,
-        ) {
-            (Some(top), Some(below)) => {
-                self.literals.put(top)?;
-                self.literals.put(below)?;
-                Ok(Next::Nothing)
-            }
-            (Some(top), None) => {
-                self.literals.put(top)?;
-                self.complain(Note::EmptyStack, StandIn::Nothing, said)
-            }
-            (None, _) => self.lack(2, StandIn::Nothing, said),
-        }
+        let Some(top) = self.literals.pop(self.alloc)? else {
+            return self.lack(2, StandIn::Nothing, said);
+        };
+        let Some(below) = self.literals.pop(self.alloc)? else {
+            self.literals.put(top)?;
+            return self.complain(Note::EmptyStack, StandIn::Nothing, said);
+        };
+        self.literals.put(top)?;
+        self.literals.put(below)?;
+        Ok(Next::Nothing)
     }
 
     // `pop$`
