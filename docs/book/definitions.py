@@ -271,7 +271,7 @@ def exported_type(crate, name):
 
 def target_of(path, name):
     """What an imported name is: a definition, a word of the library, or None where there is none."""
-    if not (path.startswith("btx_") or path.startswith("bibtex.")):
+    if not path.startswith("btx_"):
         return Word(name)
     crate, _, rest = path.partition(".specs.")
     if rest.startswith("declared."):

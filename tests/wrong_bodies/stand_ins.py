@@ -5,7 +5,8 @@ the bodies and the proofs of the others: each gets the body `loop {}`, and a pro
 contracts, definitions and lemmas stay as they are. What is checked is then a small part of the crate, by the same goals.
 
 A few functions always keep their own: those in a cycle of calls, whose proof is one for all; `const` ones, which the compiler computes; those of a trait, or of
-its `impl` for other types than one, and those that answer an `impl`. The source must be in the layout of `rt fmt`, which the gate requires."""
+its `impl` for other types than one, those that answer an `impl`, and `drop`, whose proof is a part of that of each function that drops such a value. The
+source must be in the layout of `rt fmt`, which the gate requires."""
 
 import re
 
@@ -69,7 +70,7 @@ def keeps_its_own(lines, at, opens, head):
     while re.match(rf"{head['indent']}(?:#\[|//)", lines[above - 1]) and above:
         above -= 1
     signature = "\n".join(lines[at : opens + 1])
-    return bool(head["words"]) or "-> impl" in signature or KEPT_BY_ATTRIBUTE.search("\n".join(lines[above:at])) is not None or head["name"] == "main"
+    return bool(head["words"]) or "-> impl" in signature or KEPT_BY_ATTRIBUTE.search("\n".join(lines[above:at])) is not None or head["name"] in ("main", "drop")
 
 
 def functions_of(lines, module, homes):

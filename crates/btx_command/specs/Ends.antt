@@ -1,0 +1,92 @@
+-- The end that a command line comes to, and what is done before it.
+use Rattle.std.specs.Prelude.{◌≡◌, ℕ, List, [], ◌∷◌, Option, Result, Ok, Err, IfOk, String, codes, map}
+use Rattle.std.specs.Prelude.{string_bytes}
+use Rattle.std.specs.IoError.{error_kind}
+use Rattle.std.specs.Vec.Iter.{into_iter_items}
+use Rattle.std.specs.declared.alloc.Global.{Global}
+use Rattle.std.specs.declared.io.Error.{Error}
+use Rattle.std.specs.declared.io.ErrorKind.{ErrorKind}
+use Rattle.std.specs.declared.io.ErrorKind.TheVariants.{OutOfMemory}
+use Rattle.std.specs.declared.vec.IntoIter.{IntoIter}
+use Rattle.std.specs.declared.vec.Vec.{Vec}
+use Rattle.btx_aux.specs.language.Files.{Files}
+use Rattle.btx_machine.specs.declared.report.Report.{Report}
+use Rattle.btx_run.specs.declared.run_fault.RunFault.{RunFault}
+use Rattle.btx_run.specs.declared.run_fault.RunFault.TheVariants as run_fault
+use Rattle.btx_command.specs.Acts.{WereDone, Done, Printed, ReportedFault, ReportedText, reporting}
+use Rattle.btx_command.specs.CommandLine.{IsSettingsOf, Refuses}
+use Rattle.btx_command.specs.Jobs.{DoesJob}
+use Rattle.btx_command.specs.ListFiles.{Held}
+use Rattle.btx_command.specs.Spelling.{hint_of}
+use Rattle.btx_command.specs.Status.{exit_of, exit_shown, refused_memory, status_at}
+use Rattle.btx_command.specs.declared.given.Refusal.{Refusal}
+use Rattle.btx_command.specs.declared.given.Refusal.TheVariants as refusal
+use Rattle.btx_command.specs.declared.given.Settings.{Settings}
+use Rattle.btx_command.specs.declared.outcome.Exit.{Exit}
+use Rattle.btx_command.specs.declared.outcome.Exit.TheVariants as exit
+
+-- words that are not run come to this end: a text that was asked for is printed, and if that fails, the fault is reported; of a mistake its
+-- text is reported, with this hint; of refused memory that fault
+abbrev pub IsReported : {W : Type 0} → List ℕ → Refusal → Done W → Done W → Exit → Type 0
+IsReported hint (refusal.Shown text) before after end =
+    (printed : Result (Unit {0}) RunFault) × WereDone before after (Printed (string_bytes text) printed ∷ reporting printed) × (end ≡ exit_shown printed)
+IsReported hint (refusal.Mistake text) before after end = WereDone before after (ReportedText (string_bytes text) hint ∷ []) × (end ≡ exit.Refused)
+IsReported hint refusal.Memory before after end = WereDone before after (ReportedFault run_fault.Memory ∷ []) × (end ≡ refused_memory)
+
+-- Words that are run come to this end, over a system of these files and lists' files of these contents: their job is done, and then its fault is
+-- reported, if its answer is one.
+pub record RunEnds {W : Type 0} (files : Option Files) (contents : W → Held) (settings : Settings) (before after : Done W) (end : Exit) : Type 0 where
+  pub answer : Result Report RunFault
+  pub done : Done W
+  pub does : DoesJob files contents settings before done answer
+  pub reports : WereDone done after (reporting answer)
+  pub ends : end ≡ exit_of answer
+
+-- the settings that were read are run; a refusal, or a text that was asked for, is printed
+abbrev pub IsAnswered : {W : Type 0} → Option Files → (W → Held) → List ℕ → Result Settings Refusal → Done W → Done W → Exit → Type 0
+IsAnswered files contents hint (Ok settings) before after end = RunEnds files contents settings before after end
+IsAnswered files contents hint (Err refusal) before after end = IsReported hint refusal before after end
+
+-- the words of a command line, the program's name first, come to this end: the job of their settings is done, once, and nothing else is, or they
+-- are refused as they are read; a mistake is reported with this hint
+pub record ComesTo {W : Type 0} (files : Option Files) (contents : W → Held) (words : List (List ℕ)) (hint : List ℕ) (before after : Done W) (end : Exit) : Type 0 where
+  pub read : Result Settings Refusal
+  pub settings : IfOk read (IsSettingsOf words)
+  pub refused : Refuses words read
+  pub answered : IsAnswered files contents hint read before after end
+
+-- what the system answers when it is asked for the words of the command line: its own iterator over them, or an error
+abbrev pub Args : Type 0
+Args = Result (IntoIter (String Global) Global) Error
+
+-- what the program reads of that answer
+abbrev pub Words : Type 0
+Words = Result (Vec (String Global) Global) Error
+
+-- all words of the iterator are read, in order, or memory is refused; an error of the system stays what it is
+abbrev pub AreWordsOf : Args → Words → Type 0
+AreWordsOf (Ok args) (Ok words) = words.items ≡ into_iter_items args
+AreWordsOf (Ok args) (Err error) = error_kind error ≡ OutOfMemory
+AreWordsOf (Err error) words = words ≡ Err error
+
+-- words that can't be read, by the kind of the error, come to this end: where memory was refused, that fault is reported; else the report
+-- is that they are no text
+abbrev pub IsUnread : {W : Type 0} → ErrorKind → Done W → Done W → Exit → Type 0
+IsUnread OutOfMemory before after end = WereDone before after (ReportedFault run_fault.Memory ∷ []) × (end ≡ refused_memory)
+IsUnread _ before after end =
+    WereDone before after (ReportedText (codes "error: invalid UTF-8 was detected in one or more arguments\n") [] ∷ []) × (end ≡ exit.Refused)
+
+-- words that were read come to the end of their command line; of others the reason is reported, and nothing else is done
+abbrev pub EndsFor : {W : Type 0} → Option Files → (W → Held) → Words → Done W → Done W → Exit → Type 0
+EndsFor files contents (Ok words) before after end =
+    ComesTo files contents (map (λ word. string_bytes word) words.items) (hint_of words.items) before after end
+EndsFor files contents (Err error) before after end = IsUnread (error_kind error) before after end
+
+-- The whole program, over a system of these files, lists' files of these contents, and this answer on the words of the command line: the words are
+-- read, they come to their end, and the exit status is that end's.
+pub record ExitsWith {W : Type 0} (files : Option Files) (contents : W → Held) (args : Args) (before after : Done W) (status : ℕ) : Type 0 where
+  pub words : Words
+  pub end : Exit
+  pub reads : AreWordsOf args words
+  pub ends : EndsFor files contents words before after end
+  pub exits : status ≡ status_at end

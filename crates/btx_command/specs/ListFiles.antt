@@ -1,0 +1,41 @@
+-- The file of the list of references, over the run and at its end.
+use Rattle.std.specs.Prelude.{◌≡◌, ℕ, Bool, true, false, List, [], Option, Result, Ok, Err, OnOk, MatchBool, if◌then◌else◌}
+use Rattle.std.specs.Io.KnownBytes.{Keeps}
+use Rattle.std.specs.Option.{option_map}
+use Rattle.btx_machine.specs.declared.report.End.{End}
+use Rattle.btx_machine.specs.declared.report.End.TheVariants.{NoTopFile}
+use Rattle.btx_machine.specs.declared.report.Report.{Report}
+use Rattle.btx_run.specs.declared.run_fault.RunFault.{RunFault}
+use Rattle.btx_command.specs.declared.list_file.ListFile.{ListFile}
+
+-- what a file holds, as far as it is known
+abbrev pub Held : Type 0
+Held = Option (List ℕ)
+
+-- what it holds once it is emptied
+abbrev pub emptied : Held → Held
+emptied held = option_map (λ bytes. []) held
+
+-- a list's file that was opened, and that this run hasn't written to
+abbrev pub unwritten : {W : Type 0} → W → ListFile W
+unwritten file = record { file = file; is_emptied = false; failures = 0 }
+
+-- what a list's file has received in this run: nothing as long as it holds what an earlier run left, then all that it holds
+abbrev pub received_by : {W : Type 0} → (W → Held) → ListFile W → Held
+received_by contents list = if list.is_emptied then contents list.file else emptied (contents list.file)
+
+-- there is no top file
+abbrev pub is_without_top_file : End → Bool
+is_without_top_file NoTopFile = true
+is_without_top_file _ = false
+
+-- after this answer an old list stays: there is no top file, and so no new list
+abbrev pub keeps_old : Result Report RunFault → Bool
+keeps_old (Ok report) = is_without_top_file report.end
+keeps_old (Err fault) = false
+
+-- At the end of a run its list's file stays as it is where there is no top file; else it holds what it received in this run and nothing else,
+-- or it couldn't be emptied, which is reported.
+abbrev pub FinishesList : {W : Type 0} → (W → Held) → Result Report RunFault → ListFile W → ListFile W → Result (Unit {0}) RunFault → Type 0
+FinishesList contents answer old new result =
+    MatchBool (keeps_old answer) ((new ≡ old) × (result ≡ Ok tt)) (OnOk result (Keeps (received_by contents old) (contents new.file)))

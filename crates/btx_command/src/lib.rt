@@ -1,0 +1,27 @@
+//! The command: from the words of a command line to the outputs of a job and the exit code.
+#![tactic(auto)]
+
+pub mod command_line;
+pub mod directory;
+pub mod given;
+pub mod job;
+pub mod list_file;
+pub mod options;
+pub mod outcome;
+pub mod outputs;
+pub mod paths;
+pub mod program;
+mod spelling;
+pub mod system;
+
+pub use command_line::settings;
+pub use directory::DirectoryFinder;
+pub use given::{Refusal, Settings};
+pub use job::{printed, run_job};
+pub use list_file::{EmptiedFile, SystemFile};
+pub use options::{ABOUT, STATUSES};
+pub use outcome::Exit;
+pub use outputs::{Outputs, SystemOutputs};
+pub use paths::path_of;
+pub use program::run_command_line;
+pub use system::{RealSystem, System};
