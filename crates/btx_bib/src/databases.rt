@@ -138,8 +138,8 @@ impl<'a> Gathering<'a> {
         Ok(())
     }
 
-    /// The macros of the style, and then all databases.
-    pub fn read(
+    // Reads the macros of the style, and then all databases.
+    fn read(
         &mut self,
         alloc: Global,
         request: &Request<'_, 'a>,
@@ -171,7 +171,7 @@ impl<'a> Gathering<'a> {
             preamble,
             ending: _,
         } = self;
-        draft.library(alloc, request, preamble, messages)
+        draft.into_library(alloc, request, preamble, messages)
     }
 
     /// The library of what is kept and reported.
@@ -234,7 +234,7 @@ fn library_read<'a>(
     library_requested(alloc, &request, style.macros(), sources)
 }
 
-// The library that is requested so.
+// The library that a request asks for.
 fn library_requested<'a>(
     alloc: Global,
     request: &Request<'_, 'a>,

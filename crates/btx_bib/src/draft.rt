@@ -1,4 +1,4 @@
-//! The list of keys, while databases are read.
+//! The list of keys, while databases are read, and the library that it comes to.
 use crate::draft_slots::{DraftSlot, DraftSlots};
 use crate::end::End;
 use crate::entry::Entry;
@@ -68,20 +68,19 @@ impl<'a> Draft<'a> {
     }
 
     /// The library, once all databases are read: the keys that are cited last are listed too, and what the passes report is added to the messages.
-    pub fn library(
+    pub fn into_library(
         self,
         alloc: Global,
         request: &Request<'_, 'a>,
         preamble: Text<'a>,
-        messages: Messages<'a>,
+        mut messages: Messages<'a>,
     ) -> Result<Library<'a>, AllocError>
         requires { IsListed (listed_draft (wanted request.now) self) }
         ensures { IfOk result (λ library. library ≡ library_listed (settled_all (listed_draft (wanted request.now) self.entry).slots) preamble.entry messages.entry) }
     {
         let mut draft = self;
-        let mut messages = messages;
         draft.cite_all(alloc, request, request.last_cited())?;
-        let entries = draft.entries(alloc, &mut messages)?;
+        let entries = draft.into_entries(alloc, &mut messages)?;
         Ok(Library {
             entries,
             preamble,
@@ -91,7 +90,7 @@ impl<'a> Draft<'a> {
     }
 
     // The entries that stay, with what they inherit.
-    fn entries(
+    fn into_entries(
         self,
         alloc: Global,
         messages: &mut Messages<'a>,

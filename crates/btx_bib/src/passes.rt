@@ -71,13 +71,9 @@ fn report_parent<'a>(
     ensures { OnOk result (messages.new ≡ messages.old ++ parent_messages child.now key.now (option_copied parent.entry)) }
 {
     let is_nested = match parent {
-        Some(slot) if slot.body.is_some() => {
-            if !slot.has_parent() {
-                return Ok(());
-            }
-            true
-        }
-        _ => false,
+        Some(slot) if slot.body.is_some() && !slot.has_parent() => return Ok(()),
+        Some(slot) => slot.body.is_some(),
+        None => false,
     };
     let key = Spelling::of_value(key.copy(alloc)?, alloc)?;
     let child = child.copy(alloc)?;

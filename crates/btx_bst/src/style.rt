@@ -78,13 +78,13 @@ fn predefined<'a>(alloc: Global) -> Result<Names<'a>, AllocError>
     ensures { IfOk result (λ names. names ≡ predefined) }
 {
     let mut names = Names::new(alloc)?;
-    predefine(alloc, &mut names)?;
+    add_predefined(alloc, &mut names)?;
     Ok(names)
 }
 
-// Adds those that name no built-in function.
+// Adds the names that are known before a style to the built-in functions.
 #[tactic(auto, using(crate::proofs::PredefinedLemmas::new_names))]
-fn predefine(alloc: Global, names: &mut Names<'_>) -> Result<(), AllocError>
+fn add_predefined(alloc: Global, names: &mut Names<'_>) -> Result<(), AllocError>
     requires { names.old ≡ no_names }
     ensures { OnOk result (names.new ≡ predefined) }
 {

@@ -4,6 +4,7 @@ use crate::showing::{Row, Shown, first_wrong};
 use btx_text::Fault;
 use std::alloc::Global;
 
+// A style's text, and its bodies by their numbers.
 const BODIES: [Row; 12] = [
     (b"ENTRY {title}{}{} FUNCTION {misc}{} READ", b"0:\n"),
     (

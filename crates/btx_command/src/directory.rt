@@ -45,7 +45,7 @@ impl<'a, S: System> DirectoryFinder<'a, S> {
         }
     }
 
-    /// Answers how often the device failed in a fetch of this finder, a count that begins again at 0 behind the greatest.
+    /// Answers how many fetches of this finder ended in a device error. The count begins again at 0 after `u64::MAX`.
     pub fn failures(&self) -> u64
         ensures { result ≡ self.now.failures }
     {

@@ -12,7 +12,7 @@ pub struct Settings<'a> {
     pub directory: &'a str,
     /// The job, as the command line gives it: a name, with or without `.aux`.
     pub job: &'a str,
-    /// The job without a last `.aux`: the name of its outputs, without their endings.
+    /// The job without a last `.aux`: the name of its outputs, without their endings. `settings` makes it of the job; another value only renames the outputs.
     pub name: &'a str,
     /// Whether the log isn't printed.
     pub terse: bool,

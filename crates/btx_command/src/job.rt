@@ -32,7 +32,7 @@ fn run_over<F: Finder, W: Sink, L: Sink>(
 }
 
 /// Answers what is printed of a log: all of it, or nothing where the settings are terse.
-pub fn printed<'a>(settings: &Settings<'_>, log: &'a [u8]) -> &'a [u8]
+pub fn printed_log<'a>(settings: &Settings<'_>, log: &'a [u8]) -> &'a [u8]
     ensures { result.now ≡ printed_log settings.now log.now }
 {
     if settings.terse { &[] } else { log }
@@ -58,7 +58,7 @@ fn write_log<O: Outputs>(
     ensures { HandsLog settings.now path.now log.now (O.acts outputs.old) (O.acts outputs.new) result }
 {
     let stored = outputs.store_log(path, log);
-    let printed = outputs.print(printed(settings, log));
+    let printed = outputs.print(printed_log(settings, log));
     both_done(stored, printed)
 }
 
@@ -110,7 +110,7 @@ fn do_job<F: Finder, O: Outputs>(
 }
 
 /// Does the job over the files of its folder: writes `JOB.bbl`, `JOB.blg` and, where the settings aren't terse, to standard output the log again.
-/// The log is written also after a fault, except where `JOB.bbl` can't be opened. The first fault is answered.
+/// The log is written also after a fault, except where `JOB.bbl` can't be opened or memory is refused for the two paths. The first fault is answered.
 pub fn run_job<S: System + Drop, O: Outputs>(
     alloc: Global,
     settings: &Settings<'_>,

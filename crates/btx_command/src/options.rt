@@ -69,7 +69,7 @@ fn job_word<'a>(alloc: Global) -> Arg<'a>
 }
 
 /// The program's version.
-pub(crate) const VERSION: &str = "1.0.0";
+const VERSION: &str = "1.0.0";
 
 /// What the program does.
 pub const ABOUT: &str =

@@ -48,7 +48,7 @@ pub trait Outputs {
         ensures { WereDone (acts self.old) (acts self.new) (ReportedFault fault ∷ []) };
 }
 
-/// Those of the real system.
+/// The outputs of the real system: its files and the two standard streams.
 pub struct SystemOutputs<'a, R> {
     rt: &'a R,
 }

@@ -1,9 +1,8 @@
 //! Words of command lines, with the settings that are read from them or the text of the refusal.
 use btx_command::{ABOUT, Refusal, STATUSES, Settings, settings};
-use btx_run::{Options, TextMode};
+use btx_run::Options;
 use std::alloc::{AllocError, Global};
 use std::process::Abort;
-use std::str;
 use std::test::Fail;
 
 // What a refusal has, in one text: its status, and its text.

@@ -1,6 +1,6 @@
 //! A job of a real folder, with the files that it writes, and what is printed of a log.
 use crate::scratch::{make_folder, write_file};
-use btx_command::{RealSystem, Settings, SystemOutputs, path_of, printed, run_job};
+use btx_command::{RealSystem, Settings, SystemOutputs, path_of, printed_log, run_job};
 use btx_run::{KeptBytes, LineLength, Options, Report, RunFault, TextMode};
 use std::test::Fail;
 use std::{fs, io};
@@ -78,7 +78,7 @@ fn writes_files(rt: HostRuntime) -> Result<(), Fail> {
 fn prints_logs(rt: HostRuntime) {
     let log = LOG.as_bytes();
     let mut settings = settings_in(".");
-    assert!(rt; printed(&settings, log).is_empty());
+    assert!(rt; printed_log(&settings, log).is_empty());
     settings.terse = false;
-    assert!(rt; printed(&settings, log) == log);
+    assert!(rt; printed_log(&settings, log) == log);
 }

@@ -1,5 +1,5 @@
 use Rattle.btx_bst.proofs.PredefinedLemmas.{new-global_max}
-use Rattle.btx_bst.proofs.style.predefine.Goals as goal
+use Rattle.btx_bst.proofs.style.add_predefined.Goals as goal
 
 pub add-requires-4-clause-new : goal.add-requires-4-clause-new
 add-requires-4-clause-new c =
