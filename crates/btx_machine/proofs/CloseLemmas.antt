@@ -9,7 +9,7 @@ use Rattle.btx_out.specs.language.Breakers.{written_at_end}
 use Rattle.btx_out.specs.refinement.Breakers.{holding, Finishes, FinishesPart, AppendsPartOfRest}
 use Rattle.btx_out.specs.language.Pieces.{AppendsAtLeast, AppendsPrefix}
 use Rattle.btx_out.proofs.WrittenLemmas.{written_of-finish, begins-finish}
-use Rattle.btx_machine.specs.refinement.Outputs.{Journal, Outputs, Receiver}
+use Rattle.btx_machine.specs.refinement.Outputs.{Journal, Outputs}
 use Rattle.btx_machine.specs.declared.ending.Ending.{Ending}
 use Rattle.btx_machine.specs.declared.ending.Ending.TheVariants as ends
 use Rattle.btx_machine.specs.language.States.{Out}

@@ -19,6 +19,7 @@ pub mod Resume
 pub mod Moves
 pub mod Grows
 pub mod Counts
+pub mod MarkLemmas
 pub mod PlaceLemmas
 pub mod LookLemmas
 pub mod StepLemmas

@@ -187,7 +187,9 @@ impl<'a> Store<'a> {
     pub fn open(&mut self, bodies: usize)
         ensures { self.new ≡ with_depth bodies self.old }
     {
-        self.deepest = self.deepest.max(bodies);
+        if bodies > self.deepest {
+            self.deepest = bodies;
+        }
     }
 
     /// Answers how many literals are on the stack.

@@ -1,5 +1,5 @@
 -- What a run writes last.
-use Rattle.std.specs.Prelude.{ℕ, ◌⊎◌, List, ◌++◌, Option}
+use Rattle.std.specs.Prelude.{ℕ, ◌⊎◌, List, ◌++◌}
 use Rattle.std.specs.Io.KnownBytes.{Appends}
 use Rattle.btx_out.specs.language.Pieces.{AppendsPrefix, AppendsAtLeast}
 use Rattle.btx_machine.specs.declared.ending.Ending.{Ending}
