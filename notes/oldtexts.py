@@ -1,6 +1,6 @@
 import sys,pathlib
 bad=0;n=0
-root=pathlib.Path(sys.argv[1] if len(sys.argv)>1 else '/work/s38/next')
+root=pathlib.Path(sys.argv[1] if len(sys.argv)>1 else '/work/s40/w')
 for p in sorted((root/'crates').glob('*/*/*.edit')):
     if p.parent.name not in('wrong-bodies','must-fail'): continue
     n+=1
