@@ -87,7 +87,7 @@ class Reader:
     """Reads a file of definitions line by line: `comment` are the lines of comment that wait for a definition, `now` is the one that goes on."""
 
     def __init__(self, module):
-        self.module, self.comment, self.heading, self.now, self.given = module, [], None, None, None
+        self.module, self.comment, self.heading, self.now, self.given, self.is_inside = module, [], None, None, None, False
 
     def read(self, text):
         for number, line in enumerate(text.split("\n"), 1):
@@ -95,13 +95,13 @@ class Reader:
         return self.module
 
     def without_parameters(self, line):
-        """A definition inside a `module _ .. where` is indented, and has its parameters."""
-        if line.startswith("module _"):
-            self.given, self.comment, self.now = line[len("module _ "):-len(" where")], [], None
+        """A definition inside a `module _ .. where` is indented, and has its parameters. One that is given together with others, in a `mutual`, is indented too."""
+        if line.startswith("module _") or line == "mutual":
+            self.is_inside, self.given, self.comment, self.now = True, line[len("module _ "):-len(" where")], [], None
             return ""
-        if self.given and line.strip() and line[0] != " ":
-            self.given = None
-        return line[2:] if self.given and line.startswith(" ") else line
+        if self.is_inside and line.strip() and line[0] != " ":
+            self.is_inside, self.given = False, None
+        return line[2:] if self.is_inside and line.startswith(" ") else line
 
     def read_line(self, number, line):
         if line.startswith("-- ----"):

@@ -1,0 +1,168 @@
+-- 9. What databases give: their items one after another. How an item is spelled, and what is wrong in one, `IsReading` says (Grammar, further below).
+use Rattle.btx_aux.specs.language.Names.{is_same_key}
+use Rattle.btx_bib.specs.declared.grammar.commands.Wanted.{Wanted}
+use Rattle.btx_bib.specs.declared.grammar.commands.Wanted.TheVariants.{Item}
+use Rattle.btx_bib.specs.declared.grammar.slip.Slip.{Slip}
+use Rattle.btx_bib.specs.declared.grammar.value_ends.Ends.TheVariants.{Kept, Trimmed}
+use Rattle.btx_bib.specs.declared.message.Message.{Message}
+use Rattle.btx_bib.specs.declared.message.Message.TheVariants.{ExtraField, OwnString, UndefinedString, UnknownKind}
+use Rattle.btx_bib.specs.language.Grammar.Fields.{Field}
+use Rattle.btx_bib.specs.language.Grammar.Items.{Comment, Definition, End, Event, FieldOf, Keeping, Placed, Preamble, Wrong}
+use Rattle.btx_bib.specs.language.Grammar.ValueTexts.{squeezed, value_text}
+use Rattle.btx_bib.specs.language.Grammar.Values.{Named, Part}
+use Rattle.btx_bib.specs.language.Messages.{Database, spot_at, spot_before}
+use Rattle.btx_bib.specs.laws.Grammar.Reading.{HasNoAt, IsOutcome, Stands}
+use Rattle.btx_core.specs.laws.Styles.{Function, set}
+use Rattle.btx_text.specs.declared.limits.Limit.{Limit}
+use Rattle.btx_text.specs.language.Keys.{folded}
+use Rattle.btx_text.specs.language.Limits.{greatest_string, is_too_long}
+use Rattle.btx_text.specs.language.Lists.{only_if}
+use Rattle.std.specs.List.{find, flat_map, list_any}
+use Rattle.std.specs.Option.{option_map_or}
+use Rattle.std.specs.Prelude.{Bool, List, None, Option, Result, Some, [], codes, false, fold, if◌then◌else◌, is_none, is_some, length, nat_lt, not, option_to_list, true, ℕ, ◌++◌, ◌||◌, ◌∷◌, ◌≡◌}
+use Rattle.btx_bib.specs.declared.message.Message.TheVariants as message
+use Rattle.btx_text.specs.declared.limits.Limit.TheVariants as limit
+use Rattle.btx_bib.specs.language.Grammar.Items.{Entry as EntryHead}
+
+-- what a job and its style ask: the cited keys; with `*` how many of them stand before it (`all`); which names are fields; the functions for types; and how
+-- many entries have to name an uncited parent for it to stay (`--min-crossrefs`, and 0 with `*`)
+pub record Request : Type 0 where
+  pub cited : List (List ℕ)
+  pub all : Option ℕ
+  pub is_field : List ℕ → Bool
+  pub types : List ℕ → Option Function
+  pub fewest : ℕ
+
+-- an entry that is stored: the word of its type, its key, and its values, by the names of fields
+pub record Stored : Type 0 where
+  pub kind : List ℕ
+  pub key : List ℕ
+  pub value : List ℕ → Option (List ℕ)
+
+-- what is known: the value of each string that is defined, the entries that are stored, the one of them that is being read, all `@preamble`s joined, the
+-- messages, and the limit that ended the reading, if one did
+pub record Known : Type 0 where
+  pub strings : List ℕ → Option (List ℕ)
+  pub stored : List Stored
+  pub current : Option Stored
+  pub preamble : List ℕ
+  pub messages : List Message
+  pub limit : Option Limit
+
+-- the stored entries, the one that is being read among them
+abbrev pub all_stored : Known → List Stored
+all_stored known = known.stored ++ option_to_list known.current
+
+-- the entry that is being read is at its end
+abbrev pub closed : Known → Known
+closed known = record known { stored = all_stored known; current = None }
+
+-- a string of this text has been made: one that is too long ends the reading
+abbrev pub if_fits : List ℕ → Known → Known → Known
+if_fits text known next = if nat_lt greatest_string (length text) then record known { limit = Some limit.String } else next
+
+-- ---- which entries are stored
+
+-- the stored entry of a key
+abbrev pub stored_with : List Stored → List ℕ → Option Stored
+stored_with stored key = find (λ (entry : Stored). is_same_key key entry.key) stored
+
+-- the keys that entries name as their `crossref`
+abbrev pub parents_named : List Stored → List (List ℕ)
+parents_named stored = flat_map (λ (entry : Stored). option_to_list (entry.value (codes "crossref"))) stored
+
+-- an entry of this key is to be stored: `*` is cited, or the key is, or a stored entry names it as its parent
+abbrev pub is_asked : Request → List Stored → List ℕ → Bool
+is_asked wanted stored key = is_some wanted.all || list_any (is_same_key key) (wanted.cited ++ parents_named stored)
+
+-- ---- item by item
+
+-- the string that a name in a value stands for; `own` is the name that is being defined, which stands for none in its own value
+abbrev pub meaning_of : Known → Option (List ℕ) → List ℕ → Option (List ℕ)
+meaning_of known own name = if option_map_or (λ (defined : List ℕ). is_same_key defined name) own false then None else known.strings (folded name)
+
+-- the message about a name in a value that stands for no string, or about one in its own value
+abbrev pub part_messages : Database → Known → Option (List ℕ) → Part → List Message
+part_messages database known own (Named string) =
+    if option_map_or (λ (defined : List ℕ). is_same_key defined string.name) own false then OwnString string.name (spot_at database string.rest) ∷ []
+    else if is_none (known.strings (folded string.name)) then UndefinedString string.name (spot_at database string.rest) ∷ [] else []
+part_messages database known own _ = []
+
+-- messages are added
+abbrev pub saying : List Message → Known → Known
+saying messages known = record known { messages = known.messages ++ messages }
+
+-- a field is read: the entry keeps its first value of each field that the style declares
+abbrev pub field_read : Request → Database → Known → Stored → Field → List ℕ → Known
+field_read wanted database known entry field rest =
+    let name = folded field.name in
+    let text = value_text Trimmed (meaning_of known None) field.value in
+    if not (wanted.is_field name) then known
+    else if is_some (entry.value name) then saying (ExtraField entry.key field.name (spot_before database rest) ∷ []) known
+    else
+    (let said = saying (flat_map (part_messages database known None) field.value) known in
+    if_fits text said (record said { current = Some (record entry { value = set name (Some text) entry.value }) }))
+
+-- an entry begins: it is stored if it is asked for, and its type should be one that the style has
+abbrev pub entry_begun : Request → Database → Known → List ℕ → List ℕ → List ℕ → Known
+entry_begun wanted database known kind key rest =
+    let entry : Stored = record { kind = kind; key = key; value = λ name. None } in
+    if not (is_asked wanted known.stored key) then known
+    else saying (only_if (is_none (wanted.types (folded kind))) (UnknownKind key (spot_at database rest))) (record known { current = Some entry })
+
+-- what is known behind an event of a database; `rest` is the text behind it
+abbrev pub known_behind : Request → Database → Known → Event → List ℕ → Known
+known_behind wanted database known Comment rest = known
+known_behind wanted database known (Preamble value) rest =
+    let whole = known.preamble ++ value_text Kept (meaning_of known None) value in
+    let said = saying (flat_map (part_messages database known None) value) known in
+    if_fits whole said (record said { preamble = whole })
+known_behind wanted database known (Definition name value) rest =
+    let text = value_text Kept (meaning_of known (Some name)) value in
+    let said = saying (flat_map (part_messages database known (Some name)) value) known in
+    if_fits text said (record said { strings = set (folded name) (Some text) known.strings })
+known_behind wanted database known (EntryHead kind key) rest = entry_begun wanted database (closed known) kind key rest
+known_behind wanted database known (FieldOf field) rest =
+    option_map_or (λ (entry : Stored). field_read wanted database known entry field rest) known.current known
+known_behind wanted database known End rest = known
+known_behind wanted database known (Wrong slip) rest = saying (message.Wrong slip (spot_at database rest) ∷ []) known
+
+-- and once a limit was met nothing changes any more
+abbrev pub known_after : Request → Database → Known → Placed → Known
+known_after wanted database known placed = if is_some known.limit then known else known_behind wanted database known placed.event placed.rest
+
+-- ---- databases, one after another
+
+-- the key of an entry that is stored already makes it a repeated one, which is an error
+abbrev pub keeping : Keeping Known
+keeping = record { is_stored = λ known key. is_some (stored_with (all_stored known) key); after = λ known event. known }
+
+-- these are the events of a text from where `wanted` stands first, and `last` is what is known behind them: each event is what its front of the text spells,
+-- or what is wrong at its end; and behind the last no `@` is left
+abbrev pub AreEvents : Request → Database → Known → Wanted → List ℕ → List Placed → Known → Type 0
+AreEvents asked database known wanted text [] last = (wanted ≡ Item) × HasNoAt text × (last ≡ known)
+AreEvents asked database known wanted text (placed ∷ others) last =
+    (spelled : Result (Event × Wanted) Slip) × (next : Wanted) × (front : List ℕ) × (front ++ placed.rest ≡ text)
+    × Stands wanted spelled front placed.rest × IsOutcome keeping known placed.event next spelled
+    × AreEvents asked database (known_after asked database known placed) next placed.rest others last
+
+-- a database is read: all of it, unless a limit was met before it, or its file is too long, which is one
+abbrev pub IsReadBy : Bool → Bool → Request → Known → Database → Known → Type 0
+IsReadBy true too_long asked known database next = next ≡ known
+IsReadBy false true asked known database next = next ≡ record known { limit = Some limit.File }
+IsReadBy false false asked known database next =
+    (events : List Placed) × (last : Known) × AreEvents asked database known Item database.text events last × (next ≡ closed last)
+
+-- databases are read, one after another
+abbrev pub AreRead : Request → Known → List Database → Known → Type 0
+AreRead asked known [] last = last ≡ known
+AreRead asked known (database ∷ databases) last =
+    (next : Known) × IsReadBy (is_some known.limit) (is_too_long database.text) asked known database next × AreRead asked next databases last
+
+-- what is known before the first database: each macro of the style is a string
+abbrev pub with_macros : List (List ℕ × List ℕ) → Known
+with_macros macros =
+    let nothing : Known = record { strings = λ name. None; stored = []; current = None; preamble = []; messages = []; limit = None } in
+    fold (λ (known : Known) (macro : List ℕ × List ℕ).
+    if is_some known.limit then known
+    else if_fits (squeezed macro.1) known (record known { strings = set (folded macro.0) (Some (squeezed macro.1)) known.strings })) nothing macros

@@ -1,0 +1,127 @@
+-- 10. The list, and cross-references (btxdoc, section 2, at `\nocite{*}`, and section 3.2 at `crossref`).
+use Rattle.btx_aux.specs.language.Names.{is_same_key, listed_as, with_key}
+use Rattle.btx_bib.specs.declared.message.Message.{Message}
+use Rattle.btx_bib.specs.declared.message.Message.TheVariants.{BadReference, NestedReference, NoEntry}
+use Rattle.btx_bib.specs.language.MessageTexts.{message_line}
+use Rattle.btx_bib.specs.language.Messages.{Database}
+use Rattle.btx_core.specs.laws.Databases.{AreRead, Known, Request, Stored, parents_named, stored_with, with_macros}
+use Rattle.btx_core.specs.laws.Styles.{Entry, Function, Library, set}
+use Rattle.btx_text.specs.declared.limits.Limit.{Limit}
+use Rattle.btx_text.specs.language.Keys.{folded}
+use Rattle.btx_text.specs.language.Lists.{only_if}
+use Rattle.std.specs.List.{flat_map, range_with_len}
+use Rattle.std.specs.Option.{option_map, option_map_or, option_or}
+use Rattle.std.specs.Prelude.{Bool, List, None, Option, Some, [], codes, count_by, drop, false, fold, if◌then◌else◌, is_none, is_some, length, map, nat_le, nat_lt, not, option_and_then, position, slice_get, take, unwrap_or, ℕ, ◌&&◌, ◌++◌, ◌||◌, ◌∷◌, ◌≡◌}
+
+-- ---- which keys are listed
+
+-- each key once: the cited keys, and then the parents that stored entries name; with `*` the keys cited before it, all stored ones, and the other cited ones
+abbrev pub listed_keys : Request → List Stored → List (List ℕ)
+listed_keys wanted stored = fold with_key [] (option_map_or
+    (λ (place : ℕ). take place wanted.cited ++ map (λ (entry : Stored). entry.key) stored ++ drop place wanted.cited)
+    wanted.all (wanted.cited ++ parents_named stored))
+
+-- a place of the list: the key as it was cited, else as its entry has it, else as it was named; whether it stays, as a cited key does, and one that at
+-- least `fewest` stored entries name; and its entry, if one is stored
+pub record Slot : Type 0 where
+  pub key : List ℕ
+  pub stays : Bool
+  pub entry : Option Stored
+
+-- the place of a key in the list
+abbrev pub slot_of : Request → List Stored → List ℕ → Slot
+slot_of wanted stored key =
+    let listed = listed_as wanted.cited key in
+    let entry = stored_with stored key in
+    record {
+      key = unwrap_or (option_or listed (option_map (λ (entry : Stored). entry.key) entry)) key;
+      stays = is_some listed || nat_le wanted.fewest (count_by (is_same_key key) (parents_named stored));
+      entry = entry;
+    }
+
+-- all places of the list, in order
+abbrev pub slots_of : Request → List Stored → List Slot
+slots_of wanted stored = map (slot_of wanted stored) (listed_keys wanted stored)
+
+-- ---- who the parent is, and what it gives
+
+module _ (slots : List Slot) where
+  -- the value that the entry at a place has of its own
+  abbrev pub own : ℕ → List ℕ → Option (List ℕ)
+  own i name = option_and_then (λ (slot : Slot). option_and_then (λ (entry : Stored). entry.value name) slot.entry) (slice_get slots i)
+
+  -- the place of a key in the list, if it is listed
+  abbrev pub place_of : List ℕ → Option ℕ
+  place_of key = position (λ (slot : Slot). is_same_key key slot.key) slots
+
+  -- the place of the parent of the entry at a place, if its key is listed
+  abbrev pub parent : ℕ → Option ℕ
+  parent i = option_and_then place_of (own i (codes "crossref"))
+
+  -- the key at a place, as the list spells it
+  abbrev pub key_at : ℕ → List ℕ
+  key_at i = option_map_or (λ (slot : Slot). slot.key) (slice_get slots i) []
+
+  -- the parent's key: as the list spells it, if it is listed
+  abbrev pub parent_key : ℕ → Option (List ℕ)
+  parent_key i = option_map (λ key. option_map_or key_at (place_of key) key) (own i (codes "crossref"))
+
+  -- there is an entry at a place
+  abbrev pub has_entry : ℕ → Bool
+  has_entry i = option_map_or (λ (slot : Slot). is_some slot.entry) (slice_get slots i) false
+
+  -- there is an entry at a place, and it stays in the list
+  abbrev pub stays_at : ℕ → Bool
+  stays_at i = has_entry i && option_map_or (λ (slot : Slot). slot.stays) (slice_get slots i) false
+
+  -- What an entry has is its own value; else its parent's. Entries take what they lack in the order of the list: of a parent that stands before it an
+  -- entry takes also what that has taken, of one that stands behind it only what is that one's own. `value` gives what each has then
+  abbrev pub IsInherited : (ℕ → List ℕ → Option (List ℕ)) → Type 0
+  IsInherited value = (i : ℕ) (name : List ℕ) →
+      value i name ≡ option_or (own i name) (option_and_then (λ j. if nat_lt j i then value j name else own j name) (parent i))
+
+  -- the entry at a place keeps its `crossref`: its parent has an entry, and that stays
+  abbrev pub keeps_parent : ℕ → Bool
+  keeps_parent i = option_map_or stays_at (parent i) false
+
+  -- what is wrong with the parent of the entry at a place: it has no entry; or it has a parent itself, where one that stands before has lost a bad one
+  abbrev pub parent_messages : ℕ → List Message
+  parent_messages i = option_map_or (λ key. option_map_or (λ j.
+      if not (has_entry j) then BadReference (key_at i) key ∷ []
+      else only_if (is_some (parent_key j) && (nat_le i j || keeps_parent j)) (NestedReference (key_at i) key))
+      (parent i) (BadReference (key_at i) key ∷ [])) (parent_key i) []
+
+  -- the entry of the library at a place, if one is there and stays: its values with what it inherits, and its `crossref` as the list spells it, if it keeps it
+  abbrev pub entry_at : (List ℕ → Option Function) → (ℕ → List ℕ → Option (List ℕ)) → ℕ → Slot → List Entry
+  entry_at types value i slot = option_map_or (λ (entry : Stored).
+      let kept : Entry = record {
+        key = slot.key;
+        kind = types (folded entry.kind);
+        value = set (codes "crossref") (if keeps_parent i then parent_key i else None) (value i);
+      } in
+      only_if slot.stays kept) slot.entry []
+
+  -- all places, in order
+  abbrev pub places : List ℕ
+  places = range_with_len 0 (length slots)
+
+-- ---- the library
+
+-- the library of these entries, preamble and messages
+abbrev pub library_as : List Entry → List ℕ → List Message → Option Limit → Library
+library_as entries preamble messages limit = record { entries = entries; preamble = preamble; log = map message_line messages; limit = limit }
+
+-- what the databases give, from what is known at their end; where a limit was met only the messages until then
+abbrev pub IsGathered : Option Limit → Request → Known → Library → Type 0
+IsGathered (Some limit) asked known library = library ≡ library_as [] [] known.messages (Some limit)
+IsGathered None asked known library =
+    (slots : List Slot) × (slots ≡ slots_of asked known.stored) × (value : ℕ → List ℕ → Option (List ℕ)) × IsInherited slots value
+    × (library ≡ library_as
+    (flat_map (λ i. option_map_or (entry_at slots asked.types value i) (slice_get slots i) []) (places slots)) known.preamble
+    (known.messages ++ flat_map (parent_messages slots) (places slots)
+    ++ flat_map (λ (slot : Slot). only_if (is_none slot.entry) (NoEntry slot.key)) slots) None)
+
+-- the library that databases give to a job, whose style has these macros
+abbrev pub IsLibrary : Request → List (List ℕ × List ℕ) → List Database → Library → Type 0
+IsLibrary asked macros databases library =
+    (known : Known) × AreRead asked (with_macros macros) databases known × IsGathered known.limit asked known library

@@ -1,0 +1,123 @@
+-- 0. The whole: what BibTeX writes for a job. Read this first, and then `Styles` (1) to `Lists` (10) downwards.
+use Rattle.btx_aux.specs.language.Events.{AuxEvent}
+use Rattle.btx_aux.specs.language.Files.{Files}
+use Rattle.btx_aux.specs.language.Job.{AuxJob}
+use Rattle.btx_aux.specs.language.Names.{with_ending}
+use Rattle.btx_core.specs.laws.AuxFiles.{AreJobEvents, job_of}
+use Rattle.btx_core.specs.laws.Databases.{Request}
+use Rattle.btx_core.specs.laws.Divisions.{Divisions}
+use Rattle.btx_core.specs.laws.Lines.{IsSure, IsWrapped}
+use Rattle.btx_core.specs.laws.Lists.{IsLibrary}
+use Rattle.btx_core.specs.laws.Meanings.{Done, IsMeaning, Limited, Meaning, Outcome, Stopped}
+use Rattle.btx_core.specs.laws.Names.{AreDivisions}
+use Rattle.btx_core.specs.laws.Runs.{CommandsCome}
+use Rattle.btx_core.specs.laws.StyleTexts.{IsStyle}
+use Rattle.btx_core.specs.laws.Styles.{Job, Library, Style, first_state}
+use Rattle.btx_machine.specs.language.Product.{Product}
+use Rattle.btx_machine.specs.language.Reports.{report_of}
+use Rattle.btx_machine.specs.language.Saying.{ended_line}
+use Rattle.btx_run.specs.declared.options.Options.{Options}
+use Rattle.btx_run.specs.language.Files.Counts.{counts_of}
+use Rattle.btx_run.specs.language.Files.Found.{NamedFile}
+use Rattle.btx_run.specs.language.Files.Lines.{no_style_line, style_line}
+use Rattle.btx_run.specs.language.Files.Readings.{databases_logged, files_found}
+use Rattle.btx_text.specs.language.Limits.{is_too_long}
+use Rattle.btx_text.specs.language.LogLines.{Line}
+use Rattle.std.specs.List.{flat_map}
+use Rattle.std.specs.Prelude.{Bool, List, None, Option, Some, [], codes, false, if◌then◌else◌, is_some, map, true, ℕ, ◌++◌, ◌-◌, ◌∷◌, ◌≡◌}
+use Rattle.btx_aux.specs.declared.end.End.TheVariants as aux
+use Rattle.btx_machine.specs.declared.report.End.TheVariants as ended
+use Rattle.btx_text.specs.declared.limits.Limit.TheVariants as limit
+use Rattle.btx_aux.specs.declared.end.End.{End as AuxEnd}
+use Rattle.btx_machine.specs.declared.report.End.{End}
+
+-- ---- the end of a run
+
+-- a run ended after some steps, with this list and these lines of the log
+abbrev pub ends_with : End → ℕ → ℕ → List ℕ → List Line → Product
+ends_with end steps deepest bbl log = record {
+  bbl = bbl;
+  log_so_far = flat_map (λ (line : Line). ended_line line.text) log;
+  report = report_of end steps deepest (counts_of log);
+}
+
+-- a line that is pending at the end of a style is ended, unless it is empty
+abbrev pub line_at_end : (List ℕ → List ℕ) → List ℕ → List ℕ
+line_at_end wrapped [] = []
+line_at_end wrapped (b ∷ bs) = wrapped (b ∷ bs)
+
+-- what an outcome comes to, with a budget: a run that is stopped took all its steps; one that doesn't finish leaves what is sure of a pending line
+abbrev pub comes_to : (wrapped sure : List ℕ → List ℕ) → ℕ → Outcome → Product
+comes_to wrapped sure budget (Done s left) =
+    ends_with ended.Finished (budget - left) s.deepest (flat_map wrapped s.lines ++ line_at_end wrapped s.pending) s.log
+comes_to wrapped sure budget (Stopped s) = ends_with ended.Stopped budget s.deepest (flat_map wrapped s.lines ++ sure s.pending) s.log
+comes_to wrapped sure budget (Limited limit s left) =
+    ends_with (ended.Limit limit) (budget - left) s.deepest (flat_map wrapped s.lines ++ sure s.pending) s.log
+
+-- ---- the execution of a style
+
+-- what is read, executed: strings are divided as they are, functions mean what the equations say, commands come to an outcome one after another, and its
+-- lines are broken; `log` is what was logged before
+pub record IsExecuted (job : Job) (log : List Line) (options : Options) (product : Product) : Type 0 where
+  pub the : Divisions
+  pub divided : AreDivisions the
+  pub means : Meaning
+  pub meant : IsMeaning the job means
+  pub wrapped : List ℕ → List ℕ
+  pub are_wrapped : IsWrapped options.line wrapped
+  pub sure : List ℕ → List ℕ
+  pub are_sure : IsSure options.line sure
+  pub outcome : Outcome
+  pub come : CommandsCome means job.library job.style.commands [] options.budget (first_state job log) outcome
+  pub product_is : product ≡ comes_to wrapped sure options.budget outcome
+
+-- ---- the files of a job
+
+-- what a job and its style ask of the databases
+abbrev pub asked_by : AuxJob → Style → Options → Request
+asked_by job style options = record {
+  cited = job.keys;
+  all = job.all;
+  is_field = style.is_field;
+  types = style.types;
+  fewest = if is_some job.all then 0 else options.min_crossrefs;
+}
+
+-- a style was found: its text is read, the databases that are there are read, and the style is executed. A style that is too long ends the run
+pub record IsStyled (files : Files) (job : AuxJob) (name text : List ℕ) (log : List Line) (options : Options) (product : Product) : Type 0 where
+  pub style : Style
+  pub styled : IsStyle name text style
+  pub library : Library
+  pub gathered : IsLibrary (asked_by job style options) style.macros
+      (map (λ (file : NamedFile). record { file = file.name; text = file.bytes }) (files_found files job.databases)) library
+  pub executed : IsExecuted
+      (record { style = style; library = library; mode = options.text; entry_max = options.entry_max; global_max = options.global_max })
+      (log ++ databases_logged files [] job.databases) options product
+
+-- what follows, by whether the style is too long
+abbrev pub IsFound : Bool → Files → AuxJob → List ℕ → List ℕ → List Line → Options → Product → Type 0
+IsFound true files job name text log options product = product ≡ ends_with (ended.Limit limit.File) 0 0 [] log
+IsFound false files job name text log options product = IsStyled files job name text log options product
+
+-- what follows the name of a style, by whether its file is there
+abbrev pub IsNamed : Option (List ℕ) → Files → AuxJob → List ℕ → Options → Product → Type 0
+IsNamed None files job name options product = product ≡ ends_with ended.Finished 0 0 [] (job.log ++ no_style_line name ∷ [])
+IsNamed (Some text) files job name options product = IsFound (is_too_long text) files job name text (job.log ++ style_line name ∷ []) options product
+
+-- what follows the `.aux` files, where they were read to their ends, by whether they name a style
+abbrev pub IsAsked : Option (List ℕ) → Files → AuxJob → Options → Product → Type 0
+IsAsked None files job options product = product ≡ ends_with ended.Finished 0 0 [] job.log
+IsAsked (Some name) files job options product = IsNamed (files name) files job name options product
+
+-- what follows them, by how their reading ended
+abbrev pub IsBehind : AuxEnd → Files → AuxJob → Options → Product → Type 0
+IsBehind aux.Whole files job options product = IsAsked job.style files job options product
+IsBehind aux.TooManyOpen files job options product = product ≡ ends_with (ended.Limit limit.Files) 0 0 [] job.log
+IsBehind aux.TopMissing files job options product = product ≡ ends_with ended.NoTopFile 0 0 [] job.log
+IsBehind aux.FileLimit files job options product = product ≡ ends_with (ended.Limit limit.File) 0 0 [] job.log
+
+-- THE PRODUCT OF A JOB: its `.aux` files come to these events, and what follows them comes to the product
+pub record IsProduct (files : Files) (name : List ℕ) (options : Options) (product : Product) : Type 0 where
+  pub events : List AuxEvent
+  pub read : AreJobEvents files (with_ending (codes ".aux") name) events
+  pub behind : IsBehind (job_of events).ending files (job_of events) options product

@@ -1,0 +1,43 @@
+-- What is proved of the relation in names.
+use Rattle.btx_aux.specs.language.Files.{Files}
+use Rattle.btx_aux.specs.laws.Pairs.{files_of_pairs}
+use Rattle.btx_core.specs.laws.Product.{IsProduct}
+use Rattle.btx_machine.specs.declared.report.End.{End}
+use Rattle.btx_machine.specs.language.Product.{Product}
+use Rattle.btx_run.specs.declared.files.found.FilesRead.TheVariants.{Ends}
+use Rattle.btx_run.specs.declared.options.Options.{Options}
+use Rattle.btx_run.specs.language.Files.Readings.{reading_of}
+use Rattle.btx_run.specs.language.Product.{product}
+use Rattle.btx_run.specs.laws.WorkedJobs.{WorkedJob, outputs_shown, worked_jobs}
+use Rattle.std.specs.Prelude.{List, [], codes, ℕ, ◌∷◌, ◌↔◌, ◌≡◌, ◌≤◌}
+
+-- two products of a job are the same. (A line has 20 bytes at least, so that 3 is no condition)
+abbrev pub OneProduct : Type 0
+OneProduct = (files : Files) (name : List ℕ) (options : Options) → 3 ≤ options.line → (one other : Product) →
+    IsProduct files name options one → IsProduct files name options other → one ≡ other
+
+-- where no style is executed, what `product` computes is a product of the job
+abbrev pub EarlyEnds : Type 0
+EarlyEnds = (files : Files) (name : List ℕ) (options : Options) (ending : End) → (reading_of files name).gives ≡ Ends ending →
+    IsProduct files name options (product files name options)
+
+-- each job has a product
+abbrev pub SomeProduct : Type 0
+SomeProduct = (files : Files) (name : List ℕ) (options : Options) → 3 ≤ options.line → (product : Product) × IsProduct files name options product
+
+-- what a job comes to in the relation is what `product` computes, and nothing else
+abbrev pub SameProduct : Type 0
+SameProduct = (files : Files) (name : List ℕ) (options : Options) → 3 ≤ options.line → (one : Product) → IsProduct files name options one ↔ (one ≡ product files name options)
+
+-- what stands in the relation for a worked job of the tree (a list, a log and a status that were worked without any definition) is what is said there
+abbrev pub IsWorked : WorkedJob → Type 0
+IsWorked job = (product : Product) → IsProduct (files_of_pairs job.files) (codes "job") job.options product → outputs_shown product ≡ (job.list, job.log, job.status)
+
+-- each of these jobs is one of which that holds
+abbrev pub AreWorked : List WorkedJob → Type 0
+AreWorked [] = Unit {0}
+AreWorked (job ∷ jobs) = IsWorked job × AreWorked jobs
+
+-- all 21 of them
+abbrev pub WorkedProducts : Type 0
+WorkedProducts = AreWorked worked_jobs
