@@ -1,0 +1,4 @@
+pub mod HandedLemmas
+pub mod NeedsLemmas
+pub mod OutcomeLemmas
+pub mod SettledLemmas

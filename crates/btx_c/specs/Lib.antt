@@ -1,0 +1,6 @@
+pub mod Handed
+pub mod Known
+pub mod Needs
+pub mod Options
+pub mod Outcomes
+pub mod Reports

@@ -1,0 +1,45 @@
+-- What a job needs beyond the files that were handed in.
+use Rattle.std.specs.Prelude.{◌≡◌, ℕ, Bool, true, false, List, [], ◌∷◌, ◌++◌, Option, None, Some, if◌then◌else◌}
+use Rattle.std.specs.List.{flat_map}
+use Rattle.btx_aux.specs.language.Files.{Files}
+use Rattle.btx_run.specs.declared.options.Options.{Options}
+use Rattle.btx_run.specs.language.Product.{product_with}
+use Rattle.btx_c.specs.declared.handed.BtxFile.{BtxFile}
+use Rattle.btx_c.specs.declared.needs.Needs.{Needs}
+use Rattle.btx_c.specs.declared.needs.Needs.TheVariants.{Ends, Names}
+use Rattle.btx_c.specs.Handed.{beside, is_known, known}
+
+-- no files
+abbrev pub no_files : Files
+no_files name = None
+
+-- the job needs no file but those that were handed in: whatever other files there are, the list, the log and the report are the same, with all options
+-- and every budget
+abbrev pub NeedsNoOther : List BtxFile → List ℕ → Type 0
+NeedsNoOther files job = (others : Files) (options : Options) (budget : ℕ) → product_with (beside files others) job options budget ≡ product_with (beside files no_files) job options budget
+
+-- no file is asked for
+abbrev pub AsksNothing : Needs → Type 0
+AsksNothing (Names names) = names.items ≡ []
+AsksNothing Ends = ⊥
+
+-- ---- names
+
+-- the line for a name: the name and byte 10, unless something was said of its file
+abbrev pub line_for : List BtxFile → List ℕ → List ℕ
+line_for files name = if is_known files name then [] else name ++ 10 ∷ []
+
+-- the lines for some names
+abbrev pub lines_for : List BtxFile → List (List ℕ) → List ℕ
+lines_for files names = flat_map (line_for files) names
+
+-- it was said that there is no such file
+abbrev pub is_absent : Option (Option (List ℕ)) → Bool
+is_absent None = false
+is_absent (Some None) = true
+is_absent (Some (Some bytes)) = false
+
+-- the lines for a job's style and its databases: none if there is no style, with which the run ends
+abbrev pub lines_named : List BtxFile → Option (List ℕ) → List (List ℕ) → List ℕ
+lines_named files None databases = []
+lines_named files (Some style) databases = if is_absent (known files style) then [] else line_for files style ++ lines_for files databases

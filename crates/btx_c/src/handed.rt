@@ -1,0 +1,119 @@
+//! The files that a caller hands in.
+ghost use Rattle.std.specs.Prelude.{◌≡◌, [], Some, OnOk, OnErr, IfErr};
+ghost use Rattle.btx_c.specs.Handed.{OtherFiles, beside, bytes_in, file_in, known};
+ghost use Rattle.btx_c.specs.Known.{known_of};
+
+use crate::others::Others;
+use btx_aux::{FetchFault, Finder};
+use std::alloc::Global;
+
+/// A file of a job, or that there is no file of this name. C hands in each text as a pointer, which is never null, and a length.
+#[repr(C)]
+#[derive(Clone, Copy)]
+pub struct BtxFile<'a> {
+    pub name: &'a [u8],
+    /// The bytes of the file; no call looks at them if there is no such file.
+    pub bytes: &'a [u8],
+    /// Whether there is such a file.
+    pub is_there: bool,
+}
+
+/// What was said of a file.
+#[derive(Clone, Copy)]
+pub enum Known<'a> {
+    /// Its bytes.
+    Bytes(&'a [u8]),
+    /// That it isn't there.
+    Absent,
+    /// Nothing.
+    Unknown,
+}
+
+// Answers what a file says of its own name.
+fn known_bytes<'a>(file: &BtxFile<'a>) -> Known<'a>
+    ensures { known_of result ≡ Some (bytes_in file.now) }
+{
+    if file.is_there {
+        Known::Bytes(file.bytes)
+    } else {
+        Known::Absent
+    }
+}
+
+/// Answers what was said of the file `name`: the first of `files` with this name counts.
+pub fn look<'a>(files: &[BtxFile<'a>], name: &[u8]) -> Known<'a>
+    ensures { known_of result ≡ known files.now name.now }
+{
+    for file in files {
+        if file.name == name {
+            return known_bytes(file);
+        }
+    }
+    Known::Unknown
+}
+
+/// Files that a caller handed in, as a finder. It fails where it is asked for a file of which nothing was said. So what it gives is right
+/// whatever other files there are.
+#[derive(Drop)]
+pub struct Handed<'a> {
+    files: &'a [BtxFile<'a>],
+    others: Others,
+    /// How often it was asked for a file of which nothing was said.
+    pub unknown: u64,
+}
+
+impl<'a> Handed<'a> {
+    /// A finder over these files, whatever others there are.
+    pub fn new(files: &'a [BtxFile<'a>]) -> Self
+        ghost others: { OtherFiles }
+        ensures files { result.files.now ≡ files.now }
+        ensures others { result.others.files ≡ others }
+        ensures unknown { result.unknown ≡ 0 }
+    {
+        Handed {
+            files,
+            others: Others::any(),
+            unknown: 0,
+        }
+    }
+}
+
+/// Puts `bytes` in place of what `into` had. The only fault is want of memory.
+pub fn fill(into: &mut Vec<u8>, bytes: &[u8]) -> Result<(), FetchFault>
+    ensures ok { OnOk result (into.new.items ≡ bytes.now) }
+    ensures err { OnErr result (into.new.items ≡ []) }
+    ensures fault { IfErr result (λ fault. fault ≡ FetchFault.Memory) }
+{
+    into.clear();
+    into.extend_from_slice(bytes)
+        .map_err(|_| FetchFault::Memory)
+}
+
+impl<'a> Finder for Handed<'a> {
+    ghost content = { λ finder. Some (beside finder.files.now (file_in finder.others.files)) };
+
+    ghost failures = { λ finder. finder.unknown };
+
+    fn fetch(
+        &mut self,
+        _alloc: Global,
+        name: &[u8],
+        into: &mut Vec<u8>,
+    ) -> Result<bool, FetchFault> {
+        match look(self.files, name) {
+            Known::Bytes(bytes) => {
+                fill(into, bytes)?;
+                Ok(true)
+            }
+            Known::Absent => {
+                into.clear();
+                Ok(false)
+            }
+            Known::Unknown => {
+                into.clear();
+                self.unknown = self.unknown.wrapping_add(1);
+                Err(FetchFault::Device)
+            }
+        }
+    }
+}

@@ -1,0 +1,13 @@
+//! The library for C, and for all that calls C. A caller hands in the files of a job and gets back what the job writes. All that C sees lies in the
+//! caller's memory: no call keeps what it was given, and none hands out memory of its own. So no call depends on another one, in any thread.
+#![tactic(auto)]
+
+pub mod cause;
+pub mod exports;
+pub mod handed;
+pub mod kept;
+pub mod needs;
+pub mod options;
+pub mod others;
+pub mod report;
+pub mod run;
