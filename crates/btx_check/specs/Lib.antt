@@ -1,0 +1,9 @@
+pub mod Promise
+pub mod Descriptions
+pub mod States
+pub mod Inclusion
+pub mod Names
+pub mod Bounds
+pub mod Running
+pub mod Answers
+pub mod Verdicts

@@ -1,0 +1,187 @@
+//! Bounds of integers.
+ghost use Rattle.std.specs.Prelude.{◌≡◌, ℕ, suc, ◌≤◌, ℤ, pos, negsuc, ◌≤ℤ◌, ◌+ℤ◌, ◌-ℤ◌, int_lt, true, false, Option, IsTrue};
+ghost use Rattle.btx_stack.specs.declared.literal.Literal.TheVariants.{Integer};
+ghost use Rattle.btx_step.specs.language.Control.{is_positive};
+ghost use Rattle.btx_check.specs.declared.description.Value.TheVariants as value;
+ghost use Rattle.btx_check.specs.declared.description.Upper.TheVariants as upper;
+ghost use Rattle.btx_check.specs.Descriptions.{Above, Below, Is};
+
+use crate::description::{Upper, Value};
+
+/// The greater of two lower bounds.
+pub fn raise(low: Option<i32>, to: Option<i32>) -> Option<i32>
+    ensures { (n : ℤ) → Above low n → Above to n → Above result n }
+{
+    match low {
+        None => to,
+        Some(a) => match to {
+            None => low,
+            Some(b) => if a < b { to } else { low },
+        },
+    }
+}
+
+/// The lesser of two upper bounds.
+pub fn lower(high: Upper, to: Upper) -> Upper
+    ensures { (left : ℕ) (n : ℤ) → Below left high n → Below left to n → Below left result n }
+{
+    match high {
+        Upper::Counter => match to {
+            Upper::Counter => high,
+            Upper::Number(t) => match t {
+                None => high,
+                Some(_) => to,
+            },
+        },
+        Upper::Number(h) => match h {
+            None => to,
+            Some(a) => match to {
+                Upper::Counter => high,
+                Upper::Number(t) => match t {
+                    None => high,
+                    Some(b) => if b < a { to } else { high },
+                },
+            },
+        },
+    }
+}
+
+/// A lower bound of what is greater.
+pub fn next(low: Option<i32>) -> Option<i32>
+    ensures { (x y : ℤ) → Above low y → int_lt y x ≡ true → Above result x }
+{
+    match low {
+        None => None,
+        Some(a) => if a < 2_000_000_000 { Some(a + 1) } else { None },
+    }
+}
+
+/// An upper bound of what is less.
+pub fn previous(high: Upper) -> Upper
+    ensures { (left : ℕ) (x y : ℤ) → Below left high x → int_lt y x ≡ true → Below left result y }
+{
+    match high {
+        Upper::Counter => high,
+        Upper::Number(h) => match h {
+            None => high,
+            Some(a) => if a > -2_000_000_000 {
+                Upper::Number(Some(a - 1))
+            } else {
+                high
+            },
+        },
+    }
+}
+
+/// What is known of an integer of these bounds where it is above 0.
+pub fn positive(low: Option<i32>, high: Upper) -> Value
+    ensures { (left : ℕ) (n : ℤ) → Is left (value.Integer low high) (Integer n) → is_positive n ≡ true → Is left result (Integer n) }
+{
+    Value::Integer(raise(low, Some(1)), high)
+}
+
+/// .. and where it isn't.
+pub fn not_positive(low: Option<i32>, high: Upper) -> Value
+    ensures { (left : ℕ) (n : ℤ) → Is left (value.Integer low high) (Integer n) → is_positive n ≡ false → Is left result (Integer n) }
+{
+    Value::Integer(low, lower(high, Upper::Number(Some(0))))
+}
+
+/// A lower bound of a sum.
+pub fn sum_low(a: Option<i32>, b: Option<i32>) -> Option<i32>
+    ensures { (x y : ℤ) → Above a x → Above b y → Above result (x +ℤ y) }
+{
+    match a {
+        None => None,
+        Some(m) => match b {
+            None => None,
+            Some(n) => m.checked_add(n),
+        },
+    }
+}
+
+/// Whether an integer is at most 1.
+pub fn is_one(high: Upper) -> bool
+    ensures { IsTrue result → (left : ℕ) (x : ℤ) → Below left high x → x ≤ℤ pos 1 }
+{
+    match high {
+        Upper::Counter => false,
+        Upper::Number(h) => match h {
+            None => false,
+            Some(n) => n <= 1,
+        },
+    }
+}
+
+// An upper bound of a sum of integers below two numbers.
+fn number_sum(a: Option<i32>, b: Option<i32>) -> Option<i32>
+    ensures { (before left : ℕ) (x y : ℤ) → Below before (upper.Number a) x → Below before (upper.Number b) y → Below left (upper.Number result) (x +ℤ y) }
+{
+    match a {
+        None => None,
+        Some(m) => match b {
+            None => None,
+            Some(n) => m.checked_add(n),
+        },
+    }
+}
+
+// An upper bound of the sum of what counts steps and another integer, one step later.
+fn counter_sum(b: Upper) -> Upper
+    ensures first { (left : ℕ) (x y : ℤ) → Below (suc left) upper.Counter x → Below (suc left) b y → Below left result (x +ℤ y) }
+    ensures second { (left : ℕ) (x y : ℤ) → Below (suc left) b x → Below (suc left) upper.Counter y → Below left result (x +ℤ y) }
+{
+    if is_one(b) {
+        return Upper::Counter;
+    }
+    Upper::Number(None)
+}
+
+/// An upper bound of a sum, one step later.
+pub fn sum_high(a: Upper, b: Upper) -> Upper
+    ensures { (left : ℕ) (x y : ℤ) → Below (suc left) a x → Below (suc left) b y → Below left result (x +ℤ y) }
+{
+    match a {
+        Upper::Counter => counter_sum(b),
+        Upper::Number(m) => match b {
+            Upper::Counter => counter_sum(a),
+            Upper::Number(n) => Upper::Number(number_sum(m, n)),
+        },
+    }
+}
+
+/// A lower bound of a difference.
+pub fn difference_low(a: Option<i32>, b: Upper) -> Option<i32>
+    ensures { (left : ℕ) (x y : ℤ) → Above a x → Below left b y → Above result (x -ℤ y) }
+{
+    match b {
+        Upper::Counter => None,
+        Upper::Number(b) => match a {
+            None => None,
+            Some(m) => match b {
+                None => None,
+                Some(n) => m.checked_sub(n),
+            },
+        },
+    }
+}
+
+/// An upper bound of a difference, one step later.
+pub fn difference_high(a: Upper, b: Option<i32>) -> Upper
+    ensures { (left : ℕ) (x y : ℤ) → Below (suc left) a x → Above b y → Below left result (x -ℤ y) }
+{
+    match b {
+        None => Upper::Number(None),
+        Some(n) => match a {
+            Upper::Counter => if n >= -1 {
+                Upper::Counter
+            } else {
+                Upper::Number(None)
+            },
+            Upper::Number(h) => match h {
+                None => Upper::Number(None),
+                Some(m) => Upper::Number(m.checked_sub(n)),
+            },
+        },
+    }
+}

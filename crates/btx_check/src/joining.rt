@@ -1,0 +1,383 @@
+//! Which descriptions are joined, and what is proposed for both: guesses, which `State::is_within` tests.
+use crate::description::{Upper, Value};
+use crate::state::State;
+use crate::work::Work;
+use btx_bst::Callee;
+use std::alloc::{AllocError, Global};
+
+impl State {
+    /// Whether this and another one are to be joined: they have the same on the stack, as far as that is told apart, and the flags don't differ.
+    pub fn is_like(&self, work: &Work, other: &State, is_coarse: bool) -> bool {
+        if self.stack.len() != other.stack.len() || self.entry != other.entry {
+            return false;
+        }
+        for k in 0..self.stack.len() {
+            if k < other.stack.len() {
+                let mine = self.value(self.stack[k]);
+                let its = other.value(other.stack[k]);
+                if is_coarse && k >= 2 {
+                    if !is_same_kind(mine, its) {
+                        return false;
+                    }
+                } else if !is_same_shape(mine, its) {
+                    return false;
+                }
+            }
+        }
+        is_coarse || !self.differs(work, other)
+    }
+
+    // Whether a flag is known to be one thing here and another thing there.
+    fn differs(&self, work: &Work, other: &State) -> bool {
+        for flag in work.flags.iter() {
+            if flag_of(self, *flag) != flag_of(other, *flag) {
+                return true;
+            }
+        }
+        false
+    }
+
+    /// Numbers of this state for those of another, as a guess: those that stand in the same places.
+    pub fn numbers_for(&self, alloc: Global, other: &State) -> Result<Vec<usize>, AllocError> {
+        let mut numbers: Vec<usize> = vec![in alloc; 0; other.values.len()]?;
+        for k in 0..other.stack.len() {
+            if k < self.stack.len() {
+                put(&mut numbers, other.stack[k], self.stack[k]);
+            }
+        }
+        put_names(&mut numbers, &other.global_integers, &self.global_integers);
+        put_names(&mut numbers, &other.global_strings, &self.global_strings);
+        put_names(&mut numbers, &other.entry_integers, &self.entry_integers);
+        put_names(&mut numbers, &other.entry_strings, &self.entry_strings);
+        put_names(&mut numbers, &other.fields, &self.fields);
+        Ok(numbers)
+    }
+
+    /// A description of all that this and another one describe, as a guess. Where it is to be wide, bounds that grew go to the next threshold.
+    pub fn joined(
+        &self,
+        alloc: Global,
+        other: &State,
+        is_wide: bool,
+    ) -> Result<Option<State>, AllocError> {
+        if self.stack.len() != other.stack.len() || self.entry != other.entry {
+            return Ok(None);
+        }
+        let mut pairs = Pairs {
+            first: self,
+            second: other,
+            is_wide,
+            latest: vec![in alloc; None; self.values.len()]?,
+            earlier: Vec::new(alloc),
+            seconds: Vec::new(alloc),
+            values: Vec::new(alloc),
+        };
+        let stack = pairs.stack(alloc, &self.stack, &other.stack)?;
+        let global_integers = pairs.names(alloc, &self.global_integers, &other.global_integers)?;
+        let global_strings = pairs.names(alloc, &self.global_strings, &other.global_strings)?;
+        let entry_integers = pairs.names(alloc, &self.entry_integers, &other.entry_integers)?;
+        let entry_strings = pairs.names(alloc, &self.entry_strings, &other.entry_strings)?;
+        let fields = pairs.names(alloc, &self.fields, &other.fields)?;
+        Ok(Some(State {
+            stack,
+            values: pairs.values,
+            global_integers,
+            global_strings,
+            entry_integers,
+            entry_strings,
+            fields,
+            entry: self.entry,
+        }))
+    }
+}
+
+// Pairs of numbers of two states, and what is known of both.
+#[derive(Drop)]
+struct Pairs<'a> {
+    first: &'a State,
+    second: &'a State,
+    is_wide: bool,
+    // Of each number of the first: the latest pair with it, and of each pair the one before it.
+    latest: Vec<Option<usize>>,
+    earlier: Vec<Option<usize>>,
+    seconds: Vec<usize>,
+    values: Vec<Value>,
+}
+
+impl<'a> Pairs<'a> {
+    // The number of a pair.
+    fn number(&mut self, i: usize, j: usize) -> Result<usize, AllocError> {
+        let latest = if i < self.latest.len() {
+            self.latest[i]
+        } else {
+            None
+        };
+        let mut at = latest;
+        for _ in 0..self.seconds.len() {
+            match at {
+                None => break,
+                Some(n) => {
+                    if n < self.seconds.len() && self.seconds[n] == j {
+                        return Ok(n);
+                    }
+                    at = if n < self.earlier.len() {
+                        self.earlier[n]
+                    } else {
+                        None
+                    };
+                }
+            }
+        }
+        let n = self.values.len();
+        let value = joined_value(self.first.value(i), self.second.value(j), self.is_wide);
+        if i < self.latest.len() {
+            self.latest[i] = Some(n);
+        }
+        self.earlier.push(latest)?;
+        self.seconds.push(j)?;
+        self.values.push(value)?;
+        Ok(n)
+    }
+
+    // The stack of both.
+    fn stack(
+        &mut self,
+        alloc: Global,
+        mine: &[usize],
+        its: &[usize],
+    ) -> Result<Vec<usize>, AllocError> {
+        let mut stack: Vec<usize> = Vec::new(alloc);
+        for k in 0..mine.len() {
+            if k < its.len() {
+                let number = self.number(mine[k], its[k])?;
+                stack.push(number)?;
+            }
+        }
+        Ok(stack)
+    }
+
+    // The names of a kind that have a number in both.
+    fn names(
+        &mut self,
+        alloc: Global,
+        mine: &[Option<usize>],
+        its: &[Option<usize>],
+    ) -> Result<Vec<Option<usize>>, AllocError> {
+        let mut names: Vec<Option<usize>> = Vec::new(alloc);
+        for k in 0..mine.len() {
+            let other = if k < its.len() { its[k] } else { None };
+            let number = self.name(mine[k], other)?;
+            names.push(number)?;
+        }
+        Ok(names)
+    }
+
+    // The number of a name that may have one in both.
+    fn name(
+        &mut self,
+        mine: Option<usize>,
+        its: Option<usize>,
+    ) -> Result<Option<usize>, AllocError> {
+        match mine {
+            None => Ok(None),
+            Some(i) => match its {
+                None => Ok(None),
+                Some(j) => {
+                    let number = self.number(i, j)?;
+                    Ok(Some(number))
+                }
+            },
+        }
+    }
+}
+
+/// What is known of either.
+pub fn joined_value(a: Value, b: Value, is_wide: bool) -> Value {
+    match (a, b) {
+        (Value::Integer(low, high), Value::Integer(low2, high2)) => {
+            Value::Integer(
+                joined_low(low, low2, is_wide),
+                joined_high(high, high2, is_wide),
+            )
+        }
+        (Value::Text(m), Value::Text(n)) => Value::Text(m.joined(n)),
+        (Value::Function(f), Value::Function(g)) => if f == g {
+            Value::Function(f)
+        } else {
+            Value::Any
+        },
+        _ => Value::Any,
+    }
+}
+
+// The thresholds of lower bounds, and of upper ones.
+const LOWS: [i32; 4] = [2, 1, 0, -1];
+
+const HIGHS: [i32; 6] = [-1, 0, 1, 2, 127, 255];
+
+// The lesser of two lower bounds; a wide one at the next threshold.
+fn joined_low(old: Option<i32>, new: Option<i32>, is_wide: bool) -> Option<i32> {
+    match (old, new) {
+        (Some(m), Some(n)) => {
+            if m <= n {
+                return old;
+            }
+            if !is_wide {
+                return new;
+            }
+            for bound in LOWS {
+                if bound <= n {
+                    return Some(bound);
+                }
+            }
+            None
+        }
+        _ => None,
+    }
+}
+
+// The greater of two upper bounds; a wide one at the next threshold.
+fn joined_high(old: Upper, new: Upper, is_wide: bool) -> Upper {
+    match (old, new) {
+        (Upper::Counter, Upper::Counter) => Upper::Counter,
+        (Upper::Counter, Upper::Number(Some(n))) | (Upper::Number(Some(n)), Upper::Counter) => {
+            if n <= 500_000_000 {
+                Upper::Counter
+            } else {
+                Upper::Number(None)
+            }
+        }
+        (Upper::Number(Some(m)), Upper::Number(Some(n))) => {
+            if m >= n {
+                return old;
+            }
+            if !is_wide {
+                return new;
+            }
+            for bound in HIGHS {
+                if bound >= n {
+                    return Upper::Number(Some(bound));
+                }
+            }
+            if n <= 500_000_000 {
+                Upper::Counter
+            } else {
+                Upper::Number(None)
+            }
+        }
+        _ => Upper::Number(None),
+    }
+}
+
+// Whether two descriptions on the stack are told apart.
+fn is_same_shape(a: Value, b: Value) -> bool {
+    match (a, b) {
+        (Value::Integer(low, high), Value::Integer(low2, high2)) => {
+            sign_of(low, high) == sign_of(low2, high2)
+        }
+        (Value::Text(m), Value::Text(n)) => m.full == n.full,
+        (Value::Function(f), Value::Function(g)) => f == g,
+        (Value::Any, Value::Any) => true,
+        _ => false,
+    }
+}
+
+// Whether two descriptions are of one kind, and the same function if they are functions.
+fn is_same_kind(a: Value, b: Value) -> bool {
+    match (a, b) {
+        (Value::Integer(_, _), Value::Integer(_, _)) => true,
+        (Value::Text(_), Value::Text(_)) => true,
+        (Value::Function(f), Value::Function(g)) => f == g,
+        (Value::Any, Value::Any) => true,
+        _ => false,
+    }
+}
+
+// What an integer is told apart by: certainly above 0, certainly not, or open.
+#[derive(Clone, Copy, PartialEq, Eq)]
+enum Sign {
+    Positive,
+    NotPositive,
+    Open,
+}
+
+fn sign_of(low: Option<i32>, high: Upper) -> Sign {
+    match low {
+        Some(m) => {
+            if m > 0 {
+                return Sign::Positive;
+            }
+        }
+        None => {}
+    }
+    match high {
+        Upper::Number(Some(n)) => {
+            if n <= 0 {
+                return Sign::NotPositive;
+            }
+        }
+        _ => {}
+    }
+    Sign::Open
+}
+
+// What a flag is: an integer that is known, a field that is there or not, or open.
+#[derive(Clone, Copy, PartialEq, Eq)]
+enum Flag {
+    Number(i32),
+    Positive,
+    NotPositive,
+    Full,
+    Blank,
+    Open,
+}
+
+fn flag_of(state: &State, flag: Callee) -> Flag {
+    match state.slot(flag) {
+        None => Flag::Open,
+        Some(number) => match state.value(number) {
+            Value::Integer(low, high) => integer_flag(low, high),
+            Value::Text(m) => if !m.full {
+                Flag::Blank
+            } else if !m.missing && !m.empty && !m.white {
+                Flag::Full
+            } else {
+                Flag::Open
+            },
+            _ => Flag::Open,
+        },
+    }
+}
+
+fn integer_flag(low: Option<i32>, high: Upper) -> Flag {
+    match (low, high) {
+        (Some(m), Upper::Number(Some(n))) => {
+            if m == n {
+                return Flag::Number(m);
+            }
+        }
+        _ => {}
+    }
+    match sign_of(low, high) {
+        Sign::Positive => Flag::Positive,
+        Sign::NotPositive => Flag::NotPositive,
+        Sign::Open => Flag::Open,
+    }
+}
+
+fn put(numbers: &mut [usize], j: usize, i: usize) {
+    if j < numbers.len() {
+        numbers[j] = i;
+    }
+}
+
+fn put_names(numbers: &mut [usize], js: &[Option<usize>], is: &[Option<usize>]) {
+    for k in 0..js.len() {
+        if k < is.len() {
+            match (js[k], is[k]) {
+                (Some(j), Some(i)) => put(numbers, j, i),
+                _ => {}
+            }
+        }
+    }
+}

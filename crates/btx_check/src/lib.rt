@@ -1,0 +1,24 @@
+//! A checker of styles: a style that it calls clean never logs a fault of its own, whatever the databases and the options.
+#![tactic(auto)]
+
+mod adding;
+mod bounds;
+pub mod description;
+mod joining;
+mod known_rules;
+mod loops;
+mod name_rules;
+mod operands;
+mod plain_rules;
+mod rules;
+mod running;
+mod stack_rules;
+mod state;
+mod sums;
+mod types;
+pub mod verdict;
+mod within;
+pub mod work;
+
+pub use verdict::{Clean, Verdict, check};
+pub use work::{Place, Warning};

@@ -1,0 +1,129 @@
+//! Rules of variables and fields, and of `:=`.
+ghost use Rattle.std.specs.Prelude.{◌≡◌, ◌<◌, ℕ, List, [], ◌∷◌, length, IsTrue, true, false, Option, Some, None};
+ghost use Rattle.std.specs.Result.{IfOk};
+ghost use Rattle.btx_bst.specs.declared.built_in.BuiltIn.TheVariants as built_in;
+ghost use Rattle.btx_bst.specs.declared.callee.Callee.TheVariants as callee;
+ghost use Rattle.btx_bst.specs.declared.token.Token.TheVariants as token;
+ghost use Rattle.btx_check.specs.Answers.{Ruled, Stepped};
+ghost use Rattle.btx_check.specs.Names.{IsName, NeedsEntry, kind_of, IsIntegerOf, IsStringOf};
+
+use crate::adding::{add_pushed, add_put, add_recalled, add_text_put};
+use crate::description::{Mask, Value};
+use crate::operands::pair_of;
+use crate::state::State;
+use crate::work::Work;
+use btx_bst::{Callee, Style};
+use std::alloc::AllocError;
+
+/// What is known of a name of which nothing else is known.
+pub fn kind_of(name: Callee) -> Value
+    ensures { result ≡ kind_of name }
+{
+    match name {
+        Callee::GlobalInteger(_) | Callee::EntryInteger(_) => Value::any_integer(),
+        Callee::GlobalString(_) | Callee::EntryString(_) => Value::Text(Mask::any_text()),
+        Callee::Field(_) => Value::Text(Mask::any_field()),
+        _ => Value::Any,
+    }
+}
+
+/// Whether it is a variable or a field.
+pub fn is_name(callee: Callee) -> bool
+    ensures { IsTrue result → IsName callee }
+{
+    match callee {
+        Callee::BuiltIn(_) | Callee::User(_) => false,
+        _ => true,
+    }
+}
+
+/// Whether the value of a name can be asked for.
+pub fn has_value(a: &State, name: Callee) -> bool
+    ensures { IsTrue result → NeedsEntry name a.now }
+{
+    match name {
+        Callee::GlobalInteger(_) | Callee::GlobalString(_) => true,
+        _ => a.has_entry(),
+    }
+}
+
+/// A variable or a field.
+pub fn name(work: &Work, a: &State, f: Callee, out: &mut Vec<State>) -> Result<bool, AllocError>
+    ensures { IfOk result (λ ok. IsTrue ok → Ruled f a.now out.old.items out.new.items) }
+{
+    if !a.has_room() {
+        return Ok(false);
+    }
+    if !is_name(f) {
+        return Ok(false);
+    }
+    if !has_value(a, f) {
+        return Ok(false);
+    }
+    match a.slot(f) {
+        Some(i) => {
+            add_pushed(work, a.copy()?, i, out)?;
+            Ok(true)
+        }
+        None => {
+            add_recalled(work, a.copy()?, f, kind_of(f), out)?;
+            Ok(true)
+        }
+    }
+}
+
+/// Whether there is such a variable in the style, and an entry where it needs one.
+pub fn is_integer_variable(style: &Style, a: &State, f: Callee) -> bool
+    ensures { IsTrue result → IsIntegerOf style.now f a.now }
+{
+    match f {
+        Callee::GlobalInteger(k) => (k as usize) < style.global_integers(),
+        Callee::EntryInteger(k) => (k as usize) < style.entry_integers() && a.has_entry(),
+        _ => false,
+    }
+}
+
+/// Whether there is such a variable in the style, and an entry where it needs one.
+pub fn is_string_variable(style: &Style, a: &State, f: Callee) -> bool
+    ensures { IsTrue result → IsStringOf style.now f a.now }
+{
+    match f {
+        Callee::GlobalString(k) => (k as usize) < style.global_strings(),
+        Callee::EntryString(k) => (k as usize) < style.entry_strings() && a.has_entry(),
+        _ => false,
+    }
+}
+
+/// `:=`.
+pub fn assign(
+    work: &Work,
+    style: &Style,
+    a: &State,
+    out: &mut Vec<State>,
+) -> Result<bool, AllocError>
+    ensures { IfOk result (λ ok. IsTrue ok → (allowed : List ℕ) (deep loops : ℕ) → Stepped style.now allowed (token.Run (callee.BuiltIn built_in.Assign)) (a.now ∷ []) deep loops out.old.items out.new.items) }
+{
+    match pair_of(a)? {
+        None => Ok(false),
+        Some(t) => match (t.first_value, t.second_value) {
+            (Value::Function(f), Value::Integer(_, _)) => {
+                if !is_integer_variable(style, a, f) {
+                    return Ok(false);
+                }
+                add_put(work, t.below, f, t.second, out)?;
+                Ok(true)
+            }
+            (Value::Function(f), Value::Text(m)) => {
+                if m.missing {
+                    return Ok(false);
+                }
+                if !is_string_variable(style, a, f) {
+                    return Ok(false);
+                }
+                add_text_put(work, t.below, f, m, out)?;
+                Ok(true)
+            }
+            _ => Ok(false),
+        },
+    }
+}

@@ -1,0 +1,222 @@
+//! What stands on top of the stack.
+ghost use Rattle.std.specs.Prelude.{◌≡◌, Option, List, [], ◌∷◌, IsTrue};
+ghost use Rattle.std.specs.Option.{IfSome};
+ghost use Rattle.std.specs.Result.{IfOk};
+ghost use Rattle.btx_step.specs.language.Operands.{Of};
+ghost use Rattle.btx_check.specs.Answers.{TopIs, TwoAre, ThreeAre, OpFits, Taken, Pushed, Dropped};
+
+use crate::adding::{add, add_new};
+use crate::description::Value;
+use crate::state::State;
+use crate::work::Work;
+use btx_step::Wanted;
+use std::alloc::AllocError;
+
+/// The number on top, what is known of it, and what is below it.
+#[derive(Drop)]
+pub struct Top {
+    pub number: usize,
+    pub value: Value,
+    pub below: State,
+}
+
+/// What stands on top, if there is something.
+pub fn top_of(a: &State) -> Result<Option<Top>, AllocError>
+    ensures { IfOk result (λ o. IfSome o (λ t. TopIs a.now t.number t.value t.below)) }
+{
+    if !a.has_room() {
+        return Ok(None);
+    }
+    let mut below = a.copy()?;
+    match below.pop() {
+        None => Ok(None),
+        Some(number) => {
+            let value = a.value(number);
+            Ok(Some(Top {
+                number,
+                value,
+                below,
+            }))
+        }
+    }
+}
+
+/// The two numbers on top, what is known of them, and what is below them.
+#[derive(Drop)]
+pub struct Pair {
+    pub first: usize,
+    pub first_value: Value,
+    pub second: usize,
+    pub second_value: Value,
+    pub below: State,
+}
+
+/// What stands on top and below that, if there is so much.
+#[tactic(auto, using(crate::proofs::RunLemmas::two_are))]
+pub fn pair_of(a: &State) -> Result<Option<Pair>, AllocError>
+    ensures { IfOk result (λ o. IfSome o (λ t. TwoAre a.now t.first t.second t.first_value t.second_value t.below)) }
+{
+    match top_of(a)? {
+        None => Ok(None),
+        Some(t) => match top_of(&t.below)? {
+            None => Ok(None),
+            Some(u) => Ok(Some(Pair {
+                first: t.number,
+                first_value: t.value,
+                second: u.number,
+                second_value: u.value,
+                below: u.below,
+            })),
+        },
+    }
+}
+
+/// The three numbers on top, what is known of them, and what is below them.
+#[derive(Drop)]
+pub struct Triple {
+    pub first: usize,
+    pub first_value: Value,
+    pub second: usize,
+    pub second_value: Value,
+    pub third: usize,
+    pub third_value: Value,
+    pub below: State,
+}
+
+/// The three on top, if there are so many.
+#[tactic(auto, using(crate::proofs::RunLemmas::three_are))]
+pub fn triple_of(a: &State) -> Result<Option<Triple>, AllocError>
+    ensures { IfOk result (λ o. IfSome o (λ t. ThreeAre a.now t.first t.second t.third t.first_value t.second_value t.third_value t.below)) }
+{
+    match pair_of(a)? {
+        None => Ok(None),
+        Some(p) => match top_of(&p.below)? {
+            None => Ok(None),
+            Some(t) => Ok(Some(Triple {
+                first: p.first,
+                first_value: p.first_value,
+                second: p.second,
+                second_value: p.second_value,
+                third: t.number,
+                third_value: t.value,
+                below: t.below,
+            })),
+        },
+    }
+}
+
+/// Whether an operand that wants this gets it from each literal that is described so.
+pub fn is_fit(value: Value, wanted: Wanted) -> bool
+    ensures { IsTrue result → OpFits (Of wanted) value }
+{
+    match wanted {
+        Wanted::Integer => matches!(value, Value::Integer(_, _)),
+        Wanted::Function => matches!(value, Value::Function(_)),
+        Wanted::TextOrMissing => matches!(value, Value::Text(_)),
+        Wanted::Text => match value {
+            Value::Text(m) => !m.missing,
+            _ => false,
+        },
+    }
+}
+
+/// Takes nothing.
+pub fn take_none(a: &State) -> Result<Option<State>, AllocError>
+    ensures { IfOk result (λ o. IfSome o (λ b. Taken [] a.now b)) }
+{
+    if !a.has_room() {
+        return Ok(None);
+    }
+    let below = a.copy()?;
+    Ok(Some(below))
+}
+
+/// Takes an operand, if it is there and fits: what is left below it.
+pub fn take_one(a: &State, wanted: Wanted) -> Result<Option<State>, AllocError>
+    ensures { IfOk result (λ o. IfSome o (λ b. Taken (Of wanted ∷ []) a.now b)) }
+{
+    match top_of(a)? {
+        None => Ok(None),
+        Some(t) => {
+            if !is_fit(t.value, wanted) {
+                return Ok(None);
+            }
+            Ok(Some(t.below))
+        }
+    }
+}
+
+/// Takes two operands, the first from the top.
+pub fn take_two(a: &State, first: Wanted, second: Wanted) -> Result<Option<State>, AllocError>
+    ensures { IfOk result (λ o. IfSome o (λ b. Taken (Of first ∷ Of second ∷ []) a.now b)) }
+{
+    match pair_of(a)? {
+        None => Ok(None),
+        Some(t) => {
+            if !is_fit(t.first_value, first) {
+                return Ok(None);
+            }
+            if !is_fit(t.second_value, second) {
+                return Ok(None);
+            }
+            Ok(Some(t.below))
+        }
+    }
+}
+
+/// Takes three operands, the first from the top.
+pub fn take_three(
+    a: &State,
+    first: Wanted,
+    second: Wanted,
+    third: Wanted,
+) -> Result<Option<State>, AllocError>
+    ensures { IfOk result (λ o. IfSome o (λ b. Taken (Of first ∷ Of second ∷ Of third ∷ []) a.now b)) }
+{
+    match triple_of(a)? {
+        None => Ok(None),
+        Some(t) => {
+            if !is_fit(t.first_value, first) {
+                return Ok(None);
+            }
+            if !is_fit(t.second_value, second) {
+                return Ok(None);
+            }
+            if !is_fit(t.third_value, third) {
+                return Ok(None);
+            }
+            Ok(Some(t.below))
+        }
+    }
+}
+
+/// Adds what is left below operands, with a literal of which this is known. False if they weren't taken.
+pub fn pushes(
+    work: &Work,
+    taken: Option<State>,
+    value: Value,
+    out: &mut Vec<State>,
+) -> Result<bool, AllocError>
+    ensures { IfOk result (λ ok. IsTrue ok → Pushed taken value out.old.items out.new.items) }
+{
+    match taken {
+        None => Ok(false),
+        Some(below) => {
+            add_new(work, below, value, out)?;
+            Ok(true)
+        }
+    }
+}
+
+/// Adds what is left below operands. False if they weren't taken.
+pub fn drops(work: &Work, taken: Option<State>, out: &mut Vec<State>) -> Result<bool, AllocError>
+    ensures { IfOk result (λ ok. IsTrue ok → Dropped taken out.old.items out.new.items) }
+{
+    match taken {
+        None => Ok(false),
+        Some(below) => {
+            add(work, out, below)?;
+            Ok(true)
+        }
+    }
+}

@@ -1,0 +1,118 @@
+//! The rule of each function of one step, and of the tokens that push.
+ghost use Rattle.std.specs.Prelude.{◌≡◌, ℕ, List, [], ◌∷◌, IsTrue, true, false, Option, Some, None};
+ghost use Rattle.std.specs.Result.{IfOk};
+ghost use Rattle.btx_bst.specs.declared.callee.Callee.TheVariants as callee;
+ghost use Rattle.btx_stack.specs.declared.literal.Literal.TheVariants.{Text as TextLiteral};
+ghost use Rattle.btx_check.specs.declared.description.Value.TheVariants as value;
+ghost use Rattle.btx_check.specs.Descriptions.{Is};
+ghost use Rattle.btx_check.specs.Answers.{Ruled, Stepped};
+
+use crate::adding::add_new;
+use crate::description::{Mask, Upper, Value};
+use crate::state::State;
+use crate::work::Work;
+use crate::{known_rules, name_rules, plain_rules, stack_rules};
+use btx_bst::{BuiltIn, Callee, Style, Token};
+use std::alloc::AllocError;
+
+/// A function of one step, from a description: what follows is added to the others. False if it may go wrong, or isn't of one step.
+pub fn one_step(work: &Work, a: &State, f: Callee, out: &mut Vec<State>) -> Result<bool, AllocError>
+    ensures { IfOk result (λ ok. IsTrue ok → Ruled f a.now out.old.items out.new.items) }
+{
+    match f {
+        Callee::BuiltIn(b) => built_in(work, a, b, out),
+        Callee::User(_) => Ok(false),
+        _ => name_rules::name(work, a, f, out),
+    }
+}
+
+// A built-in function of one step.
+fn built_in(work: &Work, a: &State, b: BuiltIn, out: &mut Vec<State>) -> Result<bool, AllocError>
+    ensures { IfOk result (λ ok. IsTrue ok → Ruled (callee.BuiltIn b) a.now out.old.items out.new.items) }
+{
+    match b {
+        BuiltIn::Duplicate => stack_rules::duplicate(work, a, out),
+        BuiltIn::Pop => stack_rules::pop(work, a, out),
+        BuiltIn::Top => stack_rules::top(work, a, out),
+        BuiltIn::Skip => stack_rules::skip(work, a, out),
+        BuiltIn::Stack => stack_rules::stack(work, a, out),
+        BuiltIn::Swap => stack_rules::swap(work, a, out),
+        BuiltIn::Write => stack_rules::write(work, a, out),
+        BuiltIn::Empty => known_rules::empty(work, a, out),
+        BuiltIn::Missing => known_rules::missing(work, a, out),
+        BuiltIn::NumNames => known_rules::num_names(work, a, out),
+        BuiltIn::Plus => known_rules::plus(work, a, out),
+        BuiltIn::Minus => known_rules::minus(work, a, out),
+        BuiltIn::Greater => known_rules::greater(work, a, out),
+        BuiltIn::Less => known_rules::less(work, a, out),
+        BuiltIn::Equals => known_rules::equals(work, a, out),
+        BuiltIn::Concatenate => plain_rules::concatenate(work, a, out),
+        BuiltIn::AddPeriod => plain_rules::add_period(work, a, out),
+        BuiltIn::ChangeCase => plain_rules::change_case(work, a, out),
+        BuiltIn::FormatName => plain_rules::format_name(work, a, out),
+        BuiltIn::IntToChr => plain_rules::int_to_chr(work, a, out),
+        BuiltIn::IntToStr => plain_rules::int_to_str(work, a, out),
+        BuiltIn::Preamble => plain_rules::preamble(work, a, out),
+        BuiltIn::Purify => plain_rules::purify(work, a, out),
+        BuiltIn::Quote => plain_rules::quote(work, a, out),
+        BuiltIn::Substring => plain_rules::substring(work, a, out),
+        BuiltIn::TextPrefix => plain_rules::text_prefix(work, a, out),
+        BuiltIn::Warning => plain_rules::warning(work, a, out),
+        BuiltIn::NewLine => plain_rules::newline(work, a, out),
+        BuiltIn::TextLength => plain_rules::text_length(work, a, out),
+        BuiltIn::Width => plain_rules::width(work, a, out),
+        BuiltIn::ChrToInt => plain_rules::chr_to_int(work, a, out),
+        BuiltIn::Cite => plain_rules::cite(work, a, out),
+        BuiltIn::Type => plain_rules::type_name(work, a, out),
+        BuiltIn::Assign | BuiltIn::CallType | BuiltIn::If | BuiltIn::While => Ok(false),
+    }
+}
+
+/// The mask of a string.
+pub fn mask_of(text: &[u8]) -> Mask
+    ensures { (left : ℕ) → Is left (value.Text result) (TextLiteral text.now) }
+{
+    let is_empty = text.is_empty();
+    Mask {
+        missing: false,
+        empty: is_empty,
+        white: !is_empty,
+        full: !is_empty,
+    }
+}
+
+/// A token that pushes a literal, from a description.
+pub fn push_token(
+    work: &Work,
+    style: &Style,
+    a: &State,
+    t: Token,
+    out: &mut Vec<State>,
+) -> Result<bool, AllocError>
+    ensures { IfOk result (λ ok. IsTrue ok → (allowed : List ℕ) (deep loops : ℕ) → Stepped style.now allowed t (a.now ∷ []) deep loops out.old.items out.new.items) }
+{
+    if !a.has_room() {
+        return Ok(false);
+    }
+    match t {
+        Token::Text(i) => {
+            let mask = mask_of(style.text(i));
+            add_new(work, a.copy()?, Value::Text(mask), out)?;
+            Ok(true)
+        }
+        Token::Integer(n) => {
+            add_new(
+                work,
+                a.copy()?,
+                Value::Integer(Some(n), Upper::Number(Some(n))),
+                out,
+            )?;
+            Ok(true)
+        }
+        Token::Quote(f) => {
+            add_new(work, a.copy()?, Value::Function(f), out)?;
+            Ok(true)
+        }
+        Token::Run(_) => Ok(false),
+    }
+}

@@ -1,0 +1,334 @@
+//! The execution of functions, from descriptions: each answer is a theorem about the meaning of styles.
+ghost use Rattle.std.specs.Prelude.{◌≡◌, ℕ, List, [], ◌∷◌, IsTrue, true, false, Option, Some, None, slice_index_or, ◌+◌, drop, take, length, ◌≤◌, ◌<◌};
+ghost use Rattle.std.specs.Result.{IfOk};
+ghost use Rattle.btx_bst.specs.declared.built_in.BuiltIn.TheVariants as built_in;
+ghost use Rattle.btx_bst.specs.declared.callee.Callee.TheVariants as callee;
+ghost use Rattle.btx_bst.specs.declared.token.Token.TheVariants as token;
+ghost use Rattle.btx_check.specs.Answers.{Ruled, Stepped, Looped, TypesStepped};
+
+use crate::adding::add_same;
+use crate::bounds::{not_positive, positive};
+use crate::description::Value;
+use crate::loops::{add_all, all_in, is_in, proposed, turn_all};
+use crate::name_rules::assign;
+use crate::operands::{pair_of, triple_of};
+use crate::rules::{one_step, push_token};
+use crate::state::State;
+use crate::work::{Room, Work};
+use btx_bst::{BuiltIn, Callee, Style, Token};
+use std::alloc::AllocError;
+
+/// A function, from a description: what it leads to is added to the others. False if something may go wrong, or the room doesn't suffice.
+#[cycle(search)]
+pub fn run(
+    work: &mut Work,
+    style: &Style,
+    allowed: &[u32],
+    room: Room,
+    a: &State,
+    f: Callee,
+    out: &mut Vec<State>,
+) -> Result<bool, AllocError>
+    ensures { IfOk result (λ ok. IsTrue ok → Stepped style.now allowed.now (token.Run f) (a.now ∷ []) room.deep room.loops out.old.items out.new.items) }
+{
+    if room.fuel == 0 {
+        work.gave_up = true;
+        return Ok(false);
+    }
+    if !work.step() {
+        return Ok(false);
+    }
+    if a.is_impossible() {
+        return Ok(true);
+    }
+    work.met(a.height());
+    let room = Room {
+        fuel: room.fuel - 1,
+        deep: room.deep,
+        loops: room.loops,
+    };
+    match f {
+        Callee::BuiltIn(BuiltIn::If) => run_if(work, style, allowed, room, a, out),
+        Callee::BuiltIn(BuiltIn::While) => run_while(work, style, allowed, room, a, out),
+        Callee::BuiltIn(BuiltIn::CallType) => run_types(work, style, allowed, room, a, out),
+        Callee::BuiltIn(BuiltIn::Assign) => run_assign(work, style, allowed, room, a, out),
+        Callee::User(i) => run_user(work, style, allowed, room, a, i, out),
+        _ => run_one(work, a, f, out),
+    }
+}
+
+/// A function of one step. Where it may go wrong, that is noted.
+fn run_one(work: &mut Work, a: &State, f: Callee, out: &mut Vec<State>) -> Result<bool, AllocError>
+    ensures { IfOk result (λ ok. IsTrue ok → Ruled f a.now out.old.items out.new.items) }
+{
+    let is_done = one_step(work, a, f, out)?;
+    if !is_done {
+        work.warn(f, a)?;
+    }
+    Ok(is_done)
+}
+
+/// `:=`. Where it may go wrong, that is noted.
+fn run_assign(
+    work: &mut Work,
+    style: &Style,
+    allowed: &[u32],
+    room: Room,
+    a: &State,
+    out: &mut Vec<State>,
+) -> Result<bool, AllocError>
+    ensures { IfOk result (λ ok. IsTrue ok → Stepped style.now allowed.now (token.Run (callee.BuiltIn built_in.Assign)) (a.now ∷ []) room.deep room.loops out.old.items out.new.items) }
+{
+    let _ = allowed.len();
+    let _ = room.deep;
+    let is_done = assign(work, style, a, out)?;
+    if !is_done {
+        work.warn(Callee::BuiltIn(BuiltIn::Assign), a)?;
+    }
+    Ok(is_done)
+}
+
+/// A token, from a description.
+#[cycle(search)]
+pub fn run_token(
+    work: &mut Work,
+    style: &Style,
+    allowed: &[u32],
+    room: Room,
+    a: &State,
+    t: Token,
+    out: &mut Vec<State>,
+) -> Result<bool, AllocError>
+    ensures { IfOk result (λ ok. IsTrue ok → Stepped style.now allowed.now t (a.now ∷ []) room.deep room.loops out.old.items out.new.items) }
+{
+    match t {
+        Token::Run(f) => run(work, style, allowed, room, a, f, out),
+        _ => push_token(work, style, a, t, out),
+    }
+}
+
+/// A token, from each of these.
+#[cycle(search)]
+pub fn run_all(
+    work: &mut Work,
+    style: &Style,
+    allowed: &[u32],
+    room: Room,
+    states: &[State],
+    t: Token,
+    out: &mut Vec<State>,
+) -> Result<bool, AllocError>
+    ensures { IfOk result (λ ok. IsTrue ok → Stepped style.now allowed.now t states.now room.deep room.loops out.old.items out.new.items) }
+{
+    for a in states {
+        if !run_token(work, style, allowed, room, a, t, out)? {
+            return Ok(false);
+        }
+    }
+    Ok(true)
+}
+
+/// The body of a function of the style.
+#[cycle(search)]
+pub fn run_user(
+    work: &mut Work,
+    style: &Style,
+    allowed: &[u32],
+    room: Room,
+    a: &State,
+    i: u32,
+    out: &mut Vec<State>,
+) -> Result<bool, AllocError>
+    ensures { IfOk result (λ ok. IsTrue ok → Stepped style.now allowed.now (token.Run (callee.User i)) (a.now ∷ []) room.deep room.loops out.old.items out.new.items) }
+{
+    if room.deep == 0 {
+        work.gave_up = true;
+        return Ok(false);
+    }
+    if i as usize >= style.functions() {
+        return Ok(false);
+    }
+    let inside = Room {
+        fuel: room.fuel,
+        deep: room.deep - 1,
+        loops: room.loops,
+    };
+    work.enter(i, inside.deep)?;
+    let body = style.body(i as usize);
+    let first = a.copy()?;
+    let mut states: Vec<State> = Vec::new(work.alloc);
+    states.push(first)?;
+    for t in body {
+        let mut after: Vec<State> = Vec::new(work.alloc);
+        if !run_all(work, style, allowed, inside, &states, *t, &mut after)? {
+            return Ok(false);
+        }
+        states = after;
+        work.advance();
+    }
+    work.leave();
+    add_all(work, &states, out)?;
+    Ok(true)
+}
+
+/// `if$`.
+#[cycle(search)]
+pub fn run_if(
+    work: &mut Work,
+    style: &Style,
+    allowed: &[u32],
+    room: Room,
+    a: &State,
+    out: &mut Vec<State>,
+) -> Result<bool, AllocError>
+    ensures { IfOk result (λ ok. IsTrue ok → Stepped style.now allowed.now (token.Run (callee.BuiltIn built_in.If)) (a.now ∷ []) room.deep room.loops out.old.items out.new.items) }
+{
+    match triple_of(a)? {
+        None => {
+            work.warn(Callee::BuiltIn(BuiltIn::If), a)?;
+            Ok(false)
+        }
+        Some(t) => match (t.first_value, t.second_value, t.third_value) {
+            (Value::Function(g), Value::Function(f), Value::Integer(low, high)) => {
+                let mut yes = t.below.copy()?;
+                yes.know(t.third, positive(low, high));
+                let mut no = t.below.copy()?;
+                no.know(t.third, not_positive(low, high));
+                if !run(work, style, allowed, room, &yes, f, out)? {
+                    return Ok(false);
+                }
+                run(work, style, allowed, room, &no, g, out)
+            }
+            _ => {
+                work.warn(Callee::BuiltIn(BuiltIn::If), a)?;
+                Ok(false)
+            }
+        },
+    }
+}
+
+/// `while$`.
+#[cycle(search)]
+pub fn run_while(
+    work: &mut Work,
+    style: &Style,
+    allowed: &[u32],
+    room: Room,
+    a: &State,
+    out: &mut Vec<State>,
+) -> Result<bool, AllocError>
+    ensures { IfOk result (λ ok. IsTrue ok → Stepped style.now allowed.now (token.Run (callee.BuiltIn built_in.While)) (a.now ∷ []) room.deep room.loops out.old.items out.new.items) }
+{
+    if room.loops == 0 {
+        work.gave_up = true;
+        return Ok(false);
+    }
+    let inside = Room {
+        fuel: room.fuel,
+        deep: room.deep,
+        loops: room.loops - 1,
+    };
+    match pair_of(a)? {
+        None => {
+            work.warn(Callee::BuiltIn(BuiltIn::While), a)?;
+            Ok(false)
+        }
+        Some(t) => match (t.first_value, t.second_value) {
+            (Value::Function(g), Value::Function(f)) => run_loop(
+                work, style, allowed, inside, &t.below, f, g, out,
+            ),
+            _ => {
+                work.warn(Callee::BuiltIn(BuiltIn::While), a)?;
+                Ok(false)
+            }
+        },
+    }
+}
+
+/// A loop: heads are proposed until its body leads back to them.
+#[cycle(search)]
+pub fn run_loop(
+    work: &mut Work,
+    style: &Style,
+    allowed: &[u32],
+    room: Room,
+    b: &State,
+    f: Callee,
+    g: Callee,
+    out: &mut Vec<State>,
+) -> Result<bool, AllocError>
+    ensures { IfOk result (λ ok. IsTrue ok → Looped style.now allowed.now b.now f g room.deep room.loops out.old.items out.new.items) }
+{
+    let first = b.copy()?;
+    let mut heads: Vec<State> = Vec::new(work.alloc);
+    heads.push(first)?;
+    for round in 0..60 {
+        let mut tests: Vec<State> = Vec::new(work.alloc);
+        if !run_all(
+            work,
+            style,
+            allowed,
+            room,
+            &heads,
+            Token::Run(f),
+            &mut tests,
+        )? {
+            return Ok(false);
+        }
+        let mut again: Vec<State> = Vec::new(work.alloc);
+        let mut ends: Vec<State> = Vec::new(work.alloc);
+        if !turn_all(work, &tests, &mut again, &mut ends)? {
+            work.warn(Callee::BuiltIn(BuiltIn::While), b)?;
+            return Ok(false);
+        }
+        let mut bodies: Vec<State> = Vec::new(work.alloc);
+        if !run_all(
+            work,
+            style,
+            allowed,
+            room,
+            &again,
+            Token::Run(g),
+            &mut bodies,
+        )? {
+            return Ok(false);
+        }
+        if is_in(work, b, &heads)? && all_in(work, &bodies, &heads)? {
+            add_all(work, &ends, out)?;
+            return Ok(true);
+        }
+        heads = proposed(work, b, heads, &bodies, round > 2)?;
+    }
+    work.gave_up = true;
+    Ok(false)
+}
+
+/// `call.type$`: the function of each type that an entry may have, and of the default type, or nothing where there is none.
+#[cycle(search)]
+pub fn run_types(
+    work: &mut Work,
+    style: &Style,
+    allowed: &[u32],
+    room: Room,
+    a: &State,
+    out: &mut Vec<State>,
+) -> Result<bool, AllocError>
+    ensures { IfOk result (λ ok. IsTrue ok → Stepped style.now allowed.now (token.Run (callee.BuiltIn built_in.CallType)) (a.now ∷ []) room.deep room.loops out.old.items out.new.items) }
+{
+    if !a.has_entry() {
+        work.warn(Callee::BuiltIn(BuiltIn::CallType), a)?;
+        return Ok(false);
+    }
+    for number in allowed {
+        if !run(work, style, allowed, room, a, Callee::User(*number), out)? {
+            return Ok(false);
+        }
+    }
+    match style.type_function(b"default.type") {
+        None => {
+            add_same(work, a, out)?;
+            Ok(true)
+        }
+        Some(number) => run(work, style, allowed, room, a, Callee::User(number), out),
+    }
+}

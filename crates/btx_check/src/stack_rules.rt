@@ -1,0 +1,100 @@
+//! Rules of functions of the stack itself, and of `write$`.
+ghost use Rattle.std.specs.Prelude.{◌≡◌, ℕ, List, IsTrue, true, false, Option, Some, None};
+ghost use Rattle.std.specs.Result.{IfOk};
+ghost use Rattle.btx_bst.specs.declared.built_in.BuiltIn.TheVariants as built_in;
+ghost use Rattle.btx_bst.specs.declared.callee.Callee.TheVariants as callee;
+ghost use Rattle.btx_check.specs.Answers.{Ruled};
+
+use crate::adding::{add, add_pushed, add_pushed_both, add_same, add_without_stack};
+use crate::description::Value;
+use crate::operands::{pair_of, top_of};
+use crate::state::State;
+use crate::work::Work;
+use std::alloc::AllocError;
+
+/// `duplicate$`.
+pub fn duplicate(work: &Work, a: &State, out: &mut Vec<State>) -> Result<bool, AllocError>
+    ensures { IfOk result (λ ok. IsTrue ok → Ruled (callee.BuiltIn built_in.Duplicate) a.now out.old.items out.new.items) }
+{
+    match top_of(a)? {
+        None => Ok(false),
+        Some(t) => {
+            add_pushed(work, a.copy()?, t.number, out)?;
+            Ok(true)
+        }
+    }
+}
+
+/// `pop$`.
+pub fn pop(work: &Work, a: &State, out: &mut Vec<State>) -> Result<bool, AllocError>
+    ensures { IfOk result (λ ok. IsTrue ok → Ruled (callee.BuiltIn built_in.Pop) a.now out.old.items out.new.items) }
+{
+    match top_of(a)? {
+        None => Ok(false),
+        Some(t) => {
+            add(work, out, t.below)?;
+            Ok(true)
+        }
+    }
+}
+
+/// `top$`.
+pub fn top(work: &Work, a: &State, out: &mut Vec<State>) -> Result<bool, AllocError>
+    ensures { IfOk result (λ ok. IsTrue ok → Ruled (callee.BuiltIn built_in.Top) a.now out.old.items out.new.items) }
+{
+    match top_of(a)? {
+        None => Ok(false),
+        Some(t) => {
+            add(work, out, t.below)?;
+            Ok(true)
+        }
+    }
+}
+
+/// `skip$`.
+pub fn skip(work: &Work, a: &State, out: &mut Vec<State>) -> Result<bool, AllocError>
+    ensures { IfOk result (λ ok. IsTrue ok → Ruled (callee.BuiltIn built_in.Skip) a.now out.old.items out.new.items) }
+{
+    add_same(work, a, out)?;
+    Ok(true)
+}
+
+/// `stack$`.
+pub fn stack(work: &Work, a: &State, out: &mut Vec<State>) -> Result<bool, AllocError>
+    ensures { IfOk result (λ ok. IsTrue ok → Ruled (callee.BuiltIn built_in.Stack) a.now out.old.items out.new.items) }
+{
+    add_without_stack(work, a.copy()?, out)?;
+    Ok(true)
+}
+
+/// `swap$`.
+pub fn swap(work: &Work, a: &State, out: &mut Vec<State>) -> Result<bool, AllocError>
+    ensures { IfOk result (λ ok. IsTrue ok → Ruled (callee.BuiltIn built_in.Swap) a.now out.old.items out.new.items) }
+{
+    match pair_of(a)? {
+        None => Ok(false),
+        Some(t) => {
+            add_pushed_both(work, t.below, t.first, t.second, out)?;
+            Ok(true)
+        }
+    }
+}
+
+/// `write$`.
+pub fn write(work: &Work, a: &State, out: &mut Vec<State>) -> Result<bool, AllocError>
+    ensures { IfOk result (λ ok. IsTrue ok → Ruled (callee.BuiltIn built_in.Write) a.now out.old.items out.new.items) }
+{
+    match top_of(a)? {
+        None => Ok(false),
+        Some(t) => match t.value {
+            Value::Text(m) => {
+                if m.missing {
+                    return Ok(false);
+                }
+                add(work, out, t.below)?;
+                Ok(true)
+            }
+            _ => Ok(false),
+        },
+    }
+}

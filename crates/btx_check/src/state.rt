@@ -1,0 +1,351 @@
+//! Descriptions of states.
+ghost use Rattle.std.specs.Prelude.{ℕ, ◌≡◌, ◌<◌, List, [], ◌∷◌, length, slice_index_or, slice_set, Option, Some, None, IsTrue};
+ghost use Rattle.std.specs.Option.{MatchOption, IfSome};
+ghost use Rattle.std.specs.Result.{IfOk};
+ghost use Rattle.btx_check.specs.declared.description.Value.TheVariants.{Any};
+ghost use Rattle.btx_stack.specs.declared.literal.Literal.{Literal};
+ghost use Rattle.btx_check.specs.Descriptions.{Is};
+ghost use Rattle.btx_check.specs.States.{slot, putting, Abstract, pushing, pushing_new, knowing, with_stack, keeping};
+ghost use Rattle.btx_check.specs.Inclusion.{Within, IsImpossible};
+ghost use Rattle.btx_check.specs.Running.{Starts};
+
+use crate::description::{Mask, Upper, Value};
+use crate::within::{fields_map, stack_maps, values_map};
+use crate::work::Work;
+use btx_bst::{Callee, Style};
+use std::alloc::{AllocError, Global};
+use std::marker::Model;
+
+/// What is known of a state. Literals have numbers; two places of one number hold the same literal.
+#[derive(Drop)]
+pub struct State {
+    // Top first.
+    pub(crate) stack: Vec<usize>,
+    pub(crate) values: Vec<Value>,
+    pub(crate) global_integers: Vec<Option<usize>>,
+    pub(crate) global_strings: Vec<Option<usize>>,
+    pub(crate) entry_integers: Vec<Option<usize>>,
+    pub(crate) entry_strings: Vec<Option<usize>>,
+    pub(crate) fields: Vec<Option<usize>>,
+    pub(crate) entry: bool,
+}
+
+impl Model for State {
+    ghost Value = { Abstract };
+
+    ghost view = { λ s. record {
+      stack = s.stack.items;
+      values = s.values.items;
+      global_integers = s.global_integers.items;
+      global_strings = s.global_strings.items;
+      entry_integers = s.entry_integers.items;
+      entry_strings = s.entry_strings.items;
+      fields = s.fields.items;
+      entry = s.entry;
+    } };
+}
+
+impl State {
+    /// A state of which nothing is known but whether an entry is current.
+    pub fn start(alloc: Global, entry: bool, style: &Style) -> Result<State, AllocError>
+        ensures starts { IfOk result (λ a. Starts a) }
+        ensures entry { IfOk result (λ a. a.entry ≡ entry) }
+    {
+        Ok(State {
+            stack: Vec::new(alloc),
+            values: Vec::new(alloc),
+            global_integers: no_numbers(alloc, style.global_integers())?,
+            global_strings: no_numbers(alloc, style.global_strings())?,
+            entry_integers: no_numbers(alloc, style.entry_integers())?,
+            entry_strings: no_numbers(alloc, style.entry_strings())?,
+            fields: no_numbers(alloc, style.fields())?,
+            entry,
+        })
+    }
+
+    /// The same once more.
+    pub fn copy(&self) -> Result<State, AllocError>
+        ensures { IfOk result (λ a. a ≡ self.now) }
+    {
+        Ok(State {
+            stack: self.stack.clone()?,
+            values: self.values.clone()?,
+            global_integers: self.global_integers.clone()?,
+            global_strings: self.global_strings.clone()?,
+            entry_integers: self.entry_integers.clone()?,
+            entry_strings: self.entry_strings.clone()?,
+            fields: self.fields.clone()?,
+            entry: self.entry,
+        })
+    }
+
+    /// Pushes a number.
+    pub fn push(&mut self, number: usize) -> Result<(), AllocError>
+        ensures { IfOk result (λ _. self.new ≡ pushing number self.old) }
+    {
+        self.stack.insert(0, number)?;
+        Ok(())
+    }
+
+    /// Pushes a literal of which this is known, under a new number.
+    pub fn push_new(&mut self, value: Value) -> Result<(), AllocError>
+        ensures { IfOk result (λ _. self.new ≡ pushing_new value self.old) }
+    {
+        let number = self.values.len();
+        self.values.push(value)?;
+        self.stack.insert(0, number)?;
+        Ok(())
+    }
+
+    /// A new number for what a variable keeps of a string.
+    pub fn keep(&mut self, mask: Mask) -> Result<(), AllocError>
+        ensures { IfOk result (λ _. self.new ≡ keeping mask self.old) }
+    {
+        self.values.push(Value::Text(mask.cut()))?;
+        Ok(())
+    }
+
+    /// Pops the number on top.
+    pub fn pop(&mut self) -> Option<usize>
+        ensures { MatchOption result (self.old.stack ≡ []) (λ i. (self.old.stack ≡ i ∷ self.new.stack) × (self.new ≡ with_stack self.new.stack self.old)) }
+    {
+        if self.stack.is_empty() {
+            return None;
+        }
+        Some(self.stack.remove(0))
+    }
+
+    /// Takes everything off the stack.
+    pub fn clear(&mut self)
+        ensures { self.new ≡ with_stack [] self.old }
+    {
+        self.stack.clear();
+    }
+
+    /// What is known of a number.
+    pub fn value(&self, number: usize) -> Value
+        ensures { result ≡ slice_index_or self.now.values number Any }
+    {
+        match self.values.get(number) {
+            Some(value) => *value,
+            None => Value::Any,
+        }
+    }
+
+    /// Sets what is known of a number.
+    pub fn know(&mut self, number: usize, value: Value)
+        ensures { self.new ≡ knowing number value self.old }
+    {
+        if number < self.values.len() {
+            self.values[number] = value;
+        }
+    }
+
+    /// How many numbers there are.
+    pub fn values_len(&self) -> usize
+        ensures { result ≡ length self.now.values }
+    {
+        self.values.len()
+    }
+
+    /// How many literals are on the stack.
+    pub fn height(&self) -> usize
+        ensures { result ≡ length self.now.stack }
+    {
+        self.stack.len()
+    }
+
+    /// Whether there is room for a literal on the stack.
+    pub fn has_room(&self) -> bool
+        ensures { IsTrue result → length self.now.stack < 1000 }
+    {
+        self.stack.len() < 1000
+    }
+
+    /// Whether nothing is on the stack.
+    pub fn is_empty(&self) -> bool
+        ensures { IsTrue result → self.now.stack ≡ [] }
+    {
+        self.stack.is_empty()
+    }
+
+    /// The number of a name's value, if it has one.
+    pub fn slot(&self, name: Callee) -> Option<usize>
+        ensures { result ≡ slot self.now name }
+    {
+        match name {
+            Callee::GlobalInteger(i) => number_in(&self.global_integers, i as usize),
+            Callee::GlobalString(i) => number_in(&self.global_strings, i as usize),
+            Callee::EntryInteger(i) => number_in(&self.entry_integers, i as usize),
+            Callee::EntryString(i) => number_in(&self.entry_strings, i as usize),
+            Callee::Field(i) => number_in(&self.fields, i as usize),
+            _ => None,
+        }
+    }
+
+    /// Sets the number of a name's value.
+    pub fn put(&mut self, name: Callee, number: usize)
+        ensures { self.new ≡ putting name number self.old }
+    {
+        match name {
+            Callee::GlobalInteger(i) => put_in(&mut self.global_integers, i as usize, number),
+            Callee::GlobalString(i) => put_in(&mut self.global_strings, i as usize, number),
+            Callee::EntryInteger(i) => put_in(&mut self.entry_integers, i as usize, number),
+            Callee::EntryString(i) => put_in(&mut self.entry_strings, i as usize, number),
+            Callee::Field(i) => put_in(&mut self.fields, i as usize, number),
+            _ => {}
+        }
+    }
+
+    /// Whether an entry is current.
+    pub fn has_entry(&self) -> bool
+        ensures { result ≡ self.now.entry }
+    {
+        self.entry
+    }
+
+    /// Whether no store is described, since one of the literals can't be.
+    pub fn is_impossible(&self) -> bool
+        ensures { IsTrue result → IsImpossible self.now }
+    {
+        for j in 0..self.values.len() {
+            if is_nothing(self.values[j]) {
+                return true;
+            }
+        }
+        false
+    }
+
+    /// Whether this says no less than the other one, with these numbers for the other's.
+    pub fn is_within(&self, other: &State, numbers: &[usize]) -> bool
+        ensures { IsTrue result → Within self.now other.now }
+    {
+        if self.entry != other.entry {
+            return false;
+        }
+        if !stack_maps(numbers, &self.stack, &other.stack) {
+            return false;
+        }
+        if !fields_map(numbers, &self.global_integers, &other.global_integers) {
+            return false;
+        }
+        if !fields_map(numbers, &self.global_strings, &other.global_strings) {
+            return false;
+        }
+        if !fields_map(numbers, &self.entry_integers, &other.entry_integers) {
+            return false;
+        }
+        if !fields_map(numbers, &self.entry_strings, &other.entry_strings) {
+            return false;
+        }
+        if !fields_map(numbers, &self.fields, &other.fields) {
+            return false;
+        }
+        values_map(numbers, &self.values, &other.values)
+    }
+
+    // More numbers than are needed, and some.
+    fn most_live(&self) -> usize {
+        let globals = self
+            .global_integers
+            .len()
+            .saturating_add(self.global_strings.len());
+        let own = self
+            .entry_integers
+            .len()
+            .saturating_add(self.entry_strings.len());
+        let names = globals
+            .saturating_add(own)
+            .saturating_add(self.fields.len());
+        names.saturating_add(64)
+    }
+
+    /// What says no more than this and another one, if they are to be joined.
+    pub fn merged(
+        &self,
+        work: &Work,
+        other: &State,
+        is_coarse: bool,
+    ) -> Result<Option<State>, AllocError>
+        ensures { IfOk result (λ o. IfSome o (λ j. Within self.now j × Within other.now j)) }
+    {
+        if !self.is_like(work, other, is_coarse) {
+            return Ok(None);
+        }
+        match self.joined(work.alloc, other, false)? {
+            None => Ok(None),
+            Some(j) => {
+                let mine = self.numbers_for(work.alloc, &j)?;
+                let its = other.numbers_for(work.alloc, &j)?;
+                if !self.is_within(&j, &mine) {
+                    return Ok(None);
+                }
+                if !other.is_within(&j, &its) {
+                    return Ok(None);
+                }
+                Ok(Some(j))
+            }
+        }
+    }
+
+    /// The same without the numbers that nothing has any more, where they are many.
+    pub fn tidied(self, alloc: Global) -> Result<State, AllocError>
+        ensures { IfOk result (λ a. Within self a) }
+    {
+        if self.values.len() < self.most_live() {
+            return Ok(self);
+        }
+        match self.joined(alloc, &self, false)? {
+            None => Ok(self),
+            Some(j) => {
+                let numbers = self.numbers_for(alloc, &j)?;
+                if self.is_within(&j, &numbers) {
+                    return Ok(j);
+                }
+                Ok(self)
+            }
+        }
+    }
+}
+
+/// Whether no literal is so.
+pub fn is_nothing(value: Value) -> bool
+    ensures { IsTrue result → (left : ℕ) (x : Literal) → Is left value x → ⊥ }
+{
+    match value {
+        Value::Any => false,
+        Value::Integer(low, high) => match high {
+            Upper::Counter => false,
+            Upper::Number(high) => match (low, high) {
+                (Some(m), Some(n)) => n < m,
+                _ => false,
+            },
+        },
+        Value::Text(m) => !m.missing && !m.empty && !m.white && !m.full,
+        Value::Function(_) => false,
+    }
+}
+
+// So many places without a number.
+fn no_numbers(alloc: Global, n: usize) -> Result<Vec<Option<usize>>, AllocError>
+    ensures { IfOk result (λ v. (i : ℕ) → slice_index_or v.items i None ≡ None) }
+{
+    let numbers: Vec<Option<usize>> = vec![in alloc; None; n]?;
+    Ok(numbers)
+}
+
+// The number at a place.
+fn number_in(numbers: &[Option<usize>], i: usize) -> Option<usize>
+    ensures { result ≡ slice_index_or numbers.now i None }
+{
+    if i < numbers.len() { numbers[i] } else { None }
+}
+
+// Sets the number at a place.
+fn put_in(numbers: &mut [Option<usize>], i: usize, n: usize)
+    ensures { numbers.new ≡ slice_set numbers.old i (Some n) }
+{
+    if i < numbers.len() {
+        numbers[i] = Some(n);
+    }
+}

@@ -1,0 +1,169 @@
+//! Which functions of a style are meant as types of entries: a guess, which the verdict states.
+use btx_bst::{BuiltIn, Callee, Style, Token};
+use std::alloc::{AllocError, Global};
+
+// The types that databases use.
+const STANDARD: &[u8] =
+    b"article book booklet conference inbook incollection inproceedings manual mastersthesis misc phdthesis proceedings techreport unpublished collection patent electronic online www webpage periodical thesis report standard software dataset";
+
+// Of each function: whether it reaches `write$`, whether it reaches `cite$`, and whether a function that isn't another name of it uses it.
+#[derive(Drop)]
+struct Uses {
+    writes: Vec<bool>,
+    cites: Vec<bool>,
+    used: Vec<bool>,
+}
+
+/// The functions that are meant as types: those of standard names, and those without a dot in their names that no other function uses and that write an
+/// entry.
+pub fn meant_types(alloc: Global, style: &Style) -> Result<Vec<u32>, AllocError> {
+    let uses = uses_of(alloc, style)?;
+    let mut meant: Vec<bool> = Vec::new(alloc);
+    let mut types: Vec<u32> = Vec::new(alloc);
+    for i in 0..style.functions() {
+        let is_meant = is_type(style, &uses, &meant, i);
+        meant.push(is_meant)?;
+        if is_meant && i < u32::MAX as usize {
+            types.push(i as u32)?;
+        }
+    }
+    Ok(types)
+}
+
+// Whether a function is meant as a type.
+fn is_type(style: &Style, uses: &Uses, meant: &[bool], i: usize) -> bool {
+    if i >= u32::MAX as usize {
+        return false;
+    }
+    let name = style.name(Callee::User(i as u32));
+    match style.type_function(name) {
+        Some(number) => {
+            if number as usize != i {
+                return false;
+            }
+        }
+        None => return false,
+    }
+    if is_standard(name) {
+        return true;
+    }
+    if name.contains(&b'.') {
+        return false;
+    }
+    is_other_name(style, meant, i)
+        || (!at(&uses.used, i) && at(&uses.writes, i) && at(&uses.cites, i))
+}
+
+// Whether a function is another name of a type.
+fn is_other_name(style: &Style, meant: &[bool], i: usize) -> bool {
+    if i >= style.functions() {
+        return false;
+    }
+    match style.body(i) {
+        [Token::Run(Callee::User(j))] => at(meant, *j as usize),
+        _ => false,
+    }
+}
+
+// Whether databases use a type of this name.
+fn is_standard(name: &[u8]) -> bool {
+    let mut start = 0;
+    for end in 0..STANDARD.len() {
+        if STANDARD[end] == b' ' {
+            if start <= end && &STANDARD[start..end] == name {
+                return true;
+            }
+            start = end + 1;
+        }
+    }
+    start <= STANDARD.len() && &STANDARD[start..] == name
+}
+
+// What each function reaches, and which functions are used.
+fn uses_of(alloc: Global, style: &Style) -> Result<Uses, AllocError> {
+    let mut uses = Uses {
+        writes: Vec::new(alloc),
+        cites: Vec::new(alloc),
+        used: vec![in alloc; false; style.functions()]?,
+    };
+    for i in 0..style.functions() {
+        let body = style.body(i);
+        let mut writes = false;
+        let mut cites = false;
+        for token in body {
+            match *token {
+                Token::Run(f) | Token::Quote(f) => {
+                    writes = writes || reaches(&uses.writes, f, BuiltIn::Write);
+                    cites = cites || reaches(&uses.cites, f, BuiltIn::Cite);
+                    if body.len() != 1 {
+                        mark(&mut uses.used, f);
+                    }
+                }
+                _ => {}
+            }
+        }
+        uses.writes.push(writes)?;
+        uses.cites.push(cites)?;
+    }
+    Ok(uses)
+}
+
+// Whether a function is a built-in one, or reaches it.
+fn reaches(reached: &[bool], f: Callee, wanted: BuiltIn) -> bool {
+    match f {
+        Callee::BuiltIn(b) => b == wanted,
+        Callee::User(j) => at(reached, j as usize),
+        _ => false,
+    }
+}
+
+fn mark(used: &mut [bool], f: Callee) {
+    match f {
+        Callee::User(j) => {
+            if (j as usize) < used.len() {
+                used[j as usize] = true;
+            }
+        }
+        _ => {}
+    }
+}
+
+fn at(flags: &[bool], i: usize) -> bool {
+    if i < flags.len() { flags[i] } else { false }
+}
+
+/// Of each global integer variable: whether it is assigned nothing but literals and such variables.
+pub fn constants(alloc: Global, style: &Style) -> Result<Vec<bool>, AllocError> {
+    let mut are: Vec<bool> = vec![in alloc; true; style.global_integers()]?;
+    for i in 0..style.functions() {
+        let body = style.body(i);
+        for k in 0..body.len() {
+            match body[k] {
+                Token::Quote(Callee::GlobalInteger(v)) => {
+                    if !is_assigned_literal(body, k) && (v as usize) < are.len() {
+                        are[v as usize] = false;
+                    }
+                }
+                _ => {}
+            }
+        }
+    }
+    Ok(are)
+}
+
+// Whether a quoted variable is assigned an integer that is written before it.
+fn is_assigned_literal(body: &[Token], k: usize) -> bool {
+    if k == 0 || k >= body.len() || body.len() - k < 2 {
+        return false;
+    }
+    let after = body[k + 1];
+    if after != Token::Run(Callee::BuiltIn(BuiltIn::Assign)) {
+        return false;
+    }
+    let before = body[k - 1];
+    match before {
+        Token::Integer(_) => true,
+        Token::Run(Callee::GlobalInteger(_)) => true,
+        _ => false,
+    }
+}

@@ -1,0 +1,230 @@
+//! What the search goes by: none of it is proved, and none has to be. What it finds is tested.
+use crate::description::Value;
+use crate::state::State;
+use btx_bst::{Callee, Style, Token};
+use std::alloc::{AllocError, Global};
+
+/// A place in a style: a token of a function, both by their numbers.
+#[derive(Clone, Copy, PartialEq, Eq)]
+pub struct Place {
+    /// The function. The command itself has none.
+    pub function: Option<u32>,
+    /// The token of its body, from 0.
+    pub token: usize,
+}
+
+/// Where a style may go wrong.
+#[derive(Drop)]
+pub struct Warning {
+    /// The place, and those of its callers, the outermost first.
+    pub places: Vec<Place>,
+    /// What is executed there.
+    pub executed: Callee,
+    /// The field whose value may be missing where a string is wanted, if that is so.
+    pub missing: Option<Callee>,
+}
+
+/// Steps that may still be taken, what was met so far, and by which variables and fields descriptions are kept apart.
+#[derive(Drop)]
+pub struct Work {
+    /// Memory.
+    pub alloc: Global,
+    /// How many steps may still be taken.
+    pub steps: u64,
+    /// Whether the search was given up: for want of steps, or since it went too deep.
+    pub gave_up: bool,
+    /// How many more bodies could always be opened.
+    pub spare_bodies: usize,
+    /// The greatest number of literals on the stack that was met.
+    pub most_literals: usize,
+    /// The variables and fields by which descriptions are kept apart.
+    pub flags: Vec<Callee>,
+    /// The open bodies, the outermost first.
+    pub open: Vec<Place>,
+    /// The first place where the style may go wrong.
+    pub warning: Option<Warning>,
+}
+
+/// How many descriptions are kept for one place before they are told apart by what is on top alone.
+pub const MANY: usize = 48;
+
+impl Work {
+    /// A search of so many steps at most.
+    pub fn new(alloc: Global, steps: u64) -> Work {
+        Work {
+            alloc,
+            steps,
+            gave_up: false,
+            spare_bodies: usize::MAX,
+            most_literals: 0,
+            flags: Vec::new(alloc),
+            open: Vec::new(alloc),
+            warning: None,
+        }
+    }
+
+    /// Begins again, with the steps and the flags that there are.
+    pub fn begin(&mut self) {
+        self.spare_bodies = usize::MAX;
+        self.most_literals = 0;
+        self.open.clear();
+        self.warning = None;
+    }
+
+    /// Takes a step, if one is left.
+    pub fn step(&mut self) -> bool {
+        if self.steps == 0 {
+            self.gave_up = true;
+            return false;
+        }
+        self.steps -= 1;
+        true
+    }
+
+    /// Notes that a body was opened, after which so many more can be.
+    pub fn enter(&mut self, function: u32, spare: usize) -> Result<(), AllocError> {
+        if spare < self.spare_bodies {
+            self.spare_bodies = spare;
+        }
+        self.open.push(Place {
+            function: Some(function),
+            token: 0,
+        })?;
+        Ok(())
+    }
+
+    /// Notes that the next token of the open body follows.
+    pub fn advance(&mut self) {
+        if let Some(place) = self.open.last_mut() {
+            if place.token < usize::MAX {
+                place.token += 1;
+            }
+        }
+    }
+
+    /// Notes that the open body has ended.
+    pub fn leave(&mut self) {
+        let _ = self.open.pop();
+    }
+
+    /// Notes how many literals are on the stack.
+    pub fn met(&mut self, literals: usize) {
+        if self.most_literals < literals {
+            self.most_literals = literals;
+        }
+    }
+
+    /// Notes what was executed where something may go wrong, and from what.
+    pub fn warn(&mut self, executed: Callee, a: &State) -> Result<(), AllocError> {
+        if self.warning.is_some() || self.gave_up {
+            return Ok(());
+        }
+        let places = self.open.clone()?;
+        let missing = missing_field(a);
+        self.warning = Some(Warning {
+            places,
+            executed,
+            missing,
+        });
+        Ok(())
+    }
+
+    /// The greatest number of bodies that were open at once, of so many that could be.
+    pub fn deepest(&self, bodies: usize) -> usize {
+        if self.spare_bodies < bodies {
+            bodies - self.spare_bodies
+        } else {
+            0
+        }
+    }
+
+    /// Adds what descriptions should be kept apart by so that this warning may go. False if there is nothing new.
+    pub fn add_flags(
+        &mut self,
+        style: &Style,
+        warning: &Warning,
+        constants: &[bool],
+    ) -> Result<bool, AllocError> {
+        let before = self.flags.len();
+        match warning.missing {
+            Some(field) => self.add_flag(field)?,
+            None => {}
+        }
+        for place in warning.places.iter() {
+            match place.function {
+                Some(function) => self.add_read(style, function as usize, constants)?,
+                None => {}
+            }
+        }
+        Ok(self.flags.len() > before)
+    }
+
+    // Adds the variables of constants that a function reads.
+    fn add_read(
+        &mut self,
+        style: &Style,
+        function: usize,
+        constants: &[bool],
+    ) -> Result<(), AllocError> {
+        if function >= style.functions() {
+            return Ok(());
+        }
+        for token in style.body(function) {
+            match *token {
+                Token::Run(Callee::GlobalInteger(i)) => {
+                    if (i as usize) < constants.len() && constants[i as usize] {
+                        self.add_flag(Callee::GlobalInteger(i))?;
+                    }
+                }
+                _ => {}
+            }
+        }
+        Ok(())
+    }
+
+    fn add_flag(&mut self, flag: Callee) -> Result<(), AllocError> {
+        for known in self.flags.iter() {
+            if *known == flag {
+                return Ok(());
+            }
+        }
+        self.flags.push(flag)?;
+        Ok(())
+    }
+}
+
+// The field whose value stands on top, or just below, and may be missing.
+fn missing_field(a: &State) -> Option<Callee> {
+    for k in 0..a.stack.len() {
+        if k < 3 {
+            let number = a.stack[k];
+            match a.value(number) {
+                Value::Text(m) => {
+                    if m.missing {
+                        return field_of(a, number);
+                    }
+                }
+                _ => {}
+            }
+        }
+    }
+    None
+}
+
+// The field of a number.
+fn field_of(a: &State, number: usize) -> Option<Callee> {
+    for k in 0..a.fields.len() {
+        if a.fields[k] == Some(number) && k < u32::MAX as usize {
+            return Some(Callee::Field(k as u32));
+        }
+    }
+    None
+}
+
+/// How much may still be opened: bodies and loops, and how deep the search may go.
+#[derive(Clone, Copy)]
+pub struct Room {
+    pub fuel: usize,
+    pub deep: usize,
+    pub loops: usize,
+}

@@ -1,0 +1,5 @@
+//! Tests of the checker of styles: which styles it calls clean.
+#![tactic(auto)]
+
+#[cfg(test)]
+mod styles;

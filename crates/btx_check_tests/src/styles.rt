@@ -1,0 +1,104 @@
+//! Small styles, each beside one that differs from it in what makes it go wrong.
+use btx_bst::read_style;
+use btx_check::{Verdict, check};
+use std::alloc::Global;
+
+// What stands before the commands of each style.
+const HEAD: &[u8] = b"ENTRY {title editor}{year}{label} INTEGERS {n m} STRINGS {s} ";
+
+// The rest of styles that are clean, a line each.
+const FIELDS: &[u8] = b"FUNCTION {f} {title empty$ 'skip$ {title write$} if$} READ ITERATE {f}
+FUNCTION {f} {title missing$ 'skip$ {title write$} if$} READ ITERATE {f}
+FUNCTION {f} {title duplicate$ empty$ {pop$} 'write$ if$} READ ITERATE {f} SORT REVERSE {f}
+FUNCTION {f} {title empty$ {#0} {title #1} if$} FUNCTION {g} {f 'write$ 'skip$ if$} READ ITERATE {g}";
+
+// .. and of styles that aren't.
+const SPOILT_FIELDS: &[u8] = b"FUNCTION {f} {title write$} READ ITERATE {f}
+FUNCTION {f} {title empty$ 'skip$ {editor write$} if$} READ ITERATE {f}
+FUNCTION {f} {title empty$ {title write$} 'skip$ if$} READ ITERATE {f}
+FUNCTION {f} {title empty$ 'skip$ {title write$} if$} READ EXECUTE {f}
+FUNCTION {f} {title missing$ {title write$} 'skip$ if$} READ ITERATE {f}
+FUNCTION {f} {title} READ ITERATE {f}";
+
+const VALUES: &[u8] = b"FUNCTION {f} {#5 'n := n #0 > 'skip$ {#1 write$} if$} READ EXECUTE {f}
+FUNCTION {f} {\"a\" duplicate$ * 's := s write$} READ EXECUTE {f}
+FUNCTION {f} {#1 #2 swap$ < {\"a\" write$} 'skip$ if$} READ EXECUTE {f}
+FUNCTION {f} {\"a\" #1 = {skip$} {skip$} if$} READ ITERATE {skip$}
+FUNCTION {f} {title empty$ {\"\"} 'title if$ 's := s num.names$ #0 > {s #1 \"{ll}\" format.name$ write$} 'skip$ if$} READ ITERATE {f}";
+
+const SPOILT_VALUES: &[u8] =
+    b"FUNCTION {f} {#5 'n := #0 'n := n #0 > 'skip$ {#1 write$} if$} READ EXECUTE {f}
+FUNCTION {f} {\"a\" #1 = pop$} READ EXECUTE {f}
+FUNCTION {f} {#1 'skip$ :=} READ EXECUTE {f}
+FUNCTION {f} {\"a\" 's := s empty$ {#1 write$} 'skip$ if$} READ EXECUTE {f}
+FUNCTION {f} {pop$} READ EXECUTE {f}
+FUNCTION {f} {#1 write$} READ EXECUTE {f}";
+
+const LOOPS: &[u8] =
+    b"FUNCTION {f} {#1 'n := #3 'm := {m #0 >} {n #1 > {\"b\" *} {\"a\"} if$ n #1 + 'n := m #1 - 'm :=} while$ write$} READ EXECUTE {f}
+FUNCTION {f} {#0 'n := {#10 n >} {n #1 + 'n := \"a\" write$} while$} READ EXECUTE {f}
+FUNCTION {f} {#0 'n := {#10 n >} {n #1 + 'n :=} while$ n #9 > 'skip$ {#1 write$} if$} READ EXECUTE {f}
+FUNCTION {book} {title empty$ 'skip$ {title write$} if$} FUNCTION {output} {write$} READ ITERATE {call.type$}";
+
+const SPOILT_LOOPS: &[u8] =
+    b"FUNCTION {f} {#0 'n := {#10 n >} {n #1 + 'n := \"a\"} while$} READ EXECUTE {f}
+FUNCTION {f} {#0 'n := {\"a\"} {n #1 + 'n :=} while$} READ EXECUTE {f}
+FUNCTION {f} {#0 'n := {#10 n >} {n #1 + 'n :=} while$ n #9 > {#1 write$} 'skip$ if$} READ EXECUTE {f}
+FUNCTION {book} {title write$} READ ITERATE {call.type$}
+FUNCTION {book} {skip$} FUNCTION {default.type} {pop$} READ ITERATE {call.type$}";
+
+// Whether a style of this head and this rest is called clean.
+fn is_clean(alloc: Global, rest: &[u8]) -> bool {
+    let mut text: Vec<u8> = Vec::new(alloc);
+    if text.extend_from_slice(HEAD).is_err() || text.extend_from_slice(rest).is_err() {
+        return false;
+    }
+    let Ok(style) = read_style(alloc, b"s.bst", &text) else {
+        return false
+    };
+    match check(alloc, &style, 100_000) {
+        Ok(Verdict::Clean(_)) => true,
+        _ => false,
+    }
+}
+
+// How many of these lines are styles that are called clean.
+fn clean_of(alloc: Global, lines: &[u8]) -> usize {
+    let mut count = 0;
+    for line in lines.split(|b| *b == b'\n') {
+        if is_clean(alloc, line) && count < 100 {
+            count += 1;
+        }
+    }
+    count
+}
+
+#[test]
+fn fields(rt: HostRuntime) {
+    assert!(rt; clean_of(rt.alloc(), FIELDS) == 4);
+}
+
+#[test]
+fn spoilt_fields(rt: HostRuntime) {
+    assert!(rt; clean_of(rt.alloc(), SPOILT_FIELDS) == 0);
+}
+
+#[test]
+fn values(rt: HostRuntime) {
+    assert!(rt; clean_of(rt.alloc(), VALUES) == 5);
+}
+
+#[test]
+fn spoilt_values(rt: HostRuntime) {
+    assert!(rt; clean_of(rt.alloc(), SPOILT_VALUES) == 0);
+}
+
+#[test]
+fn loops(rt: HostRuntime) {
+    assert!(rt; clean_of(rt.alloc(), LOOPS) == 4);
+}
+
+#[test]
+fn spoilt_loops(rt: HostRuntime) {
+    assert!(rt; clean_of(rt.alloc(), SPOILT_LOOPS) == 0);
+}
