@@ -1,0 +1,4 @@
+pub mod StandLemmas
+pub mod RestLemmas
+pub mod ShownLemmas
+pub mod SceneLemmas

@@ -1,0 +1,52 @@
+-- What a stopped run still does behind the function that it stands in: in the words of the definition of commands and items.
+use Rattle.std.specs.Prelude.{◌≡◌, ℕ, ◌+◌, List, Some}
+use Rattle.btx_bst.specs.declared.callee.Callee.{Callee}
+use Rattle.btx_bst.specs.language.Items.{Item}
+use Rattle.btx_code.specs.refinement.Codes.{Coded}
+use Rattle.btx_step.specs.language.Jobs.{Job}
+use Rattle.btx_machine.specs.declared.command.Command.{Command}
+use Rattle.btx_machine.specs.declared.machine.Position.{Position}
+use Rattle.btx_machine.specs.language.Commands.{cleared, in_order, visit}
+use Rattle.btx_machine.specs.language.Items.{do_items}
+use Rattle.btx_machine.specs.language.Meaning.{then_do}
+use Rattle.btx_machine.specs.language.States.{State, Done}
+use Rattle.btx_machine.specs.refinement.Commands.{Doing}
+use Rattle.btx_machine.specs.refinement.Marks.{Open}
+use Rattle.btx_machine.specs.refinement.Positions.{execute_at}
+
+-- a command in the midst of which a run stands: its function, and the entries for which it is executed next
+pub record Midst : Type 0 where
+  pub command : Command
+  pub function : Callee
+  pub entries : List ℕ
+
+-- behind its function: the stack is emptied, and the function is executed for the other entries
+abbrev pub rest_of_command : Job → Midst → Doing
+rest_of_command job m left s = in_order (λ entry. visit job m.command m.function (Some entry)) m.entries left (cleared job m.command s)
+
+-- a style in the midst of which a run stands: the command, the items behind it, and the order of the entries
+pub record MidstOfStyle : Type 0 where
+  pub command : Midst
+  pub items : List Item
+  pub list : List ℕ
+
+-- behind the function: the rest of the command, and then the other items
+abbrev pub rest_of_style : Job → MidstOfStyle → Doing
+rest_of_style job m left s = then_do (rest_of_command job m.command left s) (do_items job m.items m.list)
+
+-- A run of `whole` has taken this number of steps, and stands at a token. Whatever further steps there are, what is still done is this: the token is executed, then what is open
+-- goes on, and then `rest` is done
+abbrev pub Stands : Job → Coded → Position → List Open → Doing → Doing → ℕ → State → State → Type 0
+Stands job code at opens rest whole taken s t = (n : ℕ) → whole (n + taken) s ≡ then_do (execute_at job code at opens n t) rest
+
+-- so it is in a function, behind which the stack is emptied
+abbrev pub StandsInFunction : Job → Command → Coded → Position → List Open → Doing → ℕ → State → State → Type 0
+StandsInFunction job command code at opens whole taken s t = Stands job code at opens (λ left u. Done (cleared job command u) left) whole taken s t
+
+-- so it is in a command
+abbrev pub StandsInCommand : Job → Coded → Position → List Open → Doing → ℕ → State → State → Type 0
+StandsInCommand job code at opens whole taken s t = (m : Midst) × Stands job code at opens (rest_of_command job m) whole taken s t
+
+-- so it is in a style
+abbrev pub StandsInStyle : Job → Coded → Position → List Open → Doing → ℕ → State → State → Type 0
+StandsInStyle job code at opens whole taken s t = (m : MidstOfStyle) × Stands job code at opens (rest_of_style job m) whole taken s t

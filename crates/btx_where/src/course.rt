@@ -1,0 +1,190 @@
+//! What is followed of a run, and what is noted of it.
+use btx_machine::LogCounts;
+use std::alloc::{AllocError, Global};
+
+/// What logged an error: a step; the test of a loop that ended behind it; or the end of a command that left literals on the stack.
+#[derive(Clone, Copy, PartialEq, Eq, Debug)]
+pub enum Word {
+    Step,
+    Test,
+    Left,
+}
+
+impl Word {
+    /// The word.
+    pub fn as_bytes(self) -> &'static [u8] {
+        match self {
+            Word::Step => b"step",
+            Word::Test => b"test",
+            Word::Left => b"left",
+        }
+    }
+}
+
+/// The number of a step, and what the log has counted before it and behind it.
+#[derive(Clone, Copy, PartialEq, Eq, Debug)]
+pub struct Moment {
+    pub steps: u64,
+    pub before: LogCounts,
+    pub after: LogCounts,
+}
+
+/// What logged errors: where in the style's items, in which visit of a function, and the place behind its token, 0 if there is none. Of literals that were
+/// left, for each, the uppermost first, the place behind the token since whose step the stack has been as high.
+#[derive(Drop)]
+pub struct Event {
+    pub word: Word,
+    pub moment: Moment,
+    pub item: usize,
+    pub visit: u64,
+    pub place: usize,
+    pub since: Vec<usize>,
+}
+
+/// What is followed of a run, and what is noted of it. A visit is one execution of a command's function; they are numbered from 0. Visits that are followed
+/// are executed step by step, and their events are noted; of others only whether they logged errors.
+#[derive(Drop)]
+pub struct Course {
+    alloc: Global,
+    // How many steps the run has.
+    budget: u64,
+    // The visits that are followed, in order, and how many of them are over.
+    followed: Vec<u64>,
+    over: usize,
+    // For each literal, the lowest first, the place behind the token since whose step the stack has been as high.
+    since: Vec<usize>,
+    // How many visits that logged errors, or events, are noted at most.
+    most: usize,
+    /// The number of the item that is done.
+    pub item: usize,
+    /// The number of the visit that is executed, or comes next.
+    pub visit: u64,
+    /// The visits that logged errors, in order.
+    pub faulty: Vec<u64>,
+    /// What logged errors in visits that were followed, in order.
+    pub events: Vec<Event>,
+}
+
+impl Course {
+    /// Follows these visits, which are in order, of a run with this budget, and notes at most so many events.
+    pub fn following(alloc: Global, budget: u64, followed: Vec<u64>, most: usize) -> Self {
+        Course {
+            alloc,
+            budget,
+            followed,
+            over: 0,
+            since: Vec::new(alloc),
+            most,
+            item: 0,
+            visit: 0,
+            faulty: Vec::new(alloc),
+            events: Vec::new(alloc),
+        }
+    }
+
+    /// Follows one visit, and notes no event.
+    pub fn to(alloc: Global, budget: u64, visit: u64) -> Result<Self, AllocError> {
+        let mut followed = Vec::new(alloc);
+        followed.push(visit)?;
+        Ok(Course::following(alloc, budget, followed, 0))
+    }
+
+    /// The moment at which so many steps are left.
+    pub fn moment(&self, left: u64, before: LogCounts, after: LogCounts) -> Moment {
+        Moment {
+            steps: self.budget.saturating_sub(left),
+            before,
+            after,
+        }
+    }
+
+    /// Answers whether the visit that comes next is followed.
+    pub fn follows(&mut self) -> bool {
+        if self.followed.get(self.over) == Some(&self.visit) {
+            self.over = self.over.saturating_add(1);
+            self.since.truncate(0);
+            return true;
+        }
+        false
+    }
+
+    /// The visit is over.
+    pub fn end_visit(&mut self) {
+        self.visit = self.visit.saturating_add(1);
+    }
+
+    /// The item is done.
+    pub fn end_item(&mut self) {
+        self.item = self.item.saturating_add(1);
+    }
+
+    /// Notes that the visit logged errors, if it did.
+    pub fn note_visit(&mut self, before: LogCounts, after: LogCounts) -> Result<(), AllocError> {
+        if after.errors > before.errors && self.faulty.len() < self.most {
+            self.faulty.push(self.visit)?;
+        }
+        Ok(())
+    }
+
+    /// The stack is as high as this behind a step of the token before a place.
+    pub fn follow(&mut self, depth: usize, place: usize) -> Result<(), AllocError> {
+        self.since.truncate(depth);
+        for _more in self.since.len()..depth {
+            self.since.push(place)?;
+        }
+        Ok(())
+    }
+
+    /// The place behind the token since whose step the stack has been higher than `below`; 0 if there is none.
+    pub fn since(&self, below: usize) -> usize {
+        match self.since.get(below) {
+            Some(place) => *place,
+            None => 0,
+        }
+    }
+
+    /// Notes what logged errors, the token before a place, if it did.
+    pub fn note(&mut self, word: Word, moment: &Moment, place: usize) -> Result<(), AllocError> {
+        if moment.after.errors > moment.before.errors && self.events.len() < self.most {
+            let since = Vec::new(self.alloc);
+            self.add(word, moment, place, since)?;
+        }
+        Ok(())
+    }
+
+    /// Notes that a command left so many literals, if that logged errors.
+    pub fn note_left(&mut self, moment: &Moment, depth: usize) -> Result<(), AllocError> {
+        if moment.after.errors > moment.before.errors && self.events.len() < self.most {
+            let mut since = Vec::new(self.alloc);
+            for turn in 0..depth.min(MOST_LITERALS) {
+                since.push(self.since(depth.saturating_sub(turn).saturating_sub(1)))?;
+            }
+            self.add(Word::Left, moment, 0, since)?;
+        }
+        Ok(())
+    }
+
+    // Notes an event.
+    fn add(
+        &mut self,
+        word: Word,
+        moment: &Moment,
+        place: usize,
+        since: Vec<usize>,
+    ) -> Result<(), AllocError> {
+        let moment = *moment;
+        let (item, visit) = (self.item, self.visit);
+        self.events.push(Event {
+            word,
+            moment,
+            item,
+            visit,
+            place,
+            since,
+        })?;
+        Ok(())
+    }
+}
+
+/// How many literals are shown.
+pub const MOST_LITERALS: usize = 8;

@@ -1,0 +1,190 @@
+//! What the items of a style do, followed step by step or passed over.
+ghost use Rattle.std.specs.Prelude.{◌≡◌, ◌≤◌, ◌-◌, ℕ, [], List, length, reverse, IfOk, OnOk};
+ghost use Rattle.btx_bst.specs.refinement.Views.{item_view, items_view};
+ghost use Rattle.btx_code.specs.refinement.Codes.{bodies_of};
+ghost use Rattle.btx_machine.specs.declared.ending.Ending.TheVariants as ending;
+ghost use Rattle.btx_machine.specs.language.Items.{do_item, do_items, list_after, read_limit};
+ghost use Rattle.btx_machine.specs.refinement.Faults.{Writes};
+ghost use Rattle.btx_machine.specs.refinement.Items.{all_entries};
+ghost use Rattle.btx_machine.specs.refinement.Marks.{StandInCode};
+ghost use Rattle.btx_machine.specs.refinement.Written.{Comes, Runs};
+ghost use Rattle.btx_where.specs.Rests.{StandsInCommand, StandsInStyle};
+ghost use Rattle.btx_where.specs.declared.stand.Stand.TheVariants.{Finished, Here};
+
+use crate::course::Course;
+use crate::stand::Stand;
+use crate::visits::{visit, visit_all};
+use btx_bib::End as LibraryEnd;
+use btx_bst::Item;
+use btx_code::Code;
+use btx_machine::Command;
+use btx_machine::machine::Position;
+use btx_machine::marks::Marks;
+use btx_machine::work::Work;
+use btx_out::Sink;
+use btx_step::Job;
+use btx_step::sorting::sort;
+use btx_text::{Fault, Limit};
+use std::alloc::{AllocError, Global};
+
+// The first string variable of each entry, `sort.key$`, by which SORT orders the list.
+const SORT_VARIABLE: u32 = 0;
+
+/// Does items, one after another. If it is stopped here, `at` and `marks` are where the machine stands then.
+pub fn do_items<'a, W: Sink, L: Sink>(
+    work: &mut Work<'a, '_, W, L>,
+    job: &Job<'a>,
+    items: &[Item<'_>],
+    code: &Code,
+    marks: &mut Marks,
+    at: &mut Position,
+    left: &mut u64,
+    course: &mut Course,
+) -> Result<Stand, Fault>
+    requires code { bodies_of code.now ≡ job.now.style.bodies }
+    requires empty { marks.old ≡ [] }
+    requires writes { Writes work.old.outputs }
+    ensures stands { IfOk result (λ end. end ≡ Here → Comes work.old work.new (StandsInStyle job.now code.now at.new marks.new (do_items job.now (items_view items.now) []) (left.old - left.new))) }
+    ensures placed { IfOk result (λ end. end ≡ Here → StandInCode code.now at.new.place marks.new) }
+    ensures spent { IfOk result (λ end. end ≡ Here → left.new ≡ 0) }
+    ensures fewer { left.new ≤ left.old }
+    ensures writes { OnOk result (Writes work.new.outputs) }
+{
+    let mut list = Vec::new(work.alloc);
+    for item in items {
+        match do_item(work, job, code, &mut list, marks, item, at, left, course)? {
+            Stand::Finished => course.end_item(),
+            end => return Ok(end),
+        }
+    }
+    Ok(Stand::Finished)
+}
+
+// Does an item, and leaves the entries in the order that it leaves.
+#[tactic(auto, unfolding(btx_machine::specs::language::Items::do_item))]
+fn do_item<'a, W: Sink, L: Sink>(
+    work: &mut Work<'a, '_, W, L>,
+    job: &Job<'a>,
+    code: &Code,
+    list: &mut Vec<usize>,
+    marks: &mut Marks,
+    item: &Item<'_>,
+    at: &mut Position,
+    left: &mut u64,
+    course: &mut Course,
+) -> Result<Stand, Fault>
+    requires code { bodies_of code.now ≡ job.now.style.bodies }
+    requires empty { marks.old ≡ [] }
+    requires writes { Writes work.old.outputs }
+    ensures finishes { IfOk result (λ end. end ≡ Finished → Comes work.old work.new (Runs (do_item job.now list.old.items (item_view item.now)) (left.old - left.new) ending.Finished)) }
+    ensures list { IfOk result (λ end. end ≡ Finished → list.new.items ≡ list_after job.now (item_view item.now) list.old.items work.old.store) }
+    ensures stands { IfOk result (λ end. end ≡ Here → Comes work.old work.new (StandsInCommand job.now code.now at.new marks.new (do_item job.now list.old.items (item_view item.now)) (left.old - left.new))) }
+    ensures placed { IfOk result (λ end. end ≡ Here → StandInCode code.now at.new.place marks.new) }
+    ensures spent { IfOk result (λ end. end ≡ Here → left.new ≡ 0) }
+    ensures cleared { IfOk result (λ end. end ≡ Finished → marks.new ≡ []) }
+    ensures fewer { left.new ≤ left.old }
+    ensures writes { OnOk result (Writes work.new.outputs) }
+{
+    match item {
+        Item::Message(message) => {
+            let line = message.log_line(work.alloc, job.style().file_name())?;
+            work.log_one(&line)?;
+            Ok(Stand::Finished)
+        }
+        Item::Read => {
+            let all = all_entries(work.alloc, job)?;
+            work.log_library(job)?;
+            match read_limit(job) {
+                Some(kind) => Ok(Stand::Limit(kind)),
+                None => {
+                    *list = all;
+                    Ok(Stand::Finished)
+                }
+            }
+        }
+        Item::Execute(function) => visit(
+            work,
+            job,
+            code,
+            marks,
+            Command::Execute,
+            *function,
+            None,
+            at,
+            left,
+            course,
+        ),
+        Item::Iterate(function) => visit_all(
+            work,
+            job,
+            code,
+            marks,
+            Command::Iterate,
+            *function,
+            list.as_slice(),
+            at,
+            left,
+            course,
+        ),
+        Item::Reverse(function) => {
+            let reversed = reversed(list)?;
+            visit_all(
+                work,
+                job,
+                code,
+                marks,
+                Command::Reverse,
+                *function,
+                reversed.as_slice(),
+                at,
+                left,
+                course,
+            )
+        }
+        Item::Sort => {
+            sort(list, &work.store, SORT_VARIABLE)?;
+            Ok(Stand::Finished)
+        }
+        Item::Entry | Item::Function(_) | Item::Integers | Item::Strings | Item::Macro => {
+            Ok(Stand::Finished)
+        }
+    }
+}
+
+// The limit that the reading of the databases met, if it met one.
+fn read_limit(job: &Job<'_>) -> Option<Limit>
+    ensures { result ≡ read_limit job.now.library.ending }
+{
+    match job.library().end() {
+        LibraryEnd::Whole => None,
+        LibraryEnd::FileLimit => Some(Limit::File),
+        LibraryEnd::StringLimit => Some(Limit::String),
+    }
+}
+
+// All entries, in the order of the list that the databases gave.
+fn all_entries(alloc: Global, job: &Job<'_>) -> Result<Vec<usize>, AllocError>
+    ensures { IfOk result (λ list. list.items ≡ all_entries job.now) }
+{
+    let mut list = Vec::new(alloc);
+    for entry in 0..entry_count(job) {
+        list.push(entry)?;
+    }
+    Ok(list)
+}
+
+// How many entries the databases gave.
+fn entry_count(job: &Job<'_>) -> usize
+    ensures { result ≡ length job.now.library.entries }
+{
+    job.library().len()
+}
+
+// The list from its end.
+fn reversed(list: &Vec<usize>) -> Result<Vec<usize>, AllocError>
+    ensures { IfOk result (λ back. back.items ≡ reverse list.now.items) }
+{
+    let mut back = list.clone()?;
+    back.reverse();
+    Ok(back)
+}

@@ -1,0 +1,117 @@
+//! A job, run again to note where its style stands.
+ghost use Rattle.std.specs.Prelude.{◌≡◌, ◌≤◌, IfOk, length};
+ghost use Rattle.btx_code.specs.refinement.Codes.{bodies_of};
+ghost use Rattle.btx_text.specs.language.Limits.{greatest_file};
+ghost use Rattle.btx_run.specs.refinement.Files.Readings.{StyleFits};
+
+use crate::contents::read_library;
+use crate::explainer::Explainer;
+use crate::scratch::Scratch;
+use btx_aux::{AuxJob, Finder};
+use btx_bst::read_style;
+use btx_machine::report::report_of;
+use btx_machine::{Journal, LogCounts, Report};
+use btx_run::Options;
+use btx_run::files::{FilesRead, JobFiles, read_files, read_job};
+use btx_step::Job;
+use btx_text::Fault;
+use std::alloc::Global;
+
+// Explains a style that was found: its text and the databases are read first.
+fn explain_found<'a, W: Scratch, L: Scratch>(
+    alloc: Global,
+    job: &'a AuxJob,
+    found: &'a JobFiles<'a>,
+    options: &Options,
+    counts: LogCounts,
+    most: usize,
+    list: &mut W,
+    log: &mut L,
+    notes: &mut Vec<u8>,
+) -> Result<Report, Fault>
+    requires { length found.now.style.bytes ≤ greatest_file }
+    ensures bound { IfOk result (λ report. report.steps ≤ options.now.budget) }
+{
+    let text = found.style.bytes();
+    let style = read_style(alloc, found.style.name(), text)?;
+    let library = read_library(alloc, &style, job, &found.databases, options.min_crossrefs)?;
+    let job = Job::new(
+        &style,
+        &library,
+        options.text,
+        options.entry_max,
+        options.global_max,
+    );
+    let mut explainer = Explainer {
+        alloc,
+        job: &job,
+        options,
+        counts,
+        list,
+        log,
+        notes,
+    };
+    explainer.explain(text, most)
+}
+
+// Goes on from the files of a job.
+fn after_files<'a, W: Scratch, L: Scratch>(
+    alloc: Global,
+    job: &'a AuxJob,
+    read: FilesRead<'a>,
+    options: &Options,
+    counts: LogCounts,
+    most: usize,
+    list: &mut W,
+    log: &mut L,
+    notes: &mut Vec<u8>,
+) -> Result<Report, Fault>
+    requires { StyleFits read }
+    ensures bound { IfOk result (λ report. report.steps ≤ options.now.budget) }
+{
+    match read {
+        FilesRead::Ends(end) => Ok(report_of(end, 0, 0, counts)),
+        FilesRead::Found(found) => {
+            explain_found(alloc, job, &found, options, counts, most, list, log, notes)
+        }
+    }
+}
+
+// Explains a job whose `.aux` files are read.
+fn explain_job<F: Finder, W: Scratch, L: Scratch>(
+    alloc: Global,
+    finder: &mut F,
+    job: &AuxJob,
+    options: &Options,
+    most: usize,
+    list: &mut W,
+    log: &mut L,
+    notes: &mut Vec<u8>,
+) -> Result<Report, Fault>
+    ensures bound { IfOk result (λ report. report.steps ≤ options.now.budget) }
+{
+    log.forget();
+    let mut journal = Journal::new(log, LogCounts::NONE);
+    let read = read_files(alloc, finder, job, &mut journal);
+    let counts = journal.counts();
+    let log = journal.into_sink();
+    after_files(alloc, job, read?, options, counts, most, list, log, notes)
+}
+
+/// Runs the job of this name again, and notes where its style stands: at each of the first `most` events that log errors in its execution, and where the run is stopped or
+/// met a limit. What the runs write goes to `list` and `log`, and is forgotten.
+pub fn locate<F: Finder, W: Scratch, L: Scratch>(
+    alloc: Global,
+    finder: &mut F,
+    name: &[u8],
+    options: &Options,
+    most: usize,
+    list: &mut W,
+    log: &mut L,
+    notes: &mut Vec<u8>,
+) -> Result<Report, Fault>
+    ensures bound { IfOk result (λ report. report.steps ≤ options.now.budget) }
+{
+    let job = read_job(alloc, finder, name)?;
+    explain_job(alloc, finder, &job, options, most, list, log, notes)
+}

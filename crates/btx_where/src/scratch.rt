@@ -1,0 +1,28 @@
+//! Outputs that nobody reads.
+ghost use Rattle.std.specs.Prelude.{None};
+
+use btx_out::{Sink, SinkFault};
+
+/// An output that is written again for each run, and read by nobody.
+pub trait Scratch: Sink {
+    /// Forgets what was written.
+    fn forget(&mut self);
+}
+
+/// Takes all that is written, and keeps nothing.
+#[derive(Drop)]
+pub struct Nowhere {}
+
+impl Sink for Nowhere {
+    ghost received = { λ _. None };
+
+    ghost failures = { λ _. 0 };
+
+    fn write(&mut self, bytes: &[u8]) -> Result<usize, SinkFault> {
+        Ok(bytes.len())
+    }
+}
+
+impl Scratch for Nowhere {
+    fn forget(&mut self) {}
+}

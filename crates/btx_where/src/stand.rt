@@ -1,0 +1,15 @@
+//! How the execution of a style came to its end, for one that follows it.
+use btx_text::Limit;
+
+/// How the execution of a style, or of a part of it, came to its end.
+#[derive(Clone, Copy, Debug, PartialEq, Eq)]
+pub enum Stand {
+    /// All of it was executed.
+    Finished,
+    /// A limit was met.
+    Limit(Limit),
+    /// No step is left, and where the machine stands is known.
+    Here,
+    /// No step is left, in a visit whose steps weren't followed.
+    Somewhere,
+}

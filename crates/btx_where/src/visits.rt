@@ -1,0 +1,180 @@
+//! What commands do, followed step by step or passed over.
+ghost use Rattle.std.specs.Prelude.{◌≡◌, ◌≤◌, ◌-◌, [], IfOk, OnOk};
+ghost use Rattle.btx_code.specs.refinement.Codes.{bodies_of};
+ghost use Rattle.btx_machine.specs.declared.ending.Ending.TheVariants as ending;
+ghost use Rattle.btx_machine.specs.language.Commands.{visit};
+ghost use Rattle.btx_machine.specs.refinement.Commands.{visits};
+ghost use Rattle.btx_machine.specs.refinement.Faults.{Writes};
+ghost use Rattle.btx_machine.specs.refinement.Marks.{StandInCode};
+ghost use Rattle.btx_machine.specs.refinement.Written.{Comes, Runs};
+ghost use Rattle.btx_where.specs.Rests.{StandsInFunction, StandsInCommand};
+ghost use Rattle.btx_where.specs.declared.stand.Stand.TheVariants.{Finished, Here};
+
+use crate::course::Course;
+use crate::machine::{beginning, execute};
+use crate::stand::Stand;
+use btx_bst::Callee;
+use btx_code::Code;
+use btx_machine::machine::Position;
+use btx_machine::marks::Marks;
+use btx_machine::work::Work;
+use btx_machine::{Command, Ending};
+use btx_out::Sink;
+use btx_step::Job;
+use btx_text::Fault;
+
+// Executes the function of a command step by step, and then empties the stack.
+fn follow<'a, W: Sink, L: Sink>(
+    work: &mut Work<'a, '_, W, L>,
+    job: &Job<'a>,
+    code: &Code,
+    marks: &mut Marks,
+    command: Command,
+    function: Callee,
+    entry: Option<usize>,
+    at: &mut Position,
+    left: &mut u64,
+    course: &mut Course,
+) -> Result<Stand, Fault>
+    requires code { bodies_of code.now ≡ job.now.style.bodies }
+    requires empty { marks.old ≡ [] }
+    requires writes { Writes work.old.outputs }
+    ensures finishes { IfOk result (λ end. end ≡ Finished → Comes work.old work.new (Runs (visit job.now command function entry) (left.old - left.new) ending.Finished)) }
+    ensures stands { IfOk result (λ end. end ≡ Here → Comes work.old work.new (StandsInFunction job.now command code.now at.new marks.new (visit job.now command function entry) (left.old - left.new))) }
+    ensures placed { IfOk result (λ end. end ≡ Here → StandInCode code.now at.new.place marks.new) }
+    ensures spent { IfOk result (λ end. end ≡ Here → left.new ≡ 0) }
+    ensures cleared { IfOk result (λ end. end ≡ Finished → marks.new ≡ []) }
+    ensures fewer { left.new ≤ left.old }
+    ensures writes { OnOk result (Writes work.new.outputs) }
+{
+    work.store.set_current(entry);
+    *at = beginning(code, function);
+    let end = execute(work, job, code, marks, at, left, course)?;
+    match end {
+        Ending::Finished => {
+            let depth = work.store.depth();
+            let before = work.outputs.counts();
+            work.clear(job, command)?;
+            let moment = course.moment(*left, before, work.outputs.counts());
+            course.note_left(&moment, depth)?;
+            course.end_visit();
+            Ok(Stand::Finished)
+        }
+        Ending::Stopped => Ok(Stand::Here),
+        Ending::Limit(limit) => Ok(Stand::Limit(limit)),
+    }
+}
+
+// Executes the function of a command as a run does, and then empties the stack.
+fn pass<'a, W: Sink, L: Sink>(
+    work: &mut Work<'a, '_, W, L>,
+    job: &Job<'a>,
+    code: &Code,
+    marks: &mut Marks,
+    command: Command,
+    function: Callee,
+    entry: Option<usize>,
+    left: &mut u64,
+    course: &mut Course,
+) -> Result<Stand, Fault>
+    requires code { bodies_of code.now ≡ job.now.style.bodies }
+    requires empty { marks.old ≡ [] }
+    requires writes { Writes work.old.outputs }
+    ensures finishes { IfOk result (λ end. end ≡ Finished → Comes work.old work.new (Runs (visit job.now command function entry) (left.old - left.new) ending.Finished)) }
+    ensures elsewhere { IfOk result (λ end. end ≡ Here → ⊥) }
+    ensures cleared { IfOk result (λ end. end ≡ Finished → marks.new ≡ []) }
+    ensures fewer { left.new ≤ left.old }
+    ensures writes { OnOk result (Writes work.new.outputs) }
+{
+    let before = work.outputs.counts();
+    let end = btx_machine::visits::visit(work, job, code, marks, command, function, entry, left)?;
+    course.note_visit(before, work.outputs.counts())?;
+    match end {
+        Ending::Finished => {
+            course.end_visit();
+            Ok(Stand::Finished)
+        }
+        Ending::Stopped => Ok(Stand::Somewhere),
+        Ending::Limit(limit) => Ok(Stand::Limit(limit)),
+    }
+}
+
+/// Executes the function of a command, for the entry `entry` or for none, and then empties the stack. `left` is how many steps may be taken, and at Ok how
+/// many remain. If it is stopped here, `at` and `marks` are where the machine stands then.
+pub fn visit<'a, W: Sink, L: Sink>(
+    work: &mut Work<'a, '_, W, L>,
+    job: &Job<'a>,
+    code: &Code,
+    marks: &mut Marks,
+    command: Command,
+    function: Callee,
+    entry: Option<usize>,
+    at: &mut Position,
+    left: &mut u64,
+    course: &mut Course,
+) -> Result<Stand, Fault>
+    requires code { bodies_of code.now ≡ job.now.style.bodies }
+    requires empty { marks.old ≡ [] }
+    requires writes { Writes work.old.outputs }
+    ensures finishes { IfOk result (λ end. end ≡ Finished → Comes work.old work.new (Runs (visit job.now command function entry) (left.old - left.new) ending.Finished)) }
+    ensures stands { IfOk result (λ end. end ≡ Here → Comes work.old work.new (StandsInFunction job.now command code.now at.new marks.new (visit job.now command function entry) (left.old - left.new))) }
+    ensures placed { IfOk result (λ end. end ≡ Here → StandInCode code.now at.new.place marks.new) }
+    ensures spent { IfOk result (λ end. end ≡ Here → left.new ≡ 0) }
+    ensures cleared { IfOk result (λ end. end ≡ Finished → marks.new ≡ []) }
+    ensures fewer { left.new ≤ left.old }
+    ensures writes { OnOk result (Writes work.new.outputs) }
+{
+    if course.follows() {
+        follow(
+            work, job, code, marks, command, function, entry, at, left, course,
+        )
+    } else {
+        pass(
+            work, job, code, marks, command, function, entry, left, course,
+        )
+    }
+}
+
+/// Executes the function of a command for each entry of `list`, in order.
+pub fn visit_all<'a, W: Sink, L: Sink>(
+    work: &mut Work<'a, '_, W, L>,
+    job: &Job<'a>,
+    code: &Code,
+    marks: &mut Marks,
+    command: Command,
+    function: Callee,
+    list: &[usize],
+    at: &mut Position,
+    left: &mut u64,
+    course: &mut Course,
+) -> Result<Stand, Fault>
+    requires code { bodies_of code.now ≡ job.now.style.bodies }
+    requires empty { marks.old ≡ [] }
+    requires writes { Writes work.old.outputs }
+    ensures finishes { IfOk result (λ end. end ≡ Finished → Comes work.old work.new (Runs (visits job.now command function list.now) (left.old - left.new) ending.Finished)) }
+    ensures stands { IfOk result (λ end. end ≡ Here → Comes work.old work.new (StandsInCommand job.now code.now at.new marks.new (visits job.now command function list.now) (left.old - left.new))) }
+    ensures placed { IfOk result (λ end. end ≡ Here → StandInCode code.now at.new.place marks.new) }
+    ensures spent { IfOk result (λ end. end ≡ Here → left.new ≡ 0) }
+    ensures cleared { IfOk result (λ end. end ≡ Finished → marks.new ≡ []) }
+    ensures fewer { left.new ≤ left.old }
+    ensures writes { OnOk result (Writes work.new.outputs) }
+{
+    for entry in list {
+        match visit(
+            work,
+            job,
+            code,
+            marks,
+            command,
+            function,
+            Some(*entry),
+            at,
+            left,
+            course,
+        )? {
+            Stand::Finished => {}
+            end => return Ok(end),
+        }
+    }
+    Ok(Stand::Finished)
+}
