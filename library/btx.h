@@ -1,0 +1,101 @@
+/* BibTeX, proved, as a library for C. Nothing of a call stays behind: all that a call hands back lies in the caller's memory. So there is nothing to
+   free, and calls in several threads don't touch one another.
+
+   A text is a pointer and a length. A pointer is never null, not even of a text of length 0 (write ""); this holds of every pointer below. Memory in
+   which a call writes overlaps nothing else that the call is given. The library calls malloc, realloc and free, and nothing else; it isn't to be
+   called from a signal handler, or in the forked child of a process with threads. A call takes less than 64 KiB of stack. btx(3) says more. */
+#ifndef BTX_H
+#define BTX_H
+
+#include <stdbool.h>
+#include <stddef.h>
+#include <stdint.h>
+
+#ifdef __cplusplus
+extern "C" {
+#endif
+
+typedef struct {
+    const unsigned char *at;
+    size_t len;
+} btx_text;
+
+/* A file of a job, or that there is no file of this name: then `is_there` is false, and `bytes` any text. The name is as btx_needs wrote it:
+   paper.aux, plain.bst, refs.bib. Of two files with one name the first counts. */
+typedef struct {
+    btx_text name;
+    btx_text bytes;
+    bool is_there;
+} btx_file;
+
+/* What is asked of a run. */
+typedef struct {
+    uint64_t budget;        /* the greatest number of steps of the style */
+    uint32_t min_crossrefs; /* how many references list an entry that isn't cited */
+    uint32_t line;          /* 20 to 1,000: the greatest length of a line of the list, if whitespace allows a break */
+    uint32_t entry_max;     /* 1 to 1,000,000: how many bytes of a string a variable of an entry keeps */
+    uint32_t global_max;    /* 1 to 1,000,000: how many bytes of a string a global variable keeps */
+    bool utf8;              /* whether text is read as UTF-8 */
+} btx_options;
+
+/* The options that the program has where none is given. TeX Live's program keeps 500 and 200,000 bytes in variables. */
+#define BTX_OPTIONS { 1000000000u, 2, 79, 250, 20000, false }
+
+/* What a call answers. */
+enum {
+    BTX_DONE = 0,    /* it did what it says */
+    BTX_REFUSED = 1, /* a number of the options is out of its range; nothing was written */
+    BTX_MEMORY = 2,  /* memory was refused */
+    BTX_ASKS = 3,    /* the run asked for a file of which nothing was said */
+    BTX_FULL = 4,    /* the list or the log would have been longer than its room */
+    BTX_ENDS = 5     /* btx_needs: the run ends with its .aux files, so it needs no other file */
+};
+
+/* How a run ended (`end` of its report). */
+enum {
+    BTX_FINISHED = 0,       /* the whole style was executed, or there is none */
+    BTX_STOPPED = 1,        /* the budget did not cover the next step */
+    BTX_NO_TOP_FILE = 2,    /* there is no top .aux file */
+    BTX_LIMIT_LITERALS = 3, /* at a limit: of literals on the stack, */
+    BTX_LIMIT_CALLS = 4,    /* of calls that are open at once, */
+    BTX_LIMIT_LOOPS = 5,    /* of loops that run at once, */
+    BTX_LIMIT_STRING = 6,   /* of a string's bytes, */
+    BTX_LIMIT_FILE = 7,     /* of a file's bytes, */
+    BTX_LIMIT_FILES = 8,    /* of .aux files that are open at once */
+    BTX_NO_MEMORY = 9,      /* it broke off, and btx_run answered BTX_MEMORY, */
+    BTX_UNKNOWN_FILE = 10,  /* BTX_ASKS, */
+    BTX_LIST_FULL = 11,     /* BTX_FULL, for want of room for the list, */
+    BTX_LOG_FULL = 12       /* BTX_FULL, for want of room for the log */
+};
+
+/* What a run answered. */
+typedef struct {
+    uint32_t status;   /* 0 no error messages, 2 some, 3 a limit or no top file, 4 stopped, 5 broken off */
+    uint32_t end;      /* how it ended: BTX_FINISHED .. BTX_LOG_FULL */
+    uint64_t steps;    /* the steps taken */
+    uint64_t deepest;  /* the greatest number of calls that were open at once */
+    uint64_t warnings; /* the warnings in the log */
+    uint64_t errors;   /* the error messages in the log */
+    size_t list_len;   /* how many bytes of the list were written */
+    size_t log_len;    /* how many bytes of the log were written */
+} btx_report;
+
+/* Writes the names of the files that the job needs and of which nothing was said, each with a byte 10, as many bytes as there is room for in `names`,
+   and in `*names_len` how many bytes there are in all. A name ends in .aux, .bst or .bib. Find each file, hand it in or say that it isn't there, and
+   call again; when no name comes any more, run. The first names are the top file's alone. Answers BTX_DONE; or BTX_ENDS, with no name, where the run
+   ends with its .aux files: there is no top file, or they meet a limit; or BTX_MEMORY: then nothing was written. */
+uint32_t btx_needs(const unsigned char *job, size_t job_len, const btx_file *files, size_t files_len,
+                   unsigned char *names, size_t names_room, size_t *names_len);
+
+/* Runs the job over these files, and writes its list, its log and its report. If it asks for a file of which nothing was said, it answers BTX_ASKS
+   (btx_needs tells which): so what a run gives is right whatever other files there are. If the list or the log would be longer than its room, it
+   answers BTX_FULL: hand in more room and run again; the same comes out. So the rooms also bound the memory that a run takes for what a style writes.
+   After BTX_REFUSED nothing was written. After BTX_MEMORY, BTX_ASKS and BTX_FULL the list and the log begin what they would have been; of the report,
+   status and end say so, the lengths are those of what was written, and the counts are 0. */
+uint32_t btx_run(const unsigned char *job, size_t job_len, const btx_file *files, size_t files_len, const btx_options *options,
+                 unsigned char *list, size_t list_room, unsigned char *log, size_t log_room, btx_report *report);
+
+#ifdef __cplusplus
+}
+#endif
+#endif
