@@ -1,0 +1,275 @@
+//! What to do about each message, in the words of `docs/RULES.md`, and what the built-in functions take.
+
+use crate::terminal::plain;
+use crate::text::split_first;
+
+/// Where messages come from. Two messages of one text may stand for two faults, one in each of two sections.
+#[derive(Debug, Clone, Copy, PartialEq, Eq)]
+pub enum Section {
+    /// `.aux` files.
+    Aux,
+    /// A run: files that weren't found, and how it ended.
+    Run,
+    /// The text of a style.
+    Style,
+    /// The execution of a style.
+    Execution,
+    /// The text of a database.
+    Database,
+    /// Entries and cross-references.
+    Entries,
+}
+
+/// What to do about a message: its section, its text (in which `*` is a name and `~` any other text), and what to do (in which `$1` is the
+/// first name). `docs/RULES.md` has the same rows; `tests/front/explanations.py` compares the two.
+type Row = (Section, &'static str, &'static str);
+
+/// The advice for a message.
+#[derive(Debug, Clone, PartialEq, Eq)]
+pub struct Advice<'a> {
+    /// Its row, counted from 0: messages of one kind have one number.
+    pub number: usize,
+    /// The names that the message has.
+    pub names: Vec<&'a [u8]>,
+}
+
+/// The advice for a message of one of these sections.
+pub fn find<'a>(sections: &[Section], text: &'a [u8]) -> Option<Advice<'a>> {
+    let may_fit = |(section, pattern, _): &Row| sections.contains(section) && may_match(pattern, text);
+    let rows = ROWS.iter().enumerate().filter(|(_, row)| may_fit(row));
+    let mut found = rows.filter_map(|(number, (_, pattern, _))| Some((number, matched(pattern, text)?)));
+    found.next().map(|(number, names)| Advice { number, names })
+}
+
+impl Advice<'_> {
+    /// What to do.
+    pub fn text(&self) -> String {
+        let (_, _, text) = ROWS[self.number];
+        let put_name =
+            |text: String, (index, name): (usize, &&[u8])| text.replace(&format!("${}", index + 1), &plain(name));
+        self.names.iter().enumerate().fold(text.to_string(), put_name)
+    }
+
+    /// Whether the message is about an operand of a wrong kind.
+    pub fn is_of_operands(&self) -> bool {
+        ROWS[self.number].2.starts_with("push the operands ")
+    }
+}
+
+/// The rows of the table.
+pub fn rows() -> &'static [Row] {
+    ROWS
+}
+
+/// Whether a text begins as this pattern does, seen by the first byte.
+fn may_match(pattern: &str, text: &[u8]) -> bool {
+    let first = pattern.as_bytes().first();
+    matches!(first, Some(b'*' | b'~')) || first == text.first()
+}
+
+/// The names (`*`) in a text that has this pattern. The first place that fits is taken for each piece of the pattern but the last, which
+/// stands at the end: so the time is linear, and a pattern that fits somehow is found to fit.
+fn matched<'a>(pattern: &str, text: &'a [u8]) -> Option<Vec<&'a [u8]>> {
+    let mut pieces = pattern.split(['*', '~']);
+    let mut rest = text.strip_prefix(pieces.next()?.as_bytes())?;
+    let mut gaps = pattern.matches(['*', '~']).peekable();
+    let mut names = Vec::new();
+    for piece in pieces {
+        let gap = gaps.next()?;
+        let is_last = gaps.peek().is_none();
+        let (name, behind) = if is_last {
+            (rest.strip_suffix(piece.as_bytes())?, &b""[..])
+        } else {
+            split_first(rest, piece.as_bytes())?
+        };
+        if gap == "*" {
+            names.push(name);
+        }
+        rest = behind;
+    }
+    rest.is_empty().then_some(names)
+}
+
+/// What a built-in function takes, in the order in which it is pushed; None for one that takes nothing, or that isn't there.
+pub fn operands(function: &[u8]) -> Option<&'static str> {
+    OPERANDS.iter().find(|(name, _)| name.as_bytes() == function).map(|(_, operands)| *operands)
+}
+
+/// What each built-in function takes, in the order in which it is pushed.
+const OPERANDS: &[(&str, &str)] = &[
+    ("=", "VALUE VALUE"),
+    (">", "NUMBER NUMBER"),
+    ("<", "NUMBER NUMBER"),
+    ("+", "NUMBER NUMBER"),
+    ("-", "NUMBER NUMBER"),
+    ("*", "TEXT TEXT"),
+    (":=", "VALUE 'VARIABLE"),
+    ("add.period$", "TEXT"),
+    ("change.case$", "TEXT CASE"),
+    ("chr.to.int$", "CHARACTER"),
+    ("duplicate$", "VALUE"),
+    ("empty$", "FIELD"),
+    ("format.name$", "NAMES NUMBER FORMAT"),
+    ("if$", "NUMBER {THEN} {ELSE}"),
+    ("int.to.chr$", "NUMBER"),
+    ("int.to.str$", "NUMBER"),
+    ("missing$", "FIELD"),
+    ("num.names$", "NAMES"),
+    ("pop$", "VALUE"),
+    ("purify$", "TEXT"),
+    ("substring$", "TEXT START LENGTH"),
+    ("swap$", "VALUE VALUE"),
+    ("text.length$", "TEXT"),
+    ("text.prefix$", "TEXT LENGTH"),
+    ("top$", "VALUE"),
+    ("warning$", "TEXT"),
+    ("while$", "{TEST} {BODY}"),
+    ("width$", "TEXT"),
+    ("write$", "TEXT"),
+];
+
+#[rustfmt::skip]
+const ROWS: &[Row] = &[
+    (Section::Aux, "White space in argument", "write no space in `\\cite{..}`, `\\bibliography{..}` or the name of a file"),
+    (Section::Aux, "No \"}\"", "run LaTeX again: the `.aux` file wasn't written to its end. Else a line end stands in a key"),
+    (Section::Aux, "Stuff after \"}\"", "a package or a key writes a `}` too early: look at that `\\cite`"),
+    (Section::Aux, "Illegal, another \\bibdata command", "name all databases in one `\\bibliography`; for several bibliographies a package as `multibib` or `chapterbib` writes an `.aux` file for each"),
+    (Section::Aux, "Illegal, another \\bibstyle command", "keep one `\\bibliographystyle`; some classes and packages (`revtex`, `natbib`'s styles) give one by themselves"),
+    (Section::Aux, "Case mismatch error between cite keys ~ and ~", "cite the key in one spelling"),
+    (Section::Aux, "Multiple inclusions of entire database", "keep one `\\nocite{*}`"),
+    (Section::Aux, "* has a wrong extension", "include files by `\\include`, which writes `$1.aux`"),
+    (Section::Aux, "Already encountered file ~", "include each file once"),
+    (Section::Aux, "I couldn't open auxiliary file ~", "run LaTeX on the whole document, without `\\includeonly`, or remove an old `.aux` file"),
+    (Section::Aux, "This database file appears more than once: ~", "name each database once in `\\bibliography`"),
+    (Section::Aux, "I found no \\citation commands", "write a `\\cite` or `\\nocite`, a `\\bibliography`, a `\\bibliographystyle`, and run LaTeX; with `biblatex`, give it the option `backend=bibtex`"),
+    (Section::Aux, "I found no \\bibdata command", "write a `\\cite` or `\\nocite`, a `\\bibliography`, a `\\bibliographystyle`, and run LaTeX; with `biblatex`, give it the option `backend=bibtex`"),
+    (Section::Aux, "I found no \\bibstyle command", "write a `\\cite` or `\\nocite`, a `\\bibliography`, a `\\bibliographystyle`, and run LaTeX; with `biblatex`, give it the option `backend=bibtex`"),
+    (Section::Run, "I couldn't open style file ~", "put the style beside the `.aux` file (`cp \"$(kpsewhich plain.bst)\" .` with one of TeX Live's), or where `bibtex-search` looks for it: along BSTINPUTS and in TeX's folders. Is the name in `\\bibliographystyle` right, and may you read the file?"),
+    (Section::Run, "I couldn't open database file ~", "put the database beside the `.aux` file, or where `bibtex-search` looks for it: along BIBINPUTS and in TeX's folders. Is the name in `\\bibliography` right, and may you read the file?"),
+    (Section::Run, "Ended: stopped", "the style took as many steps as it may: raise `--budget`. If it is stopped again with ten times as many, it loops: `docs/STYLES.md` says how to find where"),
+    (Section::Run, "Ended: limit literals", "a loop or a recursion of the style pushes more than it takes: let each round leave the stack as it was"),
+    (Section::Run, "Ended: limit calls", "a function of the style calls itself, through a function that stands on the stack, without end: count the calls, or loop by `while$`"),
+    (Section::Run, "Ended: limit loops", "the body of a loop of the style begins that loop again: end the inner one first"),
+    (Section::Run, "Ended: limit string", "a loop of the style joins strings without end; if none does, look for a value, a `@string` or a preamble of more than 1,000,000 bytes (a `{` or `\"` that isn't closed?)"),
+    (Section::Run, "Ended: limit file", "the file that the log names last has more than 2,147,483,647 bytes: divide it"),
+    (Section::Run, "Ended: limit files", "20 `.aux` files are open, each named in the one before: include chapters from the main file"),
+    (Section::Run, "Ended: no top file", "run LaTeX first, and name the job as its `.aux` file is named, in its folder: `paper` for `paper.aux`"),
+    (Section::Style, "I was expecting a command", "begin the command by its word; is there a `}` too many above?"),
+    (Section::Style, "~ isn't a command", "correct the word: the commands are ENTRY, INTEGERS, STRINGS, FUNCTION, MACRO, READ, EXECUTE, ITERATE, REVERSE and SORT"),
+    (Section::Style, "I was expecting a {", "open or close the argument; count the braces of the command above"),
+    (Section::Style, "I was expecting a }", "open or close the argument; count the braces of the command above"),
+    (Section::Style, "I was expecting a name", "write a name: letters, digits and signs other than `\" # % ( ) , = { }` and `'`, not beginning with a digit. Names in a list are parted by whitespace, not by commas"),
+    (Section::Style, "~ is already defined", "give it another name, or remove one of the two"),
+    (Section::Style, "~ is an unknown function", "define it above its use; look for its spelling. A function's own name isn't known in its body"),
+    (Section::Style, "Illegal integer", "write digits behind `#`, with `-` before them if need be"),
+    (Section::Style, "Illegal text after a literal", "put whitespace behind the string or integer"),
+    (Section::Style, "No \" to end string literal", "close the string on its line; two strings join by `*`"),
+    (Section::Style, "Illegal, another ENTRY command", "remove the second one"),
+    (Section::Style, "Illegal, another READ command", "remove the second one"),
+    (Section::Style, "Illegal, SORT command before READ", "put READ above it"),
+    (Section::Style, "Illegal, EXECUTE command before READ", "put READ above it"),
+    (Section::Style, "Illegal, ITERATE command before READ", "put READ above it"),
+    (Section::Style, "Illegal, REVERSE command before READ", "put READ above it"),
+    (Section::Style, "Illegal, READ command before ENTRY", "put `ENTRY {..}{..}{..}` above READ"),
+    (Section::Style, "Illegal, MACRO command after READ", "put the macros above READ"),
+    (Section::Style, "I was expecting a \"", "put the text in quotes, on one line"),
+    (Section::Style, "Illegal end of style file", "close the last command; the fault is often a `{` far above"),
+    (Section::Execution, "You can't pop an empty literal stack", "a function before it took more than was there: `stack$` above that place shows what stands on the stack"),
+    (Section::Execution, "~ is not an integer", "push the operands in the order in which the function takes them; a field that may be missing goes through `empty$` or `missing$` first"),
+    (Section::Execution, "~ is not a string", "push the operands in the order in which the function takes them; a field that may be missing goes through `empty$` or `missing$` first"),
+    (Section::Execution, "~ is not a function", "push the operands in the order in which the function takes them; a field that may be missing goes through `empty$` or `missing$` first"),
+    (Section::Execution, "~ is not a string or missing field", "push the operands in the order in which the function takes them; a field that may be missing goes through `empty$` or `missing$` first"),
+    (Section::Execution, "= needs two integers or two strings", "compare two numbers or two strings; a number becomes a string by `int.to.str$`"),
+    (Section::Execution, "Integer overflow", "the result is 0 here: keep numbers within 32 bits, or work with strings"),
+    (Section::Execution, "You can't assign to ~", "only variables are assigned to: `value 'variable :=`"),
+    (Section::Execution, "You can't mess with entries here", "fields, entry variables, `cite$`, `type$` and `call.type$` belong to an entry: run the function by ITERATE or REVERSE, not by EXECUTE"),
+    (Section::Execution, "~ isn't an ASCII code", "`int.to.chr$` takes 0 to 127"),
+    (Section::Execution, "\"~\" isn't a single character", "`chr.to.int$` takes a string of one byte"),
+    (Section::Execution, "\"~\" is an illegal case-conversion string", "the conversion is `\"t\"`, `\"l\"` or `\"u\"`"),
+    (Section::Execution, "There is no name number ~ in \"~\"", "ask `num.names$` first; names are parted by ` and `"),
+    (Section::Execution, "Name ~ in \"~\" has a comma at the end", "remove the comma in the database"),
+    (Section::Execution, "Too many commas in name ~ of \"~\"", "a name has at most two commas: `von Last, Jr, First`; names are parted by ` and `, not by commas"),
+    (Section::Execution, "The format string \"~\" is illegal", "count the braces of the format; a piece has one letter of `f v l j`, once or twice"),
+    (Section::Execution, "The literal stack isn't empty", "a function before it left something: each command's function has to take off what it pushes"),
+    (Section::Execution, "string of ~ bytes cut to ~", "the value is longer than a variable keeps: raise the limit by `--entry-max` or `--global-max`, or cut it in the style"),
+    (Section::Database, "I was expecting a name", "write the name; a field's name begins with no digit"),
+    (Section::Database, "I was expecting a { or a (", "open the item by a brace; an `@` in text between items begins one"),
+    (Section::Database, "I was expecting a , or a }", "put a comma behind the key and between fields, often at the end of the line above; write a key without whitespace"),
+    (Section::Database, "I was expecting a , or a )", "put a comma behind the key and between fields, often at the end of the line above; write a key without whitespace"),
+    (Section::Database, "I was expecting an =", "write `name = value`; is there a comma too many, or a brace too few above?"),
+    (Section::Database, "I was expecting a }", "close it; a `@string` defines one name"),
+    (Section::Database, "I was expecting a )", "close it; a `@string` defines one name"),
+    (Section::Database, "I was expecting a value", "put braces or quotes round a text"),
+    (Section::Database, "Unbalanced braces", "count the braces of the value"),
+    (Section::Database, "Illegal end of database file", "close the item; often a `{` or `\"` far above isn't closed"),
+    (Section::Database, "Repeated entry", "remove one of the two"),
+    (Section::Entries, "A bad cross reference--entry \"*\" refers to entry \"*\", which doesn't exist", "add `$2`, or move it behind `$1`, or cite it"),
+    (Section::Entries, "you've nested cross references--entry \"*\" refers to entry \"*\"", "`$2` has a `crossref` of its own: give `$1` its fields, since they may not come down"),
+    (Section::Entries, "I didn't find a database entry for \"~\"", "the key is cited, or is a parent, and no database has it: look for its spelling"),
+    (Section::Entries, "I'm ignoring ~'s extra \"~\" field", "delete one of the two"),
+    (Section::Entries, "entry type for \"~\" isn't style-file defined", "the style has no function of that name; it treats the entry by `default.type`"),
+    (Section::Entries, "string name \"*\" is undefined", "define `$1` by `@string` above its use, or put braces or quotes round a text"),
+    (Section::Entries, "string name \"~\" is used in its own definition", "a `@string` can't be made longer by itself: give the new one another name"),
+];
+
+#[cfg(test)]
+mod tests {
+    use super::*;
+
+    fn text_of(sections: &[Section], text: &[u8]) -> Option<String> {
+        find(sections, text).map(|advice| advice.text())
+    }
+
+    #[test]
+    fn names_are_put_in() {
+        let crossed = b"A bad cross reference--entry \"two\" refers to entry \"p\", which doesn't exist";
+        assert_eq!(
+            text_of(&[Section::Entries], crossed).as_deref(),
+            Some("add `p`, or move it behind `two`, or cite it")
+        );
+        let wrong = text_of(&[Section::Aux], b"x.tex has a wrong extension");
+        assert_eq!(wrong.as_deref(), Some("include files by `\\include`, which writes `x.tex.aux`"));
+        assert_eq!(
+            text_of(&[Section::Entries], b"string name \"\x1b\" is undefined").map(|text| text.contains('\x1b')),
+            Some(false)
+        );
+    }
+
+    #[test]
+    fn sections_are_kept_apart() {
+        let name = b"I was expecting a name";
+        assert_ne!(text_of(&[Section::Style], name), text_of(&[Section::Database], name));
+        assert_eq!(text_of(&[Section::Aux], name), None);
+        assert_eq!(text_of(&[Section::Entries], b"empty title in k"), None);
+    }
+
+    #[test]
+    fn patterns_fit_whole_texts() {
+        assert_eq!(matched("a*c", b"abbc"), Some(vec![&b"bb"[..]]));
+        assert_eq!(matched("a*c", b"abcd"), None);
+        assert_eq!(matched("*-~.", b"x-y-z."), Some(vec![&b"x"[..]]));
+        assert_eq!(matched("a", b"a"), Some(vec![]));
+        assert_eq!(matched("a", b"ab"), None);
+        assert_eq!(matched("ab~ba", b"aba"), None);
+    }
+
+    #[test]
+    fn repeated_pieces_cost_linear_time() {
+        let text = [b"A bad cross reference--entry \"".to_vec(), b"\" refers to entry \"".repeat(100_000)].concat();
+        assert_eq!(text_of(&[Section::Entries], &text), None);
+    }
+
+    #[test]
+    fn each_row_is_found_by_itself() {
+        for (number, (section, pattern, _)) in ROWS.iter().enumerate() {
+            let found = find(&[*section], pattern.as_bytes()).map(|advice| advice.number);
+            assert_eq!(found, Some(number), "{pattern}");
+        }
+    }
+
+    #[test]
+    fn operands_are_known() {
+        assert_eq!(operands(b"format.name$"), Some("NAMES NUMBER FORMAT"));
+        assert_eq!(operands(b"cite$"), None);
+    }
+}

@@ -1,0 +1,432 @@
+//! The items of a database, read as far as they go: where each begins, and where it can't go on. `docs/RULES.md` has their grammar, under
+//! Databases.
+
+use crate::text::Text;
+use std::collections::HashSet;
+use std::hash::{Hash, Hasher};
+
+/// A key or a name of which the case of `A-Z` doesn't matter.
+#[derive(Debug, Clone, Copy)]
+pub struct Folded<'a>(pub &'a [u8]);
+
+impl PartialEq for Folded<'_> {
+    fn eq(&self, other: &Self) -> bool {
+        self.0.eq_ignore_ascii_case(other.0)
+    }
+}
+
+impl Eq for Folded<'_> {}
+
+impl Hash for Folded<'_> {
+    fn hash<H: Hasher>(&self, state: &mut H) {
+        for piece in self.0.chunks(32) {
+            let mut folded = [0; 32];
+            folded[..piece.len()].copy_from_slice(piece);
+            folded.make_ascii_lowercase();
+            state.write(&folded);
+        }
+    }
+}
+
+/// The key of an entry, or the name of a string.
+#[derive(Debug, Clone, Copy, PartialEq, Eq)]
+pub struct Key<'a> {
+    /// Its bytes.
+    pub name: &'a [u8],
+    /// Where it ends.
+    pub end: usize,
+}
+
+/// A `crossref` field of an entry.
+#[derive(Debug, Clone, Copy, PartialEq, Eq)]
+pub struct Parent<'a> {
+    /// The key that it names, as far as it stands there as such.
+    pub key: &'a [u8],
+    /// Where its value ends.
+    pub end: usize,
+}
+
+/// An item of a database.
+#[derive(Debug, Clone, PartialEq, Eq)]
+pub struct Item<'a> {
+    /// Where its `@` stands.
+    pub start: usize,
+    /// Where its reading ended.
+    pub end: usize,
+    /// Its type, such as `book`; empty if there is none.
+    pub kind: &'a [u8],
+    /// Its key, if it has come so far.
+    pub key: Option<Key<'a>>,
+    /// Its parents.
+    pub parents: Vec<Parent<'a>>,
+    /// The error that ended it early, at its end.
+    pub fault: Option<&'static str>,
+}
+
+impl<'a> Item<'a> {
+    /// Whether it is an entry: no comment, no preamble and no string.
+    pub fn is_entry(&self) -> bool {
+        !["comment", "preamble", "string"].iter().any(|kind| self.kind.eq_ignore_ascii_case(kind.as_bytes()))
+    }
+
+    /// The key of an entry; None of any other item.
+    pub fn entry_key(&self) -> Option<Key<'a>> {
+        self.key.filter(|_| self.is_entry())
+    }
+}
+
+/// The items of a text, from a place on.
+#[derive(Debug, Clone)]
+pub struct Items<'a> {
+    text: &'a [u8],
+    next: Option<usize>,
+}
+
+impl<'a> Items<'a> {
+    /// All items of a text.
+    pub fn new(text: &'a [u8]) -> Items<'a> {
+        let mut items = Items { text, next: None };
+        items.go_on_at(0);
+        items
+    }
+
+    /// Where the next item begins.
+    pub fn next_start(&self) -> Option<usize> {
+        self.next
+    }
+
+    /// Goes on with the first item that begins at this place or behind it.
+    pub fn go_on_at(&mut self, place: usize) {
+        self.next = self.text[place..].iter().position(|byte| *byte == b'@').map(|at| place + at);
+    }
+}
+
+impl<'a> Iterator for Items<'a> {
+    type Item = Item<'a>;
+
+    fn next(&mut self) -> Option<Item<'a>> {
+        let item = Reader { text: self.text, at: self.next? }.item();
+        self.go_on_at(item.end);
+        Some(item)
+    }
+}
+
+/// What can't go on is an error, with this text.
+type Read<T> = Result<T, &'static str>;
+
+const END_OF_FILE: &str = "Illegal end of database file";
+const NO_NAME: &str = "I was expecting a name";
+const NO_EQUALS: &str = "I was expecting an =";
+
+struct Reader<'a> {
+    text: &'a [u8],
+    at: usize,
+}
+
+fn is_white(byte: u8) -> bool {
+    matches!(byte, b' ' | b'\t' | b'\r' | b'\n')
+}
+
+fn is_of_name(byte: u8) -> bool {
+    byte > b' ' && !b"\"#%'(),={}".contains(&byte)
+}
+
+impl<'a> Reader<'a> {
+    /// The item at this place, where its `@` stands.
+    fn item(mut self) -> Item<'a> {
+        let mut item = Item { start: self.at, end: self.at, kind: b"", key: None, parents: Vec::new(), fault: None };
+        self.at += 1;
+        item.fault = self.read(&mut item).err();
+        item.end = self.at;
+        item
+    }
+
+    /// Takes the longest run of bytes that pass a test.
+    fn take(&mut self, test: impl Fn(u8) -> bool) -> &'a [u8] {
+        let rest = &self.text[self.at..];
+        let taken = &rest[..rest.iter().position(|byte| !test(*byte)).unwrap_or(rest.len())];
+        self.at += taken.len();
+        taken
+    }
+
+    /// The byte behind whitespace, which isn't taken.
+    fn next_byte(&mut self) -> Read<u8> {
+        self.take(is_white);
+        self.text.get(self.at).copied().ok_or(END_OF_FILE)
+    }
+
+    /// Takes one of these bytes.
+    fn expect(&mut self, wanted: &[u8], message: &'static str) -> Read<u8> {
+        let byte = self.next_byte()?;
+        if !wanted.contains(&byte) {
+            return Err(message);
+        }
+        self.at += 1;
+        Ok(byte)
+    }
+
+    fn name(&mut self) -> Read<&'a [u8]> {
+        if self.next_byte()?.is_ascii_digit() {
+            return Err(NO_NAME);
+        }
+        Some(self.take(is_of_name)).filter(|name| !name.is_empty()).ok_or(NO_NAME)
+    }
+
+    fn read(&mut self, item: &mut Item<'a>) -> Read<()> {
+        item.kind = self.name()?;
+        if item.kind.eq_ignore_ascii_case(b"comment") {
+            return Ok(());
+        }
+        let closing = if self.expect(b"{(", "I was expecting a { or a (")? == b'{' { b'}' } else { b')' };
+        if item.is_entry() {
+            return self.read_entry(item, closing);
+        }
+        if item.kind.eq_ignore_ascii_case(b"string") {
+            item.key = Some(Key { name: self.name()?, end: self.at });
+            self.expect(b"=", NO_EQUALS)?;
+        }
+        self.value()?;
+        self.expect(&[closing], if closing == b'}' { "I was expecting a }" } else { "I was expecting a )" })?;
+        Ok(())
+    }
+
+    fn read_entry(&mut self, item: &mut Item<'a>, closing: u8) -> Read<()> {
+        self.next_byte()?;
+        let name = self.take(|byte| byte != b',' && !is_white(byte) && (closing == b')' || byte != b'}'));
+        item.key = Some(Key { name, end: self.at });
+        let message = if closing == b'}' { "I was expecting a , or a }" } else { "I was expecting a , or a )" };
+        while self.expect(&[b',', closing], message)? != closing {
+            if self.next_byte()? == closing {
+                self.at += 1;
+                return Ok(());
+            }
+            let field = self.name()?;
+            self.expect(b"=", NO_EQUALS)?;
+            let value = self.value()?;
+            if field.eq_ignore_ascii_case(b"crossref") {
+                item.parents.push(Parent { key: bare(value), end: self.at });
+            }
+        }
+        Ok(())
+    }
+
+    /// Takes a value; what stands there.
+    fn value(&mut self) -> Read<&'a [u8]> {
+        self.next_byte()?;
+        let start = self.at;
+        loop {
+            self.part()?;
+            let end = self.at;
+            self.take(is_white);
+            if self.text.get(self.at) != Some(&b'#') {
+                self.at = end;
+                return Ok(&self.text[start..end]);
+            }
+            self.at += 1;
+        }
+    }
+
+    /// Takes a part of a value: a text, digits, or the name of a string.
+    fn part(&mut self) -> Read<()> {
+        let byte = self.next_byte()?;
+        if matches!(byte, b'{' | b'"') {
+            return self.group(byte);
+        }
+        let taken = if byte.is_ascii_digit() { self.take(|byte| byte.is_ascii_digit()) } else { self.take(is_of_name) };
+        if taken.is_empty() { Err("I was expecting a value") } else { Ok(()) }
+    }
+
+    /// Takes a text in braces or quotes.
+    fn group(&mut self, opening: u8) -> Read<()> {
+        let mut depth = 0;
+        for at in self.at + 1..self.text.len() {
+            let byte = self.text[at];
+            if depth == 0 && (byte == b'}' || byte == b'"' && opening == b'"') {
+                let is_unbalanced = opening == b'"' && byte == b'}';
+                self.at = if is_unbalanced { at } else { at + 1 };
+                return if is_unbalanced { Err("Unbalanced braces") } else { Ok(()) };
+            }
+            depth += i64::from(byte == b'{') - i64::from(byte == b'}');
+        }
+        self.at = self.text.len();
+        Err(END_OF_FILE)
+    }
+}
+
+/// A value without its delimiters and the whitespace round it.
+fn bare(value: &[u8]) -> &[u8] {
+    let is_bare = |byte: &u8| !b"{}\" \t\r\n".contains(byte);
+    let start = value.iter().position(is_bare).unwrap_or(value.len());
+    let end = value.iter().rposition(is_bare).map_or(start, |last| last + 1);
+    &value[start..end]
+}
+
+/// Where an error of a database stands.
+#[derive(Debug, Clone, PartialEq, Eq)]
+pub struct Fault<'a> {
+    /// The first byte with which the item can't go on; of a repeated entry, the end of its key.
+    pub place: usize,
+    /// The item, as far as it was read.
+    pub item: Item<'a>,
+}
+
+/// How many items of the line of a repeated entry are looked at.
+const MOST_IN_A_LINE: usize = 100;
+
+/// Finds the errors of a database, in the order in which they were logged.
+#[derive(Debug, Clone)]
+pub struct Faults<'a> {
+    items: Items<'a>,
+    seen: HashSet<Folded<'a>>,
+}
+
+impl<'a> Faults<'a> {
+    /// The errors of this text.
+    pub fn new(text: &'a [u8]) -> Faults<'a> {
+        Faults { items: Items::new(text), seen: HashSet::new() }
+    }
+
+    /// Where the next error of this text in this line stands; not for repeated entries. Those before it are passed over: each item is read
+    /// once, so all errors of a log take a time that is linear in the database.
+    pub fn next(&mut self, text: &Text<'a>, error: &[u8], number: usize) -> Option<Fault<'a>> {
+        while self.begins_up_to(text, number) {
+            let item = self.items.next()?;
+            self.seen.extend(item.entry_key().map(|key| Folded(key.name)));
+            let is_it = item.fault.is_some_and(|fault| fault.as_bytes() == error);
+            if is_it && line_of_fault(text, item.end) == number {
+                return Some(Fault { place: item.end, item });
+            }
+        }
+        None
+    }
+
+    /// The next repeated entry whose key ends in this line: the first one that `is_known` to stand in an earlier database, or stood before
+    /// in this one; else the first one of that line. What follows its key isn't read.
+    pub fn next_repeated(
+        &mut self,
+        text: &Text<'a>,
+        number: usize,
+        mut is_known: impl FnMut(&[u8]) -> bool,
+    ) -> Option<Fault<'a>> {
+        let mut entries = Vec::new();
+        let mut stood_before = None;
+        while stood_before.is_none() && entries.len() < MOST_IN_A_LINE && self.begins_up_to(text, number) {
+            let item = self.items.next()?;
+            let Some(key) = item.entry_key() else { continue };
+            let (is_new, ends_here) = (self.seen.insert(Folded(key.name)), text.line_of(key.end) == number);
+            stood_before = (ends_here && !is_new).then_some(entries.len());
+            if ends_here || !entries.is_empty() {
+                entries.push((key, item, is_new, ends_here));
+            }
+        }
+        let known = entries.iter().position(|(key, _, is_new, ends_here)| *ends_here && *is_new && is_known(key.name));
+        let first = || entries.iter().position(|(.., ends_here)| *ends_here);
+        let chosen = known.or(stood_before).or_else(first)?;
+        for (key, ..) in entries.drain(chosen + 1..).filter(|(_, _, is_new, _)| *is_new) {
+            self.seen.remove(&Folded(key.name));
+        }
+        entries.pop().map(|(key, item, ..)| self.without_body(key, item))
+    }
+
+    /// Whether an item begins in this line or above it.
+    fn begins_up_to(&self, text: &Text<'a>, number: usize) -> bool {
+        self.items.next_start().is_some_and(|start| text.line_of(start) <= number)
+    }
+
+    /// A repeated entry, behind whose key the reading goes on.
+    fn without_body(&mut self, key: Key<'a>, mut item: Item<'a>) -> Fault<'a> {
+        self.items.go_on_at(key.end);
+        (item.end, item.fault) = (key.end, None);
+        Fault { place: key.end, item }
+    }
+}
+
+/// The line of a fault: the end of the file has the number of its last line.
+fn line_of_fault(text: &Text<'_>, place: usize) -> usize {
+    text.line_of(place.min(text.bytes.len().saturating_sub(1)))
+}
+
+#[cfg(test)]
+mod tests {
+    use super::*;
+
+    fn faults(text: &[u8]) -> Vec<(&'static str, usize)> {
+        Items::new(text).filter_map(|item| Some((item.fault?, item.end))).collect()
+    }
+
+    #[test]
+    fn whole_items_have_no_faults() {
+        let text = b"text @comment{x @misc{k, title = {A {B} \"} # zz # 12,} @string(s = \"a{\"}b\") @preamble{s} @misc(k) ) @misc{}";
+        assert_eq!(faults(text), []);
+        let items: Vec<_> = Items::new(text).map(|item| (item.kind, item.key.map(|key| key.name))).collect();
+        let names: [(&[u8], Option<&[u8]>); 6] = [
+            (b"comment", None),
+            (b"misc", Some(b"k")),
+            (b"string", Some(b"s")),
+            (b"preamble", None),
+            (b"misc", Some(b"k)")),
+            (b"misc", Some(b"")),
+        ];
+        assert_eq!(items, names);
+    }
+
+    #[test]
+    fn faults_stand_where_an_item_cannot_go_on() {
+        assert_eq!(faults(b"@ {"), [(NO_NAME, 2)]);
+        assert_eq!(faults(b"@misc k"), [("I was expecting a { or a (", 6)]);
+        assert_eq!(faults(b"@misc{k,\n note 1}"), [(NO_EQUALS, 15)]);
+        assert_eq!(faults(b"@misc{k, note = ,}"), [("I was expecting a value", 16)]);
+        assert_eq!(faults(b"@misc{k, note = 12ab}"), [("I was expecting a , or a }", 18)]);
+        assert_eq!(faults(b"@misc(k , note = 1 }"), [("I was expecting a , or a )", 19)]);
+        assert_eq!(faults(b"@string{s = 1, }"), [("I was expecting a }", 13)]);
+        assert_eq!(faults(b"@preamble{\"a}\"}"), [("Unbalanced braces", 12)]);
+        assert_eq!(faults(b"@misc{k, note = {a"), [(END_OF_FILE, 18)]);
+        assert_eq!(faults(b"@misc{k, 1 = 2}"), [(NO_NAME, 9)]);
+        assert_eq!(faults(b"@a@b{k x}"), [("I was expecting a , or a }", 7)]);
+    }
+
+    #[test]
+    fn parents_are_named() {
+        let parents: Vec<_> =
+            Items::new(b"@misc{a, crossref = { P }, CrossRef=\"q\"}").flat_map(|item| item.parents).collect();
+        assert_eq!(parents.iter().map(|parent| parent.key).collect::<Vec<_>>(), [b"P", b"q"]);
+    }
+
+    #[test]
+    fn errors_are_found_in_their_order() {
+        let bytes = b"@misc{a, x 1} @misc{b, y 2}\n@misc{A, note = {@misc{c 1}}, z 3}\n@misc{d, z = {";
+        let text = Text::new(bytes);
+        let mut faults = Faults::new(bytes);
+        let mut places = |error: &[u8], number| faults.next(&text, error, number).map(|fault| fault.place);
+        assert_eq!(places(NO_EQUALS.as_bytes(), 1), Some(11));
+        assert_eq!(places(NO_EQUALS.as_bytes(), 1), Some(25));
+        assert_eq!(faults.next_repeated(&text, 2, |_| false).map(|fault| fault.place), Some(35));
+        let mut places = |error: &[u8], number| faults.next(&text, error, number).map(|fault| fault.place);
+        assert_eq!(places(b"I was expecting a , or a }", 2), Some(53));
+        assert_eq!(places(END_OF_FILE.as_bytes(), 3), Some(bytes.len()));
+        assert_eq!(places(END_OF_FILE.as_bytes(), 3), None);
+    }
+
+    #[test]
+    fn a_repeated_entry_is_the_one_that_stood_before() {
+        let bytes = b"@misc{a}\n@misc{b} @misc{A, x 1} @misc{c}";
+        let (text, mut faults) = (Text::new(bytes), Faults::new(bytes));
+        let found = faults.next_repeated(&text, 2, |_| false).unwrap();
+        assert_eq!((found.place, found.item.key.unwrap().name), (25, &b"A"[..]));
+    }
+
+    #[test]
+    fn a_repeated_entry_may_stand_in_an_earlier_database() {
+        let bytes = b"@misc{a} @misc{b} @misc{c} @misc{d, x 1}";
+        let (text, mut faults) = (Text::new(bytes), Faults::new(bytes));
+        let mut place = |known: &[u8]| faults.next_repeated(&text, 1, |key| known == key).map(|fault| fault.place);
+        assert_eq!([place(b"b"), place(b"d"), place(b"e")], [Some(16), Some(34), None]);
+    }
+
+    #[test]
+    fn keys_have_no_case() {
+        let set: HashSet<_> =
+            [Folded(b"Knuth"), Folded(b"KNUTH"), Folded(b"knuth"), Folded(b"\xc9"), Folded(b"\xe9")].into();
+        assert_eq!(set.len(), 3);
+    }
+}

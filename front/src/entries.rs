@@ -1,0 +1,185 @@
+//! The items of a job's databases: by their lines, and the entries by their keys.
+
+use crate::database::{Folded, Item, Items};
+use crate::job::{File, Files};
+use crate::text::{Text, find, split_first};
+use std::cell::OnceCell;
+use std::collections::HashMap;
+
+/// How many items of one line are looked at.
+const MOST_IN_A_LINE: usize = 100;
+
+/// How many bytes of a line are searched for a name.
+const LONGEST_SEARCHED: usize = 100_000;
+
+/// A database, with its items.
+#[derive(Debug, Clone)]
+pub struct Database<'a> {
+    /// The file.
+    pub file: &'a File,
+    /// Its text.
+    pub text: Text<'a>,
+    items: Vec<Item<'a>>,
+}
+
+/// An item, and the database in which it stands.
+#[derive(Debug, Clone, Copy)]
+pub struct Stored<'b, 'a> {
+    /// The database.
+    pub database: &'b Database<'a>,
+    /// The item.
+    pub item: &'b Item<'a>,
+}
+
+impl<'a> Database<'a> {
+    fn new(file: &'a File) -> Database<'a> {
+        let bytes = file.bytes.as_deref().unwrap_or(b"");
+        Database { file, text: Text::new(bytes), items: Items::new(bytes).collect() }
+    }
+
+    /// The items that have something in this line; of very many the first ones.
+    fn in_line(&self, number: usize) -> impl Iterator<Item = &Item<'a>> {
+        let (start, end) = self.text.span(number);
+        let first = self.items.partition_point(|item| item.start <= start).saturating_sub(1);
+        self.items[first..].iter().take(MOST_IN_A_LINE).filter(move |item| item.start <= end && item.end >= start)
+    }
+
+    /// The item that a message on this line is about; and the part of the text that the message names, if that is known.
+    pub fn about(&self, number: usize, text: &[u8]) -> Option<(&Item<'a>, Option<(usize, usize)>)> {
+        let key = between(text, b"entry type for \"", b"\" isn't ")
+            .or_else(|| between(text, b"I'm ignoring ", b"'s extra \""));
+        let with_key =
+            key.and_then(|key| self.in_line(number).find(|item| item.key.is_some_and(|its| its.name == key)));
+        if let Some(item) = with_key {
+            return Some((item, None));
+        }
+        let name = between(text, b"string name \"", b"\" is ");
+        let with_name =
+            name.and_then(|name| self.in_line(number).find_map(|item| Some((item, self.name_in(item, number, name)?))));
+        if let Some((item, part)) = with_name {
+            return Some((item, Some(part)));
+        }
+        self.in_line(number).next().map(|item| (item, None))
+    }
+
+    /// Where a name stands in this line of an item.
+    fn name_in(&self, item: &Item<'a>, number: usize, name: &[u8]) -> Option<(usize, usize)> {
+        let (start, end) = self.text.span(number);
+        let from = start.max(item.start);
+        let to = end.min(item.end).clamp(from, from + LONGEST_SEARCHED);
+        let piece = &self.text.bytes[from..to];
+        let is_whole = |at: usize| {
+            let is_end = |byte: Option<&u8>| byte.is_none_or(|byte| !byte.is_ascii_alphanumeric());
+            is_end(at.checked_sub(1).and_then(|before| piece.get(before))) && is_end(piece.get(at + name.len()))
+        };
+        let at = places(piece, name).find(|at| is_whole(*at))?;
+        Some((from + at, from + at + name.len()))
+    }
+}
+
+/// The places at which `what` stands in a text; not inside of another such place.
+fn places(text: &[u8], what: &[u8]) -> impl Iterator<Item = usize> {
+    let mut from = 0;
+    std::iter::from_fn(move || {
+        let at = from + find(text.get(from..)?, what)?;
+        from = at + what.len().max(1);
+        Some(at)
+    })
+}
+
+/// What stands between these two in a text that begins with the first.
+fn between<'a>(text: &'a [u8], before: &[u8], behind: &[u8]) -> Option<&'a [u8]> {
+    split_first(text.strip_prefix(before)?, behind).map(|(name, _)| name)
+}
+
+/// The databases of a job.
+#[derive(Debug)]
+pub struct Entries<'a> {
+    databases: Vec<Database<'a>>,
+    by_key: OnceCell<HashMap<Folded<'a>, Found>>,
+    by_parent: OnceCell<HashMap<Folded<'a>, Found>>,
+}
+
+/// Which database, counted from 0, and which of its items, or which place in it.
+type Found = (usize, usize);
+
+impl<'a> Entries<'a> {
+    /// Reads all databases of a job.
+    pub fn new(files: &'a Files) -> Entries<'a> {
+        let databases = files.with_ending(".bib").map(Database::new).collect();
+        Entries { databases, by_key: OnceCell::new(), by_parent: OnceCell::new() }
+    }
+
+    /// The entries of all databases: which one, its item's number there, and the item.
+    fn all(&self) -> impl Iterator<Item = (Found, &Item<'a>)> {
+        let numbered = self.databases.iter().enumerate();
+        numbered.flat_map(|(index, database)| {
+            database.items.iter().enumerate().map(move |(number, item)| ((index, number), item))
+        })
+    }
+
+    /// The first entry of this key, which is the one that is read.
+    pub fn entry(&self, key: &[u8]) -> Option<Stored<'_, 'a>> {
+        let by_key = self.by_key.get_or_init(|| {
+            let mut by_key = HashMap::with_capacity(self.databases.iter().map(|database| database.items.len()).sum());
+            for (found, item) in self.all() {
+                item.entry_key().map(|key| *by_key.entry(Folded(key.name)).or_insert(found));
+            }
+            by_key
+        });
+        let (index, number) = by_key.get(&Folded(key))?;
+        let database = &self.databases[*index];
+        Some(Stored { database, item: &database.items[*number] })
+    }
+
+    /// Where a key is named first as a parent: the database, and the end of the value.
+    pub fn parent(&self, key: &[u8]) -> Option<(&Database<'a>, usize)> {
+        let by_parent = self.by_parent.get_or_init(|| {
+            let parents =
+                self.all().flat_map(|((index, _), item)| item.parents.iter().map(move |parent| (index, parent)));
+            let mut by_parent = HashMap::new();
+            parents.for_each(|(index, parent)| {
+                by_parent.entry(Folded(parent.key)).or_insert((index, parent.end));
+            });
+            by_parent
+        });
+        let (index, end) = by_parent.get(&Folded(key))?;
+        Some((&self.databases[*index], *end))
+    }
+
+    /// The database of this name.
+    pub fn database(&self, name: &[u8]) -> Option<&Database<'a>> {
+        self.databases.iter().find(|database| database.file.name == name)
+    }
+}
+
+#[cfg(test)]
+mod tests {
+    use super::*;
+
+    fn files(text: &[u8]) -> Files {
+        let file = File { name: b"d.bib".to_vec(), bytes: Some(text.to_vec()), path: b"./d.bib".to_vec() };
+        Files { top: b"job.aux".to_vec(), all: vec![file] }
+    }
+
+    #[test]
+    fn entries_have_no_case() {
+        let files = files(b"@misc{a}\n@misc{A, crossref = {P}} @string{b = 1}");
+        let entries = Entries::new(&files);
+        assert_eq!(entries.entry(b"A").map(|found| found.item.start), Some(0));
+        assert!(entries.entry(b"b").is_none());
+        assert_eq!(entries.parent(b"p").map(|(database, end)| database.text.line_of(end)), Some(2));
+    }
+
+    #[test]
+    fn messages_are_about_an_item() {
+        let files = files(b"@misc{a, note = {zz}} @odd{b, note = zz # zzz}");
+        let entries = Entries::new(&files);
+        let database = entries.database(b"d.bib").unwrap();
+        let about = |text: &[u8]| database.about(1, text).map(|(item, part)| (item.start, part));
+        assert_eq!(about(b"entry type for \"b\" isn't style-file defined"), Some((22, None)));
+        assert_eq!(about(b"I'm ignoring b's extra \"note\" field"), Some((22, None)));
+        assert_eq!(about(b"string name \"zzz\" is undefined"), Some((22, Some((42, 45)))));
+        assert_eq!(about(b"something else"), Some((0, None)));
+    }
+}

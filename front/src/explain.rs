@@ -1,0 +1,661 @@
+//! A log for its reader: each message, the line and the entry that it is about, and what to do.
+
+use crate::advice::{self, Section};
+use crate::database::Item;
+use crate::entries::{Entries, Stored};
+use crate::job::{File, Files};
+use crate::log::{Content, Ended, Line, Log, Message, Place, Severity};
+use crate::scene::{Call, Scene};
+use crate::shapes::{Part, counted, went_well};
+use crate::shown_line::{ShownLine, first_columns};
+use crate::sources::{Sources, Spot};
+use crate::style_text::{Command, Defined, costs_a_token, end_of_skipped, is_command, nearest_word};
+use crate::terminal::{Terminal, in_lines, plain};
+use crate::text::{Text, split_first};
+use std::collections::HashSet;
+use std::io::{self, BufWriter, Write};
+
+/// How many messages are explained; the others aren't printed.
+const MOST_EXPLAINED: u64 = 1_000;
+/// How many calls, and how many literals of a stack, are shown.
+const MOST_OF_SCENE: usize = 8;
+/// How many errors of a style are kept from which others may follow; that of a missing brace always is.
+const MOST_CAUSES: usize = 20;
+/// How many lines of the log that are no messages are shown in a row, such as a stack's literals.
+const MOST_OTHERS: u64 = 20;
+/// How many columns of a line of the log are shown.
+const LONGEST_LINE: usize = 2_000;
+
+/// For how many columns at least lines are broken at spaces.
+const NARROWEST: usize = 20;
+
+const INDENT: &str = "    ";
+/// How a line begins that goes on with the one above it.
+const CONTINUED: &str = "      ";
+const ERROR_COLOUR: &str = "\x1b[1;31m";
+const WARNING_COLOUR: &str = "\x1b[1;33m";
+const PLACE_COLOUR: &str = "\x1b[2m";
+const NO_COLOUR: &str = "\x1b[0m";
+
+/// Writes a log with its explanations, safe for a terminal.
+pub fn write(log: &Log<'_>, files: &Files, part: Part, terminal: &Terminal, out: &mut impl Write) -> io::Result<()> {
+    let out = BufWriter::with_capacity(1 << 16, out);
+    let mut explainer = Explainer::new(log, files, terminal, out);
+    let mut lines = log.lines();
+    while let Some(line) = lines.next() {
+        if part == Part::Whole || !went_well(&line) {
+            explainer.line(&line)?;
+        }
+        if explainer.explained >= MOST_EXPLAINED {
+            explainer.last_line(lines.last())?;
+            break;
+        }
+    }
+    explainer.end_lines()?;
+    explainer.out.flush()
+}
+
+/// An error of a style from which others follow: a function that isn't closed, so that what stands behind it is read as its body, or a
+/// command that is skipped, with what stands behind it.
+struct Cause<'a> {
+    /// The style's name.
+    style: &'a [u8],
+    /// The line of the error.
+    number: usize,
+    /// Whether the words of commands aren't known either.
+    has_commands: bool,
+    /// What isn't known since it was read otherwise.
+    lost: Defined<'a>,
+    /// How many errors that follow from it weren't printed yet.
+    unprinted: u64,
+}
+
+/// Explains the lines of a log.
+struct Explainer<'a, W: Write> {
+    files: &'a Files,
+    sources: Sources<'a>,
+    entries: Option<Entries<'a>>,
+    terminal: &'a Terminal,
+    scene_of_end: Option<&'a Scene>,
+    /// The kinds of messages of which it was said what to do, and the functions of which it was said what they take.
+    advised: HashSet<usize>,
+    taught: HashSet<&'a [u8]>,
+    causes: Vec<Cause<'a>>,
+    /// The line of the last message, if it is one of a style.
+    last_of_style: usize,
+    /// What was said last of a brace that is missing, or of one too many.
+    said_of_braces: Option<String>,
+    explained: u64,
+    /// How many lines that are no messages stand directly above.
+    others: u64,
+    out: W,
+}
+
+impl<'a, W: Write> Explainer<'a, W> {
+    fn new(log: &Log<'a>, files: &'a Files, terminal: &'a Terminal, out: W) -> Self {
+        Explainer {
+            files,
+            sources: Sources::new(files),
+            entries: None,
+            terminal,
+            scene_of_end: log.scene_of_end(),
+            advised: HashSet::new(),
+            taught: HashSet::new(),
+            causes: Vec::new(),
+            last_of_style: 0,
+            said_of_braces: None,
+            explained: 0,
+            others: 0,
+            out,
+        }
+    }
+
+    // ---- lines ----
+
+    fn coloured(&mut self, colour: &str, text: &str) -> io::Result<()> {
+        let (colour, end) = if self.terminal.has_colours { (colour, NO_COLOUR) } else { ("", "") };
+        writeln!(self.out, "{colour}{text}{end}")
+    }
+
+    /// Indented text; on a terminal it is broken into lines that have room.
+    fn indented(&self, text: &str) -> Vec<String> {
+        let text = format!("{INDENT}{text}");
+        let width = self.terminal.width.max(NARROWEST);
+        if self.terminal.is_terminal { in_lines(&text, width, CONTINUED) } else { vec![text] }
+    }
+
+    /// A text that says where something stands.
+    fn put_place(&mut self, text: &str) -> io::Result<()> {
+        self.indented(text).iter().try_for_each(|line| self.coloured(PLACE_COLOUR, line))
+    }
+
+    fn put_advice(&mut self, text: &str) -> io::Result<()> {
+        self.indented(&format!("what to do: {text}")).iter().try_for_each(|line| writeln!(self.out, "{line}"))
+    }
+
+    /// A line of the log, with what follows it.
+    fn line(&mut self, line: &Line<'a>) -> io::Result<()> {
+        match &line.content {
+            Content::Message(message) if self.follows(message) => Ok(()),
+            Content::Message(message) => self.message(line.bytes, message),
+            Content::Ended(end) => self.ended(line.bytes, end),
+            Content::Found(_) => self.put_line("", line.bytes),
+            Content::Other => {
+                self.others += 1;
+                if self.others > MOST_OTHERS { Ok(()) } else { self.put_line("", line.bytes) }
+            }
+        }
+    }
+
+    /// A line of the log itself, cut where it is very long.
+    fn put_line(&mut self, colour: &str, line: &[u8]) -> io::Result<()> {
+        let whole = plain(&line[..line.len().min(4 * LONGEST_LINE)]);
+        let shown = first_columns(&whole, LONGEST_LINE);
+        let dots = if shown.len() < whole.len() { ".." } else { "" };
+        if colour.is_empty() {
+            writeln!(self.out, "{shown}{dots}")
+        } else {
+            self.coloured(colour, &format!("{shown}{dots}"))
+        }
+    }
+
+    /// What is to be said of lines that weren't printed, before the next one is.
+    fn end_lines(&mut self) -> io::Result<()> {
+        let others = std::mem::take(&mut self.others).saturating_sub(MOST_OTHERS);
+        if others > 0 {
+            self.put_place(&format!("({others} more lines stand in the .blg)"))?;
+        }
+        self.end_causes()
+    }
+
+    /// The last line of a log of which enough was explained.
+    fn last_line(&mut self, line: Option<Line<'a>>) -> io::Result<()> {
+        let Some(line) = line else { return Ok(()) };
+        self.end_lines()?;
+        let Content::Ended(end) = &line.content else {
+            return writeln!(self.out, "(The messages behind these stand in the .blg.)");
+        };
+        match (end.errors + end.warnings).saturating_sub(self.explained) {
+            0 => {}
+            1 => writeln!(self.out, "(1 more message stands in the .blg.)")?,
+            more => writeln!(self.out, "({more} more messages stand in the .blg.)")?,
+        }
+        self.ended(line.bytes, end)
+    }
+
+    fn ended(&mut self, line: &'a [u8], end: &Ended<'a>) -> io::Result<()> {
+        self.end_lines()?;
+        self.put_line(if end.is_finished() { "" } else { ERROR_COLOUR }, line)?;
+        if !end.is_finished() {
+            if let Some(scene) = self.scene_of_end {
+                self.scene(scene)?;
+            }
+            let (text, _) = split_first(line, b", warnings ").unwrap_or((line, b""));
+            self.advise(&[Section::Run], text)?;
+        }
+        counted(end).map_or(Ok(()), |count| writeln!(self.out, "{count}"))
+    }
+
+    // ---- messages ----
+
+    fn message(&mut self, line: &[u8], message: &Message<'a>) -> io::Result<()> {
+        self.end_lines()?;
+        self.explained += 1;
+        self.put_line(if message.severity == Severity::Error { ERROR_COLOUR } else { WARNING_COLOUR }, line)?;
+        match message.place {
+            Place::Line { file, .. } if file.ends_with(b".aux") => {
+                self.in_aux_file(message)?;
+                self.advise(&[Section::Aux], message.text)
+            }
+            Place::Line { file, .. } if file.ends_with(b".bst") => self.in_style(message, file),
+            Place::Line { number, file } => {
+                self.in_database(message, number, file)?;
+                self.advise(&[Section::Database, Section::Entries], message.text)
+            }
+            Place::Execution { function, entry } => self.executed(message, function, entry),
+            Place::Nowhere => {
+                self.unplaced(message)?;
+                self.advise(&[Section::Aux, Section::Run, Section::Entries], message.text)
+            }
+        }
+    }
+
+    /// What to do about a message; once for each kind of message.
+    fn advise(&mut self, sections: &[Section], text: &[u8]) -> io::Result<()> {
+        match advice::find(sections, text) {
+            Some(advice) if self.advised.insert(advice.number) => self.put_advice(&advice.text()),
+            _ => Ok(()),
+        }
+    }
+
+    /// A line of a file, and a mark below the part of it that a message is about.
+    fn show_line(&mut self, spot: &Spot<'a>) -> io::Result<()> {
+        let name = plain(shown_path(spot.file));
+        let mark = spot.part.map(|(start, _)| start);
+        let lines = ShownLine { name: &name, number: spot.number, line: spot.line, mark }.lines(self.terminal);
+        lines.iter().try_for_each(|line| self.coloured(PLACE_COLOUR, &format!("{INDENT}{line}")))
+    }
+
+    // ---- .aux files ----
+
+    fn in_aux_file(&mut self, message: &Message<'a>) -> io::Result<()> {
+        self.sources.spot(message).map_or(Ok(()), |spot| self.show_line(&spot))
+    }
+
+    // ---- styles ----
+
+    fn in_style(&mut self, message: &Message<'a>, style: &'a [u8]) -> io::Result<()> {
+        let Some(spot) = self.sources.spot(message) else { return self.advise(&[Section::Style], message.text) };
+        self.show_line(&spot)?;
+        self.last_of_style = spot.number;
+        let (Some(text), commands) = (self.sources.text(style), self.sources.commands(style)) else { return Ok(()) };
+        let (start, end) = text.span(spot.number);
+        let place = spot.part.map_or(end, |(at, _)| start + at);
+        if let Some(advice) = self.braces_of(message.text, &spot, &text, &commands, place) {
+            let is_new = self.said_of_braces.replace(advice.clone()).is_none_or(|said| said != advice);
+            return if is_new { self.put_advice(&advice) } else { Ok(()) };
+        }
+        let around = commands[..commands.partition_point(|command| command.start <= place)].last();
+        let is_no_command = message.text.ends_with(b" isn't a command") || message.text == b"I was expecting a command";
+        if let Some(around) = around.filter(|_| !is_no_command) {
+            self.put_place(&format!("in {}", begins(spot.file, &text, around)))?;
+        }
+        if self.causes.len() < MOST_CAUSES && !costs_a_token(message.text, around) {
+            let from = around.filter(|_| !is_no_command).map_or(place, |around| around.start);
+            let to = end_of_skipped(&text, spot.number);
+            let lost = Defined::new(text.bytes, from, to.max(from), &commands);
+            self.causes.push(Cause { style, number: spot.number, has_commands: false, lost, unprinted: 0 });
+        }
+        let word = message.text.strip_suffix(b" isn't a command").and_then(nearest_word);
+        if let Some(word) = word {
+            self.put_place(&format!("is it {}?", word.to_uppercase()))?;
+        }
+        self.advise(&[Section::Style], message.text)
+    }
+
+    /// What to do about an error that a missing brace, or one too many, has made in a function above.
+    fn braces_of(
+        &mut self,
+        error: &[u8],
+        spot: &Spot<'a>,
+        text: &Text<'a>,
+        commands: &[Command<'a>],
+        place: usize,
+    ) -> Option<String> {
+        let above = &commands[..commands.partition_point(|command| command.start < place)];
+        let at_end = error == b"Illegal end of style file";
+        if at_end || unknown(error).is_some_and(is_command) {
+            let opened = above.iter().find(|command| command.balance > 0)?;
+            let lost = Defined::new(text.bytes, opened.start, text.bytes.len(), commands);
+            let (style, number) = (&spot.file.name[..], spot.number);
+            self.causes.push(Cause { style, number, has_commands: true, lost, unprinted: 0 });
+            return Some(format!("a `}}` is missing in {}", begins(spot.file, text, opened)));
+        }
+        let closed = above.last().filter(|command| command.balance < 0 && error == b"I was expecting a command")?;
+        Some(format!("there is a `}}` too many in {}", begins(spot.file, text, closed)))
+    }
+
+    /// Whether this error follows from one of a style that was explained. It is counted there.
+    fn follows(&mut self, message: &Message<'a>) -> bool {
+        let Place::Line { file, .. } = message.place else { return false };
+        let Some(name) = unknown(message.text) else { return false };
+        let is_it = |cause: &&mut Cause<'a>| {
+            file == cause.style && (cause.lost.has(name) || cause.has_commands && is_command(name))
+        };
+        let cause = self.causes.iter_mut().find(is_it);
+        cause.map(|cause| cause.unprinted += 1).is_some()
+    }
+
+    /// Says how many errors weren't printed since they follow from others.
+    fn end_causes(&mut self) -> io::Result<()> {
+        let unprinted = |cause: &mut Cause<'a>| (cause.number, std::mem::take(&mut cause.unprinted));
+        let counts: Vec<(usize, u64)> = self.causes.iter_mut().map(unprinted).collect();
+        for (number, count) in counts.into_iter().filter(|(_, count)| *count > 0) {
+            self.explained += count;
+            let errors = if count == 1 { "1 more error follows" } else { &format!("{count} more errors follow") };
+            let place = if number == self.last_of_style { String::new() } else { format!(" in line {number}") };
+            self.put_place(&format!("({errors} from that{place})"))?;
+        }
+        Ok(())
+    }
+
+    // ---- databases ----
+
+    fn in_database(&mut self, message: &Message<'a>, number: usize, name: &'a [u8]) -> io::Result<()> {
+        let Some(mut spot) = self.sources.spot(message) else { return Ok(()) };
+        let Some(text) = self.sources.text(name) else { return Ok(()) };
+        let about = if spot.item.is_some() { None } else { self.about(name, number, message.text) };
+        let item = spot.item.take().or_else(|| {
+            let (item, part) = about?;
+            let start = text.span(number).0;
+            spot.part = part.map(|(from, to)| (from - start, to - start));
+            Some(item)
+        });
+        self.show_line(&spot)?;
+        let Some(item) = item else { return Ok(()) };
+        self.put_place(&format!("in {}", begins_item(spot.file, &text, &item)))?;
+        match item.key.filter(|_| message.text == b"Repeated entry") {
+            Some(key) => self.show_entry("the first is", key.name).map(|_| ()),
+            None => Ok(()),
+        }
+    }
+
+    /// The item that a message is about, and the part of the text that the message names.
+    fn about(&mut self, name: &[u8], number: usize, text: &[u8]) -> Option<(Item<'a>, Option<(usize, usize)>)> {
+        let (item, part) = self.entries().database(name)?.about(number, text)?;
+        Some((item.clone(), part))
+    }
+
+    fn entries(&mut self) -> &Entries<'a> {
+        self.entries.get_or_insert_with(|| Entries::new(self.files))
+    }
+
+    /// The first entry of this key, if there is one; whether there is.
+    fn show_entry(&mut self, word: &str, key: &[u8]) -> io::Result<bool> {
+        let found = self.entries().entry(key);
+        let Some(Stored { database, item }) = found else { return Ok(false) };
+        let item = begins_item(database.file, &database.text, item);
+        self.put_place(&format!("{word} {item}"))?;
+        Ok(true)
+    }
+
+    // ---- the execution of a style ----
+
+    fn executed(&mut self, message: &Message<'a>, function: &'a [u8], entry: Option<&[u8]>) -> io::Result<()> {
+        if let Some(scene) = message.scene {
+            self.scene(scene)?;
+        }
+        if let Some(key) = entry {
+            self.show_entry("for", key)?;
+        }
+        let is_of_operands = message.text == b"You can't pop an empty literal stack"
+            || advice::find(&[Section::Execution], message.text).is_some_and(|advice| advice.is_of_operands());
+        if is_of_operands
+            && let Some(operands) = advice::operands(function)
+            && self.taught.insert(function)
+        {
+            let is_variable = function == b":=" && message.text.ends_with(b" is not a function");
+            let hint = match operands.contains(' ') {
+                _ if is_variable => ": is there a `'` before the variable?",
+                true => ", pushed in this order",
+                false => "",
+            };
+            self.put_place(&format!("`{}` takes {operands}{hint}", plain(function)))?;
+        }
+        self.advise(&[Section::Execution], message.text)
+    }
+
+    /// Where in the style something happened.
+    fn scene(&mut self, scene: &Scene) -> io::Result<()> {
+        let mut calls: Vec<String> = scene.callers.iter().map(|call| self.call(call)).collect();
+        if calls.len() > MOST_OF_SCENE {
+            calls.splice(MOST_OF_SCENE - 1..calls.len() - 1, ["..".to_string()]);
+        }
+        let called = if calls.is_empty() { String::new() } else { format!("; called from {}", calls.join("; ")) };
+        self.put_place(&format!("in {}{called}", self.call(&scene.at)))?;
+        if !scene.stack.is_empty() {
+            let literals: Vec<String> =
+                scene.stack.iter().take(MOST_OF_SCENE).map(|held| plain(&held.literal)).collect();
+            let more = if scene.stack.len() > MOST_OF_SCENE { ", .." } else { "" };
+            self.put_place(&format!("on the stack: {}{more}", literals.join(", ")))?;
+        }
+        for held in scene.stack.iter().take(MOST_OF_SCENE) {
+            if let Some(since) = &held.since {
+                let since = self.call(since);
+                self.put_place(&format!("{} has been there since {since}", plain(&held.literal)))?;
+            }
+        }
+        Ok(())
+    }
+
+    fn call(&self, call: &Call) -> String {
+        let name = self.sources.file(&call.file).map_or(&call.file[..], shown_path);
+        format!("{}, {}:{}", plain(&call.function), plain(name), call.line)
+    }
+
+    // ---- messages without a place ----
+
+    fn unplaced(&mut self, message: &Message<'a>) -> io::Result<()> {
+        let text = message.text;
+        if let Some(spot) = self.sources.spot(message) {
+            return self.show_line(&spot);
+        }
+        let missing =
+            text.strip_prefix(b"I didn't find a database entry for \"").and_then(|rest| rest.strip_suffix(b"\""));
+        if let Some(key) = missing {
+            return self.cited(key);
+        }
+        let child = between(text, b"A bad cross reference--entry \"", b"\" refers to entry \"");
+        let child =
+            child.or_else(|| between(text, b"you've nested cross references--entry \"", b"\" refers to entry \""));
+        if let Some(key) = child {
+            return self.show_entry("for", key).map(|_| ());
+        }
+        if text.starts_with(b"I found no ") {
+            let top = self.files.with_ending(".aux").next().map(|file| plain(shown_path(file)));
+            let read = |name| format!("{name}: the whole file was read, and those that it includes");
+            return top.map_or(Ok(()), |name| self.put_place(&read(name)));
+        }
+        self.of_style(text)
+    }
+
+    /// A style's own warning often ends with the entry's key, or begins with it.
+    fn of_style(&mut self, text: &[u8]) -> io::Result<()> {
+        let mut words = text.split(u8::is_ascii_whitespace).filter(|word| !word.is_empty());
+        let first = words.next().unwrap_or(b"");
+        let last = words.next_back().unwrap_or(first);
+        let found = self.show_entry("for", last)?;
+        if !found && first != last {
+            self.show_entry("for", first)?;
+        }
+        Ok(())
+    }
+
+    /// Where a key is cited, or named as a parent.
+    fn cited(&mut self, key: &'a [u8]) -> io::Result<()> {
+        if let Some(named) = self.sources.names().key(key) {
+            let spot = self.sources.spot_of_name(named, key.len());
+            return spot.map_or(Ok(()), |spot| self.show_line(&spot));
+        }
+        let Some((database, end)) = self.entries().parent(key) else { return Ok(()) };
+        let (file, number) = (database.file, database.text.line_of(end.saturating_sub(1)));
+        let line = database.text.line(number);
+        self.show_line(&Spot { file, number, line, part: None, item: None })
+    }
+}
+
+/// The name in the error of a function that isn't known.
+fn unknown(error: &[u8]) -> Option<&[u8]> {
+    error.strip_suffix(b" is an unknown function")
+}
+
+/// What stands between these two in a text that begins with the first.
+fn between<'a>(text: &'a [u8], before: &[u8], behind: &[u8]) -> Option<&'a [u8]> {
+    split_first(text.strip_prefix(before)?, behind).map(|(name, _)| name)
+}
+
+/// A command of a style, and where it begins.
+fn begins(file: &File, text: &Text<'_>, command: &Command<'_>) -> String {
+    let name = command.name.map(|name| format!(" {{{}}}", plain(name))).unwrap_or_default();
+    let (path, line) = (plain(shown_path(file)), text.line_of(command.start));
+    format!("{}{name}, which begins at {path}:{line}", plain(command.word))
+}
+
+/// An item of a database, and where it begins.
+fn begins_item(file: &File, text: &Text<'_>, item: &Item<'_>) -> String {
+    let key = item.key.map(|key| format!("{{{}}}", plain(key.name))).unwrap_or_default();
+    let (path, line) = (plain(shown_path(file)), text.line_of(item.start));
+    format!("@{}{key}, which begins at {path}:{line}", plain(item.kind))
+}
+
+/// Where a file was found, as its user knows it.
+pub fn shown_path(file: &File) -> &[u8] {
+    let mut path = &file.path[..];
+    while let Some(rest) = path.strip_prefix(b"./") {
+        path = rest;
+    }
+    if path.is_empty() { &file.name } else { path }
+}
+
+#[cfg(test)]
+mod tests {
+    use super::*;
+    use crate::scene::{Held, Scenes};
+
+    fn file(name: &str, bytes: &str) -> File {
+        File { name: name.into(), bytes: Some(bytes.into()), path: format!("./{name}").into() }
+    }
+
+    fn job(style: &str, database: &str) -> Files {
+        let aux = "\\citation{k,nosuch}\n\\bibdata{d}\n\\bibstyle{s}\n";
+        Files {
+            top: b"job.aux".to_vec(),
+            all: vec![file("job.aux", aux), file("s.bst", style), file("d.bib", database)],
+        }
+    }
+
+    fn explained(log: &Log<'_>, files: &Files, terminal: &Terminal) -> String {
+        let mut out = Vec::new();
+        write(log, files, Part::Whole, terminal, &mut out).unwrap();
+        String::from_utf8(out).unwrap()
+    }
+
+    fn explain(log: &str, style: &str, database: &str) -> String {
+        explained(&Log::new(log.as_bytes()), &job(style, database), &Terminal::NONE)
+    }
+
+    #[test]
+    fn errors_of_databases_have_a_mark_and_an_item() {
+        let log = "Error--I was expecting an =--line 2 of file d.bib\nError--Repeated entry--line 3 of file d.bib\n";
+        let wanted = "\
+Error--I was expecting an =--line 2 of file d.bib
+    d.bib:2:  note 1}
+                   ^
+    in @misc{k}, which begins at d.bib:1
+    what to do: write `name = value`; is there a comma too many, or a brace too few above?
+Error--Repeated entry--line 3 of file d.bib
+    d.bib:3: @misc{K}
+                    ^
+    in @misc{K}, which begins at d.bib:3
+    the first is @misc{k}, which begins at d.bib:1
+    what to do: remove one of the two
+";
+        assert_eq!(explain(log, "", "@misc{k,\n note 1}\n@misc{K}\n"), wanted);
+    }
+
+    #[test]
+    fn advice_is_given_once_a_kind() {
+        let error = "Error--\"A\" is not an integer while executing + for entry k\n";
+        let told = explain(&error.repeat(2), "", "@misc{k}");
+        assert_eq!(told.matches("what to do").count(), 1);
+        assert_eq!(told.matches("`+` takes NUMBER NUMBER, pushed in this order\n").count(), 1);
+        assert_eq!(told.matches("for @misc{k}, which begins at d.bib:1\n").count(), 2);
+        let assigned = explain("Error--0 is not a function while executing :=\n", "", "");
+        assert!(assigned.contains("`:=` takes VALUE 'VARIABLE: is there a `'` before the variable?"), "{assigned}");
+    }
+
+    #[test]
+    fn a_missing_brace_is_named_once() {
+        let style = "FUNCTION {article} { #1 {skip$} {skip$ if$ }\n\nINTEGERS {i}\nFUNCTION {book} {i pop$}\nREAD\n";
+        let unknown =
+            |name: &str, number| format!("Error--{name} is an unknown function--line {number} of file s.bst\n");
+        let all = [("INTEGERS", 3), ("i", 3), ("FUNCTION", 4), ("book", 4), ("i", 4), ("READ", 5), ("nosuch", 5)];
+        let log: String = all.iter().map(|(name, number)| unknown(name, *number)).collect();
+        let told = explain(&(log + "Error--Illegal end of style file--line 5 of file s.bst\n"), style, "");
+        let begin = "Error--INTEGERS is an unknown function--line 3 of file s.bst
+    s.bst:3: INTEGERS {i}
+             ^
+    what to do: a `}` is missing in FUNCTION {article}, which begins at s.bst:1
+    (5 more errors follow from that)
+Error--nosuch is an unknown function--line 5 of file s.bst\n";
+        assert!(told.starts_with(begin), "{told}");
+        assert_eq!(told.matches("a `}` is missing").count(), 1);
+    }
+
+    #[test]
+    fn what_was_skipped_is_counted() {
+        let style = "INTEGER {count}\nSTRINGS {s}\n\nFUNCTION {f} {count s count}\nFUNCTION {g} {x}\n";
+        let unknown =
+            |name: &str, number| format!("Error--{name} is an unknown function--line {number} of file s.bst\n");
+        let all = [("count", 4), ("s", 4), ("x", 5), ("count", 5)];
+        let log: String = all.iter().map(|(name, number)| unknown(name, *number)).collect();
+        let told = explain(&("Error--INTEGER isn't a command--line 1 of file s.bst\n".to_string() + &log), style, "");
+        let begin = "Error--INTEGER isn't a command--line 1 of file s.bst
+    s.bst:1: INTEGER {count}
+             ^
+    is it INTEGERS?
+    what to do: correct the word: the commands are ENTRY, INTEGERS, STRINGS, FUNCTION, MACRO, READ, EXECUTE, ITERATE, REVERSE and SORT
+    (2 more errors follow from that)
+Error--x is an unknown function--line 5 of file s.bst\n";
+        assert!(told.starts_with(begin), "{told}");
+        assert!(told.ends_with("    (1 more error follows from that in line 1)\n"), "{told}");
+    }
+
+    #[test]
+    fn a_brace_too_many_is_named() {
+        let told = explain("Error--I was expecting a command--line 2 of file s.bst\n", "FUNCTION {f} {}}\n} x\n", "");
+        assert!(
+            told.ends_with("    what to do: there is a `}` too many in FUNCTION {f}, which begins at s.bst:1\n"),
+            "{told}"
+        );
+    }
+
+    #[test]
+    fn scenes_are_shown() {
+        let at = |function: &str, line| Call { function: function.into(), file: b"s.bst".to_vec(), line };
+        let callers = vec![at("book", 73), at("ITERATE {call.type$}", 100)];
+        let stack = vec![Held { literal: b"\"a\x1b\"".to_vec(), since: Some(at("FUNCTION {g}", 7)) }];
+        let scene = Scene { at: at("FUNCTION {f}", 28), callers, stack };
+        let scenes = Scenes { errors: [(1, scene)].into(), ..Scenes::default() };
+        let log = "Error--Integer overflow while executing +\n".repeat(2);
+        let told = explained(&Log::new(log.as_bytes()).with_scenes(&scenes), &job("", ""), &Terminal::NONE);
+        let end = "Error--Integer overflow while executing +
+    in FUNCTION {f}, s.bst:28; called from book, s.bst:73; ITERATE {call.type$}, s.bst:100
+    on the stack: \"a?\"
+    \"a?\" has been there since FUNCTION {g}, s.bst:7\n";
+        assert!(told.ends_with(end), "{told}");
+    }
+
+    #[test]
+    fn only_so_many_messages_are_explained() {
+        let log = "Warning--x in k\n".repeat(5000) + "Ended: finished, warnings 5000, errors 0, steps 9\n";
+        let told = explain(&log, "", "@misc{k}");
+        assert_eq!(told.matches("for @misc{k}").count(), 1000);
+        let end = "(4000 more messages stand in the .blg.)\nEnded: finished, warnings 5000, errors 0, steps 9\n";
+        assert!(told.ends_with(&format!("{end}(There were 5000 warnings)\n")), "{}", &told[told.len() - 200..]);
+    }
+
+    #[test]
+    fn a_long_stack_and_long_lines_are_cut() {
+        let log = "Error--The literal stack isn't empty while executing EXECUTE\n".to_string()
+            + &"0\n".repeat(30)
+            + &"x".repeat(9000);
+        let told = explain(&(log + "\nWarning--" + &"y".repeat(9000) + "\n"), "", "");
+        assert_eq!(told.matches("\n0\n0").count(), 10);
+        assert!(told.contains("    (11 more lines stand in the .blg)\nWarning--yy"), "{told}");
+        assert!(told.lines().all(|line| line.len() <= LONGEST_LINE + 2));
+    }
+
+    #[test]
+    fn nothing_acts_on_a_terminal() {
+        let terminal = Terminal { is_terminal: true, has_colours: true, width: 20 };
+        let log = b"Warning--\x1b]0;T\x07 in \xc2\x9bk\nError--I was expecting an =--line 1 of file d.bib\nx\x9b\n";
+        let told = explained(&Log::new(log), &job("", "@misc{\u{202e}k, note\u{1b}[2J 1}"), &terminal);
+        let colours = [ERROR_COLOUR, WARNING_COLOUR, PLACE_COLOUR, NO_COLOUR];
+        let bare = colours.iter().fold(told, |told, colour| told.replace(colour, ""));
+        assert!(!bare.contains(|found: char| found != '\n' && (found.is_control() || found == '\u{202e}')), "{bare:?}");
+    }
+
+    #[test]
+    fn names_may_have_any_bytes() {
+        let database =
+            File { name: b"\xe9.bib".to_vec(), bytes: Some(b"@misc{k 1}".to_vec()), path: b"\xe9.bib".to_vec() };
+        let files = Files { top: b"job.aux".to_vec(), all: vec![database] };
+        let told = explained(
+            &Log::new(b"Error--I was expecting a , or a }--line 1 of file \xe9.bib\n"),
+            &files,
+            &Terminal::NONE,
+        );
+        assert!(told.contains("    ?.bib:1: @misc{k 1}\n                     ^\n"), "{told}");
+    }
+}

@@ -1,0 +1,57 @@
+//! The front end of BibTeX in Rattle: the original's command line, TeX's search paths, the log in the shapes that editors know, and
+//! explanations. What a job's list and log are is the proved library's work (`crates/btx_c`), which runs in this process; nothing of
+//! this package is proved.
+//!
+//! The modules in the order of the data:
+//!
+//! | module | what |
+//! |---|---|
+//! | [`words`] | the words of the command line |
+//! | [`system`] | what the standard library doesn't have of the system: libraries opened at run time, signals, limits, terminals |
+//! | [`kpathsea`] | TeX's own path search, where it is installed |
+//! | [`search`] | where the files of a job are found, and which may be read and written |
+//! | [`btx`] | the proved library's calls |
+//! | [`job`] | the files of a job, found and read |
+//! | [`outputs`] | the list and the log: opened before a run, written behind it |
+//! | [`interrupt`], [`task`] | a run that a signal can end, and what becomes of what it gives |
+//! | [`log`] | the messages of a log |
+//! | [`scene`] | where in a style they were met, as far as that is known |
+//! | [`text`], [`aux_text`], [`style_text`], [`database`] | the texts of files: their lines, and where an error stands in them |
+//! | [`sources`] | the files of a job as its messages speak of them |
+//! | [`shapes`] | a log in the original's shapes |
+//! | [`explain`], [`entries`], [`shown_line`], [`advice`] | what follows a message for its reader: where it stands, and what to do |
+//! | [`run_log`] | the log of a run as it is written and printed |
+//! | [`terminal`] | what is safe to print on a terminal, and how wide it is |
+//! | [`exit`] | the exit statuses |
+//! | [`search_program`], [`confined_program`] | the two programs |
+//!
+//! `unsafe` stands in [`btx`] and [`system`] alone.
+
+pub mod advice;
+pub mod aux_text;
+#[allow(unsafe_code)]
+pub mod btx;
+pub mod confined_program;
+pub mod database;
+pub mod entries;
+pub mod exit;
+pub mod explain;
+pub mod interrupt;
+pub mod job;
+pub mod kpathsea;
+pub mod log;
+pub mod outputs;
+pub mod run_log;
+pub mod scene;
+pub mod search;
+pub mod search_program;
+pub mod shapes;
+pub mod shown_line;
+pub mod sources;
+pub mod style_text;
+#[allow(unsafe_code)]
+pub mod system;
+pub mod task;
+pub mod terminal;
+pub mod text;
+pub mod words;

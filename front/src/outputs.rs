@@ -1,0 +1,223 @@
+//! The list and the log of a job: opened before its run, and written behind it.
+//!
+//! What stood there stays until both can be written: they are opened without being emptied, and before the first is emptied there is room
+//! on the disk for the whole of both. The log is written first, so that no new list ever stands beside an old log.
+
+use crate::exit::Failure;
+use crate::job::FileNumber;
+use crate::search::path_of;
+use crate::system::{close_file, reserve};
+use std::collections::HashSet;
+use std::fs::{self, OpenOptions};
+use std::io::{self, ErrorKind, Write};
+use std::os::unix::fs::{FileTypeExt, MetadataExt};
+use std::path::PathBuf;
+
+/// An output.
+#[derive(Debug)]
+struct Output {
+    name: Vec<u8>,
+    /// The open file; None where a pipe stands there, which isn't opened before it is written.
+    file: Option<fs::File>,
+    /// Its number; None where it is no ordinary file.
+    number: Option<FileNumber>,
+    /// How many bytes the old file has on the disk.
+    has_room: u64,
+    /// Where the file was made, if it wasn't there.
+    made: Option<PathBuf>,
+}
+
+/// Opens a file, which is made where it isn't there; and whether it was made.
+fn open_or_make(name: &[u8]) -> io::Result<(fs::File, bool)> {
+    let path = path_of(name);
+    match OpenOptions::new().write(true).open(path) {
+        Err(fault) if fault.kind() == ErrorKind::NotFound => {
+            let made = OpenOptions::new().write(true).create(true).truncate(false).open(path)?;
+            Ok((made, true))
+        }
+        opened => Ok((opened?, false)),
+    }
+}
+
+impl Output {
+    fn open(name: &[u8]) -> io::Result<Output> {
+        let unopened = |number| Output { name: name.to_vec(), file: None, number, has_room: 0, made: None };
+        if fs::metadata(path_of(name)).is_ok_and(|data| data.file_type().is_fifo()) {
+            return Ok(unopened(None));
+        }
+        let (file, is_made) = open_or_make(name)?;
+        let data = file.metadata()?;
+        let made = if is_made { fs::canonicalize(path_of(name)).ok() } else { None };
+        let number = data.is_file().then(|| (data.dev(), data.ino()));
+        Ok(Output { file: Some(file), has_room: 512 * data.blocks(), made, ..unopened(number) })
+    }
+
+    /// Makes sure that the disk has room for so many bytes.
+    fn reserve(&self, len: usize) -> io::Result<()> {
+        match &self.file {
+            Some(file) if self.number.is_some() => reserve(file, len as u64, self.has_room),
+            _ => Ok(()),
+        }
+    }
+
+    /// Replaces what stood there.
+    fn write(self, bytes: &[u8]) -> io::Result<()> {
+        let mut file = match self.file {
+            Some(file) => file,
+            None => OpenOptions::new().write(true).open(path_of(&self.name))?,
+        };
+        if self.number.is_some() {
+            file.set_len(0)?;
+        }
+        file.write_all(bytes)?;
+        close_file(file)
+    }
+
+    /// Leaves all as it was.
+    fn leave(self) {
+        if let Some(path) = self.made {
+            // Where it can't be removed, an empty file stays.
+            let _ = fs::remove_file(path);
+        }
+    }
+}
+
+/// The list and the log of a job.
+#[derive(Debug)]
+pub struct Outputs {
+    list: Output,
+    log: Output,
+}
+
+impl Outputs {
+    /// Opens both. `read` are the files that the job reads: none of them may be overwritten.
+    pub fn open(list: &[u8], log: &[u8], read: &HashSet<FileNumber>) -> Result<Outputs, Failure> {
+        let log = Output::open(log).map_err(|fault| Failure::unwritten(log, &fault))?;
+        let list = match Output::open(list) {
+            Ok(list) => list,
+            Err(fault) => {
+                log.leave();
+                return Err(Failure::unwritten(list, &fault));
+            }
+        };
+        let outputs = Outputs { list, log };
+        match outputs.clash(read) {
+            Some(failure) => {
+                outputs.leave();
+                Err(failure)
+            }
+            None => Ok(outputs),
+        }
+    }
+
+    /// An output that is a file of the job as well, under another name.
+    fn clash(&self, read: &HashSet<FileNumber>) -> Option<Failure> {
+        let refuse = |output: &Output, why: &str| {
+            Some(Failure::Device(output.name.clone(), "can't be written", why.to_string()))
+        };
+        if self.list.number.is_some() && self.list.number == self.log.number {
+            return refuse(&self.list, "it is the same file as the log");
+        }
+        let is_read = |output: &&Output| output.number.is_some_and(|number| read.contains(&number));
+        let output = [&self.list, &self.log].into_iter().find(is_read)?;
+        refuse(output, "it is the same file as one that the job reads")
+    }
+
+    /// Leaves all as it was before.
+    pub fn leave(self) {
+        self.list.leave();
+        self.log.leave();
+    }
+
+    /// Makes sure that the disk has room for both.
+    fn reserve(&self, list_len: usize, log_len: usize) -> Result<(), Failure> {
+        [(&self.log, log_len), (&self.list, list_len)]
+            .into_iter()
+            .try_for_each(|(output, len)| output.reserve(len).map_err(|fault| Failure::unwritten(&output.name, &fault)))
+    }
+
+    /// Replaces both by what a run wrote. Where there is no room for it, all stays as it was.
+    pub fn replace(self, list: &[u8], log: &[u8]) -> Result<(), Failure> {
+        if let Err(failure) = self.reserve(list.len(), log.len()) {
+            self.leave();
+            return Err(failure);
+        }
+        let (list_name, log_name) = (self.list.name.clone(), self.log.name.clone());
+        self.log.write(log).map_err(|fault| Failure::unwritten(&log_name, &fault))?;
+        self.list.write(list).map_err(|fault| Failure::unwritten(&list_name, &fault))
+    }
+}
+
+#[cfg(test)]
+mod tests {
+    use super::*;
+    use std::os::unix::ffi::OsStrExt;
+
+    /// A new folder, removed at the end.
+    struct Room(PathBuf);
+
+    impl Room {
+        fn new(name: &str) -> Room {
+            let folder = std::env::temp_dir().join(format!("bibtex-front-{}-{name}", std::process::id()));
+            fs::create_dir(&folder).unwrap();
+            Room(folder)
+        }
+
+        fn path(&self, name: &str) -> Vec<u8> {
+            self.0.join(name).as_os_str().as_bytes().to_vec()
+        }
+
+        fn text(&self, name: &str) -> Option<String> {
+            fs::read_to_string(self.0.join(name)).ok()
+        }
+
+        fn open(&self) -> Result<Outputs, Failure> {
+            Outputs::open(&self.path("a.bbl"), &self.path("a.blg"), &HashSet::new())
+        }
+    }
+
+    impl Drop for Room {
+        fn drop(&mut self) {
+            let _ = fs::remove_dir_all(&self.0);
+        }
+    }
+
+    #[test]
+    fn old_outputs_stay_until_they_are_replaced() {
+        let room = Room::new("stay");
+        fs::write(room.0.join("a.bbl"), "old list").unwrap();
+        room.open().unwrap().leave();
+        assert_eq!((room.text("a.bbl").as_deref(), room.text("a.blg")), (Some("old list"), None));
+        room.open().unwrap().replace(b"new", b"log").unwrap();
+        assert_eq!((room.text("a.bbl").as_deref(), room.text("a.blg").as_deref()), (Some("new"), Some("log")));
+    }
+
+    #[test]
+    fn an_output_that_cannot_be_opened_changes_nothing() {
+        let room = Room::new("folder");
+        fs::create_dir(room.0.join("a.bbl")).unwrap();
+        let failure = room.open().unwrap_err();
+        assert!(failure.to_string().ends_with("a.bbl can't be written: Is a directory"), "{failure}");
+        assert_eq!(room.text("a.blg"), None);
+    }
+
+    #[test]
+    fn one_file_is_no_two_outputs() {
+        let room = Room::new("one");
+        fs::write(room.0.join("a.bbl"), "old").unwrap();
+        std::os::unix::fs::symlink("a.bbl", room.0.join("a.blg")).unwrap();
+        assert!(room.open().unwrap_err().to_string().contains("same file as the log"));
+        assert_eq!(room.text("a.bbl").as_deref(), Some("old"));
+    }
+
+    #[test]
+    fn an_input_is_not_overwritten() {
+        let room = Room::new("input");
+        fs::write(room.0.join("a.bbl"), "old").unwrap();
+        let data = fs::metadata(room.0.join("a.bbl")).unwrap();
+        let read = HashSet::from([(data.dev(), data.ino())]);
+        let failure = Outputs::open(&room.path("a.bbl"), &room.path("a.blg"), &read).unwrap_err();
+        assert!(failure.to_string().contains("the job reads"));
+        assert_eq!((room.text("a.bbl").as_deref(), room.text("a.blg")), (Some("old"), None));
+    }
+}

@@ -1,0 +1,144 @@
+//! The log of a run as it is written and printed.
+
+use crate::btx::{Answer, Ran};
+use crate::explain;
+use crate::job::Files;
+use crate::log::Log;
+use crate::shapes::{self, Part};
+use crate::system::Signal;
+use crate::terminal::{Terminal, plain};
+use crate::words::{Explain, Words};
+use std::borrow::Cow;
+use std::io::{self, Write};
+
+/// The first line of a log; tools look for its beginning.
+const BANNER: &[u8] = concat!("This is BibTeX, Version ", env!("CARGO_PKG_VERSION"), " (proved)\n").as_bytes();
+
+/// How many lines of a log that has filled its room are printed.
+const MOST_PRINTED: usize = 1000;
+
+/// The log of a run.
+pub struct RunLog<'a> {
+    words: &'a Words,
+    files: &'a Files,
+    /// The log's name.
+    name: &'a [u8],
+    ran: &'a Ran,
+    /// The signal that ended a longer run.
+    signal: Option<Signal>,
+}
+
+impl<'a> RunLog<'a> {
+    /// The log of this run.
+    pub fn new(words: &'a Words, files: &'a Files, name: &'a [u8], ran: &'a Ran, signal: Option<Signal>) -> Self {
+        RunLog { words, files, name, ran, signal }
+    }
+
+    /// The whole log, as it stands in the `.blg`.
+    pub fn whole(&self) -> Vec<u8> {
+        let mut whole = BANNER.to_vec();
+        whole.extend_from_slice(&self.notes());
+        self.shape(Part::Whole, &mut whole);
+        whole
+    }
+
+    /// The log in the original's shapes.
+    fn shape(&self, part: Part, into: &mut Vec<u8>) {
+        // Memory takes all that is written.
+        let _ = shapes::write(&Log::new(&self.ran.log), self.files, part, into);
+    }
+
+    /// What is to be said of a run that was ended, before its messages; the first of them is said here as well.
+    fn notes(&self) -> Vec<u8> {
+        let megabytes = |room: usize| room as f64 / f64::from(1 << 20);
+        let rooms = &self.words.rooms;
+        let mut notes = match (self.signal, self.ran.answer) {
+            (Some(signal), Answer::Done(report)) => format!(
+                "Interrupted by {}: list and log are those of the first {} steps, and begin what the run would have written.\n",
+                signal.name(),
+                report.steps
+            ),
+            (_, Answer::LogFull) => {
+                format!("Ended: the messages fill the log's room of {:.1} MB (-log-room).\n", megabytes(rooms.log))
+            }
+            (_, Answer::ListFull) => {
+                format!("Ended: the list fills its room of {:.1} MB (-list-room).\n", megabytes(rooms.list))
+            }
+            _ => return Vec::new(),
+        }
+        .into_bytes();
+        if matches!(self.ran.answer, Answer::LogFull | Answer::ListFull) {
+            notes.extend_from_slice(&self.first_message());
+        }
+        notes
+    }
+
+    /// The first message of a log, in the original's shape.
+    fn first_message(&self) -> Vec<u8> {
+        let is_message = |line: &&[u8]| line.starts_with(b"Error--") || line.starts_with(b"Warning--");
+        let Some(first) = self.ran.log.split(|byte| *byte == b'\n').find(is_message) else { return Vec::new() };
+        let mut message = b"The first message is:\n".to_vec();
+        let _ = shapes::write(&Log::new(first), self.files, Part::Messages, &mut message);
+        message
+    }
+
+    /// Prints the log: explained, or as it stands in the `.blg`, which is handed in, or what went wrong alone.
+    pub fn print(&self, whole: &[u8]) -> io::Result<()> {
+        let stdout = io::stdout();
+        let terminal = Terminal::of(&stdout);
+        let explains = match self.words.explain {
+            Explain::OnTerminal => terminal.is_terminal,
+            Explain::Never => false,
+            Explain::Always | Explain::Only => true,
+        };
+        let mut out = io::BufWriter::new(stdout.lock());
+        if explains {
+            self.explain(&terminal, &mut out)?;
+        } else {
+            self.print_plainly(whole, &terminal, &mut out)?;
+        }
+        out.flush()
+    }
+
+    fn part(&self) -> Part {
+        if self.words.terse { Part::Messages } else { Part::Whole }
+    }
+
+    fn explain(&self, terminal: &Terminal, out: &mut impl Write) -> io::Result<()> {
+        out.write_all(&shown(&self.notes(), terminal))?;
+        explain::write(&Log::new(&self.ran.log), self.files, self.part(), terminal, out)
+    }
+
+    fn print_plainly(&self, whole: &[u8], terminal: &Terminal, out: &mut impl Write) -> io::Result<()> {
+        let text = match self.part() {
+            Part::Whole => Cow::Borrowed(whole),
+            Part::Messages => {
+                let mut messages = self.notes();
+                self.shape(Part::Messages, &mut messages);
+                messages.into()
+            }
+        };
+        if self.ran.answer != Answer::LogFull {
+            return out.write_all(&shown(&text, terminal));
+        }
+        out.write_all(&shown(first_lines(&text, MOST_PRINTED), terminal))?;
+        writeln!(out, "(The rest of the log is in {}.)", plain(self.name))
+    }
+}
+
+/// The first lines of a text.
+fn first_lines(text: &[u8], most: usize) -> &[u8] {
+    let mut ends = text.iter().enumerate().filter(|(_, byte)| **byte == b'\n');
+    ends.nth(most - 1).map_or(text, |(end, _)| &text[..=end])
+}
+
+/// A text as it is printed: on a terminal, what acts on it is replaced.
+fn shown<'a>(text: &'a [u8], terminal: &Terminal) -> Cow<'a, [u8]> {
+    if !terminal.is_terminal {
+        return text.into();
+    }
+    let lines = text.split_inclusive(|byte| *byte == b'\n');
+    let line =
+        |line: &[u8]| plain(line.strip_suffix(b"\n").unwrap_or(line)) + if line.ends_with(b"\n") { "\n" } else { "" };
+    lines.map(line).collect::<String>().into_bytes().into()
+}

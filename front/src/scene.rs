@@ -1,0 +1,48 @@
+//! Where in a style a message of its execution was met, as far as that is known.
+//!
+//! A log says which built-in function met an error, and for which entry, but not where in the style that was. Who finds that out hands it in
+//! as [`Scenes`], by the numbers of the messages; without it the line of the last command that executes functions is named.
+
+use std::collections::HashMap;
+
+/// A place in a function of a style.
+#[derive(Debug, Clone, PartialEq, Eq)]
+pub struct Call {
+    /// The function, or the command, as it is to be shown: `{..} of FUNCTION {format.names}`, `format.names`, `ITERATE {call.type$}`.
+    pub function: Vec<u8>,
+    /// The style's name, as the job has it.
+    pub file: Vec<u8>,
+    /// The line, counted from 1.
+    pub line: usize,
+}
+
+/// A literal on the stack.
+#[derive(Debug, Clone, PartialEq, Eq)]
+pub struct Held {
+    /// The literal, as a log shows it.
+    pub literal: Vec<u8>,
+    /// Since which place the stack has held it, where that is known.
+    pub since: Option<Call>,
+}
+
+/// Where a message was met.
+#[derive(Debug, Clone, PartialEq, Eq)]
+pub struct Scene {
+    /// What was executed.
+    pub at: Call,
+    /// From where it was called, the innermost call first.
+    pub callers: Vec<Call>,
+    /// What the stack held, the uppermost literal first.
+    pub stack: Vec<Held>,
+}
+
+/// The scenes that are known, by the numbers of the errors and of the warnings in the log, counted from 0.
+#[derive(Debug, Clone, Default, PartialEq, Eq)]
+pub struct Scenes {
+    /// Those of errors.
+    pub errors: HashMap<usize, Scene>,
+    /// Those of warnings.
+    pub warnings: HashMap<usize, Scene>,
+    /// Where the style stood when the run ended before its last command, such as in an endless loop.
+    pub end: Option<Scene>,
+}

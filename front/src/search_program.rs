@@ -1,0 +1,127 @@
+//! `bibtex-search`: the original's command line and search paths over the proved library. Called as `bibtex-explain` it explains the log of
+//! a job, and writes nothing.
+
+use crate::exit::{Failure, Name, Status};
+use crate::job::Finder;
+use crate::outputs::Outputs;
+use crate::search::Search;
+use crate::system::{Signal, end_aborts_as_memory, survive_long_files};
+use crate::task::Task;
+use crate::terminal::plain;
+use crate::words::{self, Asked, Explain, Words};
+use std::env;
+use std::ffi::OsString;
+use std::io::{self, Write};
+use std::os::unix::ffi::OsStringExt;
+use std::panic::{self, PanicHookInfo};
+use std::process::{self, ExitCode};
+use std::sync::Arc;
+
+const HELP: &str = "\
+  Writes the list of references of JOB.aux to JOB.bbl, and a log to JOB.blg.
+  Styles are found along BSTINPUTS, databases along BIBINPUTS, and both where
+  TeX has its own.
+
+-min-crossrefs=N  how often a parent must be named to be listed by itself (2)
+-terse            print only what went wrong, not the names of the files
+-explain          print behind each message where it stands and what to do;
+                  so it is on a terminal where nothing else is said
+-no-explain       print the log as it is
+-explain-only     explain what a run says, and write nothing; so it is where
+                  the program is called as bibtex-explain
+-budget=N         how many steps the style may take (1000000000)
+-text=WORD        how text is read: bytes or utf8 (bytes)
+-line=N           how long a line of the list may be, 20 to 1000 (79)
+-entry-max=N      how many bytes of a string a variable of an entry keeps
+-global-max=N     the same of a global variable; TeX's set-up has both numbers
+-log-room=N       how long the log may be: bytes, or with K, M, G behind N (64M)
+-list-room=N      how long the list may be (1G)
+-help             print this and exit
+-version          print the version and exit
+
+An option has one hyphen or two, and may be shortened; its value stands behind
+a '=' or in the next word. A word behind '--' is JOB. Options of bibtex8 that
+say how large its tables are, or which letters it has, are taken and ignored.
+
+Exit status: 0 done; 1 the words, or an output's name by TeX's openout_any, are
+refused; 2 done, with error messages; 3 a limit, or there is no JOB.aux; 4 the
+budget was spent; 5 out of memory; 6 a file couldn't be read or written.
+";
+
+/// The program.
+pub fn main() -> ExitCode {
+    survive_long_files();
+    end_aborts_as_memory();
+    panic::set_hook(Box::new(end_by_panic));
+    let mut words = env::args_os();
+    let name = Name::of(words.next());
+    let explain = if name.is("bibtex-explain") { Explain::Only } else { Explain::OnTerminal };
+    let jobs_last = env::var_os("POSIXLY_CORRECT").is_some();
+    let printed = |text: String| {
+        let printed = io::stdout().write_all(text.as_bytes()).and_then(|()| io::stdout().flush());
+        printed.map_or_else(|fault| name.unprinted(&fault), |()| Status::Finished)
+    };
+    match words::read(words.map(OsString::into_vec), explain, jobs_last) {
+        Asked::Help => printed(format!("Usage: {name} [OPTION]... JOB\n{HELP}")),
+        Asked::Version => printed(format!("{name} {} (BibTeX, proved)\n", env!("CARGO_PKG_VERSION"))),
+        Asked::Refused(why) => {
+            name.say(plain(&why));
+            let _ = writeln!(io::stderr(), "Try `{name} --help' for more information.");
+            Status::Refused
+        }
+        Asked::Run(words) => prepare(&name, *words).and_then(Task::run).unwrap_or_else(|failure| {
+            name.say(&failure);
+            failure.status()
+        }),
+    }
+    .into()
+}
+
+/// Ends the program at a mistake of its own. No output is touched then: they are written without a step that could panic.
+fn end_by_panic(place: &PanicHookInfo<'_>) {
+    let _ = writeln!(io::stderr(), "bibtex-search: a mistake of this program: {place}");
+    process::exit(Status::Device as i32)
+}
+
+/// Finds all that a job needs. What was needed for the search is gone behind it.
+fn prepare(name: &Name, mut words: Words) -> Result<Arc<Task>, Failure> {
+    for option in &words.ignored {
+        name.say(format_args!("{} has no object here, and is ignored", plain(option)));
+    }
+    let search = Search::begin();
+    let stem = words.job.strip_suffix(b".aux").unwrap_or(&words.job).to_vec();
+    let ending = |ending: &[u8]| [&stem, ending].concat();
+    let (top, list, log) = (ending(b".aux"), ending(b".bbl"), ending(b".blg"));
+    let mut finder = Finder::new(&search, &top);
+    finder.find_top()?;
+    if words.explain != Explain::Only {
+        may_write(&search, &[&log, &list])?;
+    }
+    let files = finder.find_all()?;
+    finder.notes.iter().for_each(|note| name.say(note));
+    take_limits(&search, &mut words);
+    let held = Signal::hold();
+    let outputs = match words.explain {
+        Explain::Only => None,
+        _ => Some(Outputs::open(&list, &log, &finder.read)?),
+    };
+    Ok(Task::new(name.clone(), words, files, log, held, outputs))
+}
+
+/// Whether TeX's set-up allows outputs of these names.
+fn may_write(search: &Search, names: &[&Vec<u8>]) -> Result<(), Failure> {
+    match names.iter().find(|name| !search.may_write(name)) {
+        Some(name) => Err(Failure::NotAllowed(name.to_vec(), search.value(c"openout_any").unwrap_or_default())),
+        None => Ok(()),
+    }
+}
+
+/// Takes the limits of variables from TeX's set-up, where no option gives them.
+fn take_limits(search: &Search, words: &mut Words) {
+    if let Some(limit) = search.limit(c"ent_str_size").filter(|_| !words.has_entry_max) {
+        words.options.entry_max = limit;
+    }
+    if let Some(limit) = search.limit(c"glob_str_size").filter(|_| !words.has_global_max) {
+        words.options.global_max = limit;
+    }
+}

@@ -1,0 +1,349 @@
+//! A log in the shapes of the original's, which editors and other tools look for.
+
+use crate::job::Files;
+use crate::log::{Content, Ended, Line, Log, Message, Place, Severity};
+use crate::sources::{Sources, Spot};
+use crate::style_text;
+use crate::text::{is_white, split_first};
+use std::io::{self, BufWriter, Write};
+
+/// Which lines are written.
+#[derive(Debug, Clone, Copy, PartialEq, Eq)]
+pub enum Part {
+    /// The whole log, as it stands in the `.blg`.
+    Whole,
+    /// The messages alone, and how the run ended where it didn't finish: what the original prints with `-terse`.
+    Messages,
+}
+
+/// Of how many messages at most a source line is shown, and how many bytes of it on each side of the place.
+const MOST_SHOWN: usize = 10_000;
+const LONGEST_SHOWN: usize = 500;
+
+/// Writes a log in the original's shapes.
+pub fn write(log: &Log<'_>, files: &Files, part: Part, out: &mut impl Write) -> io::Result<()> {
+    let out = BufWriter::with_capacity(1 << 16, out);
+    let mut shapes = Shapes { sources: Sources::new(files), top: &files.top, part, shown: 0, last_lines: None, out };
+    log.lines().filter(|line| part == Part::Whole || !went_well(line)).try_for_each(|line| shapes.line(&line))?;
+    shapes.out.flush()
+}
+
+/// Whether a line of a log says that all went well.
+pub fn went_well(line: &Line<'_>) -> bool {
+    match line.content {
+        Content::Found(_) => true,
+        Content::Ended(end) => end.is_clean(),
+        Content::Message(_) | Content::Other => false,
+    }
+}
+
+/// How many messages there were, as the original says it; None where there was none.
+pub fn counted(end: &Ended<'_>) -> Option<String> {
+    let (number, what) = if end.errors > 0 { (end.errors, "error message") } else { (end.warnings, "warning") };
+    match number {
+        0 => None,
+        1 => Some(format!("(There was 1 {what})")),
+        _ => Some(format!("(There were {number} {what}s)")),
+    }
+}
+
+/// The lines of the last commands of a style that execute a function; 0 where there is none.
+#[derive(Debug, Clone, Copy, Default, PartialEq, Eq)]
+pub struct LastLines {
+    execute: usize,
+    iterate: usize,
+    reverse: usize,
+}
+
+impl LastLines {
+    /// Those of the style of this name.
+    pub fn new(sources: &mut Sources<'_>, style: &[u8]) -> LastLines {
+        let (commands, text) = (sources.commands(style), sources.text(style));
+        let [execute, iterate, reverse] = ["execute", "iterate", "reverse"].map(|word| {
+            let last = commands.iter().rev().find(|command| command.is(word));
+            last.zip(text.as_ref()).map_or(0, |(command, text)| text.line_of(command.start))
+        });
+        LastLines { execute, iterate, reverse }
+    }
+
+    /// The line of the last command that may have executed this function, with an entry or without one.
+    pub fn line(&self, function: &[u8], has_entry: bool) -> usize {
+        match (function, has_entry) {
+            (b"ITERATE", _) => self.iterate,
+            (b"REVERSE", _) => self.reverse,
+            (_, true) => self.iterate.max(self.reverse),
+            (_, false) => self.execute,
+        }
+    }
+}
+
+/// Writes the lines of a log.
+struct Shapes<'a, W: Write> {
+    sources: Sources<'a>,
+    top: &'a [u8],
+    part: Part,
+    shown: usize,
+    last_lines: Option<LastLines>,
+    out: W,
+}
+
+/// Names at the end of a message stand before a line of their own with its place, as in the original.
+const BEFORE_NAMES: [&[u8]; 4] =
+    [b"Case mismatch", b"I couldn't open", b"Already encountered file", b"This database file appears"];
+
+impl<'a, W: Write> Shapes<'a, W> {
+    /// Writes pieces of a line, and its end.
+    fn put(&mut self, pieces: &[&[u8]]) -> io::Result<()> {
+        pieces.iter().try_for_each(|piece| self.out.write_all(piece))?;
+        self.out.write_all(b"\n")
+    }
+
+    fn line(&mut self, line: &Line<'a>) -> io::Result<()> {
+        match &line.content {
+            Content::Message(message) if message.severity == Severity::Error => self.error(message),
+            Content::Message(message) => self.warning(line.bytes, message),
+            Content::Ended(end) => self.ended(line.bytes, end),
+            Content::Found(_) | Content::Other => self.put(&[line.bytes]),
+        }
+    }
+
+    fn warning(&mut self, line: &[u8], message: &Message<'a>) -> io::Result<()> {
+        if let Place::Line { number, file } = message.place {
+            self.put(&[b"Warning--", message.text])?;
+            return self.put(&[b"--line ", number.to_string().as_bytes(), b" of file ", file]);
+        }
+        if message.text.starts_with(b"you've nested cross references--entry ") {
+            return self.crossed(message.text, [b"Warning--", b"--"], b"\", which also refers to something");
+        }
+        self.put(&[line])
+    }
+
+    fn error(&mut self, message: &Message<'a>) -> io::Result<()> {
+        let text = message.text;
+        match message.place {
+            Place::Execution { function, entry } => return self.executed(message, function, entry),
+            Place::Line { number, file } => {
+                let is_needed = self.shown < MOST_SHOWN || file.ends_with(b".bst");
+                let spot = if is_needed { self.sources.spot(message) } else { None };
+                return self.placed(text, number, file, spot.as_ref());
+            }
+            Place::Nowhere => {}
+        }
+        if text.starts_with(b"I found no ") {
+            return self.put(&[text, b"---while reading file ", self.top]);
+        }
+        if text.starts_with(b"A bad cross reference--entry ") {
+            return self.crossed(text, [b"", b"---"], b"\", which doesn't exist");
+        }
+        match self.sources.spot(message) {
+            Some(spot) => self.placed(text, spot.number, &spot.file.name, Some(&spot)),
+            None => self.put(&[text]),
+        }
+    }
+
+    /// An error while a style was executed.
+    fn executed(&mut self, message: &Message<'a>, function: &[u8], entry: Option<&[u8]>) -> io::Result<()> {
+        let for_entry = if entry.is_some() { &b" for entry "[..] } else { b"" };
+        self.put(&[message.text, b" (", function, b")", for_entry, entry.unwrap_or(b"")])?;
+        if let Some(scene) = message.scene {
+            return self.put(&[
+                b"while executing---line ",
+                scene.at.line.to_string().as_bytes(),
+                b" of file ",
+                &scene.at.file,
+            ]);
+        }
+        let style = self.sources.style().map_or(&b""[..], |file| &file.name);
+        let sources = &mut self.sources;
+        let last_lines = self.last_lines.get_or_insert_with(|| LastLines::new(sources, style));
+        let number = last_lines.line(function, entry.is_some()).to_string();
+        self.put(&[b"while executing---line ", number.as_bytes(), b" of file ", style])
+    }
+
+    /// An error in a line of a file.
+    fn placed(&mut self, text: &[u8], number: usize, file: &[u8], spot: Option<&Spot<'a>>) -> io::Result<()> {
+        let number = number.to_string();
+        let line_end: &[u8] = if BEFORE_NAMES.iter().any(|begin| text.starts_with(begin)) { b"\n" } else { b"" };
+        self.put(&[text, line_end, b"---line ", number.as_bytes(), b" of file ", file])?;
+        if file.ends_with(b".bst") && self.costs_a_token(text, spot) {
+            return Ok(());
+        }
+        self.source_line(spot)?;
+        let is_entry = file.ends_with(b".bib") && spot.is_none_or(|spot| is_of_entry(text, spot));
+        self.put(&[b"I'm skipping whatever remains of this ", if is_entry { b"entry" } else { b"command" }])
+    }
+
+    /// The line of a file, up to the place of an error and from there on.
+    fn source_line(&mut self, spot: Option<&Spot<'a>>) -> io::Result<()> {
+        self.shown += 1;
+        let Some(spot) = spot.filter(|_| self.shown <= MOST_SHOWN) else { return self.put(&[b" : "]) };
+        let Some((before, behind)) = spot.halves() else {
+            return self.put(&[b" : ", &spot.line[..spot.line.len().min(2 * LONGEST_SHOWN)]]);
+        };
+        let before = with_spaces(&before[before.len().saturating_sub(LONGEST_SHOWN)..]);
+        let behind = with_spaces(&behind[..behind.len().min(LONGEST_SHOWN)]);
+        self.put(&[b" : ", &before])?;
+        self.put(&[b" : ", &vec![b' '; before.len()], &behind])?;
+        let is_blank = before.iter().all(|byte| *byte == b' ');
+        if is_blank { self.put(&[b"(Error may have been on previous line)"]) } else { Ok(()) }
+    }
+
+    /// Whether the body of a function goes on behind this mistake.
+    fn costs_a_token(&mut self, text: &[u8], spot: Option<&Spot<'a>>) -> bool {
+        let Some(spot) = spot else { return style_text::costs_a_token(text, None) };
+        let name = &spot.file.name;
+        let start = self.sources.text(name).map_or(0, |text| text.span(spot.number).0);
+        let place = start + spot.part.map_or(0, |(start, _)| start);
+        let commands = self.sources.commands(name);
+        let around = commands[..commands.partition_point(|command| command.start <= place)].last();
+        style_text::costs_a_token(text, around)
+    }
+
+    /// The two entries of a message about a cross-reference stand on two lines.
+    fn crossed(&mut self, text: &[u8], [mark, dashes]: [&[u8]; 2], end: &[u8]) -> io::Result<()> {
+        let parts = split_first(text, b"--entry \"")
+            .and_then(|(what, rest)| Some((what, split_first(rest, b"\" refers to entry \"")?)));
+        let Some((what, (child, parent))) = parts else { return self.put(&[mark, text]) };
+        let parent = split_first(parent, b"\"").map_or(parent, |(name, _)| name);
+        self.put(&[mark, what, dashes, b"entry \"", child, b"\""])?;
+        self.put(&[b"refers to entry \"", parent, end])
+    }
+
+    /// How a run ended, and how many messages there were.
+    fn ended(&mut self, line: &[u8], end: &Ended<'a>) -> io::Result<()> {
+        if self.part == Part::Whole {
+            self.put(&[line])?;
+        }
+        if end.how == b"stopped" {
+            writeln!(self.out, "Sorry---you've exceeded BibTeX's budget of {} steps", end.steps)?;
+        } else if end.how.starts_with(b"limit ") {
+            self.put(&[b"Sorry---you've exceeded BibTeX's ", end.how])?;
+        }
+        counted(end).map_or(Ok(()), |count| writeln!(self.out, "{count}"))
+    }
+}
+
+/// Whether the original calls an item of a database an entry: all but `@string` and `@preamble`, of which it has read more than the name.
+fn is_of_entry(error: &[u8], spot: &Spot<'_>) -> bool {
+    let is_behind_name = |(before, _): (&[u8], &[u8])| before.last().is_some_and(|byte| !is_white(*byte));
+    spot.item.as_ref().is_none_or(|item| item.is_entry())
+        || error == b"I was expecting a { or a (" && spot.halves().is_some_and(is_behind_name)
+}
+
+/// A text in which all whitespace is spaces.
+fn with_spaces(text: &[u8]) -> Vec<u8> {
+    text.iter().map(|byte| if is_white(*byte) { b' ' } else { *byte }).collect()
+}
+
+#[cfg(test)]
+mod tests {
+    use super::*;
+    use crate::job::File;
+    use crate::scene::{Call, Scene, Scenes};
+
+    fn file(name: &str, bytes: &str) -> File {
+        File { name: name.into(), bytes: Some(bytes.into()), path: name.into() }
+    }
+
+    fn written(log: &Log<'_>, files: &Files, part: Part) -> String {
+        let mut out = Vec::new();
+        write(log, files, part, &mut out).unwrap();
+        String::from_utf8(out).unwrap()
+    }
+
+    fn shapes(log: &str, files: &[(&str, &str)]) -> String {
+        let all = files.iter().map(|(name, bytes)| file(name, bytes)).collect();
+        written(&Log::new(log.as_bytes()), &Files { top: b"job.aux".to_vec(), all }, Part::Whole)
+    }
+
+    #[test]
+    fn warnings_have_their_place_on_a_line_of_its_own() {
+        let log = "Warning--string name \"zz\" is undefined--line 1 of file d.bib\nWarning--empty title in k\n\
+            Warning--you've nested cross references--entry \"a\" refers to entry \"b\"\n\
+            Warning--string of 900 bytes cut to 250 while executing := for entry k\n";
+        let wanted = "Warning--string name \"zz\" is undefined\n--line 1 of file d.bib\nWarning--empty title in k\n\
+            Warning--you've nested cross references--entry \"a\"\nrefers to entry \"b\", which also refers to something\n\
+            Warning--string of 900 bytes cut to 250 while executing := for entry k\n";
+        assert_eq!(shapes(log, &[]), wanted);
+    }
+
+    #[test]
+    fn errors_show_their_line_up_to_the_place() {
+        let log = "Error--I was expecting an =--line 2 of file d.bib\nError--Unbalanced braces--line 3 of file d.bib\n\
+            Error--I was expecting a value--line 5 of file d.bib\n";
+        let database = "@misc{k,\n\tnote 1}  \n@preamble{\"a}\"}\n@misc{j, x =\n ,}";
+        let wanted = "I was expecting an =---line 2 of file d.bib\n :  note \n :       1}\nI'm skipping whatever remains of this entry\n\
+            Unbalanced braces---line 3 of file d.bib\n : @preamble{\"a\n :             }\"}\n\
+            I'm skipping whatever remains of this command\n\
+            I was expecting a value---line 5 of file d.bib\n :  \n :  ,}\n(Error may have been on previous line)\n\
+            I'm skipping whatever remains of this entry\n";
+        assert_eq!(shapes(log, &[("d.bib", database)]), wanted);
+    }
+
+    #[test]
+    fn names_stand_before_the_place() {
+        let log = "Error--Case mismatch error between cite keys k and K--line 1 of file job.aux\nError--I couldn't open database file e.bib\n";
+        let wanted = "Case mismatch error between cite keys k and K\n---line 1 of file job.aux\n : \\citation{k,K\n :              }\n\
+            I'm skipping whatever remains of this command\n\
+            I couldn't open database file e.bib\n---line 2 of file job.aux\n : \\bibdata{d,e\n :             }\n\
+            I'm skipping whatever remains of this command\n";
+        assert_eq!(shapes(log, &[("job.aux", "\\citation{k,K}\n\\bibdata{d,e}\n")]), wanted);
+        assert_eq!(shapes("Error--I couldn't open style file x.bst\n", &[]), "I couldn't open style file x.bst\n");
+    }
+
+    #[test]
+    fn a_mistake_that_costs_a_token_skips_nothing() {
+        let style = "FUNCTION {f} { nosuch #x }\nREAD EXECUTE {nosuch}\n";
+        let log = "Error--nosuch is an unknown function--line 1 of file s.bst\nError--Illegal integer--line 1 of file s.bst\n\
+            Error--nosuch is an unknown function--line 2 of file s.bst\n";
+        let wanted = "nosuch is an unknown function---line 1 of file s.bst\nIllegal integer---line 1 of file s.bst\n\
+            nosuch is an unknown function---line 2 of file s.bst\n : READ EXECUTE {nosuch\n :                     }\n\
+            I'm skipping whatever remains of this command\n";
+        assert_eq!(shapes(log, &[("s.bst", style)]), wanted);
+    }
+
+    #[test]
+    fn errors_of_an_execution_have_a_line_of_the_style() {
+        let style = "READ\nITERATE {f}\nREVERSE {g}\nEXECUTE {h}\n";
+        let log = "Error--Integer overflow while executing + for entry k\nError--Integer overflow while executing +\n\
+            Error--The literal stack isn't empty while executing ITERATE for entry k\n";
+        let lines = "Integer overflow (+) for entry k\nwhile executing---line 3 of file s.bst\n\
+            Integer overflow (+)\nwhile executing---line 4 of file s.bst\n\
+            The literal stack isn't empty (ITERATE) for entry k\nwhile executing---line 2 of file s.bst\n";
+        assert_eq!(shapes(log, &[("s.bst", style)]), lines);
+        let at = Call { function: b"f".to_vec(), file: b"s.bst".to_vec(), line: 77 };
+        let scenes = Scenes { errors: [(0, Scene { at, callers: vec![], stack: vec![] })].into(), ..Scenes::default() };
+        let files = Files { top: vec![], all: vec![file("s.bst", style)] };
+        let placed = written(&Log::new(log.as_bytes()).with_scenes(&scenes), &files, Part::Whole);
+        assert!(placed.starts_with("Integer overflow (+) for entry k\nwhile executing---line 77 of file s.bst\n"));
+    }
+
+    #[test]
+    fn ends_are_counted() {
+        let end = |line: &str| shapes(line, &[]);
+        let stopped = "Ended: stopped, warnings 1, errors 0, steps 7\n";
+        let wanted = format!("{stopped}Sorry---you've exceeded BibTeX's budget of 7 steps\n(There was 1 warning)\n");
+        assert_eq!(end(stopped), wanted);
+        let limit = "Ended: limit calls, warnings 1, errors 2, steps 7\n";
+        assert_eq!(
+            end(limit),
+            format!("{limit}Sorry---you've exceeded BibTeX's limit calls\n(There were 2 error messages)\n")
+        );
+        let clean = "Ended: finished, warnings 0, errors 0, steps 7\n";
+        assert_eq!(end(clean), clean);
+    }
+
+    #[test]
+    fn what_went_well_is_left_out_of_the_messages() {
+        let log = "The top-level auxiliary file: job.aux\nThe style file: s.bst\nDatabase file #1: d.bib\n\"x\"\n\
+            Ended: finished, warnings 0, errors 0, steps 4\n";
+        assert_eq!(written(&Log::new(log.as_bytes()), &Files::default(), Part::Messages), "\"x\"\n");
+    }
+
+    #[test]
+    fn very_long_lines_are_cut() {
+        let database = format!("@misc{{k, {} 1{}", "x".repeat(9000), "y".repeat(9000));
+        let text = shapes("Error--I was expecting an =--line 1 of file d.bib\n", &[("d.bib", &database)]);
+        assert!(text.lines().all(|line| line.len() <= 3 + 2 * LONGEST_SHOWN), "{text}");
+    }
+}

@@ -1,0 +1,210 @@
+//! The files of a job as its messages speak of them: which line, and which place in it.
+
+use crate::advice::{self, Section};
+use crate::aux_text::{self, Named, Names, without_white_at_end};
+use crate::database::{Faults, Folded, Item, Items};
+use crate::job::{File, Files};
+use crate::log::{Message, Place};
+use crate::style_text::{self, Command};
+use crate::text::Text;
+use std::collections::HashMap;
+use std::rc::Rc;
+
+/// A file, read as far as messages ask for it.
+#[derive(Debug, Clone)]
+struct Source<'a> {
+    file: &'a File,
+    text: Rc<Text<'a>>,
+    faults: Option<Faults<'a>>,
+    commands: Option<Rc<[Command<'a>]>>,
+}
+
+/// Where a message stands in a file.
+#[derive(Debug, Clone, PartialEq, Eq)]
+pub struct Spot<'a> {
+    /// The file.
+    pub file: &'a File,
+    /// The line, counted from 1.
+    pub number: usize,
+    /// The line's bytes.
+    pub line: &'a [u8],
+    /// The part of the line that the message is about, if that is known: where it begins, and where the program stood.
+    pub part: Option<(usize, usize)>,
+    /// The item of a database, if it is known.
+    pub item: Option<Item<'a>>,
+}
+
+/// The files of a job, for the messages of its log. Messages are to be asked for in the order of the log.
+#[derive(Debug, Clone)]
+pub struct Sources<'a> {
+    files: &'a Files,
+    by_name: HashMap<&'a [u8], &'a File>,
+    read: HashMap<&'a [u8], Source<'a>>,
+    names: Option<Names<'a>>,
+    /// In which database each key stands first, counted from 0.
+    first_databases: Option<HashMap<Folded<'a>, usize>>,
+    /// The file and the line of the last error in a file whose lines are looked through, and how far it was.
+    last: Option<(&'a [u8], usize, usize)>,
+}
+
+impl<'a> Sources<'a> {
+    /// The files of this job.
+    pub fn new(files: &'a Files) -> Sources<'a> {
+        let mut by_name: HashMap<&[u8], &File> = HashMap::new();
+        for file in files.all.iter().filter(|file| file.bytes.is_some()) {
+            by_name.entry(&file.name).or_insert(file);
+        }
+        Sources { files, by_name, read: HashMap::new(), names: None, first_databases: None, last: None }
+    }
+
+    /// The file of this name, if it was found.
+    pub fn file(&self, name: &[u8]) -> Option<&'a File> {
+        self.by_name.get(name).copied()
+    }
+
+    /// The name of the job's style, if it was found.
+    pub fn style(&self) -> Option<&'a File> {
+        self.files.with_ending(".bst").next()
+    }
+
+    /// The file of this name, with its lines.
+    fn source(&mut self, name: &[u8]) -> Option<&mut Source<'a>> {
+        let file = self.file(name)?;
+        let bytes = file.bytes.as_deref()?;
+        let new = || Source { file, text: Rc::new(Text::new(bytes)), faults: None, commands: None };
+        Some(self.read.entry(&file.name).or_insert_with(new))
+    }
+
+    /// The text of a file, if it was found.
+    pub fn text(&mut self, name: &[u8]) -> Option<Rc<Text<'a>>> {
+        self.source(name).map(|source| Rc::clone(&source.text))
+    }
+
+    /// The commands of a style; none where it wasn't found.
+    pub fn commands(&mut self, name: &[u8]) -> Rc<[Command<'a>]> {
+        self.source(name).map_or(Rc::new([]), |source| {
+            let bytes = source.text.bytes;
+            Rc::clone(source.commands.get_or_insert_with(|| style_text::commands(bytes).into()))
+        })
+    }
+
+    /// Where the `.aux` files name things.
+    pub fn names(&mut self) -> &Names<'a> {
+        self.names.get_or_insert_with(|| Names::new(self.files))
+    }
+
+    /// Where a message stands that has a line, or that is about a file which an `.aux` file names.
+    pub fn spot(&mut self, message: &Message<'a>) -> Option<Spot<'a>> {
+        match message.place {
+            Place::Line { number, file } if file.ends_with(b".aux") => self.in_aux_file(message.text, number, file),
+            Place::Line { number, file } if file.ends_with(b".bst") => self.in_style(message.text, number, file),
+            Place::Line { number, file } => self.in_database(message.text, number, file),
+            Place::Nowhere => self.unfound(message.text),
+            Place::Execution { .. } => None,
+        }
+    }
+
+    /// Where the `.aux` files name a file that wasn't found.
+    fn unfound(&mut self, text: &[u8]) -> Option<Spot<'a>> {
+        if !text.starts_with(b"I couldn't open ") {
+            return None;
+        }
+        let name = aux_text::name_in_error(text)?;
+        let named = self.names().file(name)?;
+        self.spot_of_name(named, name.len())
+    }
+
+    /// Where a name stands that ends there.
+    pub fn spot_of_name(&mut self, named: Named<'a>, length: usize) -> Option<Spot<'a>> {
+        let line = self.text(&named.file.name)?.line(named.number);
+        let part = Some((named.end.saturating_sub(length), named.end));
+        Some(Spot { file: named.file, number: named.number, line, part, item: None })
+    }
+
+    fn in_aux_file(&mut self, text: &'a [u8], number: usize, name: &[u8]) -> Option<Spot<'a>> {
+        let first =
+            aux_text::name_in_error(text).filter(|_| is_of_a_second_one(text)).and_then(|name| self.first_named(name));
+        let from = self.looked_through(name, number);
+        let source = self.source(name)?;
+        let (file, line) = (source.file, source.text.line(number));
+        let is_first_here = |named: &Named<'_>| named.number == number && named.file.name == file.name;
+        let from = first.filter(is_first_here).map_or(from, |named| named.end.max(from));
+        let place = aux_text::place_of_error(line, text, from);
+        self.last = Some((&file.name, number, place.unwrap_or(from)));
+        Some(Spot { file, number, line, part: place.map(|place| (place, place)), item: None })
+    }
+
+    /// How far a line was looked through for the error before: the errors of a line are logged in their order, so each of its bytes is
+    /// looked at once.
+    fn looked_through(&self, name: &[u8], number: usize) -> usize {
+        self.last.filter(|(file, line, _)| *file == name && *line == number).map_or(0, |(.., place)| place)
+    }
+
+    /// Where a name stands that an error calls a second one.
+    fn first_named(&mut self, name: &'a [u8]) -> Option<Named<'a>> {
+        let names = self.names();
+        if name == b"*" { names.key(name) } else { names.file(name) }
+    }
+
+    fn in_style(&mut self, text: &[u8], number: usize, name: &[u8]) -> Option<Spot<'a>> {
+        let from = self.looked_through(name, number);
+        let source = self.source(name)?;
+        let (file, line) = (source.file, source.text.line(number));
+        let part = style_text::place_of_error(line, text, from).map(|token| (token.start, token.end));
+        self.last = Some((&file.name, number, part.map_or(from, |(_, end)| end)));
+        Some(Spot { file, number, line, part, item: None })
+    }
+
+    fn in_database(&mut self, text: &[u8], number: usize, name: &[u8]) -> Option<Spot<'a>> {
+        let source = self.source(name)?;
+        let (file, lines) = (source.file, Rc::clone(&source.text));
+        let mut faults = source.faults.take().unwrap_or_else(|| Faults::new(lines.bytes));
+        let fault = if text == b"Repeated entry" {
+            faults.next_repeated(&lines, number, |key| self.stands_before(file, key))
+        } else if advice::find(&[Section::Database], text).is_some() {
+            faults.next(&lines, text, number)
+        } else {
+            None
+        };
+        self.source(name)?.faults = Some(faults);
+        let (start, end) = lines.span(number);
+        let place = fault.as_ref().map(|fault| fault.place.clamp(start, end) - start);
+        let (line, part) = (lines.line(number), place.map(|place| (place, place)));
+        Some(Spot { file, number, line, part, item: fault.map(|fault| fault.item) })
+    }
+
+    /// Whether an entry of this key stands in a database before this one.
+    fn stands_before(&mut self, file: &File, key: &[u8]) -> bool {
+        let files = self.files;
+        let index = files.with_ending(".bib").position(|other| other.name == file.name).unwrap_or(0);
+        index > 0 && {
+            let first = self.first_databases.get_or_insert_with(|| first_databases(files));
+            first.get(&Folded(key)).is_some_and(|first| *first < index)
+        }
+    }
+}
+
+/// In which database each key stands first, counted from 0.
+fn first_databases(files: &Files) -> HashMap<Folded<'_>, usize> {
+    let mut first = HashMap::new();
+    for (index, file) in files.with_ending(".bib").enumerate() {
+        let items = Items::new(file.bytes.as_deref().unwrap_or(b""));
+        items.filter_map(|item| item.entry_key()).for_each(|key| {
+            first.entry(Folded(key.name)).or_insert(index);
+        });
+    }
+    first
+}
+
+/// Whether an error says that something was named before.
+fn is_of_a_second_one(text: &[u8]) -> bool {
+    text.starts_with(b"This database file appears") || text.starts_with(b"Multiple inclusions")
+}
+
+impl Spot<'_> {
+    /// What stands before the place where the program stood, and what behind it, without whitespace at the line's end.
+    pub fn halves(&self) -> Option<(&[u8], &[u8])> {
+        let line = without_white_at_end(self.line);
+        self.part.map(|(_, end)| line.split_at(end.min(line.len())))
+    }
+}

@@ -1,0 +1,446 @@
+//! The text of a style: its tokens, its commands, and where in a line an error of it was met. `docs/RULES.md` has its rules, under Styles.
+//!
+//! This is no second reader of styles: it looks for what a person would look for. A command's word at the beginning of a line begins a
+//! command also where the braces above say that a body goes on, since then one of these braces is the mistake; and behind an empty line it
+//! always does, since there the program goes on after a mistake.
+
+use crate::database::Folded;
+use crate::text::{Text, is_white};
+use std::collections::HashSet;
+
+/// What a token is.
+#[derive(Debug, Clone, Copy, PartialEq, Eq)]
+pub enum Kind {
+    /// `{`
+    Open,
+    /// `}`
+    Close,
+    /// A string with its quotes.
+    Text,
+    /// A string without its end on its line.
+    OpenText,
+    /// `#` and an integer.
+    Integer,
+    /// `#` and something else.
+    NoInteger,
+    /// What stands directly behind a string or an integer.
+    Stuff,
+    /// `'` and a name.
+    Quoted,
+    /// A name, or a command's word.
+    Name,
+}
+
+/// A token of a style.
+#[derive(Debug, Clone, Copy, PartialEq, Eq)]
+pub struct Token {
+    /// What it is.
+    pub kind: Kind,
+    /// Where it begins.
+    pub start: usize,
+    /// Where it ends.
+    pub end: usize,
+}
+
+/// The tokens of a text. Comments and whitespace stand between them.
+#[derive(Debug, Clone)]
+pub struct Tokens<'a> {
+    text: &'a [u8],
+    at: usize,
+    is_behind_literal: bool,
+}
+
+fn ends_name(byte: u8) -> bool {
+    is_white(byte) || matches!(byte, b'\n' | b'}' | b'%')
+}
+
+impl<'a> Tokens<'a> {
+    /// The tokens of a text.
+    pub fn new(text: &'a [u8]) -> Tokens<'a> {
+        Tokens { text, at: 0, is_behind_literal: false }
+    }
+
+    /// The tokens of a text from this place on, where one begins or ended.
+    fn behind(text: &'a [u8], place: usize) -> Tokens<'a> {
+        Tokens { text, at: place.min(text.len()), is_behind_literal: false }
+    }
+
+    fn byte(&self) -> Option<u8> {
+        self.text.get(self.at).copied()
+    }
+
+    /// Passes over bytes up to one that passes a test, or to the end.
+    fn pass_to(&mut self, test: impl Fn(u8) -> bool) {
+        let rest = &self.text[self.at..];
+        self.at += rest.iter().position(|byte| test(*byte)).unwrap_or(rest.len());
+    }
+
+    fn skip_space(&mut self) {
+        loop {
+            self.pass_to(|byte| !is_white(byte) && byte != b'\n');
+            if self.byte() != Some(b'%') {
+                return;
+            }
+            self.pass_to(|byte| byte == b'\n');
+        }
+    }
+
+    /// Takes a string from its quote on.
+    fn take_text(&mut self) -> Kind {
+        self.at += 1;
+        self.pass_to(|byte| matches!(byte, b'"' | b'\n'));
+        if self.byte() != Some(b'"') {
+            return Kind::OpenText;
+        }
+        self.at += 1;
+        Kind::Text
+    }
+
+    /// Takes an integer from its `#` on, or all up to the next end of a name.
+    fn take_integer(&mut self) -> Kind {
+        let rest = &self.text[self.at + 1..];
+        let minus = usize::from(rest.first() == Some(&b'-'));
+        let digits = rest[minus..].iter().take_while(|byte| byte.is_ascii_digit()).count();
+        let number = std::str::from_utf8(&rest[..minus + digits]).ok().and_then(|number| number.parse::<i32>().ok());
+        if number.is_none() {
+            self.pass_to(ends_name);
+            return Kind::NoInteger;
+        }
+        self.at += 1 + minus + digits;
+        Kind::Integer
+    }
+
+    fn take(&mut self, first: u8) -> Kind {
+        if self.is_behind_literal {
+            self.pass_to(ends_name);
+            return Kind::Stuff;
+        }
+        match first {
+            b'"' => return self.take_text(),
+            b'#' => return self.take_integer(),
+            b'{' => self.at += 1,
+            b'}' => self.at += 1,
+            _ => self.pass_to(ends_name),
+        }
+        match first {
+            b'{' => Kind::Open,
+            b'}' => Kind::Close,
+            b'\'' => Kind::Quoted,
+            _ => Kind::Name,
+        }
+    }
+}
+
+impl Iterator for Tokens<'_> {
+    type Item = Token;
+
+    fn next(&mut self) -> Option<Token> {
+        let is_next = self.byte().is_some_and(|byte| !ends_name(byte));
+        self.is_behind_literal &= is_next;
+        if !self.is_behind_literal {
+            self.skip_space();
+        }
+        let start = self.at;
+        let kind = self.take(self.byte()?);
+        self.is_behind_literal = matches!(kind, Kind::Text | Kind::Integer);
+        Some(Token { kind, start, end: self.at })
+    }
+}
+
+/// A command of a style.
+#[derive(Debug, Clone, Copy, PartialEq, Eq)]
+pub struct Command<'a> {
+    /// Its word, as the style spells it.
+    pub word: &'a [u8],
+    /// The name in its first argument, if that is one name: the function, or the macro.
+    pub name: Option<&'a [u8]>,
+    /// Where it begins.
+    pub start: usize,
+    /// How many more braces are opened in it than closed; below 0 if more are closed.
+    pub balance: i64,
+}
+
+const WORDS: [&str; 10] =
+    ["entry", "integers", "strings", "function", "macro", "read", "execute", "iterate", "reverse", "sort"];
+
+/// Whether this is a command's word.
+pub fn is_command(word: &[u8]) -> bool {
+    WORDS.iter().any(|command| word.eq_ignore_ascii_case(command.as_bytes()))
+}
+
+impl Command<'_> {
+    /// Whether it is this command.
+    pub fn is(&self, word: &str) -> bool {
+        self.word.eq_ignore_ascii_case(word.as_bytes())
+    }
+}
+
+/// The commands of a style, in their order.
+pub fn commands(text: &[u8]) -> Vec<Command<'_>> {
+    let mut commands: Vec<Command<'_>> = Vec::new();
+    let mut balance = 0;
+    for token in Tokens::new(text) {
+        let inside = balance > 0 && !is_behind_empty_line(text, token.start);
+        let is_name = token.kind == Kind::Name && (!inside || begins_line(text, token.start));
+        if let Some(command) = Some(token).filter(|_| is_name).and_then(|token| command_at(text, token.start, inside)) {
+            commands.push(command);
+            balance = i64::from(
+                text.get(token.start + command.word.len()..token.end).is_some_and(|rest| rest.starts_with(b"{")),
+            );
+        }
+        balance += i64::from(token.kind == Kind::Open) - i64::from(token.kind == Kind::Close);
+        if let Some(last) = commands.last_mut() {
+            last.balance = balance;
+        }
+    }
+    commands
+}
+
+/// The command's word that differs least from this one, if it differs in two letters at most.
+pub fn nearest_word(word: &[u8]) -> Option<&'static str> {
+    let word = word.to_ascii_lowercase();
+    let differing = WORDS.iter().map(|command| (distance(&word, command.as_bytes()), *command));
+    differing.min().filter(|(distance, _)| *distance <= 2).map(|(_, command)| command)
+}
+
+/// How many letters are to be put in, taken out or exchanged for others to make one word another.
+fn distance(left: &[u8], right: &[u8]) -> usize {
+    let mut row: Vec<usize> = (0..=right.len()).collect();
+    for (index, letter) in left.iter().take(20).enumerate() {
+        let mut diagonal = std::mem::replace(&mut row[0], index + 1);
+        for (at, other) in right.iter().enumerate() {
+            let exchanged = diagonal + usize::from(letter != other);
+            diagonal = row[at + 1];
+            row[at + 1] = exchanged.min(diagonal + 1).min(row[at] + 1);
+        }
+    }
+    row[right.len()] + left.len().saturating_sub(20)
+}
+
+/// Whether the body of a function goes on behind this error, which stands in the command `around`.
+pub fn costs_a_token(error: &[u8], around: Option<&Command<'_>>) -> bool {
+    let is_of_command =
+        || around.is_some_and(|command| ["execute", "iterate", "reverse"].iter().any(|word| command.is(word)));
+    let is_of_token = error == b"Illegal integer" || error == b"Illegal text after a literal";
+    is_of_token || error.ends_with(b" is an unknown function") && !is_of_command()
+}
+
+/// What is skipped behind an error of this line that ends its command: up to the next empty line, or to the end.
+pub fn end_of_skipped(text: &Text<'_>, number: usize) -> usize {
+    let (_, mut at) = text.span(number);
+    while let Some(rest) = text.bytes.get(at + 1..).filter(|rest| !rest.is_empty()) {
+        let length = rest.iter().position(|byte| *byte == b'\n').unwrap_or(rest.len());
+        if rest[..length].iter().all(|byte| is_white(*byte)) {
+            return at + 1;
+        }
+        at += 1 + length;
+    }
+    text.bytes.len()
+}
+
+/// The names that a part of a style defines.
+#[derive(Debug, Clone, Default, PartialEq, Eq)]
+pub struct Defined<'a> {
+    names: HashSet<Folded<'a>>,
+}
+
+impl<'a> Defined<'a> {
+    /// The names that the commands of a part of a style define: functions and macros, fields and variables. Of what stands before the first
+    /// of these commands all names count.
+    pub fn new(text: &'a [u8], from: usize, to: usize, commands: &[Command<'a>]) -> Defined<'a> {
+        let begin = commands.partition_point(|command| command.start < from);
+        let inside = &commands[begin..commands.partition_point(|command| command.start < to)];
+        let ends = inside.iter().skip(1).map(|next| next.start).chain([to]);
+        let mut names = HashSet::new();
+        let first = inside.first().map_or(to, |command| command.start);
+        names.extend(names_in(&text[from.min(first)..first]));
+        for (command, end) in inside.iter().zip(ends) {
+            names.extend(command.name.map(Folded));
+            if ["entry", "integers", "strings"].iter().any(|word| command.is(word)) {
+                names.extend(names_in(&text[command.start + command.word.len()..end]));
+            }
+        }
+        Defined { names }
+    }
+
+    /// Whether this name is one of them.
+    pub fn has(&self, name: &[u8]) -> bool {
+        self.names.contains(&Folded(name))
+    }
+}
+
+/// The names in a text.
+fn names_in(text: &[u8]) -> impl Iterator<Item = Folded<'_>> {
+    let names = Tokens::new(text).filter(|token| token.kind == Kind::Name);
+    names.map(|token| Folded(&text[token.start..token.end]))
+}
+
+/// Whether only whitespace stands before this place in its line, and an empty line above.
+fn is_behind_empty_line(text: &[u8], place: usize) -> bool {
+    let mut ends = text[..place]
+        .iter()
+        .rev()
+        .take_while(|byte| is_white(**byte) || **byte == b'\n')
+        .filter(|byte| **byte == b'\n');
+    ends.nth(1).is_some()
+}
+
+/// Whether only whitespace stands before this place in its line.
+fn begins_line(text: &[u8], place: usize) -> bool {
+    text[..place].iter().rev().find(|byte| !is_white(**byte)).is_none_or(|byte| *byte == b'\n')
+}
+
+/// The command that begins here. Inside of braces it has an argument, or stands alone in its line.
+fn command_at(text: &[u8], start: usize, is_inside: bool) -> Option<Command<'_>> {
+    let rest = &text[start..];
+    let word = &rest[..rest.iter().position(|byte| !byte.is_ascii_alphabetic()).unwrap_or(rest.len())];
+    let behind = &rest[word.len()..];
+    let ends = behind.first().is_none_or(|byte| ends_name(*byte) || *byte == b'{');
+    if !ends || !is_command(word) {
+        return None;
+    }
+    let line = &behind[..behind.iter().position(|byte| *byte == b'\n').unwrap_or(behind.len())];
+    let argument = line.trim_ascii_start();
+    if is_inside && !argument.is_empty() && !argument.starts_with(b"{") {
+        return None;
+    }
+    let name = argument.strip_prefix(b"{").and_then(|argument| {
+        let name = &argument[..argument.iter().position(|byte| matches!(byte, b'{' | b'}'))?];
+        (argument[name.len()] == b'}').then(|| name.trim_ascii())
+    });
+    Some(Command { word, name, start, balance: 0 })
+}
+
+/// Where in its line an error of a style was met, behind the place `from`; None where the line doesn't show it.
+pub fn place_of_error(line: &[u8], error: &[u8], from: usize) -> Option<Token> {
+    let mut tokens = Tokens::behind(line, from);
+    if let Some(name) =
+        error.strip_suffix(b" is an unknown function").or_else(|| error.strip_suffix(b" is already defined"))
+    {
+        let is_it = |token: &Token| match token.kind {
+            Kind::Name => name_of(line, token) == name,
+            Kind::Quoted => &line[token.start + 1..token.end] == name,
+            _ => false,
+        };
+        return tokens.find(is_it);
+    }
+    if let Some(word) = error.strip_suffix(b" isn't a command") {
+        let token = tokens.find(|token| token.kind == Kind::Name && line[token.start..].starts_with(word))?;
+        return Some(Token { end: token.start + word.len(), ..token });
+    }
+    let kind = match error {
+        b"Illegal integer" => Kind::NoInteger,
+        b"Illegal text after a literal" => Kind::Stuff,
+        b"No \" to end string literal" => Kind::OpenText,
+        _ => return None,
+    };
+    tokens.find(|token| token.kind == kind)
+}
+
+/// The bytes of a name.
+fn name_of<'a>(line: &'a [u8], token: &Token) -> &'a [u8] {
+    &line[token.start..token.end]
+}
+
+#[cfg(test)]
+mod tests {
+    use super::*;
+
+    fn kinds(text: &[u8]) -> Vec<Kind> {
+        Tokens::new(text).map(|token| token.kind).collect()
+    }
+
+    #[test]
+    fn tokens_are_those_of_bodies() {
+        use Kind::*;
+        assert_eq!(kinds(b"{\"a}\" write$ % }\n #-1 'x}"), [Open, Text, Name, Integer, Quoted, Close]);
+        assert_eq!(kinds(b"#1{skip$} \"a\"b \"c"), [Integer, Stuff, Close, Text, Stuff, OpenText]);
+        assert_eq!(kinds(b"# #2147483648 #-2147483648 #+1"), [NoInteger, NoInteger, Integer, NoInteger]);
+        assert_eq!(kinds(b"a{b write$\"a\""), [Name, Name]);
+        assert_eq!(kinds(b"\"a\"\"b\" \"c\n d"), [Text, Stuff, OpenText, Name]);
+    }
+
+    fn shown(text: &[u8]) -> Vec<(String, Option<String>, i64)> {
+        let text_of = |bytes: &[u8]| String::from_utf8_lossy(bytes).into_owned();
+        commands(text)
+            .iter()
+            .map(|command| (text_of(command.word), command.name.map(text_of), command.balance))
+            .collect()
+    }
+
+    fn command(word: &str, name: Option<&str>, balance: i64) -> (String, Option<String>, i64) {
+        (word.into(), name.map(String::from), balance)
+    }
+
+    #[test]
+    fn commands_stand_anywhere() {
+        let text = b"ENTRY {title}{}{label}\nFUNCTION {f} {\"}\" entry.max$ }READ iterate{f} SORT % REVERSE {f}\nEXECUTE\n{g}\n";
+        let wanted = [
+            command("ENTRY", Some("title"), 0),
+            command("FUNCTION", Some("f"), 0),
+            command("READ", None, 0),
+            command("iterate", Some("f"), 0),
+            command("SORT", None, 0),
+            command("EXECUTE", None, 0),
+        ];
+        assert_eq!(shown(text), wanted);
+    }
+
+    #[test]
+    fn a_missing_brace_is_seen_in_its_function() {
+        let text = b"FUNCTION {f} { #1 {skip$} { if$ }\n\nFUNCTION {g} {}}\n  sort.key$\nREAD\n";
+        let wanted = [command("FUNCTION", Some("f"), 1), command("FUNCTION", Some("g"), -1), command("READ", None, 0)];
+        assert_eq!(shown(text), wanted);
+    }
+
+    #[test]
+    fn names_are_defined_by_commands() {
+        let text = b"FUNCTION {f} {x}\nINTEGERS { i j }\nMACRO {jan} {\"J\"}\nSORT";
+        let all = commands(text);
+        let defined = Defined::new(text, 0, text.len(), &all);
+        assert!([&b"f"[..], b"I", b"j", b"jan"].iter().all(|name| defined.has(name)));
+        assert!(!defined.has(b"x"));
+        assert!(!Defined::new(text, all[1].start, text.len(), &all).has(b"f"));
+        let unknown = b"INTEGER {count} STRINGS {s}\n\nSTRINGS {t}";
+        let skipped = Defined::new(unknown, 0, end_of_skipped(&Text::new(unknown), 1), &commands(unknown));
+        assert!(skipped.has(b"count") && skipped.has(b"s") && !skipped.has(b"t"));
+    }
+
+    #[test]
+    fn words_are_like_commands() {
+        assert_eq!(nearest_word(b"INTEGER"), Some("integers"));
+        assert_eq!(nearest_word(b"Funktion"), Some("function"));
+        assert_eq!(nearest_word(b"nosuch"), None);
+        assert_eq!(distance(b"abc", b"acb"), 2);
+    }
+
+    #[test]
+    fn what_is_skipped_ends_at_an_empty_line() {
+        let end = |text: &[u8], number| end_of_skipped(&Text::new(text), number);
+        assert_eq!(end(b"x\n y\n \t\nz", 1), 5);
+        assert_eq!(end(b"x\n\nz", 1), 2);
+        assert_eq!(end(b"x\ny", 1), 3);
+        assert_eq!(end(b"", 1), 0);
+    }
+
+    #[test]
+    fn names_of_commands_in_bodies_are_names() {
+        assert_eq!(shown(b"FUNCTION {f} { x\n read 'y :=\n sort.key$ }\n"), [command("FUNCTION", Some("f"), 0)]);
+    }
+
+    #[test]
+    fn errors_have_a_place_in_their_line() {
+        let start = |line: &[u8], error: &[u8]| place_of_error(line, error, 0).map(|token| token.start);
+        assert_eq!(start(b" \"nosuch\" nosuch }", b"nosuch is an unknown function"), Some(10));
+        assert_eq!(start(b"{ 'nosuch }", b"nosuch is an unknown function"), Some(2));
+        assert_eq!(start(b"EXECUTE {nosuch}", b"nosuch is an unknown function"), Some(9));
+        assert_eq!(start(b"#1 #x pop$", b"Illegal integer"), Some(3));
+        assert_eq!(start(b"\"a\"b", b"Illegal text after a literal"), Some(3));
+        assert_eq!(start(b"#1 \"a b", b"No \" to end string literal"), Some(3));
+        assert_eq!(start(b" ENTRIES{}", b"ENTRIES isn't a command"), Some(1));
+        assert_eq!(start(b"x", b"I was expecting a {"), None);
+        let again =
+            place_of_error(b"f \"f\" f f", b"f is an unknown function", 1).map(|token| (token.start, token.end));
+        assert_eq!(again, Some((6, 7)));
+    }
+}

@@ -1,0 +1,130 @@
+//! A job with all that its run needs: it is run, and what it gives is written and printed, also where a signal ends it.
+
+use crate::btx::{self, Answer, Ran};
+use crate::exit::{Failure, Name, Status};
+use crate::interrupt;
+use crate::job::Files;
+use crate::outputs::Outputs;
+use crate::run_log::RunLog;
+use crate::system::{Held, Signal};
+use crate::words::Words;
+use std::io::{self, IsTerminal};
+use std::sync::atomic::{AtomicBool, Ordering};
+use std::sync::{Arc, Mutex};
+use std::thread;
+use std::time::Duration;
+
+/// After how much time one looks again whether the outputs are written.
+const MOMENT: Duration = Duration::from_millis(5);
+
+/// A job with all that its run needs.
+pub struct Task {
+    name: Name,
+    words: Words,
+    files: Files,
+    /// The log's name.
+    log: Vec<u8>,
+    /// The signals that are held back until the outputs are written.
+    held: Held,
+    /// None where nothing is to be written.
+    outputs: Mutex<Option<Outputs>>,
+    /// Whether one of the two threads has begun to write what its run gave.
+    is_claimed: AtomicBool,
+    /// Whether the outputs are written.
+    is_written: AtomicBool,
+}
+
+impl Task {
+    /// A job that is to be run. `held` are the signals that keep its beginning.
+    pub fn new(
+        name: Name,
+        words: Words,
+        files: Files,
+        log: Vec<u8>,
+        held: Held,
+        outputs: Option<Outputs>,
+    ) -> Arc<Task> {
+        let outputs = Mutex::new(outputs);
+        let (is_claimed, is_written) = (AtomicBool::new(false), AtomicBool::new(false));
+        Arc::new(Task { name, words, files, log, held, outputs, is_claimed, is_written })
+    }
+
+    /// Runs the job, and writes and prints what it gives.
+    pub fn run(self: Arc<Self>) -> Result<Status, Failure> {
+        let (long, ended) = (self.clone(), self.clone());
+        let watched =
+            interrupt::watch(self.held, move || long.say_that_it_takes_long(), move |signal| ended.end_by(signal));
+        if watched.is_err() {
+            self.held.release();
+        }
+        let ran = btx::run(&self.files.top, &self.files.all, &self.words.options, &self.words.rooms);
+        if !self.claim() {
+            // The other thread was quicker, and ends the program.
+            loop {
+                thread::park();
+            }
+        }
+        self.finish(&ran, None)
+    }
+
+    /// Whether this thread is the first that has something to write.
+    fn claim(&self) -> bool {
+        !self.is_claimed.swap(true, Ordering::SeqCst)
+    }
+
+    fn say_that_it_takes_long(&self) {
+        if io::stderr().is_terminal() {
+            self.name.say("still running; Ctrl-C ends it, and keeps the beginning of what it would write");
+        }
+    }
+
+    /// Ends the program by this signal. Where the run isn't done, the beginning of what it would have written is kept; a second signal ends
+    /// the program at once.
+    fn end_by(&self, signal: Signal) {
+        if !self.is_claimed.load(Ordering::SeqCst) {
+            self.held.release();
+            let ran = interrupt::beginning(&self.files, &self.words.options, &self.words.rooms);
+            self.held.hold_again();
+            if self.claim()
+                && let Err(failure) = self.finish(&ran, Some(signal))
+            {
+                self.name.say(failure);
+            }
+        }
+        while !self.is_written.load(Ordering::SeqCst) {
+            thread::sleep(MOMENT);
+        }
+        signal.end_program()
+    }
+
+    /// Writes and prints what a run gave. `signal` is the one that ended a longer run.
+    fn finish(&self, ran: &Ran, signal: Option<Signal>) -> Result<Status, Failure> {
+        let run_log = RunLog::new(&self.words, &self.files, &self.log, ran, signal);
+        let log = run_log.whole();
+        let replaced = self.write(ran, &log);
+        self.is_written.store(true, Ordering::SeqCst);
+        self.held.release();
+        let printed = run_log.print(&log);
+        replaced?;
+        let status = match ran.answer {
+            Answer::Done(report) => Status::of_report(report.status),
+            Answer::ListFull | Answer::LogFull => Status::Limit,
+            Answer::Memory => Status::Memory,
+        };
+        Ok(printed.map_or_else(|fault| self.name.unprinted(&fault), |()| status))
+    }
+
+    /// Writes the list and the log. Where memory was refused, the old ones stay.
+    fn write(&self, ran: &Ran, log: &[u8]) -> Result<(), Failure> {
+        let outputs = self.outputs.lock().map(|mut outputs| outputs.take()).unwrap_or_default();
+        match outputs {
+            Some(outputs) if ran.answer == Answer::Memory => {
+                outputs.leave();
+                Err(Failure::Memory)
+            }
+            Some(outputs) => outputs.replace(&ran.list, log),
+            None if ran.answer == Answer::Memory => Err(Failure::Memory),
+            None => Ok(()),
+        }
+    }
+}

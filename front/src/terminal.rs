@@ -1,0 +1,155 @@
+//! What is safe to print on a terminal, and how wide it is.
+
+use std::ffi::OsStr;
+use std::io::IsTerminal;
+use std::os::fd::AsRawFd;
+
+/// Where explanations are printed.
+#[derive(Debug, Clone, Copy, PartialEq, Eq)]
+pub struct Terminal {
+    /// Whether it is a terminal: then no byte of a file may act on it.
+    pub is_terminal: bool,
+    /// Whether colours are wanted.
+    pub has_colours: bool,
+    /// How many columns a line has.
+    pub width: usize,
+}
+
+/// The width of a terminal that doesn't say its own.
+const USUAL_WIDTH: usize = 80;
+
+impl Terminal {
+    /// A file or a pipe.
+    pub const NONE: Terminal = Terminal { is_terminal: false, has_colours: false, width: USUAL_WIDTH };
+
+    /// What standard output is; `NO_COLOR` and `TERM` say whether colours are wanted on a terminal.
+    pub fn of(out: &(impl IsTerminal + AsRawFd)) -> Terminal {
+        if !out.is_terminal() {
+            return Terminal::NONE;
+        }
+        let (no_color, term) = (std::env::var_os("NO_COLOR"), std::env::var_os("TERM"));
+        let has_colours = wants_colours(no_color.as_deref(), term.as_deref());
+        let width = crate::system::columns(out).filter(|columns| *columns > 0).unwrap_or(USUAL_WIDTH);
+        Terminal { is_terminal: true, has_colours, width }
+    }
+}
+
+/// Whether a terminal is to have colours, by the values of `NO_COLOR` and `TERM`.
+fn wants_colours(no_color: Option<&OsStr>, term: Option<&OsStr>) -> bool {
+    no_color.is_none_or(OsStr::is_empty) && term.is_some_and(|term| !term.is_empty() && term != "dumb")
+}
+
+/// A text of a job for people, safe on a terminal: bytes that aren't UTF-8, control characters and marks of the direction of text are
+/// shown as `?`, and a tab as a space.
+pub fn plain(text: &[u8]) -> String {
+    let mut shown = String::with_capacity(text.len());
+    for chunk in text.utf8_chunks() {
+        shown.extend(chunk.valid().chars().map(plain_character));
+        if !chunk.invalid().is_empty() {
+            shown.push('?');
+        }
+    }
+    shown
+}
+
+fn plain_character(character: char) -> char {
+    match character {
+        '\t' => ' ',
+        character if acts_on_a_terminal(character) => '?',
+        character => character,
+    }
+}
+
+/// Whether a character steers a terminal, or changes the order in which others are seen.
+fn acts_on_a_terminal(character: char) -> bool {
+    let turns_text =
+        matches!(character, '\u{61c}' | '\u{200e}' | '\u{200f}' | '\u{2028}'..='\u{202e}' | '\u{2066}'..='\u{2069}');
+    character.is_control() || turns_text
+}
+
+/// How many columns of a terminal a text takes.
+pub fn columns(text: &str) -> usize {
+    text.chars().map(columns_of).sum()
+}
+
+/// How many columns a character takes: combining ones none, those of East Asian scripts two.
+pub fn columns_of(character: char) -> usize {
+    match character {
+        '\u{300}'..='\u{36f}' | '\u{1ab0}'..='\u{1aff}' | '\u{1dc0}'..='\u{1dff}' | '\u{200b}'..='\u{200d}' => 0,
+        '\u{20d0}'..='\u{20ff}' | '\u{fe00}'..='\u{fe0f}' | '\u{fe20}'..='\u{fe2f}' | '\u{feff}' => 0,
+        '\u{1100}'..='\u{115f}' | '\u{2e80}'..='\u{303e}' | '\u{3041}'..='\u{4dbf}' | '\u{4e00}'..='\u{a4cf}' => 2,
+        '\u{ac00}'..='\u{d7a3}' | '\u{f900}'..='\u{faff}' | '\u{fe30}'..='\u{fe6f}' | '\u{ff00}'..='\u{ff60}' => 2,
+        '\u{ffe0}'..='\u{ffe6}' | '\u{1f300}'..='\u{1f64f}' | '\u{1f900}'..='\u{1f9ff}' | '\u{20000}'..='\u{3fffd}' => {
+            2
+        }
+        _ => 1,
+    }
+}
+
+/// An indented text in lines of at most so many columns, broken at spaces; those behind the first begin with `indent`. A word that is longer
+/// has a line of its own.
+pub fn in_lines(text: &str, most: usize, indent: &str) -> Vec<String> {
+    let (first, words) = text.split_at(text.len() - text.trim_start().len());
+    let (mut lines, mut line) = (Vec::new(), first.to_string());
+    let mut taken = None;
+    for word in words.split_inclusive(' ') {
+        let width = columns(word.trim_end());
+        if taken.is_some_and(|taken| taken + width > most) {
+            lines.push(std::mem::replace(&mut line, indent.to_string()));
+            taken = Some(indent.len());
+        }
+        line.push_str(word);
+        taken = Some(taken.unwrap_or(first.len()) + columns(word));
+    }
+    lines.push(line);
+    lines.iter_mut().for_each(|line| line.truncate(line.trim_end().len()));
+    lines
+}
+
+#[cfg(test)]
+mod tests {
+    use super::*;
+
+    #[test]
+    fn controls_are_shown_as_question_marks() {
+        assert_eq!(plain(b"a\x1b]0;T\x07b\x7f\x00\tc"), "a?]0;T?b?? c");
+        assert_eq!(plain("\u{9b}2J\u{85}".as_bytes()), "?2J?");
+        assert_eq!(plain(b"\x9b2J"), "?2J");
+        assert_eq!(plain("x\u{202e}y\u{2066}z\u{200f}\u{2028}".as_bytes()), "x?y?z??");
+    }
+
+    #[test]
+    fn utf8_stays() {
+        let text = "Müller, 田中, Øyvind, 👍, é, नी";
+        assert_eq!(plain(text.as_bytes()), text);
+        assert_eq!(plain(b"n\xf6te \xc3"), "n?te ?");
+        assert_eq!(plain(b"\xed\xa0\x80"), "???");
+    }
+
+    #[test]
+    fn colours_are_for_terminals_that_have_them() {
+        let wants =
+            |no_color: Option<&str>, term: Option<&str>| wants_colours(no_color.map(OsStr::new), term.map(OsStr::new));
+        assert!(wants(None, Some("xterm")));
+        assert!(wants(Some(""), Some("xterm")));
+        assert!(!wants(Some("1"), Some("xterm")));
+        assert!(!wants(None, Some("dumb")));
+        assert!(!wants(None, None));
+    }
+
+    #[test]
+    fn long_texts_are_broken_at_spaces() {
+        assert_eq!(in_lines("    a bb ccc dddd", 9, "      "), ["    a bb", "      ccc", "      dddd"]);
+        assert_eq!(in_lines("    short", 80, "      "), ["    short"]);
+        assert_eq!(in_lines("averylongword", 4, "  "), ["averylongword"]);
+        assert_eq!(in_lines("    averylongword b c", 4, "  "), ["    averylongword", "  b", "  c"]);
+        assert_eq!(in_lines("", 4, "  "), [""]);
+    }
+
+    #[test]
+    fn columns_are_those_of_a_terminal() {
+        assert_eq!(columns("ab"), 2);
+        assert_eq!(columns("田中"), 4);
+        assert_eq!(columns("e\u{301}"), 1);
+    }
+}

@@ -1,0 +1,105 @@
+//! The text of a file, by bytes and by lines.
+
+/// A text, and where its lines begin.
+#[derive(Debug, Clone)]
+pub struct Text<'a> {
+    /// All bytes.
+    pub bytes: &'a [u8],
+    starts: Vec<usize>,
+}
+
+impl<'a> Text<'a> {
+    /// The lines of these bytes are found once.
+    pub fn new(bytes: &'a [u8]) -> Text<'a> {
+        let behind_ends = bytes.iter().enumerate().filter(|(_, byte)| **byte == b'\n').map(|(at, _)| at + 1);
+        Text { bytes, starts: std::iter::once(0).chain(behind_ends).collect() }
+    }
+
+    /// Where the line of this number begins and where it ends, without its end; an empty one at the end of the text where there is no
+    /// such line.
+    pub fn span(&self, number: usize) -> (usize, usize) {
+        let whole = self.bytes.len();
+        let Some(start) = number.checked_sub(1).and_then(|index| self.starts.get(index)) else { return (whole, whole) };
+        (*start, self.starts.get(number).map_or(whole, |next| next - 1))
+    }
+
+    /// The line of this number, without its end; empty where there is none.
+    pub fn line(&self, number: usize) -> &'a [u8] {
+        let (start, end) = self.span(number);
+        &self.bytes[start..end]
+    }
+
+    /// The number of the line in which a place is.
+    pub fn line_of(&self, place: usize) -> usize {
+        self.starts.partition_point(|start| *start <= place)
+    }
+}
+
+/// The place of `what` in `text`: the first one.
+pub fn find(text: &[u8], what: &[u8]) -> Option<usize> {
+    let Some((first, rest)) = what.split_first() else { return Some(0) };
+    let last_start = text.len().checked_sub(what.len())?;
+    let mut from = 0;
+    while let Some(at) = text[from..=last_start].iter().position(|byte| byte == first) {
+        if text[from + at + 1..].starts_with(rest) {
+            return Some(from + at);
+        }
+        from += at + 1;
+        if from > last_start {
+            return None;
+        }
+    }
+    None
+}
+
+/// The place of `what` in `text`: the last one.
+pub fn find_last(text: &[u8], what: &[u8]) -> Option<usize> {
+    let last_start = text.len().checked_sub(what.len())?;
+    (0..=last_start).rev().find(|at| text[*at..].starts_with(what))
+}
+
+/// What stands before the first `what` in `text`, and what behind it.
+pub fn split_first<'a>(text: &'a [u8], what: &[u8]) -> Option<(&'a [u8], &'a [u8])> {
+    let at = find(text, what)?;
+    Some((&text[..at], &text[at + what.len()..]))
+}
+
+/// What stands before the last `what` in `text`, and what behind it.
+pub fn split_last<'a>(text: &'a [u8], what: &[u8]) -> Option<(&'a [u8], &'a [u8])> {
+    let at = find_last(text, what)?;
+    Some((&text[..at], &text[at + what.len()..]))
+}
+
+/// Whether a byte is whitespace inside a line: a space, a tab, a carriage return.
+pub fn is_white(byte: u8) -> bool {
+    matches!(byte, b' ' | b'\t' | b'\r')
+}
+
+#[cfg(test)]
+mod tests {
+    use super::*;
+
+    #[test]
+    fn lines_have_numbers_and_places() {
+        let text = Text::new(b"ab\n\nc");
+        assert_eq!(
+            [text.line(1), text.line(2), text.line(3), text.line(4), text.line(0)],
+            [&b"ab"[..], b"", b"c", b"", b""]
+        );
+        assert_eq!([0, 2, 3, 4, 5].map(|place| text.line_of(place)), [1, 1, 2, 3, 3]);
+        assert_eq!(Text::new(b"").line_of(0), 1);
+    }
+
+    #[test]
+    fn texts_are_found() {
+        assert_eq!(find(b"abcabc", b"bc"), Some(1));
+        assert_eq!(find_last(b"abcabc", b"bc"), Some(4));
+        assert_eq!(find(b"aab", b"ab"), Some(1));
+        assert_eq!(find(b"ab", b"abc"), None);
+        assert_eq!(find(b"ac", b"b"), None);
+        assert_eq!(find(b"", b""), Some(0));
+        assert_eq!(find(b"xa", b"ab"), None);
+        assert_eq!(split_first(b"k=v=w", b"="), Some((&b"k"[..], &b"v=w"[..])));
+        assert_eq!(split_last(b"k=v=w", b"="), Some((&b"k=v"[..], &b"w"[..])));
+    }
+}
