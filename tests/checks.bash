@@ -1,4 +1,4 @@
-# What the checks are written with. `tests/run` and `contrib/check` read this file; they set `program`, `examples` and `room`.
+# What the checks are written with. `tests/run` and `tests/front/check` read this file; they set `program`, `examples` and `room`.
 
 passed=0
 failed=0

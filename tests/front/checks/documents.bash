@@ -30,7 +30,7 @@ same_lists() {
         mv "$list" original.bbl
         run_search "$top"
         wants_status 0
-        wants_no_links
+        wants_clean
         cmp -s original.bbl "$list" || complaints+=("$list is another than the original's")
         ! [ -s "$list" ] || lists=$((lists + 1))
     done

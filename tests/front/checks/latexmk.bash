@@ -36,7 +36,7 @@ same_as_original() {
     [ "$wanted" -eq "$found" ] || complaints+=("latexmk ends with $found, and with the original with $wanted")
     cmp -s "original/$1" "ours/$1" || complaints+=("$1 is another than the original's")
     [ -n "$(find ours -name paper.pdf)" ] || complaints+=('there is no .pdf')
-    wants_no_links
+    wants_clean
 }
 
 original=$(command -v bibtex) || true

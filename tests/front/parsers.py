@@ -1,8 +1,9 @@
 """The expressions by which editors and tools find messages in the log of the original, each with what it must find.
 
-    python3 parsers.py FOLDER..      the folders are named after jobs, and each holds job.blg and printed, what the run printed
+    python3 parsers.py [--printed] FOLDER..
 
-tools.bash writes the jobs. The expressions are those of the programs, from memory, written as Python has them: an error format of Vim and
+The folders are named after jobs, and each holds job.blg and `printed`, what the run printed. With --printed all is looked for in that: so problem matchers and
+LaTeX Workshop find it. shapes.bash writes the jobs. The expressions are those of the programs, from memory, written as Python has them: an error format of Vim and
 a regular expression of Emacs are translated. Where a message has other words in the original, a row has both. A row of a job without a
 folder is left out. What isn't found is printed; the exit status is 0 only where everything is.
 """
@@ -59,17 +60,23 @@ def is_wanted(found, wanted):
         a == b or (isinstance(b, tuple) and a in b) for a, b in zip(found, wanted))
 
 
-def complaints(folders):
+def complaints(folders, log):
     for name, expression, job, wanted in ROWS:
         folder, _, printed = job.partition(" ")
         if folder not in folders:
             continue
-        text = open(f"{folder}/{printed or 'job.blg'}", errors="replace").read()
+        text = open(f"{folder}/{printed or log}", errors="replace").read()
         finds = [match.groups() for match in re.finditer(expression, text, re.MULTILINE)]
         if not any(is_wanted(found, wanted) for found in finds):
             yield f"{name}: {wanted} isn't found in {job}, but {finds}"
 
 
-missing = list(complaints(sys.argv[1:]))
-print("\n".join(missing))
-sys.exit(1 if missing else 0)
+def main():
+    of_printed = sys.argv[1] == "--printed"
+    missing = list(complaints(sys.argv[2 if of_printed else 1:], "printed" if of_printed else "job.blg"))
+    print("\n".join(missing))
+    return 1 if missing else 0
+
+
+if __name__ == "__main__":
+    sys.exit(main())

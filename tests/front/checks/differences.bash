@@ -1,11 +1,11 @@
-# What docs/DECISIONS.md says of the original, where that is installed: both programs run the same job, and each gives what is said there.
+# What docs/DECISIONS.md says of the original, where that is installed: it and bibtex-search run the same job, and each gives what is said there.
 
-# list_both: the list of the original stands in original.bbl, that of the program in job.bbl.
+# list_both: the list of the original stands in original.bbl, that of bibtex-search in job.bbl.
 list_both() {
     # (its status is not 0 where it has messages)
     bibtex job >original.log || true
     mv job.bbl original.bbl
-    run_program job
+    run_search job
 }
 
 # use_works: two databases, and a style that lists the keys.

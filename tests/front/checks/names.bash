@@ -3,7 +3,7 @@
 begin same_folder
 run_search job
 wants_first job
-wants_text job.blg "$first_log"
+wants_log job.blg "$first_log"
 end
 
 begin with_its_ending
@@ -33,13 +33,32 @@ openout_any=a run_search ../job
 wants_first ../job
 end
 
-for name in 'two words' $'two\nlines' '-job' '*' '$HOME' 'a"b' "a'b" '`b`' 'j.aux'; do
+# Any name of a job: with spaces, quotes, wildcards, in any encoding or none, and as long as the system takes.
+names=('two words' $'two\nlines' -job '*' '$HOME' 'a"b' "a'b" '`b`' j.aux 'ü' $'\xff' $'a\x01b' $'\e[31m' $'\u202ejob' '~' '~root' '{a,b}' 'a,b' 'a%b' 'a\b' '#' '&' ';' '|' '(' 'a=b' '=' '!' '?' '[a]'
+    $'\t' ' ' '.' '...' '.hidden' 'a:b' '-' "$(letters 251 n)")
+for name in "${names[@]}"; do
     begin "job_$((passed + failed))"
-    mv -- job.aux "$name.aux"
+    mv -- job.aux "./$name.aux"
+    [ "${name:0:1}" != . ] || [ "$with_tex" = no ] || export openout_any=a
     run_search -- "$name.aux"
     wants_first "./$name"
+    unset openout_any
     end
 done
+
+begin job_with_a_name_that_is_too_long
+run_search "$(letters 300 n)"
+wants_status 3
+wants_error_like 'name too long'
+wants_files d.bib job.aux s.bst
+end
+
+begin job_with_an_empty_name
+run_search ''
+[ "$status" -eq 1 ] || [ "$status" -eq 3 ] || complaints+=("the exit status is $status")
+wants_error_with bibtex-search
+wants_files d.bib job.aux s.bst
+end
 
 begin present_folder_of_any_name
 mkdir -- $'-a b\n$HOME'
@@ -51,19 +70,22 @@ run_plainly ./job
 wants_first job
 end
 
-begin links_in_a_relative_folder
-mkdir 'in here'
-TMPDIR='in here' run_search job
-wants_first job
-[ -z "$(ls -A 'in here')" ] || complaints+=('links are left over')
-end
-
-begin outputs_through_links
-ln -s kept.bbl job.bbl
+begin present_folder_that_is_no_text
+mkdir $'\xff'
+mv job.aux d.bib s.bst $'\xff'
+cd $'\xff'
 run_search job
 wants_first job
-[ -L job.bbl ] || complaints+=('the link was replaced')
 end
+
+for kind in ':' '$HOME' '~' '%' ' ' $'\n' "'"; do
+    begin "temporary_folder_$((passed + failed))"
+    mkdir "$kind"
+    TMPDIR=$PWD/$kind run_search job
+    wants_first job
+    [ -z "$(ls -A "$kind")" ] || complaints+=("left over: $(ls -A "$kind")")
+    end
+done
 
 # What `\bibdata` and `\bibstyle` may say, and the command that gets the files there.
 # named DATABASE STYLE: the job names these.
@@ -96,11 +118,11 @@ run_search job
 wants_first job
 end
 
-for name in '-d' 'a{b' '#d' "a'b" 'a&b;c' '[d]' 'd.bst'; do
+for name in '-d' 'a{b' '#d' "a'b" 'a&b;c' '[d]' 'd.bst' $'\xff' $'\x01' $'\e[2J' '*' '?' '|d' 'd\' ; do
     begin "database_$((passed + failed))"
     mv -- d.bib "./$name.bib"
     mv -- s.bst "./$name.bst"
-    named "$name" "$name.bst"
+    printf '\\citation{k}\n\\bibdata{%s}\n\\bibstyle{%s}\n' "$name" "$name.bst" >job.aux
     run_search job
     wants_first job
     run_plainly job
@@ -108,20 +130,22 @@ for name in '-d' 'a{b' '#d' "a'b" 'a&b;c' '[d]' 'd.bst'; do
     end
 done
 
-begin climbs_too_far
-named "$(printf '../%.0s' {1..30})d" s
+begin name_that_climbs
+named "$(printf '../%.0s' {1..30})$PWD/d" s
 run_search job
-wants_refusal 'climbs over more than 20 folders'
+wants_first job
 end
 
-begin two_files_of_one_place
+begin two_names_of_one_place
 mkdir -p there/sub
 ln -s there/sub link
 cp d.bib there/d.bib
 echo '@misc{k, title = {Other}}' >>there/d.bib
 named d,link/../d s
 run_search job
-wants_refusal 'would be one file to the program'
+wants_status 2
+wants_text job.bbl $'a\n'
+wants_words job.blg 'Database file #2: link/../d.bib'
 end
 
 begin includes
@@ -132,7 +156,6 @@ printf '\\bibdata{d}\n' >chapters/two.aux
 run_search job
 wants_status 2
 wants_text job.bbl $'a\n'
-wants_no_links
 end
 
 # An included file stands in the present folder, or else beside the top one; never beside the one that includes it.
@@ -149,7 +172,7 @@ document_of_chapters
 : >out/ch/two.aux
 run_search out/job
 wants_first out/job
-grep -qx 'A level-2 auxiliary file: ch/two.aux' out/job.blg || complaints+=('the second chapter was not read')
+wants_line out/job.blg 'A level-2 auxiliary file: ch/two.aux'
 end
 
 begin includes_of_the_present_folder_first
@@ -159,7 +182,7 @@ mkdir ch
 : >ch/one.aux
 run_search out/job
 wants_status 2
-grep -q 'I found no .citation commands' out/job.blg || complaints+=('the chapter beside the top file was read')
+wants_words out/job.blg 'I found no \citation commands'
 end
 
 begin includes_beside_an_included_one
@@ -167,7 +190,7 @@ document_of_chapters
 : >out/ch/ch/two.aux
 run_search out/job
 wants_status 2
-grep -q "I couldn't open auxiliary file ch/two.aux" out/job.blg || complaints+=('a chapter beside a chapter was read')
+wants_words out/job.blg "I couldn't open auxiliary file ch/two.aux"
 end
 
 begin includes_that_are_deep
@@ -185,7 +208,7 @@ named folder s
 run_search job
 wants_status 2
 wants_text job.bbl $'a\n'
-wants_no_links
+wants_error_with 'folder.bib'
 end
 
 begin plain_folders
@@ -201,6 +224,12 @@ BIBINPUTS= BSTINPUTS=nowhere: run_plainly job
 wants_first job
 end
 
+begin plain_folder_without_the_style
+BSTINPUTS=nowhere run_plainly job
+wants_status 2
+wants_words job.blg "I couldn't open style file s.bst"
+end
+
 # One name a million times is one name, and one that is longer than any path is none.
 begin names_again_and_again
 {
@@ -211,32 +240,25 @@ begin names_again_and_again
 run_search job
 wants_status 2
 wants_text job.bbl $'a\n'
-grep -qx 'Ended: finished, warnings 0, errors 2, steps 4' job.blg || complaints+=("the log ends $(tail -n 1 job.blg)")
-wants_no_links
+[ "$(messages job.blg | wc -l)" -eq 2 ] || complaints+=("the log has $(messages job.blg | wc -l) messages")
 end
 
-# A variable keeps as many bytes as TeX says, where no option says otherwise, and where the program can have that limit.
-source "$here/checks/fake_tex"
+# An output that is a file of the job as well isn't written.
+begin output_that_is_an_input
+cp d.bib kept
+ln -sf d.bib job.bbl
+run_search job
+wants_status 6
+wants_error_with job.bbl
+cmp -s d.bib kept || complaints+=('the database was written over')
+end
 
-# keeps_as_many ENTRY GLOBAL WORD..: a variable of an entry keeps ENTRY bytes and a global one GLOBAL, where the program is called with these WORDs.
-keeps_as_many() {
-    printf '%s\n' 'ENTRY {}{}{} FUNCTION {misc} {} READ' 'FUNCTION {f} {entry.max$ int.to.str$ write$ newline$ global.max$ int.to.str$ write$ newline$} EXECUTE {f}' \
-        >tree/s.bst
-    run_fake "${@:3}" job
-    wants_status 0
-    wants_text job.bbl "$1"$'\n'"$2"$'\n'
-}
-
-begin limits_of_a_tex
-fake_tex a a '$TEXMFOUTPUT' 7 9
-cp d.bib tree
-keeps_as_many 7 9
-keeps_as_many 3 9 -entry-max=3
-keeps_as_many 7 4 -global-max=4
-fake_tex a a '$TEXMFOUTPUT' 1000000 1000001
-keeps_as_many 1000000 20000
-fake_tex a a '$TEXMFOUTPUT' '\$ent_str_size' 0
-keeps_as_many 250 20000
+begin outputs_that_are_one_file
+echo 'old list' >job.bbl
+ln -s job.bbl job.blg
+run_search job
+wants_status 6
+wants_text job.bbl $'old list\n'
 end
 
 if has kpsewhich; then
@@ -248,13 +270,56 @@ if has kpsewhich; then
     wants_first job
     end
 
+    begin search_paths_of_a_home
+    mkdir -p home/texmf/bibtex/{bst,bib}/sub
+    mv d.bib home/texmf/bibtex/bib/sub
+    mv s.bst home/texmf/bibtex/bst/sub
+    HOME=$PWD/home run_search job
+    wants_first job
+    end
+
+    begin search_paths_with_variables
+    mkdir 'in here'
+    mv d.bib s.bst 'in here'
+    PLACE='in here' BIBINPUTS='.:$PLACE:' BSTINPUTS='{.,$PLACE}:' run_search job
+    wants_first job
+    end
+
+    begin names_with_variables
+    mkdir place
+    mv d.bib place
+    named '$PLACE/d' s
+    PLACE=$PWD/place run_search job
+    wants_first job
+    end
+
     # A variable keeps as many bytes as TeX Live says, where no option says otherwise.
     begin limits_of_tex
     printf '%s\n' 'ENTRY {}{}{} FUNCTION {misc} {} READ' 'FUNCTION {f} {entry.max$ int.to.str$ write$ newline$ global.max$ int.to.str$ write$ newline$} EXECUTE {f}' >s.bst
     run_search -entry-max=7 job
     wants_status 0
     wants_text job.bbl "7"$'\n'"$(kpsewhich -progname=bibtex -var-value=glob_str_size)"$'\n'
+    glob_str_size=9 run_search job
+    wants_text job.bbl "$(kpsewhich -progname=bibtex -var-value=ent_str_size)"$'\n'"9"$'\n'
     end
+
+    # All styles and databases of TeX Live are found where kpsewhich finds them.
+    for ending in bst bib; do
+        begin "all_files_of_tex_live_$ending"
+        find $(kpsewhich -expand-braces='$TEXMF' | tr : '\n' | sed 's/^!!//' | sort -u) -name "*.$ending" -printf '%f\n' 2>/dev/null | grep -v "[ ,{}]" | sort -u >all || true
+        kpsewhich -progname=bibtex -format="$ending" $(cat all) >wanted || true
+        echo "        $(wc -l <all) files"
+        while read -r name; do
+            case $ending in
+            bst) printf '\\bibstyle{%s}\n' "$name" >job.aux ;;
+            bib) printf '\\citation{k}\n\\bibdata{%s}\n\\bibstyle{s}\n' "$name" >job.aux ;;
+            esac
+            (start_search -budget=0 -terse job) </dev/null >/dev/null 2>&1 || true
+            grep -qE '^(The style file|Database file #1): ' job.blg || echo "$name" >>lost
+        done < <(sed 's,.*/,,' wanted | if [ -n "$few" ]; then head -n 20; else cat; fi)
+        [ ! -e lost ] || complaints+=("not found: $(cat lost)")
+        end
+    done
 else
     echo 'left out: search paths and limits of TeX (without kpsewhich)'
 fi

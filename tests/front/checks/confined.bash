@@ -1,8 +1,8 @@
 # bibtex-confined: what it refuses, and that each attack ends within a minute, 1 GB of memory and 100 MB of output, with a reason.
 
-confined=$here/bibtex-confined
+confined=$programs/bibtex-confined
 
-# run_confined WORD..: runs the script in the check's folder.
+# run_confined WORD..: runs it in the check's folder.
 run_confined() {
     status=0
     "$confined" "$@" </dev/null >"$folder/stdout" 2>"$folder/stderr" || status=$?
@@ -15,7 +15,7 @@ wants_output ''
 wants_error ''
 wants_text job.bbl $'a\n'
 wants_text job.blg "$first_log"
-wants_no_links
+wants_clean
 end
 
 begin confined_options
@@ -52,7 +52,7 @@ for words in --line=19 --text=latin1 --min-crossrefs=x --entry-max=0 --global-ma
     wants_error_with 'bibtex-confined: the program refuses the words'
     wants_text job.bbl $'old list\n'
     wants_text job.blg $'old log\n'
-    wants_no_links
+    wants_clean
     end
 done
 
@@ -76,63 +76,83 @@ wants_status 1
 wants_error_with 'unrecognized option --dir'
 wants_text job.bbl $'old list\n'
 [ ! -e job.blg ] || complaints+=('there is a log')
-wants_no_links
+wants_clean
 end
 
 # Options stand behind the job.
-for words in '--line=30 job' --version; do
+for words in '--line=30 job' --text=utf8; do
     begin "confined_option_first_$((passed + failed))"
     run_confined $words
     wants_error_with 'the job is the first word, and options stand behind it'
-    wants_no_links
+    wants_clean
     end
 done
 
-begin confined_by_a_shell
-cp "$confined" .
-confined=bibtex-confined
-status=0
-sh "$confined" job </dev/null >"$folder/stdout" 2>"$folder/stderr" || status=$?
-confined=$here/bibtex-confined
-wants_status 0
-wants_error ''
-wants_text job.bbl $'a\n'
+# It says its own name, by whichever one it is called.
+begin confined_by_another_name
+ln -s "$confined" bibtex
+for word in --help -help -h --version; do
+    status=0
+    ./bibtex "$word" </dev/null >"$folder/stdout" 2>"$folder/stderr" || status=$?
+    wants_status 0
+    wants_error ''
+    grep -qE '^(Usage: )?bibtex-confined ' "$folder/stdout" || complaints+=("$word prints $(cat "$folder/stdout")")
+done
 end
 
-# What the program is started with: the limits, the words, and a folder of the job's files alone.
+# What the program is started with: the limits, the words, and no input.
 begin confined_limits
-: >other.bib
 cat >shows <<'END'
 #!/bin/sh
-case $2 in */nowhere) exit 6 ;; esac
 {
     for limit in c v f n; do
         echo "$limit $(ulimit -$limit)"
     done
     echo "t $(ulimit -S -t) $(ulimit -H -t)"
-    ls "$2"
-    shift 2
+    cat
     echo "$*"
 } >&2
 END
 chmod +x shows
 ulimit -S -c "$(ulimit -H -c)"
-BIBTEX_PROGRAM=./shows run_confined job --text=utf8
+BIBTEX_PROGRAM=./shows run_confined job --text=utf8 <<<'an input'
 wants_status 0
 wants_error 'c 0
 v 900000
 f 80000
 n 64
 t 10 11
-d.bib
-job.aux
-job.bbl
-job.blg
-s.bst
---terse --budget 100000000 --text=utf8 -- job
+--dir . --terse --budget 100000000 --text=utf8 -- job
 '
-wants_no_links
+wants_clean
+# Words of the command line change the limits.
+BIBTEX_PROGRAM=./shows run_confined job --limit-memory=800000 --limit-output=100 --limit-processor=3 --limit-steps=7
+wants_status 0
+wants_error 'c 0
+v 800000
+f 200
+n 64
+t 3 4
+--dir . --terse --budget 7 -- job
+'
 end
+
+# One process beside its own, and no file but the two outputs.
+if command -v strace >/dev/null; then
+    begin confined_processes
+    strace -f -o "$folder/calls" -e trace=execve,openat,open,creat,mkdir,mkdirat,symlink,symlinkat,link,linkat,unlink,unlinkat,rename,renameat2 "$confined" job </dev/null
+    [ "$(grep -c 'execve(' "$folder/calls")" -eq 2 ] || complaints+=("these programs ran: $(grep 'execve(' "$folder/calls")")
+    ! grep -E ' (mkdir|symlink|link|unlink|rename|creat)' "$folder/calls" || complaints+=('a folder or a link was made')
+    made=$(sed -n 's/.*open[at]*([^"]*"\([^"]*\)".*O_CREAT.*/\1/p' "$folder/calls" | sort -u | tr '\n' ' ')
+    [ "$made" = './job.bbl ./job.blg ' ] || complaints+=("these files were made: $made")
+    wants_files d.bib job.aux job.bbl job.blg s.bst
+    end
+    begin confined_asks_for_nothing_else
+    python3 "$here/asked.py" "$confined" 200 >asked || complaints+=("$(head -c 2000 asked)")
+    end
+else
+    echo 'left out: what is run, made and opened (without strace)'
+fi
 
 # No byte of a name acts on a terminal.
 begin confined_control_bytes
@@ -148,11 +168,11 @@ for name in 'two words' $'two\nlines' -job '*' '$HOME' 'a"b' "a'b" '`b`' j.aux '
     wants_status 0
     wants_error ''
     wants_text "./$name.bbl" $'a\n'
-    wants_no_links
+    wants_clean
     end
 done
 
-# run_confined_as_other: runs the script as a user who owns nothing.
+# run_confined_as_other: runs it as a user who owns nothing.
 run_confined_as_other() {
     status=0
     setpriv --reuid 65534 --regid 65534 --clear-groups env BIBTEX_PROGRAM="$room/program" "$confined" job \
@@ -171,11 +191,24 @@ if [ "$(id -u)" -eq 0 ] && setpriv --reuid 65534 --regid 65534 --clear-groups te
         chmod 644 "$output"
         run_confined_as_other
         wants_status 6
-        wants_error_with "bibtex-confined: $output can't be written"
+        wants_error_with "bibtex-confined: $output can't be written: Permission denied"
         wants_text "$output" $'old\n'
-        wants_no_links
+        [ "$(ls job.b[bl][lg])" = "$output" ] || complaints+=('there is another output')
+        wants_clean
         end
     done
+
+    # A list isn't touched where the log can't be made or written.
+    begin confined_folder_of_another
+    chmod 755 .
+    leave_old
+    chmod 666 job.bbl
+    rm job.blg
+    run_confined_as_other
+    wants_status 6
+    wants_error_with "bibtex-confined: job.blg can't be written: Permission denied"
+    wants_text job.bbl $'old list\n'
+    end
 
     # An input that may not be read isn't there, and the top file isn't either.
     begin confined_style_of_another
@@ -186,7 +219,7 @@ if [ "$(id -u)" -eq 0 ] && setpriv --reuid 65534 --regid 65534 --clear-groups te
     wants_error 'bibtex-confined: there are error messages in job.blg
 '
     grep -qx "Error--I couldn't open style file s.bst" job.blg || complaints+=("the log is $(cat job.blg)")
-    wants_no_links
+    wants_clean
     chmod 600 job.aux
     run_confined_as_other
     wants_status 3
@@ -205,6 +238,217 @@ wants_error 'bibtex-confined: there are error messages in job.blg
 use_style 'FUNCTION {f}{f} EXECUTE {f}'
 run_confined job
 wants_status 2
+end
+
+# What can't be looked at or started touches nothing.
+begin confined_program_that_cannot_be_started
+leave_old
+printf '#!/nosuch/sh\n' >broken
+chmod +x broken
+BIBTEX_PROGRAM=./broken run_confined job
+wants_status 6
+wants_error_with 'bibtex-confined: the program ./broken can'"'"'t be started: No such file or directory'
+wants_old
+end
+
+begin confined_program_that_is_not_there
+leave_old
+for name in ./nosuch nosuch s.bst ./s.bst .; do
+    BIBTEX_PROGRAM=$name run_confined job
+    wants_status 1
+    wants_error_with "bibtex-confined: there is no program $name; BIBTEX_PROGRAM can name it"
+done
+wants_old
+end
+
+# The job's folder is a stranger's: a program there isn't found by a search path that has the present folder.
+begin confined_search_path
+printf '#!/bin/sh\n: >stranger\n' >bibtex-proved
+chmod +x bibtex-proved
+for path in '' . :/nosuch ./ "$folder/nosuch:"; do
+    status=0
+    env -u BIBTEX_PROGRAM PATH="$path" "$confined" job </dev/null >"$folder/stdout" 2>"$folder/stderr" || status=$?
+    wants_status 1
+    wants_error_with 'there is no program bibtex-proved'
+done
+[ ! -e stranger ] || complaints+=("the stranger's program was run")
+mkdir "$folder/bin"
+ln -s "$program" "$folder/bin/bibtex-proved"
+status=0
+env -u BIBTEX_PROGRAM PATH=".:$folder/bin" "$confined" job </dev/null >"$folder/stdout" 2>"$folder/stderr" || status=$?
+wants_status 0
+end
+
+# Nothing of the caller's environment changes a limit, or is needed.
+begin confined_environment
+use_style 'FUNCTION {f}{{#1} {#1 pop$} while$} EXECUTE {f}'
+BIBTEX_CONFINED_RUNS=yes TMPDIR=/nosuch budget=1 run_confined job --limit-steps=1000
+wants_status 4
+wants_error 'bibtex-confined: the style took 1000 steps, and wanted more
+'
+end
+
+for option in --limit-memory=0 --limit-memory=19999 --limit-clock=-1 --limit-steps= --limit-names=x --limit-output=unlimited --limit-processor=1e3 \
+    --limit-aux=1000000000001 --limit-other=3 --limit-memory --limit-=3; do
+    begin "confined_limit_$((passed + failed))"
+    leave_old
+    run_confined job "$option"
+    wants_status 1
+    wants_error_with 'limit'
+    wants_old
+    end
+done
+
+# Each limit is met where its word says.
+begin confined_limits_by_words
+leave_old
+run_confined job --limit-names=1
+wants_status 1
+wants_error_with 'the .aux files name more than 1 files'
+wants_old
+head -c 2000 /dev/zero | tr '\0' '%' >>job.aux
+run_confined job --limit-aux=1
+wants_error_with 'job.aux has more than 1 KB'
+wants_old
+head -c 2000 /dev/zero >>d.bib
+run_confined job --limit-input=1
+wants_error_with 'd.bib has more than 1 KB'
+wants_old
+use_style 'FUNCTION {f}{{#1} {"a line" write$ newline$} while$} EXECUTE {f}'
+run_confined job --limit-output=2
+wants_status 6
+wants_error_with 'job.bbl would have more than 2 KB'
+[ "$(stat -c %s job.bbl)" -le 2048 ] || complaints+=("the list has $(stat -c %s job.bbl) bytes")
+use_style 'FUNCTION {f}{{#1} {#1 pop$} while$} EXECUTE {f}'
+run_confined job --limit-processor=1 --limit-steps=1000000000000
+wants_status 152
+wants_error_with 'the job took 1 processor seconds, and wanted more'
+end
+
+# waits_there: a program that waits beside a child of its own.
+waits_there() {
+    printf '#!/bin/sh\necho $$ >leader\nsleep 98765 &\necho $! >child\nwait\n' >waits
+    chmod +x waits
+}
+
+# is_running FILE: the process runs whose number stands there.
+is_running() {
+    local state
+    state=$(sed -n 's/^State:\t\(.\).*/\1/p' "/proc/$(cat "$1")/status" 2>/dev/null) && [ -n "$state" ] && [ "$state" != Z ]
+}
+
+# wants_ended: of the program that waits no process is left, at the latest after two seconds.
+wants_ended() {
+    local name moment
+    for name in leader child; do
+        for moment in {1..20}; do
+            is_running "$name" || continue 2
+            sleep 0.1
+        done
+        complaints+=("the $name is running")
+    done
+}
+
+# The program ends with each signal to this one, and nothing is left over. (A background process of a shell ignores INT and QUIT, and so does
+# this program then: so Python gives it the signals' defaults.)
+for signal in TERM HUP PIPE INT QUIT; do
+    begin "confined_signal_$signal"
+    waits_there
+    leave_old
+    number=$(kill -l "$signal")
+    BIBTEX_PROGRAM=./waits python3 "$here/signalled.py" "$number" child "$confined" job >ended 2>"$folder/stderr"
+    [ "$(cat ended)" = "-$number" ] || complaints+=("it ended with $(cat ended), not -$number")
+    wants_error "bibtex-confined: the job was ended by signal $number
+"
+    wants_ended
+    wants_text job.bbl ''
+    wants_text job.blg ''
+    end
+done
+
+begin confined_leaves_no_process
+printf '#!/bin/sh\necho $$ >leader\nsleep 98765 &\necho $! >child\n' >leaves
+chmod +x leaves
+BIBTEX_PROGRAM=./leaves run_confined job
+wants_status 0
+wants_ended
+end
+
+begin confined_killed
+waits_there
+BIBTEX_PROGRAM=./waits python3 "$here/signalled.py" 9 child "$confined" job >ended
+# (the program ends with it; what that started is its own)
+kill "$(cat child)"
+wants_ended
+end
+
+begin confined_time_is_up
+waits_there
+leave_old
+BIBTEX_PROGRAM=./waits run_confined job --limit-clock=1
+wants_status 124
+wants_error 'bibtex-confined: the 1 seconds are up
+'
+wants_ended
+wants_text job.bbl ''
+wants_text job.blg ''
+end
+
+# A reason that nobody reads, and closed streams.
+begin confined_into_a_closed_pipe
+cite nosuch
+{ sleep 0.2; "$confined" job 2>&1; "$confined" .job 2>&1; } | true || true
+wants_clean
+end
+
+begin confined_with_closed_streams
+for closed in '<&-' '>&-' '2>&-' '<&- >&- 2>&-'; do
+    rm -f job.bbl
+    status=0
+    eval "\"$confined\" job $closed" || status=$?
+    wants_status 0
+    wants_text job.bbl $'a\n'
+done
+wants_files d.bib job.aux job.bbl job.blg s.bst
+end
+
+# The reason stands also at the end of a file that is longer than an output may be.
+begin confined_into_a_long_file
+printf '\\citation{k}\n\\bibdata{d,e}\n\\bibstyle{s}\n' >job.aux
+head -c 5000 /dev/zero >reasons
+status=0
+"$confined" job --limit-output=1 </dev/null >"$folder/stdout" 2>>reasons || status=$?
+wants_status 2
+tail -c +5001 reasons | cmp -s - <(echo 'bibtex-confined: there are error messages in job.blg') || complaints+=("the reason is $(tail -c +5001 reasons)")
+end
+
+# What the program prints acts on no terminal, and is bounded.
+begin confined_program_that_prints
+printf '#!/bin/sh\nprintf "\\033[31m\\302\\233\\342\\200\\256x\\n" >&2\nhead -c 1000000 /dev/zero | tr "\\0" y\nexit 5\n' >prints
+chmod +x prints
+BIBTEX_PROGRAM=./prints run_confined job
+wants_status 5
+wants_output ''
+wants_error_with '?[31m??x'
+[ "$(stat -c %s "$folder/stderr")" -le 11000 ] || complaints+=("it printed $(stat -c %s "$folder/stderr") bytes")
+wants_error_with 'bibtex-confined: the job wants more than 900000 KB of memory'
+end
+
+begin confined_control_characters
+printf '\\bibdata{\302\233\342\200\256/d}\n' >job.aux
+run_confined job $'--min-crossrefs=\033[31m'
+wants_refusal "the name '??/d.bib' isn't one of a file of this folder"
+end
+
+# A long file without bytes is measured, not read.
+begin confined_sparse
+truncate -s 200G d.bib
+leave_old
+run_confined job
+wants_status 1
+wants_error 'bibtex-confined: d.bib has more than 100000 KB
+'
+wants_old
 end
 
 # What a job may not name: each command with each kind of name, also behind a byte 0, in an included file.
@@ -236,7 +480,7 @@ for file in job.aux one.aux d.bib s.bst job.bbl job.blg; do
         wants_status 1
         wants_error_with "$file is"
         [ -z "$(find . -type f -name '*.b[bl][lg]')" ] || complaints+=("there is $(find . -type f -name '*.b[bl][lg]')")
-        wants_no_links
+        wants_clean
         end
     done
 done
@@ -391,7 +635,7 @@ start_attack() {
     echo 'old log' >job.blg
     local BIBTEX_PROGRAM=$program
     [ ! -f waits ] || BIBTEX_PROGRAM=./waits
-    BIBTEX_PROGRAM=$BIBTEX_PROGRAM python3 "$here/checks/measured.py" stdout stderr "$confined" job >measured &
+    BIBTEX_PROGRAM=$BIBTEX_PROGRAM python3 "$here/measured.py" stdout stderr "$confined" job >measured &
     cd "$room"
 }
 
@@ -475,7 +719,7 @@ long_names 2
 long_path 1
 empty_names 1 124
 '
-if command -v gcc >/dev/null && gcc -O2 -Wall -Werror -o "$room/collide" "$here/../tests/speed/collide.c"; then
+if command -v gcc >/dev/null && gcc -O2 -Wall -Werror -o "$room/collide" "$sources/tests/speed/collide.c"; then
     attacks+='chosen_keys 152 137
 '
 else
@@ -499,6 +743,6 @@ while read -r name statuses; do
     [ -z "$name" ] || judge_attack "$name" $statuses
 done <<<"$attacks"
 begin confined_leaves_nothing
-wants_no_links
+wants_clean
 end
 rm -rf "$room/attacks"

@@ -1,0 +1,159 @@
+# What the checks of the front end are written with, beside tests/checks.bash. `check` sets the names that stand here.
+
+unset BIBINPUTS BSTINPUTS TEXINPUTS TEXMFOUTPUT NO_COLOR BIBTEX_PROGRAM openout_any openin_any
+export BIBTEX_PROGRAM=$program TMPDIR=$room/temporary
+mkdir "$TMPDIR" "$room/no_tex"
+
+# (what is found first may be a script that finds the one that is chosen, and takes longer than the check)
+python=$(command python3 -c 'import sys; print(sys.executable)')
+python3() {
+    "$python" "$@"
+}
+
+# Where TeX's search library is not to be found: one that can't be opened stands before it.
+: >"$room/no_tex/libkpathsea.so.6"
+
+# The folder in which the loader looks first for TeX's search library.
+libraries=
+[ "$with_tex" = yes ] || libraries=$room/no_tex
+
+# has TOOL: this tool of TeX may be used, and is there.
+has() {
+    [ "$with_tex" = yes ] && command -v "$1" >/dev/null
+}
+
+# there_is TOOL WHY: the tool is there; where it isn't, what is left out is said.
+there_is() {
+    command -v "$1" >/dev/null || {
+        echo "left out: $2 (without $1)"
+        return 1
+    }
+}
+
+# How many seconds a run may take.
+seconds=60
+
+# start_search WORD..: becomes bibtex-search, with no more memory than a run may take.
+start_search() {
+    ulimit -v 4000000
+    LD_LIBRARY_PATH=$libraries exec timeout -k 5 "$seconds" "$search" "$@"
+}
+
+# run_search WORD..: runs bibtex-search as tests/run runs the program.
+run_search() {
+    status=0
+    (start_search "$@") </dev/null >"$folder/stdout" 2>"$folder/stderr" || status=$?
+}
+
+# run_plainly WORD..: the same without TeX.
+run_plainly() {
+    libraries=$room/no_tex run_search "$@"
+}
+
+# messages LOG: its messages, in the shape of the program's log.
+messages() {
+    python3 "$here/messages.py" "$1"
+}
+
+# wants_messages LOG LINE..: these are its messages.
+wants_messages() {
+    local found
+    found=$(messages "$1")
+    [ "$found" = "$(printf '%s\n' "${@:2}")" ] || complaints+=("the messages are $(printf '%q' "$found"), not $(printf '%q' "$(printf '%s\n' "${@:2}")")")
+}
+
+# log_of FILE: a log from the line that names the top file on. What stands before it is who wrote it.
+log_of() {
+    sed -n '/^The top-level auxiliary file: /,$p' "$1"
+}
+
+# wants_log FILE TEXT: the log has these bytes.
+wants_log() {
+    if [ ! -f "$1" ]; then
+        complaints+=("there is no $(basename "$1")")
+    elif ! log_of "$1" | cmp -s - <(printf '%s' "$2"); then
+        complaints+=("$(basename "$1") is $(printf '%q' "$(log_of "$1")"), not $(printf '%q' "$2")")
+    fi
+}
+
+# wants_line FILE LINE: the file has this line.
+wants_line() {
+    grep -qxF -- "$2" "$1" || complaints+=("$(basename "$1") has no line '$2': $(printf '%q' "$(head -c 2000 "$1")")")
+}
+
+# wants_words FILE TEXT: a line of the file has this text.
+wants_words() {
+    grep -qF -- "$2" "$1" || complaints+=("$(basename "$1") has no '$2': $(printf '%q' "$(head -c 2000 "$1")")")
+}
+
+# wants_error_like EXPRESSION: a line of standard error is like this.
+wants_error_like() {
+    grep -qE -- "$1" "$folder/stderr" || complaints+=("standard error has no '$1': $(printf '%q' "$(cat "$folder/stderr")")")
+}
+
+# wants_clean: nothing is left in the folder for temporary files.
+wants_clean() {
+    [ -z "$(ls -A "$TMPDIR")" ] || complaints+=("left over: $(ls -A "$TMPDIR")")
+}
+
+# wants_first BASE: the first example's list and log stand at BASE.bbl and BASE.blg, and its log was printed.
+wants_first() {
+    wants_status 0
+    wants_text "$1.bbl" $'a\n'
+    if [ -f "$1.blg" ]; then
+        ! messages "$1.blg" | grep -q '^[EW]' || complaints+=("$1.blg has messages: $(messages "$1.blg")")
+        grep -q '^Database file #1: ' "$1.blg" || complaints+=("$1.blg is $(cat "$1.blg")")
+        cmp -s <(log_of "$1.blg") <(log_of "$folder/stdout") || complaints+=('what was printed is not the log')
+    else
+        complaints+=("there is no $1.blg")
+    fi
+    wants_error ''
+    wants_clean
+}
+
+# wants_refusal TEXT: status 1, this text on standard error, and no output.
+wants_refusal() {
+    wants_status 1
+    wants_error_with "$1"
+    [ -z "$(find . -name '*.bbl' -o -name '*.blg')" ] || complaints+=("there is $(find . -name '*.b[bl][lg]')")
+    wants_clean
+}
+
+# leave_old: an earlier run left a list and a log. wants_old: they stand there still.
+leave_old() {
+    echo 'old list' >job.bbl
+    echo 'old log' >job.blg
+}
+
+wants_old() {
+    wants_text job.bbl $'old list\n'
+    wants_text job.blg $'old log\n'
+    wants_clean
+}
+
+# wants_whole_or_old LIST: the list is the old one, or begins this one; beside a new list there is no old log.
+wants_whole_or_old() {
+    if [ "$(cat job.bbl 2>/dev/null)" != 'old list' ]; then
+        wants_beginning job.bbl "$1"
+        [ "$(cat job.blg 2>/dev/null)" != 'old log' ] || complaints+=("an old log stands beside a new list: $(printf '%q' "$(cat job.bbl)")")
+    fi
+}
+
+# another_user: checks can be run as a user who owns nothing.
+another_user() {
+    [ "$(id -u)" -eq 0 ] && setpriv --reuid 65534 --regid 65534 --clear-groups true 2>/dev/null
+}
+
+# run_as_another WORD..: runs bibtex-search as such a user.
+run_as_another() {
+    [ -x "$room/search" ] || install -m 755 "$search" "$room/search"
+    chmod a+rx "$room" "$room/no_tex"
+    chmod 777 "$TMPDIR"
+    status=0
+    LD_LIBRARY_PATH=$libraries setpriv --reuid 65534 --regid 65534 --clear-groups "$room/search" "$@" </dev/null >"$folder/stdout" 2>"$folder/stderr" || status=$?
+}
+
+# on_terminal COLUMNS WORD..: runs bibtex-search on a terminal of its own; what it prints there.
+on_terminal() {
+    LD_LIBRARY_PATH=$libraries python3 "$here/on_terminal.py" "$1" "$search" "${@:2}"
+}

@@ -1,0 +1,287 @@
+# What bibtex-search -explain prints behind each message. tests/front/explanations.py compares the words with docs/RULES.md.
+
+# wants_explained FILE FOLDER SPACES: what is printed of the job of write_explained with -terse, where style and database stand in FOLDER/ (or here, where it is empty), and
+# as many SPACES before the mark as FOLDER/ has letters.
+wants_explained() {
+    wants_text "$1" "Error--White space in argument--line 1 of file job.aux
+    job.aux:1: \\citation{k, j}
+                           ^
+    what to do: write no space in \`\\cite{..}\`, \`\\bibliography{..}\` or the name of a file
+Error--I couldn't open database file e.bib
+    job.aux:3: \\bibdata{d,e}
+                      ^
+    what to do: put the database beside the \`.aux\` file, or where \`bibtex-search\` looks for it: along BIBINPUTS and in TeX's folders. Is the name in \`\\bibliography\` right, and may you read the file?
+Error--nosuch is an unknown function--line 4 of file s.bst
+    $2s.bst:4:   nosuch }
+    ${3-}           ^
+    in FUNCTION {misc}, which begins at $2s.bst:2
+    what to do: define it above its use; look for its spelling. A function's own name isn't known in its body
+Warning--string name \"zz\" is undefined--line 1 of file d.bib
+    $2d.bib:1: @misc{k, title = {A} # zz}
+    ${3-}                                ^
+    in @misc{k}, which begins at $2d.bib:1
+    what to do: define \`zz\` by \`@string\` above its use, or put braces or quotes round a text
+Error--I was expecting an =--line 3 of file d.bib
+    $2d.bib:3:  nöte 1}
+    ${3-}               ^
+    in @misc{j}, which begins at $2d.bib:2
+    what to do: write \`name = value\`; is there a comma too many, or a brace too few above?
+Error--Repeated entry--line 4 of file d.bib
+    $2d.bib:4: @misc{K, title = {C}}
+    ${3-}                ^
+    in @misc{K}, which begins at $2d.bib:4
+    the first is @misc{k}, which begins at $2d.bib:1
+    what to do: remove one of the two
+Error--A bad cross reference--entry \"two\" refers to entry \"p\", which doesn't exist
+    for @misc{two}, which begins at $2d.bib:5
+    what to do: add \`p\`, or move it behind \`two\`, or cite it
+Warning--I didn't find a database entry for \"nosuch\"
+    job.aux:2: \\citation{two,nosuch,bare}
+                             ^
+    what to do: the key is cited, or is a parent, and no database has it: look for its spelling
+Warning--I didn't find a database entry for \"p\"
+    $2d.bib:5: @misc{two, title = {D}, crossref = {p}}
+Error--\"A\" is not an integer while executing + for entry k
+    for @misc{k}, which begins at $2d.bib:1
+    \`+\` takes NUMBER NUMBER, pushed in this order
+    what to do: push the operands in the order in which the function takes them; a field that may be missing goes through \`empty\$\` or \`missing\$\` first
+Error--\"D\" is not an integer while executing + for entry two
+    for @misc{two}, which begins at $2d.bib:5
+Warning--empty title in bare
+    for @misc{bare}, which begins at $2d.bib:6
+Ended: finished, warnings 4, errors 8, steps 36
+(There were 8 error messages)
+"
+}
+
+begin explained
+write_explained
+run_search -explain -terse job
+wants_status 2
+wants_explained "$folder/stdout" ''
+end
+
+begin explained_along_the_search_path
+write_explained
+mkdir there
+mv d.bib s.bst there
+BIBINPUTS=there BSTINPUTS=there run_plainly -explain -terse job
+wants_explained "$folder/stdout" there/ '      '
+end
+
+# The log in the file has no explanations; a job that has run can be explained later, and nothing is written then.
+begin explained_later
+write_explained
+run_search job
+cp job.blg wanted
+cp job.bbl wanted.bbl
+run_search -explain-only -terse job
+wants_status 2
+wants_explained "$folder/stdout" ''
+cmp -s wanted job.blg && cmp -s wanted.bbl job.bbl || complaints+=('an output was written')
+rm job.bbl job.blg
+run_search -explain-only -terse job
+wants_explained "$folder/stdout" ''
+[ ! -e job.bbl ] && [ ! -e job.blg ] || complaints+=('an output was made')
+run_search -explain job
+cmp -s wanted job.blg || complaints+=('the log in the file is another')
+end
+
+begin explained_by_another_name
+write_explained
+ln -s "$search" bibtex-explain
+status=0
+LD_LIBRARY_PATH=$libraries ./bibtex-explain -terse job </dev/null >"$folder/stdout" 2>"$folder/stderr" || status=$?
+wants_explained "$folder/stdout" ''
+[ ! -e job.bbl ] || complaints+=('a list was made')
+end
+
+begin explained_end
+use_style 'EXECUTE {skip$}'
+run_search -explain -budget=0 job
+wants_status 4
+wants_words "$folder/stdout" 'Ended: stopped, warnings 0, errors 0, steps 0'
+wants_words "$folder/stdout" '    what to do: the style took as many steps as it may'
+end
+
+begin nothing_to_explain
+run_search -explain job
+wants_status 0
+wants_text job.bbl $'a\n'
+! grep -q 'what to do' "$folder/stdout" || complaints+=('something is explained')
+end
+
+# Nothing is explained where nobody reads a terminal, and where that isn't wanted.
+for words in 'job' '-no-explain job' '-explain -no-explain job'; do
+    begin "not_explained_$((passed + failed))"
+    cite nosuch
+    run_search $words
+    wants_status 0
+    ! grep -q 'what to do' "$folder/stdout" || complaints+=('it is explained')
+    cmp -s <(log_of job.blg) <(log_of "$folder/stdout") || complaints+=('what was printed is not the log')
+    end
+done
+
+begin explained_on_a_terminal
+cite nosuch
+TERM=xterm on_terminal 80 job >found
+wants_words found '    what to do: the key is cited'
+end
+
+begin not_explained_on_a_terminal
+cite nosuch
+TERM=xterm on_terminal 80 -no-explain job >found
+wants_words found "I didn't find a database entry"
+! grep -q 'what to do' found || complaints+=('it is explained')
+end
+
+# A missing brace is named once, where the function that lacks it begins.
+begin explained_missing_brace
+write_unclosed
+run_search -explain -terse job
+wants_words "$folder/stdout" 'what to do: a `}` is missing in FUNCTION {misc}, which begins at s.bst:'
+[ "$(wc -l <"$folder/stdout")" -le 12 ] || complaints+=("printed was $(cat "$folder/stdout")")
+grep -q 'more errors follow from that' "$folder/stdout" || complaints+=('nothing says what follows from it')
+end
+
+# The operands of the function that is named, and the quote before the variable.
+begin explained_operands
+write_operands
+run_search -explain -terse job
+wants_words "$folder/stdout" "is there a \`'\` before the variable?"
+[ "$(grep -c 'push the operands in the order' "$folder/stdout")" -eq 1 ] || complaints+=('advice is given more than once')
+end
+
+# A loop that makes a string too long: the loop is named first.
+begin explained_loop
+write_limit
+run_search -explain -terse job
+wants_status 3
+grep 'what to do' "$folder/stdout" | grep -q loop || complaints+=("printed was $(cat "$folder/stdout")")
+end
+
+# A line that a style forges in the log shows nothing of a file that isn't the job's, and bytes that steer a terminal aren't shown.
+begin explained_and_other_files
+echo secret >other.bib
+use_style '"x" #10 int.to.chr$ * "Database file #2: other.bib" * #10 int.to.chr$ * "Error--I was expecting an =--line 1 of file other.bib" * warning$'
+sed -i 's/READ .*/FUNCTION {f} {&} READ EXECUTE {f}/; s/READ "x"/"x"/' s.bst
+printf '@misc{j \e[2J 1}\n' >>d.bib
+run_search -explain job
+wants_words "$folder/stdout" 'I was expecting an ='
+! grep -q secret "$folder/stdout" || complaints+=('a line of another file is shown')
+wants_words "$folder/stdout" 'd.bib:2: @misc{j'
+! grep -q $'\e' "$folder/stdout" || complaints+=('a byte steers the terminal')
+end
+
+# A place far inside a line is shown with what stands round it.
+begin explained_long_line
+{
+    printf '@misc{j, note = {'
+    letters 3000 x
+    printf '} 1'
+    letters 3000 y
+    echo '}'
+} >>d.bib
+run_search -explain job
+grep -q '^    d.bib:2: ..*} 1y' "$folder/stdout" || complaints+=("the line is $(grep d.bib: "$folder/stdout" | cut -c 1-300)")
+[ "$(wc -L <"$folder/stdout")" -lt 200 ] || complaints+=('the line was not cut')
+end
+
+# Names outside ASCII are shown as they are.
+begin explained_names_of_letters
+mv d.bib é.bib
+printf '\\citation{ö}\n\\bibdata{é}\n\\bibstyle{s}\n' >job.aux
+printf '@misc{ö, title 1}\n' >é.bib
+run_search -explain job
+wants_words "$folder/stdout" 'é.bib:1: @misc{ö, title 1}'
+wants_words "$folder/stdout" 'in @misc{ö}, which begins at é.bib:1'
+end
+
+# The first thousand messages are explained, in a time that grows with the job.
+begin explained_very_many
+{
+    printf '\\citation{%s}\n' $(seq -f 'nosuch%g' 20000)
+    printf '\\bibdata{d}\n\\bibstyle{s}\n'
+} >job.aux
+seconds=20
+run_search -explain job
+seconds=60
+wants_status 0
+found=$(grep -c '^    job.aux:' "$folder/stdout")
+[ "$found" -eq 1000 ] || complaints+=("$found messages are explained")
+wants_words "$folder/stdout" '19000 more messages'
+[ "$(messages job.blg | wc -l)" -eq 20000 ] || complaints+=("the log has $(messages job.blg | wc -l) messages")
+end
+
+# grows NAME MAKER: a job of the size 4n takes at most some six times as long as one of n, with explanations.
+grows() {
+    begin "explained_in_time_$1"
+    local small large
+    $2 1
+    small=$(cpu_of -explain job)
+    $2 4
+    large=$(cpu_of -explain job)
+    echo "        $small and $large ms"
+    [ "$large" -le $((8 * small + 400)) ] || complaints+=("$small ms, and $large ms where the job is four times as long")
+    end
+}
+
+# cpu_of WORD..: the processor's milliseconds of a run.
+cpu_of() {
+    LD_LIBRARY_PATH=$libraries python3 -c '
+import resource, subprocess, sys
+subprocess.run(["timeout", "-k", "1", "60", *sys.argv[1:]], stdin=subprocess.DEVNULL, stdout=subprocess.DEVNULL, stderr=subprocess.DEVNULL)
+used = resource.getrusage(resource.RUSAGE_CHILDREN)
+print(round(1000 * (used.ru_utime + used.ru_stime)))' "$search" "$@"
+}
+
+# Each of these makes a job of a size: many messages on one line of each kind of file, one long line, messages that are like others, one entry with many fields.
+commas_in_aux() { printf '\\citation{k}\n\\bibstyle{s}\n\\bibdata{d%s}\n' "$(head -c $((20000 * $1)) /dev/zero | tr '\0' ,)" >job.aux; }
+repeats_in_bib() {
+    {
+        printf '@misc{k'
+        printf ', title = {x}%.0s' $(seq $((5000 * $1)))
+        echo '}'
+    } >d.bib
+}
+names_in_style() { printf 'ENTRY {}{}{} FUNCTION {f} {%s}\n' "$(printf ' u%s' $(seq $((5000 * $1))))" >s.bst; }
+lines_of_style() { use_style "FUNCTION {f} {#$((4000 * $1)) {duplicate\$ #0 >} {#1 - #1 \"x\" + pop\$} while\$ pop\$} EXECUTE {f}"; }
+crosses_in_a_line() {
+    use_style "FUNCTION {f} {\"A bad cross reference--entry \" quote\$ * $(printf '"a" quote$ * " refers to entry " * quote$ * * %.0s' $(seq $((2000 * $1)))) warning\$} EXECUTE {f}"
+}
+items_of_database() {
+    cite '*'
+    printf '@misc{k%s, title 1}\n' $(seq $((5000 * $1))) >d.bib
+}
+lines_far_apart() {
+    cite '*'
+    {
+        printf '@misc{a, note = zz}\n'
+        printf '%% a line of nothing\n%.0s' $(seq $((20000 * $1)))
+        printf '@misc{b, note = zz}\n'
+    } >d.bib
+    use_style "FUNCTION {f} {#300 {duplicate\$ #0 >} {#1 - \"x--line 1 of file d.bib\" warning\$ \"x--line $((20000 * $1)) of file d.bib\" warning\$} while\$ pop\$} EXECUTE {f}"
+}
+
+for maker in commas_in_aux repeats_in_bib names_in_style lines_of_style crosses_in_a_line items_of_database lines_far_apart; do
+    grows $maker $maker
+done
+
+# The words are those of RULES, and each mistake of a database has its mark where the reference means it. The front end's reader of logs is built for it.
+library=$(realpath -m "${BTX_LIBRARY:-$sources/crates/btx_c/out}")
+if there_is cargo 'the words of RULES' && [ -f "$library/libbtx_c.a" ]; then
+    begin advice_is_that_of_rules
+    (cd "$sources/front" && BTX_LIBRARY=$library cargo build --quiet --release --offline --locked --example read_log --target-dir target) >built 2>&1 || complaints+=("$(cat built)")
+    reader=$sources/front/target/release/examples/read_log
+    python3 "$here/explanations.py" rules "$reader" >found || complaints+=("$(cat found)")
+    python3 "$here/explanations.py" places "$reader" 300 >found || complaints+=("$(tail -n 20 found)")
+    end
+
+    if has bibtex; then
+        begin marks_are_where_the_original_has_them
+        python3 "$here/explanations.py" original "$program" "$reader" 100 >found || complaints+=("$(tail -n 20 found)")
+        end
+    fi
+else
+    echo 'left out: the words of RULES (without cargo and the library)'
+fi

@@ -1,0 +1,394 @@
+# Nothing of an old list or log is lost: whatever can't be read or written, both stand as they were, and one sentence says what and where.
+
+# wants_said EXPRESSION..: standard error has one line of the front end's own for it, like each of these.
+wants_said() {
+    local expression
+    for expression in "$@"; do
+        wants_error_like "$expression"
+    done
+    [ "$(grep -c '^[a-z-]*: ' "$folder/stderr")" -eq 1 ] || complaints+=("standard error is $(printf '%q' "$(cat "$folder/stderr")")")
+}
+
+begin old_outputs_without_a_job
+rm job.aux
+leave_old
+run_search job
+wants_status 3
+wants_said 'job\.aux' '[Nn]o such file'
+wants_old
+end
+
+begin old_outputs_without_a_folder
+run_search nosuch/job
+wants_status 3
+wants_said 'nosuch/job\.aux' '[Nn]o such file'
+[ ! -e nosuch ] || complaints+=('the folder was made')
+end
+
+# put KIND FILE: in the place of the file stands something else.
+put() {
+    rm -f "$2"
+    case $1 in
+    folder) mkdir "$2" ;;
+    pipe) mkfifo "$2" ;;
+    socket) python3 -c 'import socket, sys; socket.socket(socket.AF_UNIX).bind(sys.argv[1])' "$2" ;;
+    device) ln -s /dev/null "$2" ;;
+    full) ln -s /dev/full "$2" ;;
+    endless) ln -s /dev/zero "$2" ;;
+    nowhere) ln -s nosuch/file "$2" ;;
+    circle) ln -s "$2" "$2" ;;
+    below_a_file) ln -s "s.bst/$2" "$2" ;;
+    esac
+}
+
+for kind in folder pipe socket endless circle below_a_file nowhere; do
+    begin "${kind}_as_job"
+    leave_old
+    put $kind job.aux
+    seconds=10
+    run_search job
+    wants_status 3
+    wants_said 'job\.aux'
+    wants_old
+    end
+done
+
+# An output that can't be written: the other one stays as it was.
+for kind in folder socket full circle below_a_file nowhere; do
+    for output in bbl blg; do
+        begin "${kind}_as_$output"
+        leave_old
+        put $kind "job.$output"
+        run_search job
+        wants_status 6
+        wants_said "job\\.$output"
+        case $kind.$output in
+        # (that a device takes no byte is seen only when it is written, and the log is written first)
+        full.bbl) wants_log job.blg "$first_log" ;;
+        *.bbl) wants_text job.blg $'old log\n' ;;
+        *.blg) wants_text job.bbl $'old list\n' ;;
+        esac
+        wants_clean
+        end
+    done
+done
+
+# What takes each byte is written: a pipe that is read, and a device that keeps nothing.
+begin device_as_list
+put device job.bbl
+run_search job
+wants_status 0
+wants_log job.blg "$first_log"
+end
+
+begin pipe_as_list
+put pipe job.bbl
+cat job.bbl >piped &
+run_search job
+wait $!
+wants_status 0
+wants_text piped $'a\n'
+end
+
+begin pipe_as_log
+put pipe job.blg
+cat job.blg >piped &
+run_search job
+wait $!
+wants_status 0
+wants_log piped "$first_log"
+end
+
+# A style or a database of another kind isn't there: that is an error of the document, and its reason is said.
+for kind in folder socket circle below_a_file nowhere; do
+    for file in s.bst d.bib; do
+        begin "${kind}_as_${file//./_}"
+        put $kind "$file"
+        run_search job
+        wants_status 2
+        wants_words job.blg "I couldn't open $([ $file = s.bst ] && echo style || echo database) file $file"
+        wants_clean
+        end
+    done
+done
+
+# Nothing waits for a pipe or reads a device without end.
+for kind in pipe endless; do
+    for file in s.bst d.bib one.aux; do
+        begin "${kind}_as_${file//./_}"
+        printf '\\@input{one.aux}\n\\citation{k}\n\\bibdata{d}\n\\bibstyle{s}\n' >job.aux
+        : >one.aux
+        put $kind "$file"
+        leave_old
+        seconds=10
+        run_search job
+        [ "$status" -ne 0 ] && [ "$status" -ne 124 ] || complaints+=("the exit status is $status")
+        wants_clean
+        end
+    done
+done
+seconds=60
+
+# What another user may not read or write.
+if another_user; then
+    begin folder_of_another
+    leave_old
+    run_as_another job
+    wants_status 6
+    wants_said 'job\.b[bl][lg]' 'Permission denied'
+    wants_old
+    end
+
+    for output in bbl blg; do
+        begin "${output}_of_another"
+        leave_old
+        chmod 777 .
+        chmod 666 job.bbl job.blg
+        chmod 644 "job.$output"
+        run_as_another job
+        wants_status 6
+        wants_said "job\\.$output" 'Permission denied'
+        wants_old
+        end
+    done
+
+    begin new_outputs_in_a_folder_of_another
+    run_as_another job
+    wants_status 6
+    wants_said 'job\.b[bl][lg]' 'Permission denied'
+    wants_files d.bib job.aux s.bst
+    end
+
+    begin job_of_another
+    chmod 777 .
+    leave_old
+    chmod 666 job.bbl job.blg
+    chmod 600 job.aux
+    run_as_another job
+    wants_status 3
+    wants_said 'job\.aux' 'Permission denied'
+    wants_old
+    end
+
+    for file in s.bst d.bib; do
+        begin "${file//./_}_of_another"
+        chmod 777 .
+        leave_old
+        chmod 666 job.bbl job.blg
+        chmod 600 "$file"
+        run_as_another job
+        wants_status 6
+        wants_said "${file/./\\.}" 'Permission denied'
+        wants_old
+        end
+    done
+else
+    echo 'left out: files of another user (needs root and setpriv)'
+fi
+
+# locked FILE: no one may change the file, where this user may lock it.
+locked() {
+    chattr +i "$1" 2>/dev/null
+}
+
+for output in bbl blg; do
+    begin "locked_$output"
+    leave_old
+    if locked "job.$output"; then
+        run_search job
+        wants_status 6
+        wants_said "job\\.$output" 'not permitted'
+        chattr -i "job.$output"
+        wants_old
+    else
+        echo 'left out: a locked file (without chattr, or on this file system)'
+    fi
+    end
+
+    # The output is a program that runs: it can't be written.
+    begin "running_program_as_$output"
+    leave_old
+    cp "$(command -v sleep)" "job.$output"
+    chmod +x "job.$output"
+    "./job.$output" 20 &
+    sleeper=$!
+    run_search job
+    kill $sleeper
+    wait $sleeper 2>/dev/null || true
+    wants_status 6
+    wants_said "job\\.$output" 'Text file busy'
+    cmp -s "$(command -v sleep)" "job.$output" || complaints+=('the program was written over')
+    end
+done
+
+# mounted WORD..: a small file system stands in the folder disk, where this user may mount one.
+mounted() {
+    mkdir disk
+    mount -t tmpfs -o "$1" tmpfs disk 2>/dev/null || {
+        echo 'left out: a disk of its own (this user may not mount one)'
+        return 1
+    }
+}
+
+begin full_disk
+if mounted size=64k; then
+    cp job.aux d.bib s.bst disk
+    cd disk
+    leave_old
+    head -c 100000 /dev/zero >filler 2>/dev/null || true
+    printf '%s\n' 'ENTRY {}{}{} READ' 'FUNCTION {f} {{#1} {"a line of the list" write$ newline$} while$}' 'EXECUTE {f}' >../s.bst
+    BSTINPUTS=.. BIBINPUTS=.. run_search -budget=100000 job
+    wants_status 6
+    wants_said 'job\.b[bl][lg]' 'No space left'
+    wants_whole_or_old "$(yes 'a line of the list' | head -n 20000)"
+    cd ..
+    umount disk
+fi
+end
+
+begin read_only_disk
+if mounted size=64k; then
+    cp job.aux d.bib s.bst disk
+    cd disk
+    leave_old
+    mount -o remount,ro tmpfs . 2>/dev/null
+    run_search job
+    wants_status 6
+    wants_said 'job\.b[bl][lg]' 'Read-only file system'
+    wants_old
+    cd ..
+    umount disk
+fi
+end
+
+begin full_temporary_folder
+if mounted size=4k; then
+    head -c 10000 /dev/zero >disk/filler 2>/dev/null || true
+    leave_old
+    TMPDIR=$PWD/disk run_search job
+    wants_first job
+    umount disk
+fi
+end
+
+begin no_temporary_folder
+TMPDIR=/nosuch run_search job
+wants_first job
+end
+
+# No file may have more than so many bytes.
+begin limit_of_file_size
+leave_old
+use_style 'FUNCTION {f} {{#1} {"a line of the list" write$ newline$} while$} EXECUTE {f}'
+status=0
+(
+    trap '' XFSZ
+    ulimit -f 8
+    LD_LIBRARY_PATH=$libraries exec timeout 60 "$search" -budget=100000 job </dev/null
+) >/dev/null 2>"$folder/stderr" || status=$?
+wants_status 6
+wants_said 'job\.bbl' 'File too large'
+wants_whole_or_old "$(yes 'a line of the list' | head -n 20000)"
+end
+
+# A call that fails, whichever it is.
+gcc -O2 -Wall -Werror -shared -fPIC -o "$room/fail_write.so" "$here/fail_write.c" -ldl
+
+# fail_at NUMBER [WORD]: runs the job with that call failing; with a WORD the write is a half one.
+fail_at() {
+    status=0
+    env LD_LIBRARY_PATH="$libraries" LD_PRELOAD="$room/fail_write.so" FAIL_AT="$1" FAIL_NOTE="$folder/met" ${2+"FAIL_HALF=$2"} \
+        timeout 60 "$search" job </dev/null >"$folder/stdout" 2>"$folder/stderr" || status=$?
+}
+
+for half in '' half; do
+    for at in {1..12}; do
+        begin "failing_call_${half}_$at"
+        leave_old
+        fail_at "$at" $half
+        if [ -e "$folder/met" ]; then
+            wants_status 6
+            wants_said 'job\.b[bl][lg]' 'No space left'
+            wants_whole_or_old $'a\n'
+        else
+            wants_status 0
+            echo "        $((at - 1)) calls"
+            end
+            break
+        fi
+        end
+    done
+done
+
+# Memory is refused: the old list stands, or the new one's beginning.
+begin limits_of_memory
+use_style 'FUNCTION {f} {{#1} {"a line of the list" write$ newline$} while$} EXECUTE {f}'
+for kilobytes in 3000 5000 8000 12000 20000 40000 80000; do
+    leave_old
+    status=0
+    (
+        ulimit -v "$kilobytes"
+        LD_LIBRARY_PATH=$libraries exec timeout 60 "$search" -budget=100000 job </dev/null
+    ) >"$folder/stdout" 2>"$folder/stderr" || status=$?
+    case $status in
+    4 | 5 | 127) wants_whole_or_old "$(yes 'a line of the list' | head -n 30000)" ;;
+    *) complaints+=("with $kilobytes KB the exit status is $status: $(head -c 300 "$folder/stderr")") ;;
+    esac
+done
+end
+
+# Who may read and write the outputs is what the system says of new files, and of old ones what it was; links stay links.
+begin modes_of_the_outputs
+umask 027
+echo 'old list' >old.bbl
+cp job.aux old.aux
+chmod 606 old.bbl
+run_search job
+run_search old
+umask 022
+[ "$(stat -c %a job.bbl job.blg old.bbl | tr '\n' ' ')" = '640 640 606 ' ] || complaints+=("the modes are $(stat -c %a job.bbl job.blg old.bbl)")
+wants_text old.bbl $'a\n'
+end
+
+begin outputs_through_links
+ln -s kept.bbl job.bbl
+echo 'old log' >kept.blg
+ln -s kept.blg job.blg
+run_search job
+wants_first job
+[ -L job.bbl ] && [ -L job.blg ] || complaints+=('a link was replaced')
+end
+
+begin outputs_of_two_names
+leave_old
+ln job.bbl other
+run_search job
+wants_first job
+wants_text other $'a\n'
+end
+
+# The new list is shorter than the old one.
+begin shorter_list
+letters 100000 x >job.bbl
+letters 100000 x >job.blg
+run_search job
+wants_first job
+[ "$(stat -c %s job.blg)" -lt 1000 ] || complaints+=('the log has what the old one had')
+end
+
+# What a run that ends early leaves.
+begin old_list_of_a_stopped_run
+leave_old
+run_search -budget=0 job
+wants_status 4
+wants_text job.bbl ''
+! grep -q 'old log' job.blg || complaints+=('the old log is left')
+end
+
+begin old_list_without_a_style
+leave_old
+rm s.bst
+run_search job
+wants_status 2
+wants_text job.bbl ''
+end
