@@ -1,21 +1,32 @@
 # make            proves the program and builds it; prints each crate as it is done, with the minutes so far
-# make check      the whole gate: every proof, test and end-to-end check from nothing
-# make install    puts the program, the scripts beside it and their man pages below PREFIX (DESTDIR before it, where a package is made).
-#                 The program is installed as NAME, so that it doesn't hide TeX's own bibtex: contrib/README.md says why
+# make library    proves and builds the library for C, library/out; make install-library installs it alone
+# make wheel      builds the package for Python with the library in it, python/dist; it needs make library, and Python's setuptools and wheel
+# make front      builds the front end, front/out/bibtex-search and front/out/bibtex-confined, over the proved library; it needs cargo
+# make install    puts the program, the front end, their man pages, completion, the documents and, where it is built, the library below PREFIX
+#                 (DESTDIR before it, where a package is made). The program is installed as NAME, so that it doesn't hide TeX's own bibtex:
+#                 contrib/README.md says why
 # make uninstall  takes them away again
+# make check      the whole gate: every proof, test and end-to-end check from nothing
 # make book       weaves the book of definitions, docs/book/out/book.html and book.md, and checks it; it needs no kit
 
 PREFIX = /usr/local
 DESTDIR =
 NAME = bibtex-proved
 bin = $(DESTDIR)$(PREFIX)/bin
-man = $(DESTDIR)$(PREFIX)/share/man/man1
+share = $(DESTDIR)$(PREFIX)/share
+man = $(share)/man/man1
+doc = $(share)/doc/bibtex-proved
+bash = $(share)/bash-completion/completions
+zsh = $(share)/zsh/site-functions
+fish = $(share)/fish/vendor_completions.d
 program = crates/bibtex/out/bibtex
-scripts = bibtex-search bibtex-explain bibtex-confined
+front = front/out
 page = $(subst -,\\-,$(NAME))
 title = $(shell printf '%s' '$(page)' | tr a-z A-Z)
+# The commands whose options are completed, beside bibtex-search.
+completed = bibtex-confined bibtex-proved
 
-.PHONY: all check book install uninstall
+.PHONY: all check library wheel front book install install-program install-front install-completion install-documents install-library uninstall
 
 all:
 	contrib/build
@@ -23,17 +34,57 @@ all:
 check:
 	bash .ci/run
 
+library:
+	cd crates/btx_c && rt lib
+	$(MAKE) --no-print-directory -C library
+
+wheel:
+	python/build
+
+front:
+	front/build
+
 book:
 	python3 -B docs/book/make.py
 
-install:
-	@test -x $(program) || { echo 'there is no $(program): run make first' >&2; exit 1; }
+install: install-program install-front install-completion install-documents $(if $(wildcard library/out/libbtx.so.1),install-library)
+
+install-program:
+	@test -x '$(program)' || { echo 'there is no $(program): run make first' >&2; exit 1; }
 	install -d '$(bin)' '$(man)'
-	install -m 755 $(program) '$(bin)/$(NAME)'
-	install -m 755 $(scripts:%=contrib/%) '$(bin)'
+	install -m 755 '$(program)' '$(bin)/$(NAME)'
 	sed -e 's/^\.TH BIBTEX /.TH $(title) /' -e 's/^bibtex \\- /$(page) \\- /' -e 's/^\.B bibtex\( \|$$\)/.B $(page)\1/' docs/bibtex.1 >'$(man)/$(NAME).1'
 	chmod 644 '$(man)/$(NAME).1'
-	install -m 644 $(scripts:%=contrib/%.1) '$(man)'
+
+install-front:
+	@test -x '$(front)/bibtex-search' -a -x '$(front)/bibtex-confined' || { echo 'there is no $(front)/bibtex-search: run make front first' >&2; exit 1; }
+	install -d '$(bin)' '$(man)'
+	install -m 755 '$(front)/bibtex-search' '$(front)/bibtex-confined' '$(bin)'
+	ln -sf bibtex-search '$(bin)/bibtex-explain'
+	install -m 644 docs/bibtex-search.1 docs/bibtex-confined.1 docs/bibtex-explain.1 '$(man)'
+
+install-completion:
+	install -d '$(bash)' '$(zsh)' '$(fish)'
+	install -m 644 contrib/completions/bibtex-search.bash '$(bash)/bibtex-search'
+	install -m 644 contrib/completions/_bibtex-search '$(zsh)'
+	install -m 644 contrib/completions/bibtex-search.fish '$(fish)'
+	for name in $(completed); do ln -sf bibtex-search '$(bash)'/$$name && ln -sf bibtex-search.fish '$(fish)'/$$name.fish || exit 1; done
+
+# The documents stand in the folders that they have in the sources, so that their links work.
+install-documents:
+	install -d '$(doc)/docs' '$(doc)/contrib'
+	install -m 644 README.md CHANGELOG.md '$(doc)'
+	install -m 644 docs/*.md '$(doc)/docs'
+	install -m 644 contrib/README.md '$(doc)/contrib'
+	find examples -type f ! -name '*.pyc' | LC_ALL=C sort | while IFS= read -r file; do install -D -m 644 "$$file" '$(doc)'/"$$file" || exit 1; done
+
+install-library:
+	$(MAKE) --no-print-directory -C library install PREFIX='$(PREFIX)' DESTDIR='$(DESTDIR)'
 
 uninstall:
-	rm -f '$(bin)/$(NAME)' $(scripts:%='$(bin)/%') '$(man)/$(NAME).1' $(scripts:%='$(man)/%.1')
+	rm -f '$(bin)/$(NAME)' '$(bin)/bibtex-search' '$(bin)/bibtex-confined' '$(bin)/bibtex-explain'
+	rm -f '$(man)/$(NAME).1' '$(man)/bibtex-search.1' '$(man)/bibtex-confined.1' '$(man)/bibtex-explain.1'
+	rm -f '$(bash)/bibtex-search' '$(zsh)/_bibtex-search' '$(fish)/bibtex-search.fish'
+	for name in $(completed); do rm -f '$(bash)'/$$name '$(fish)'/$$name.fish; done
+	rm -rf '$(doc)'
+	if test -f library/Makefile; then $(MAKE) --no-print-directory -C library uninstall PREFIX='$(PREFIX)' DESTDIR='$(DESTDIR)'; fi

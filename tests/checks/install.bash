@@ -1,15 +1,19 @@
 # What `make install` puts where, and the man page.
 
-# make_there WORD..: make in the sources, with the check's folder as DESTDIR.
+# make_there WORD..: make in the sources, with the check's folder as DESTDIR. Scripts stand for the front end, which this check needs no cargo for.
 make_there() {
+    mkdir -p "$folder/front"
+    printf '#!/bin/sh\n' | tee "$folder/front/bibtex-search" >"$folder/front/bibtex-confined"
+    chmod +x "$folder"/front/*
     status=0
-    make -C "$here/.." --no-print-directory program="$program" PREFIX=/usr DESTDIR="$folder/root" "$@" </dev/null >"$folder/stdout" 2>"$folder/stderr" || status=$?
+    make -C "$here/.." --no-print-directory program="$program" front="$folder/front" PREFIX=/usr DESTDIR="$folder/root" "$@" \
+        </dev/null >"$folder/stdout" 2>"$folder/stderr" || status=$?
 }
 
-# wants_installed NAME..: these files stand below DESTDIR, and no other.
+# wants_installed NAME..: these files and links stand below DESTDIR, beside documents and the library, and no other.
 wants_installed() {
     local found
-    found=$(cd "$folder/root" 2>/dev/null && find . -type f | LC_ALL=C sort | tr '\n' ' ') || true
+    found=$(cd "$folder/root" 2>/dev/null && find . ! -type d | grep -v '^\./usr/\(share/doc\|share/man/man3\|lib\|include\)/' | LC_ALL=C sort | tr '\n' ' ') || true
     [ "$found" = "${*:+$* }" ] || complaints+=("installed are '$found', not '$*'")
 }
 
@@ -19,17 +23,36 @@ if command -v make >/dev/null; then
     wants_status 0
     wants_error ''
     wants_installed ./usr/bin/bibtex-confined ./usr/bin/bibtex-explain ./usr/bin/bibtex-proved ./usr/bin/bibtex-search \
+        ./usr/share/bash-completion/completions/bibtex-confined ./usr/share/bash-completion/completions/bibtex-proved \
+        ./usr/share/bash-completion/completions/bibtex-search \
+        ./usr/share/fish/vendor_completions.d/bibtex-confined.fish ./usr/share/fish/vendor_completions.d/bibtex-proved.fish \
+        ./usr/share/fish/vendor_completions.d/bibtex-search.fish \
         ./usr/share/man/man1/bibtex-confined.1 ./usr/share/man/man1/bibtex-explain.1 ./usr/share/man/man1/bibtex-proved.1 \
-        ./usr/share/man/man1/bibtex-search.1
+        ./usr/share/man/man1/bibtex-search.1 ./usr/share/zsh/site-functions/_bibtex-search
     cmp -s "$folder/root/usr/bin/bibtex-proved" "$program" || complaints+=('the installed program is another')
-    [ -x "$folder/root/usr/bin/bibtex-proved" ] || complaints+=('the installed program may not be run')
+    for name in proved search explain confined; do
+        [ -x "$folder/root/usr/bin/bibtex-$name" ] || complaints+=("the installed bibtex-$name may not be run")
+    done
+    for link in $(find "$folder/root" -xtype l); do
+        complaints+=("the link $link leads nowhere")
+    done
     grep -q '^\.TH BIBTEX\\-PROVED ' "$folder/root/usr/share/man/man1/bibtex-proved.1" || complaints+=('the page has another name')
+    for file in README.md CHANGELOG.md docs/RULES.md contrib/README.md examples/first/job.aux; do
+        cmp -s "$here/../$file" "$folder/root/usr/share/doc/bibtex-proved/$file" || complaints+=("there is no document $file")
+    done
     end
 
     begin install_without_a_program
     make_there program=/nosuch/bibtex install
     wants_status 2
     wants_error_with 'there is no /nosuch/bibtex: run make first'
+    wants_installed
+    end
+
+    begin install_without_a_front_end
+    make_there front=/nosuch install-front
+    wants_status 2
+    wants_error_with 'there is no /nosuch/bibtex-search: run make front first'
     wants_installed
     end
 
@@ -40,11 +63,19 @@ if command -v make >/dev/null; then
     cmp -s "$folder/root/usr/share/man/man1/bibtex.1" "$here/../docs/bibtex.1" || complaints+=('the page is another')
     end
 
+    begin installed_below_a_name_with_spaces
+    make_there install DESTDIR="$folder/two words"
+    wants_status 0
+    [ -x "$folder/two words/usr/bin/bibtex-search" ] && [ -f "$folder/two words/usr/share/doc/bibtex-proved/examples/first/job.aux" ] ||
+        complaints+=('there is no program, or no document')
+    end
+
     begin uninstalled
     make_there install
     make_there uninstall
     wants_status 0
     wants_installed
+    [ -z "$(find "$folder/root" ! -type d)" ] || complaints+=("there is $(find "$folder/root" ! -type d)")
     end
 else
     echo 'left out: make install (there is no make)'

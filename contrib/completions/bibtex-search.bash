@@ -1,0 +1,61 @@
+# Completion in bash for bibtex-search, bibtex-confined and bibtex-proved: options, their values, and jobs.
+
+# _bibtex_options COMMAND: the names of its options, those with a value with a `=` behind them.
+_bibtex_options() {
+    local kept='min-crossrefs= text= line= entry-max= global-max= help version'
+    case $1 in
+    bibtex-search) echo "$kept terse explain no-explain explain-only budget= log-room= list-room=" ;;
+    bibtex-confined)
+        echo "$kept limit-memory= limit-aux= limit-input= limit-output= limit-processor= limit-clock= limit-steps= limit-names="
+        ;;
+    *) echo "$kept budget= dir= terse" ;;
+    esac
+}
+
+# _bibtex_option_at_cursor: the name of the option whose value is written, if it is one. (bash cuts words at a `=`.)
+_bibtex_option_at_cursor() {
+    local at=$COMP_CWORD
+    [ "${COMP_WORDS[at]}" = = ] || at=$((at - 1))
+    [ "${COMP_WORDS[at]}" != = ] || at=$((at - 1))
+    case ${COMP_WORDS[at]} in
+    --*) echo "${COMP_WORDS[at]#--}" ;;
+    -*) echo "${COMP_WORDS[at]#-}" ;;
+    esac
+}
+
+# _bibtex_complete KIND WORD [WORDS]: completes a word to files or folders, or to one of the words.
+_bibtex_complete() {
+    case $1 in
+    jobs)
+        compopt -o filenames
+        mapfile -t COMPREPLY < <(compgen -f -X '!*.aux' -- "$2"; compgen -d -- "$2")
+        ;;
+    folders)
+        compopt -o filenames
+        mapfile -t COMPREPLY < <(compgen -d -- "$2")
+        ;;
+    words)
+        mapfile -t COMPREPLY < <(compgen -W "$3" -- "$2")
+        [[ ${#COMPREPLY[@]} -ne 1 || ${COMPREPLY[0]} != *= ]] || compopt -o nospace
+        ;;
+    esac
+}
+
+_bibtex() {
+    local command=${1##*/} word=${COMP_WORDS[COMP_CWORD]} option options hyphens=--
+    [ "$word" != = ] || word=
+    COMPREPLY=()
+    option=$(_bibtex_option_at_cursor)
+    options=$(_bibtex_options "$command")
+    [[ " $options " = *" $option= "* ]] || option=
+    [[ $command != bibtex-search || $word = --* ]] || hyphens=-
+    case $option:$word in
+    text:*) _bibtex_complete words "$word" 'bytes utf8' ;;
+    dir:*) _bibtex_complete folders "$word" ;;
+    ?*:*) ;;
+    :-*) _bibtex_complete words "$word" "$hyphens${options// / $hyphens}" ;;
+    *) _bibtex_complete jobs "$word" ;;
+    esac
+}
+
+complete -F _bibtex bibtex-search bibtex-confined bibtex-proved
