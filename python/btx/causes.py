@@ -1,0 +1,104 @@
+"""What two reference lists differ in, and why, where that can be seen."""
+
+from __future__ import annotations
+
+import enum
+import re
+from typing import Dict, List, NamedTuple, Optional
+
+from .messages import Kind
+from .results import End, Result
+
+__all__ = ["Cause", "Difference", "cause_of", "first_difference"]
+
+ITEM = re.compile(rb"^(?=\\(?:bib|harvard)item|\\entry\{)", re.MULTILINE)
+KEY = re.compile(rb"\\(?:bib|harvard)item\s*(?:\[(?:[^\]{]|\{(?:[^{}]|\{[^{}]*\})*\})*\])?\s*\{([^}]*)\}|\\entry\{([^}]*)\}")
+LONGEST_SHOWN = 160
+CUT = re.compile(r"string of [0-9]+ bytes cut to [0-9]+")
+
+
+class Cause(enum.Enum):
+    """Why two lists differ, as far as that can be seen from them and from the log."""
+
+    STOPPED = "the run was stopped by its budget"
+    LIMIT = "the run met a limit"
+    CUT = "a string was cut to what a variable keeps"
+    LINE_ENDS = "the ends of the lines alone"
+    SPACES = "white space alone"
+    DATABASE = "a database wasn't found"
+    ORDER = "the order of the items"
+    STYLE = "an error of the style was logged"
+    ITEMS = "the text of some items"
+    KEYS = "other items"
+    OTHER = "the text between the items"
+
+
+class Difference(NamedTuple):
+    """The first line in which two lists differ, counted from 1, and both sides of it; None where a list has no such line."""
+
+    line: int
+    here: Optional[str]
+    there: Optional[str]
+
+
+def first_difference(here: bytes, there: bytes) -> Difference:
+    """The first line in which two texts that aren't equal differ."""
+    ours, theirs = here.split(b"\n"), there.split(b"\n")
+    for number, (one, other) in enumerate(zip(ours, theirs), 1):
+        if one != other:
+            return Difference(number, shown(one), shown(other))
+    number = min(len(ours), len(theirs))
+    return Difference(number + 1, shown_at(ours, number), shown_at(theirs, number))
+
+
+def shown_at(lines: List[bytes], place: int) -> Optional[str]:
+    return shown(lines[place]) if place < len(lines) else None
+
+
+def shown(line: bytes) -> str:
+    """A line as it may be printed: whatever steers a terminal is a question mark, and a long one is cut."""
+    text = line.decode("utf8", "replace")
+    text = "".join(character if character.isprintable() else "?" for character in text[: LONGEST_SHOWN + 1])
+    return text if len(text) <= LONGEST_SHOWN else text[:LONGEST_SHOWN] + "..."
+
+
+def cause_of(result: Result, there: bytes) -> Cause:
+    """Why the list of a run differs from another list."""
+    here = result.bbl
+    if result.report.end is End.STOPPED:
+        return Cause.STOPPED
+    if result.report.end is not End.FINISHED:
+        return Cause.LIMIT
+    if here.replace(b"\r\n", b"\n") == there.replace(b"\r\n", b"\n"):
+        return Cause.LINE_ENDS
+    if here.split() == there.split():
+        return Cause.SPACES
+    if any(message.kind is Kind.ERROR and message.text.startswith("I couldn't open database file") for message in result.messages):
+        return Cause.DATABASE
+    ours, theirs = items_of(here), items_of(there)
+    if ours.keys() != theirs.keys():
+        return Cause.KEYS
+    if ours == theirs and list(ours) == list(theirs):
+        return Cause.OTHER
+    return cause_of_items(result) or (Cause.ORDER if list(ours) != list(theirs) else Cause.ITEMS)
+
+
+def cause_of_items(result: Result) -> Optional[Cause]:
+    """Why items of the same keys differ or stand in another order, if the log says it."""
+    messages = result.messages
+    if any(message.kind is Kind.WARNING and CUT.match(message.text) for message in messages):
+        return Cause.CUT
+    if any(message.kind is Kind.ERROR and (message.function or (message.file or "").endswith(".bst")) for message in messages):
+        return Cause.STYLE
+    return None
+
+
+def items_of(text: bytes) -> Dict[bytes, bytes]:
+    """The items of a list by their keys, each with white space squeezed, in their order."""
+    items: Dict[bytes, bytes] = {}
+    for part in ITEM.split(text)[1:]:
+        found = KEY.match(part)
+        key = (found[1] or found[2] or b"") if found else part[:40]
+        body = part.split(b"\\end{thebibliography}")[0]
+        items[key] = items.get(key, b"") + b" ".join(body.split())
+    return items

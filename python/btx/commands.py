@@ -1,0 +1,38 @@
+"""What the commands of `python3 -m btx` have in common."""
+
+from __future__ import annotations
+
+import argparse
+import io
+import os
+import sys
+from typing import NoReturn
+
+__all__ = ["STATUS_REFUSED", "Words", "broken_pipe", "prints_any_text"]
+
+STATUS_REFUSED = 1
+# What a shell says of a program that SIGPIPE ended.
+STATUS_PIPE = 141
+
+
+class Words(argparse.ArgumentParser):
+    """A parser that ends with the program's status for a refused command line."""
+
+    def error(self, message: str) -> NoReturn:
+        self.print_usage(sys.stderr)
+        self.exit(STATUS_REFUSED, f"{self.prog}: {message}\n")
+
+
+def prints_any_text() -> None:
+    """Has characters that the terminal's encoding lacks printed as escapes."""
+    for stream in (sys.stdout, sys.stderr):
+        if isinstance(stream, io.TextIOWrapper):
+            stream.reconfigure(errors="backslashreplace")
+
+
+def broken_pipe() -> int:
+    """The status when nobody reads the output any more. What is still to be printed goes nowhere."""
+    nowhere = os.open(os.devnull, os.O_WRONLY)
+    os.dup2(nowhere, 1)
+    os.close(nowhere)
+    return STATUS_PIPE

@@ -1,0 +1,269 @@
+"""`python3 -m btx compare`: would my papers come out the same?
+
+Finds each `.aux` file with a `.bbl` beside it, runs it in this process's library with TeX's search paths and TeX Live's limits, and compares
+the reference list with the one that is there, or with what a program writes in a copy. Nothing in the folders is changed."""
+
+from __future__ import annotations
+
+import argparse
+import contextlib
+import functools
+import math
+import os
+import pathlib
+import shutil
+import subprocess
+import sys
+import tempfile
+import threading
+from dataclasses import replace
+from typing import Dict, Iterator, List, Optional, Tuple, Union
+
+from .causes import cause_of, first_difference
+from .commands import STATUS_REFUSED, Words, broken_pipe
+from .corpus import Job, found_jobs
+from .jobs import run
+from .messages import Kind
+from .options import RANGES, Options
+from .refusals import Refusal
+from .reports import Compared, Progress, Resumed, Table, shown
+from .results import End, Result
+from .searching import Search, found_search
+from .workers import Ended, side_by_side
+
+__all__ = ["main"]
+
+BUDGET = 100_000_000
+SECONDS = 60.0
+STATUS_DIFFERENT = 2
+STATUS_INTERRUPTED = 130
+
+
+def parser() -> argparse.ArgumentParser:
+    result = Words(prog="python3 -m btx compare", description="Compares the reference lists of old jobs with those that they get now.")
+    result.add_argument("folders", metavar="FOLDER", nargs="+", help="each .aux file with a .bbl beside it below these folders is a job")
+    result.add_argument("--with", dest="program", metavar="PROGRAM", help="compare with what PROGRAM writes in a copy, not with the .bbl that is there")
+    result.add_argument("--budget", type=budget, default=BUDGET, metavar="N", help=f"how many steps a style may take ({BUDGET:,})")
+    result.add_argument("--time-limit", type=time_limit, default=SECONDS, metavar="S", help=f"how many seconds a job may take ({SECONDS:g})")
+    result.add_argument("--processes", type=processes, default=os.cpu_count() or 1, metavar="N", help="how many jobs are run side by side")
+    result.add_argument("--json", action="store_true", help="print the results as JSON")
+    result.add_argument("--html", type=pathlib.Path, metavar="REPORT", help="write a page with the results")
+    result.add_argument("--resume", type=pathlib.Path, metavar="FILE", help="keep results in FILE, and take from there those of jobs whose .aux and .bbl haven't changed")
+    return result
+
+
+def budget(word: str) -> int:
+    """A number of steps, as Options has it."""
+    least, most = RANGES["budget"]
+    return whole_number(word, least, most)
+
+
+def processes(word: str) -> int:
+    return whole_number(word, 1, 1000)
+
+
+def whole_number(word: str, least: int, most: int) -> int:
+    if not (word.isascii() and word.isdigit() and len(word) <= 20 and least <= int(word) <= most):
+        raise argparse.ArgumentTypeError(f"a whole number from {least} to {most} is wanted, and not {word!r}")
+    return int(word)
+
+
+def time_limit(word: str) -> float:
+    """A number of seconds that isn't 0."""
+    try:
+        seconds = float(word)
+    except ValueError:
+        seconds = 0.0
+    if not 0 < seconds < math.inf:
+        raise argparse.ArgumentTypeError(f"a number of seconds is wanted, and not {word!r}")
+    return seconds
+
+
+def main(words: List[str]) -> int:
+    """Compares, and answers the exit status: 0 where all lists are equal, 2 where some differ, 130 where it was interrupted, 1 where the command
+    is refused, a folder can't be read or a file can't be written."""
+    given = parser().parse_args(words)
+    program = shutil.which(given.program) if given.program else None
+    if given.program and program is None:
+        return complain(f"there is no program {given.program}")
+    table = Table()
+    try:
+        status = compare_all(given, program and os.path.abspath(program), table)
+    except KeyboardInterrupt:
+        status = STATUS_INTERRUPTED
+    except BrokenPipeError:
+        return broken_pipe()
+    except OSError as error:
+        status = complain(str(error))
+    try:
+        table.end(given.json)
+        if given.html is not None:
+            table.write_page(given.html)
+    except BrokenPipeError:
+        return broken_pipe()
+    except OSError as error:
+        return complain(str(error))
+    return STATUS_DIFFERENT if status == 0 and table.differs() else status
+
+
+def complain(text: str) -> int:
+    print(f"btx compare: {shown(text)}", file=sys.stderr)
+    return STATUS_REFUSED
+
+
+def compare_all(given: argparse.Namespace, program: Optional[str], table: Table) -> int:
+    """Compares all jobs; each result goes into the table as it comes. Answers 1 if a folder couldn't be read, and 0 otherwise."""
+    refused: List[str] = []
+    jobs = found_jobs(map(os.fsencode, given.folders), refused.append)
+    for text in refused:
+        complain(text)
+    conditions = conditions_of(given, program)
+    with Resumed(given.resume, conditions) as kept, Progress(len(jobs), given.json) as progress:
+        left = []
+        for job in jobs:
+            earlier = kept.result(job)
+            if earlier is None:
+                left.append(job)
+            else:
+                progress.add(earlier)
+                table.add(earlier)
+        for job, result in compared_side_by_side(left, given, program):
+            kept.keep(job, result)
+            table.add(result)
+            progress.add(result)
+    return STATUS_REFUSED if refused else 0
+
+
+def conditions_of(given: argparse.Namespace, program: Optional[str]) -> Dict[str, object]:
+    """What the results depend on besides the jobs: those of other conditions aren't taken again."""
+    changed = os.stat(program).st_mtime_ns if program else None
+    return {"program": program, "changed": changed, "budget": given.budget}
+
+
+def compared_side_by_side(jobs: List[Job], given: argparse.Namespace, program: Optional[str]) -> Iterator[Tuple[Job, Compared]]:
+    """The result of each job, as it comes. The processes and their temporary files are gone at the end, however it ends."""
+    with tempfile.TemporaryDirectory(prefix="btx-") as room:
+        work = functools.partial(compared, budget=given.budget, program=program, seconds=given.time_limit, room=room)
+        seconds = given.time_limit * (2 if program else 1) + 1
+        with contextlib.closing(side_by_side(jobs, work, given.processes, seconds)) as answers:
+            for job, answer in answers:
+                yield job, result_of(job, answer)
+
+
+def result_of(job: Job, answer: object) -> Compared:
+    """The result of a job: what was answered, or why there was no answer."""
+    if isinstance(answer, Compared):
+        return answer
+    return not_run(job, answer.why if isinstance(answer, Ended) else repr(answer))
+
+
+@functools.lru_cache(maxsize=None)
+def search() -> Search:
+    """TeX's search, made once in each process."""
+    return found_search()
+
+
+def search_here() -> Search:
+    """TeX's search from the present folder. It remembers which folders lie below another one, so where it is to look below the present folder, one
+    is made for each job."""
+    return found_search() if search().looks_below_here() else search()
+
+
+# A process has one present folder, and TeX's search is one for all of its threads.
+ONE_AT_A_TIME = threading.Lock()
+
+
+def compared(job: Job, budget: int, program: Optional[str], seconds: float, room: Optional[str] = None) -> Union[Compared, Ended]:
+    """What comes of one job; whatever goes wrong in it is its own result. Where the program takes longer than so many seconds, an Ended says so,
+    since what it started may still run. Copies are made in `room`, which is where temporary files are if none is named."""
+    with ONE_AT_A_TIME:
+        try:
+            os.chdir(job.folder)
+            here = search_here()
+            return compared_here(job, here, replace(here.options(Options()), budget=budget), program, seconds, room)
+        except subprocess.TimeoutExpired:
+            return Ended(f"{program} took longer than {counted(seconds)}")
+        except (OSError, Refusal, MemoryError, RecursionError, subprocess.SubprocessError) as error:
+            return not_run(job, str(error) or "no memory")
+
+
+def counted(seconds: float) -> str:
+    return f"{seconds:g} second" + ("" if seconds == 1 else "s")
+
+
+def compared_here(job: Job, here: Search, options: Options, program: Optional[str], seconds: float, room: Optional[str]) -> Compared:
+    """What comes of a job in whose folder this process is."""
+    found: Dict[str, bytes] = {}
+
+    def content(name: str) -> Optional[bytes]:
+        bytes_there = here.content(name)
+        if bytes_there is not None:
+            found[name] = bytes_there
+        return bytes_there
+
+    result = run(job.name, content, options)
+    reason = why_not_run(result)
+    if reason is not None:
+        return not_run(job, reason)
+    if program is None:
+        there = pathlib.Path(os.fsdecode(job.name + b".bbl")).read_bytes()
+    else:
+        with tempfile.TemporaryDirectory(dir=room) as copy:
+            there = list_of(program, job, found, seconds, pathlib.Path(copy))
+    if result.bbl == there:
+        return Compared(job.shown(), "equal", "")
+    line, ours, other = first_difference(result.bbl, there)
+    return Compared(job.shown(), "different", cause_of(result, there).value, line, ours, other)
+
+
+def why_not_run(result: Result) -> Optional[str]:
+    """Why a job gives no list that could be compared, if so."""
+    if result.report.end is End.NO_TOP_FILE:
+        return "the .aux file can't be read"
+    for message in result.messages:
+        if message.kind is Kind.ERROR and message.text.startswith(("I found no \\bib", "I couldn't open style file")):
+            return message.text
+    return None
+
+
+def not_run(job: Job, reason: str) -> Compared:
+    return Compared(job.shown(), "not run", reason)
+
+
+def list_of(program: str, job: Job, found: Dict[str, bytes], seconds: float, copy: pathlib.Path) -> bytes:
+    """What a program writes for a job in the folder `copy`, where it finds the files that the job's run has found. What it prints is dropped."""
+    folder = copied(found, copy)
+    name = job.name if not job.name.startswith(b"-") else b"./" + job.name
+    done = subprocess.run(
+        [program, name],
+        cwd=folder,
+        env=searches_here_first(),
+        stdin=subprocess.DEVNULL,
+        stdout=subprocess.DEVNULL,
+        stderr=subprocess.DEVNULL,
+        timeout=seconds,
+    )
+    if done.returncode < 0:
+        raise OSError(f"{program} was ended by signal {-done.returncode}")
+    path = folder / os.fsdecode(job.name + b".bbl")
+    if not path.is_file():
+        raise OSError(f"{program} wrote no list (status {done.returncode})")
+    return path.read_bytes()
+
+
+def copied(found: Dict[str, bytes], copy: pathlib.Path) -> pathlib.Path:
+    """Writes the files whose names aren't absolute below `copy`, and answers the folder in it from which each has its name. Names that lead upwards
+    by `..` stay in `copy`, since that folder lies as deep as they lead."""
+    names = [name for name in found if not name.startswith("/")]
+    folder = copy.joinpath(*["d"] * max((os.path.normpath(name).split("/").count("..") for name in names), default=0))
+    folder.mkdir(parents=True, exist_ok=True)
+    for name in names:
+        path = folder / name
+        path.parent.mkdir(parents=True, exist_ok=True)
+        path.write_bytes(found[name])
+    return folder
+
+
+def searches_here_first() -> Dict[str, str]:
+    """The environment in which a program of TeX's finds styles and databases in its own folder first, and then where it always does."""
+    return {**os.environ, **{name: ".:" + os.environ.get(name, "") for name in ("BIBINPUTS", "BSTINPUTS")}}

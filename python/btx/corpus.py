@@ -1,0 +1,111 @@
+"""Which jobs there are below some folders."""
+
+from __future__ import annotations
+
+import os
+import re
+from dataclasses import dataclass
+from typing import Callable, Dict, FrozenSet, Iterable, List, Optional, Set
+
+__all__ = ["Job", "found_jobs", "state_of"]
+
+INCLUDED = re.compile(rb"^\\@input\{([^}\n]*)\}", re.MULTILINE)
+NAMES_A_STYLE = re.compile(rb"^\\bibstyle\{", re.MULTILINE)
+# An `.aux` file that is longer is taken for a job without being looked through.
+LONGEST = 100_000_000
+
+
+@dataclass(frozen=True)
+class Job:
+    """An `.aux` file with a `.bbl` beside it.
+
+    folder: where BibTeX is run. name: the job's name there, without `.aux`. Both are bytes, as the system has them."""
+
+    folder: bytes
+    name: bytes
+
+    @property
+    def path(self) -> bytes:
+        """The job's files without their endings."""
+        return os.path.normpath(os.path.join(self.folder, self.name))
+
+    def shown(self) -> str:
+        return os.fsdecode(self.path)
+
+
+@dataclass(frozen=True)
+class Scanned:
+    """What an `.aux` file says of other jobs: the paths of the files that it includes, and whether it names a style."""
+
+    includes: FrozenSet[bytes]
+    names_a_style: bool
+
+
+def found_jobs(folders: Iterable[bytes], complain: Callable[[str], None]) -> List[Job]:
+    """The jobs below these folders, in the order of their paths.
+
+    An `.aux` file that another one includes is no job of its own, unless it names a style: then it is a chapter with a list of its own, and is
+    run where the other one is. A folder that can't be read is told to `complain`."""
+    files = sorted(aux_files(folders, complain))
+    scanned = {path: scanned_file(path) for path in files}
+    includers = includers_of(scanned)
+    jobs = []
+    for path in files:
+        if not os.path.isfile(path[:-4] + b".bbl"):
+            continue
+        includer = includers.get(path)
+        if includer is None:
+            jobs.append(Job(os.path.dirname(path), os.path.basename(path)[:-4]))
+        elif scanned[path].names_a_style:
+            folder = os.path.dirname(includer)
+            jobs.append(Job(folder, os.path.relpath(path, folder)[:-4]))
+    return jobs
+
+
+def aux_files(folders: Iterable[bytes], complain: Callable[[str], None]) -> Set[bytes]:
+    """All `.aux` files below the folders, links to folders not followed."""
+    found: Set[bytes] = set()
+    for folder in folders:
+        if os.path.isfile(folder) and folder.endswith(b".aux"):
+            found.add(os.path.abspath(folder))
+            continue
+        for root, _, names in os.walk(os.path.abspath(folder), onerror=lambda error: complain(str(error))):
+            found.update(os.path.join(root, name) for name in names if name.endswith(b".aux"))
+    return found
+
+
+def scanned_file(path: bytes) -> Scanned:
+    """What an `.aux` file says: nothing, if it can't be read or is far too long."""
+    try:
+        if not os.path.isfile(path) or os.path.getsize(path) > LONGEST:
+            return Scanned(frozenset(), False)
+        with open(path, "rb") as file:
+            text = file.read()
+    except OSError:
+        return Scanned(frozenset(), False)
+    return Scanned(frozenset(included_by(path, text)), NAMES_A_STYLE.search(text) is not None)
+
+
+def includers_of(scanned: Dict[bytes, Scanned]) -> Dict[bytes, bytes]:
+    """For each `.aux` file that another one includes the first that does so. Two that include each other are both taken for jobs."""
+    found: Dict[bytes, bytes] = {}
+    for path, its in scanned.items():
+        for included in its.includes:
+            if included in scanned and path not in scanned[included].includes:
+                found.setdefault(included, path)
+    return found
+
+
+def included_by(path: bytes, text: bytes) -> Set[bytes]:
+    """The paths of the files that this one includes."""
+    folder = os.path.dirname(path)
+    return {os.path.normpath(os.path.join(folder, name)) for name in INCLUDED.findall(text) if b"\0" not in name}
+
+
+def state_of(job: Job) -> Optional[str]:
+    """What changes when a job's `.aux` or `.bbl` does."""
+    try:
+        parts = [os.stat(job.path + ending) for ending in (b".aux", b".bbl")]
+    except OSError:
+        return None
+    return " ".join(f"{part.st_size} {part.st_mtime_ns}" for part in parts)

@@ -1,0 +1,123 @@
+"""Runs of jobs."""
+
+from __future__ import annotations
+
+import os
+import pathlib
+from typing import Callable, Dict, List, Mapping, Optional, Union
+
+from . import library
+from .options import Options
+from .refusals import FinderRefused, NameRefused
+from .results import Result
+
+__all__ = ["Content", "Files", "Finder", "Name", "in_folder", "needs", "run", "run_in"]
+
+# A name of a job or a file: bytes, or text whose bytes are UTF-8 (`surrogateescape` for those that aren't, as in Python's file names).
+Name = Union[str, bytes]
+# The bytes of a file, or None where there is no file of that name.
+Content = Optional[bytes]
+Finder = Callable[[str], Content]
+Files = Union[Mapping[str, Content], Mapping[bytes, Content], Mapping[Name, Content], Finder]
+
+
+def run(job: Name, files: Files, options: Optional[Options] = None) -> Result:
+    """Runs a job: finds the files that it needs, and has its style executed.
+
+    job: the name of the job, which is that of its `.aux` file with or without `.aux`.
+    files: a mapping from names to bytes, or a function that gives the bytes of the file of a name, or None where there is none. A name
+    is asked for once: `paper.aux`, `plain.bst`, `refs.bib`. What isn't in a mapping isn't there.
+    options: Options() where nothing is said.
+
+    A run that is stopped or that meets a limit has a result. Raises a Refusal: OptionRefused, NameRefused, FinderRefused, MemoryRefused,
+    OutputTooLong. What `files` raises is passed on. Calls in several threads run side by side; nothing is kept between calls."""
+    chosen = Options() if options is None else options
+    if not isinstance(chosen, Options):
+        raise TypeError(f"options are Options, and not {chosen!r}")
+    name = job_name(job)
+    finder = files if callable(files) else finder_over(files)
+    known: Dict[bytes, Content] = {}
+    while True:
+        new = library.needed_names(name, known)
+        if not new:
+            return library.run_over(name, known, chosen)
+        for asked in new:
+            known[asked] = content_of(finder, asked)
+
+
+def run_in(folder: Union[str, "os.PathLike[str]"], job: Name, options: Optional[Options] = None) -> Result:
+    """Runs a job over the files of a folder, and writes nothing. A file that isn't there counts as missing; one that can't be read raises OSError.
+
+    As with BibTeX, a job's files may name files outside of the folder, with `..` or from the root: of a job that nobody trusts hand the files in."""
+    return run(job, in_folder(folder), options)
+
+
+def needs(job: Name, files: Union[Mapping[str, Content], Mapping[bytes, Content], Mapping[Name, Content]]) -> List[str]:
+    """The names of the files that the job needs of which nothing is said yet, each once; of a file that isn't there None is said.
+
+    The first answer is the `.aux` file of the job alone. When it answers nothing, all that a run needs is known."""
+    known = {name: checked(content, name) for name, content in given_files(files).items()}
+    return [name_text(name) for name in library.needed_names(job_name(job), known)]
+
+
+def in_folder(folder: Union[str, "os.PathLike[str]"]) -> Finder:
+    """A finder over the files of a folder."""
+    root = pathlib.Path(folder)
+
+    def found(name: str) -> Content:
+        try:
+            return (root / name).read_bytes()
+        except (FileNotFoundError, IsADirectoryError, NotADirectoryError, ValueError):
+            return None
+
+    return found
+
+
+def finder_over(files: Union[Mapping[str, Content], Mapping[bytes, Content], Mapping[Name, Content]]) -> Finder:
+    """A finder over a mapping, whose names may be text or bytes."""
+    given = given_files(files)
+    return lambda name: given.get(name_bytes(name))
+
+
+def given_files(files: Union[Mapping[str, Content], Mapping[bytes, Content], Mapping[Name, Content]]) -> Dict[bytes, Content]:
+    """The contents of a mapping by the bytes of their names."""
+    if not isinstance(files, Mapping):
+        raise FinderRefused(f"files are a mapping or a function, and not {type(files).__name__}")
+    return {name_bytes(name): content for name, content in files.items()}
+
+
+def content_of(finder: Finder, name: bytes) -> Content:
+    return checked(finder(name_text(name)), name)
+
+
+def checked(content: Content, name: bytes) -> Content:
+    """What was handed in for a file, if it can be one."""
+    if content is None or isinstance(content, bytes):
+        return content
+    if isinstance(content, (bytearray, memoryview)):
+        return bytes(content)
+    raise FinderRefused(f"the file {name_text(name)} is bytes or None, and not {type(content).__name__}")
+
+
+def job_name(job: Name) -> bytes:
+    """The bytes of a job's name; the library tells names by lines, so none has a line end."""
+    name = name_bytes(job)
+    if b"\n" in name:
+        raise NameRefused(f"the name of a job has no line end, and {job!r} has one")
+    return name
+
+
+def name_bytes(name: Name) -> bytes:
+    """The bytes of a name."""
+    if isinstance(name, bytes):
+        return name
+    if not isinstance(name, str):
+        raise NameRefused(f"a name is text or bytes, and not {type(name).__name__}")
+    try:
+        return name.encode("utf8", "surrogateescape")
+    except UnicodeEncodeError as error:
+        raise NameRefused(f"the name {name!r} has a surrogate that stands for no byte") from error
+
+
+def name_text(name: bytes) -> str:
+    return name.decode("utf8", "surrogateescape")

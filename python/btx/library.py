@@ -1,0 +1,171 @@
+"""The calls of libbtx.so.1, by ctypes. Its header, library/btx.h, says what each takes and answers.
+
+ctypes hands the memory of Python's bytes objects to the library as it is, so nothing is copied on the way in, and lets other threads of the
+interpreter run during a call."""
+
+from __future__ import annotations
+
+import ctypes
+import mmap
+import os
+import pathlib
+from typing import List, Mapping, Optional, Tuple
+
+from .options import Options
+from .refusals import FileUnknown, LibraryMissing, MemoryRefused, OutputTooLong, Refusal
+from .results import End, Report, Result
+
+__all__ = ["needed_names", "run_over"]
+
+# What is said of each file: its bytes, or None where there is no such file.
+Known = Mapping[bytes, Optional[bytes]]
+
+DONE, REFUSED, MEMORY, ASKS, FULL, ENDS = range(6)
+# How many bytes of names are asked for at first, of outputs at least.
+FIRST_NAMES = 4096
+LEAST_ROOM = 1 << 16
+
+
+class Text(ctypes.Structure):
+    _fields_ = [("at", ctypes.c_char_p), ("len", ctypes.c_size_t)]
+
+
+class File(ctypes.Structure):
+    _fields_ = [("name", Text), ("bytes", Text), ("is_there", ctypes.c_bool)]
+
+
+class Asked(ctypes.Structure):
+    _fields_ = [
+        ("budget", ctypes.c_uint64),
+        ("min_crossrefs", ctypes.c_uint32),
+        ("line", ctypes.c_uint32),
+        ("entry_max", ctypes.c_uint32),
+        ("global_max", ctypes.c_uint32),
+        ("utf8", ctypes.c_bool),
+    ]
+
+
+class Answered(ctypes.Structure):
+    _fields_ = [
+        ("status", ctypes.c_uint32),
+        ("end", ctypes.c_uint32),
+        ("steps", ctypes.c_uint64),
+        ("deepest", ctypes.c_uint64),
+        ("warnings", ctypes.c_uint64),
+        ("errors", ctypes.c_uint64),
+        ("list_len", ctypes.c_size_t),
+        ("log_len", ctypes.c_size_t),
+    ]
+
+
+def found_library() -> ctypes.CDLL:
+    """The library: the file that BTX_LIBRARY names, the one that lies in this package, or the system's."""
+    beside = pathlib.Path(__file__).parent / "libbtx.so.1"
+    path = os.environ.get("BTX_LIBRARY") or (str(beside) if beside.exists() else "libbtx.so.1")
+    try:
+        library = ctypes.CDLL(path)
+        needs, run = library.btx_needs, library.btx_run
+    except (OSError, AttributeError) as error:
+        raise LibraryMissing(f"the library of BibTeX, proved, can't be loaded: {error}") from error
+    needs.restype = run.restype = ctypes.c_uint32
+    size = ctypes.c_size_t
+    text, files, room = (ctypes.c_char_p, size), (ctypes.POINTER(File), size), (ctypes.c_void_p, size)
+    needs.argtypes = (*text, *files, *room, ctypes.POINTER(size))
+    run.argtypes = (*text, *files, ctypes.POINTER(Asked), *room, *room, ctypes.POINTER(Answered))
+    return library
+
+
+LIBRARY = found_library()
+
+
+class Room:
+    """Memory for an output. It takes what is written into it and no more: pages that nothing touches cost nothing."""
+
+    def __init__(self, wanted: int) -> None:
+        size = max(wanted, LEAST_ROOM)
+        while True:
+            try:
+                self.memory = mmap.mmap(-1, size, flags=mmap.MAP_PRIVATE | mmap.MAP_ANONYMOUS)
+                break
+            except (OSError, ValueError, OverflowError) as error:
+                size //= 2
+                if size < LEAST_ROOM:
+                    raise MemoryRefused("there is no memory for an output") from error
+        self.bytes = (ctypes.c_char * size).from_buffer(self.memory)
+        self.size = min(wanted, size)
+
+    def prefix(self, length: int) -> bytes:
+        return self.memory[: min(length, self.size)]
+
+    def close(self) -> None:
+        del self.bytes
+        self.memory.close()
+
+
+def array_of(known: Known) -> ctypes.Array[File]:
+    """The files as the library takes them. The array keeps their bytes alive."""
+    array = (File * max(len(known), 1))()
+    for place, (name, content) in zip(array, known.items()):
+        given = b"" if content is None else content
+        place.name.at, place.name.len = name, len(name)
+        place.bytes.at, place.bytes.len = given, len(given)
+        place.is_there = content is not None
+    return array
+
+
+def refusal_of(answer: int) -> Refusal:
+    """The exception that an answer is which gives no result."""
+    if answer == MEMORY:
+        return MemoryRefused("the library was refused memory")
+    if answer == ASKS:
+        return FileUnknown("the job needs a file of which nothing was said")
+    return Refusal(f"the library answered {answer}")
+
+
+def needed_names(job: bytes, known: Known) -> List[bytes]:
+    """The names of the files that the job needs and of which nothing was said yet."""
+    array, length, room = array_of(known), ctypes.c_size_t(), FIRST_NAMES
+    while True:
+        names = ctypes.create_string_buffer(room)
+        answer = LIBRARY.btx_needs(job, len(job), array, len(known), names, room, ctypes.byref(length))
+        if answer not in (DONE, ENDS):
+            raise refusal_of(answer)
+        if length.value <= room:
+            return names.raw[: length.value].split(b"\n")[:-1]
+        room = length.value
+
+
+def run_over(job: bytes, known: Known, options: Options) -> Result:
+    """Runs the job over these files."""
+    bbl, log = Room(options.most_list), Room(options.most_log)
+    try:
+        answer, answered = call(job, known, options, bbl, log)
+        outputs = bbl.prefix(answered.list_len), log.prefix(answered.log_len)
+    finally:
+        bbl.close()
+        log.close()
+    if answer == FULL:
+        raise OutputTooLong(*outputs)
+    if answer != DONE:
+        raise refusal_of(answer)
+    report = Report(answered.status, End(answered.end), answered.steps, answered.deepest, answered.warnings, answered.errors)
+    return Result(*outputs, report)
+
+
+def call(job: bytes, known: Known, options: Options, bbl: Room, log: Room) -> Tuple[int, Answered]:
+    """The library's answer, and its report."""
+    asked = Asked(options.budget, options.min_crossrefs, options.line, options.entry_max, options.global_max, options.utf8)
+    answered = Answered()
+    answer = LIBRARY.btx_run(
+        job,
+        len(job),
+        array_of(known),
+        len(known),
+        ctypes.byref(asked),
+        ctypes.byref(bbl.bytes),
+        bbl.size,
+        ctypes.byref(log.bytes),
+        log.size,
+        ctypes.byref(answered),
+    )
+    return answer, answered

@@ -1,0 +1,460 @@
+"""`btx compare`: jobs, causes, programs that fail, reports, and that nothing in the folders changes."""
+
+import contextlib
+import fcntl
+import io
+import json
+import os
+import pathlib
+import pty
+import shutil
+import stat
+import struct
+import subprocess
+import sys
+import tempfile
+import termios
+import time
+import unittest
+from unittest import mock
+
+import btx
+from btx import compare
+from btx.causes import Cause, cause_of, first_difference
+from btx.corpus import found_jobs
+from btx.results import End, Report, Result
+from tests.jobs import AUX, EXAMPLES, FILES, STYLE
+
+ENVIRONMENT = {**os.environ, "PYTHONPATH": str(pathlib.Path(btx.__file__).parent.parent)}
+
+
+def result_of(bbl, end=End.FINISHED, log=b""):
+    return Result(bbl, log, Report(0, end, 0, 0, 0, 0))
+
+
+def command_lines():
+    """The words of all processes of this machine."""
+    lines = []
+    for path in pathlib.Path("/proc").glob("[0-9]*/cmdline"):
+        with contextlib.suppress(OSError):
+            lines.append(path.read_bytes().decode("utf8", "replace").split("\0")[:-1])
+    return lines
+
+
+class Causes(unittest.TestCase):
+    def test_each(self):
+        one, two = b"\\bibitem{a}\nOne\n\n", b"\\bibitem{b}\nTwo\n\n"
+        cut = b"Warning--string of 300 bytes cut to 250 while executing := for entry a\n"
+        error = b"Error--You can't pop an empty literal stack while executing pop$ for entry a\n"
+        rows = [
+            (result_of(one, End.STOPPED), two, Cause.STOPPED),
+            (result_of(one, End.LIMIT_CALLS), two, Cause.LIMIT),
+            (result_of(one), one.replace(b"\n", b"\r\n"), Cause.LINE_ENDS),
+            (result_of(one), one.replace(b"\n", b"\n  "), Cause.SPACES),
+            (result_of(one + two), two + one, Cause.ORDER),
+            (result_of(one, log=b"Error--I couldn't open database file d.bib\n"), one + two, Cause.DATABASE),
+            (result_of(one), two, Cause.KEYS),
+            (result_of(one), one + two, Cause.KEYS),
+            (result_of(one), one.replace(b"One", b"Eins"), Cause.ITEMS),
+            (result_of(one, log=cut), one.replace(b"One", b"Eins"), Cause.CUT),
+            (result_of(one, log=error), one.replace(b"One", b"Eins"), Cause.STYLE),
+            (result_of(b"x" + one), b"y" + one, Cause.OTHER),
+            (result_of(b"\\bibitem[{A[1]}]{a} x\n"), b"\\bibitem[{B[2]}]{a} x\n", Cause.ITEMS),
+        ]
+        for result, there, cause in rows:
+            with self.subTest(cause=cause):
+                self.assertEqual(cause_of(result, there), cause)
+
+    def test_first_difference(self):
+        rows = [(b"a\nb\n", b"a\nc\n", (2, "b", "c")), (b"a\n", b"a\nb\n", (2, "", "b")), (b"a", b"a\nb", (2, None, "b")), (b"\x1b[2J\n", b"\n", (1, "?[2J", ""))]
+        for here, there, wanted in rows:
+            with self.subTest(here=here):
+                self.assertEqual(tuple(first_difference(here, there)), wanted)
+
+
+class InFolder(unittest.TestCase):
+    def setUp(self):
+        self.folder = pathlib.Path(tempfile.mkdtemp())
+        self.addCleanup(shutil.rmtree, self.folder, ignore_errors=True)
+
+    def job(self, name, bbl, **files):
+        folder = self.folder / name
+        folder.mkdir(parents=True)
+        for file, content in {**FILES, **files}.items():
+            (folder / file).write_bytes(content)
+        if bbl is not None:
+            (folder / "job.bbl").write_bytes(bbl)
+        return folder
+
+    def compare(self, *words):
+        """The exit status, and what was printed."""
+        printed = io.StringIO()
+        with contextlib.redirect_stdout(printed), contextlib.redirect_stderr(io.StringIO()):
+            status = compare.main([str(self.folder), "--processes", "2", *map(str, words)])
+        return status, printed.getvalue()
+
+    def outcomes(self, *words):
+        results = json.loads(self.compare("--json", *words)[1])["results"]
+        return {pathlib.Path(result["job"]).parent.name: (result["outcome"], result["reason"]) for result in results}
+
+    def program(self, text):
+        path = self.folder / "program"
+        path.write_text(f"#!/bin/sh\n{text}\n")
+        path.chmod(path.stat().st_mode | stat.S_IXUSR)
+        return path
+
+
+class Jobs(InFolder):
+    def test_which_are_found(self):
+        self.job("one", b"k: T\n")
+        self.job("without a list", None)
+        folder = self.job("chapters", b"k: T\n", **{"job.aux": AUX + b"\\@input{ch/a.aux}\n\\@input{job.aux}\n"})
+        (folder / "ch").mkdir()
+        for name in ("a.aux", "a.bbl", "b.aux", "b.bbl"):
+            (folder / "ch" / name).write_bytes(b"\\relax\n")
+        (folder / "job.aux").write_bytes(AUX + b"\\@input{ch/a.aux}\n\\@input{ch/b.aux}\n")
+        (folder / "ch" / "b.aux").write_bytes(AUX)
+        found = {(pathlib.Path(os.fsdecode(job.folder)).name, os.fsdecode(job.name)) for job in found_jobs([os.fsencode(self.folder)], self.fail)}
+        self.assertEqual(found, {("one", "job"), ("chapters", "job"), ("chapters", "ch/b")})
+
+    def test_no_folder(self):
+        said = []
+        self.assertEqual(found_jobs([b"/nonexistent"], said.append), [])
+        self.assertEqual(len(said), 1)
+
+    def test_many_includes_without_an_end(self):
+        self.job("one", b"k: T\n", **{"job.aux": AUX + b"\\@input{\n" * 300_000})
+        began = time.process_time()
+        self.assertEqual(len(found_jobs([os.fsencode(self.folder)], self.fail)), 1)
+        self.assertLess(time.process_time() - began, 5)
+
+    def test_no_jobs(self):
+        status, printed = self.compare()
+        self.assertEqual(status, 0)
+        self.assertIn("0 jobs", printed)
+
+
+class Comparisons(InFolder):
+    def test_outcomes(self):
+        self.job("equal", b"k: T\n")
+        self.job("different", b"k: U\n")
+        self.job("no style", b"", **{"job.aux": b"\\citation{k}\n\\bibdata{d}\n"})
+        self.job("biber", b"", **{"job.aux": b"\\relax\n"})
+        self.job("lost style", b"", **{"job.aux": AUX.replace(b"{s}", b"{lost}")})
+        self.job("loops", b"k: T\n", **{"s.bst": STYLE.replace(b"{cite$", b"{{#1} {skip$} while$ cite$")})
+        self.assertEqual(self.outcomes("--budget", 10_000), {
+            "equal": ("equal", ""),
+            "different": ("different", Cause.OTHER.value),
+            "no style": ("not run", "I found no \\bibstyle command"),
+            "biber": ("not run", "I found no \\bibdata command"),
+            "lost style": ("not run", "I couldn't open style file lost.bst"),
+            "loops": ("different", Cause.STOPPED.value),
+        })
+
+    def test_a_time_limit_counts_from_the_start(self):
+        self.job("loops", b"", **{"s.bst": STYLE.replace(b"{cite$", b"{{#1} {skip$} while$ cite$")})
+        self.job("one", b"k: T\n")
+        began = time.monotonic()
+        outcomes = self.outcomes("--budget", 2**64 - 1, "--time-limit", 1)
+        self.assertLess(time.monotonic() - began, 30)
+        self.assertEqual(outcomes, {"loops": ("not run", "took longer than 2 seconds"), "one": ("equal", "")})
+
+    def test_files_that_are_none(self):
+        for name in ("s.bst", "d.bib", "job.aux"):
+            folder = self.job(name, b"k: T\n")
+            (folder / name).unlink()
+            os.mkfifo(folder / name)
+        began = time.monotonic()
+        self.assertEqual(self.outcomes("--time-limit", 20), {
+            "s.bst": ("not run", "I couldn't open style file s.bst"),
+            "d.bib": ("different", Cause.DATABASE.value),
+            "job.aux": ("not run", "the .aux file can't be read"),
+        })
+        self.assertLess(time.monotonic() - began, 15)
+
+    def test_table_and_status(self):
+        self.job("equal", b"k: T\n")
+        self.assertEqual(self.compare()[0], 0)
+        self.job("different", b"k: U\n")
+        status, printed = self.compare()
+        self.assertEqual(status, 2)
+        self.assertIn("line 1 differs", printed)
+        self.assertIn("'k: T' | 'k: U'", printed)
+
+    def test_examples_are_equal(self):
+        shutil.copytree(EXAMPLES / "article", self.folder / "article")
+        shutil.copytree(EXAMPLES / "cross_reference", self.folder / "cross_reference")
+        self.assertEqual({outcome for outcome, _ in self.outcomes().values()}, {"equal"})
+
+    def test_names_that_are_not_utf8(self):
+        folder = os.fsencode(self.job("odd", b"k: T\n"))
+        os.rename(folder, os.path.join(os.path.dirname(folder), b"odd\xff"))
+        self.assertEqual(self.outcomes(), {"odd\udcff": ("equal", "")})
+
+    @unittest.skipIf(shutil.which("kpsewhich") is None, "there is no TeX")
+    def test_a_search_below_the_present_folder(self):
+        for name in ("one", "two"):
+            folder = self.job(name, b"k: T\n", **{"job.aux": AUX.replace(b"{d}", b"{%s}" % name.encode())})
+            (folder / f"in {name}").mkdir()
+            (folder / "d.bib").rename(folder / f"in {name}" / f"{name}.bib")
+        with mock.patch.dict(os.environ, {"BIBINPUTS": ".//:"}):
+            self.assertEqual(self.outcomes("--processes", 1), {"one": ("equal", ""), "two": ("equal", "")})
+
+    def test_nothing_changes(self):
+        folder = self.job("one", b"k: U\n")
+        before = {path: (path.read_bytes(), path.stat().st_mtime_ns) for path in folder.iterdir()}
+        self.compare("--with", self.program('echo "k: U" >"$1.bbl"; echo >other'))
+        self.assertEqual({path: (path.read_bytes(), path.stat().st_mtime_ns) for path in folder.iterdir()}, before)
+
+    @unittest.skipIf(os.geteuid() == 0, "root may read any file")
+    def test_unreadable(self):
+        (self.job("locked", b"k: T\n") / "d.bib").chmod(0)
+        self.assertEqual(self.outcomes()["locked"][0], "not run")
+
+
+class Programs(InFolder):
+    def test_with(self):
+        self.job("one", b"other\n")
+        self.assertEqual(self.outcomes("--with", self.program('echo "k: T" >"$1.bbl"'))["one"], ("equal", ""))
+        self.assertEqual(self.outcomes("--with", self.program('echo "k: U" >"$1.bbl"'))["one"][0], "different")
+
+    def test_it_gets_the_files(self):
+        self.job("one", b"")
+        self.assertEqual(self.outcomes("--with", self.program('cat s.bst d.bib job.aux >/dev/null && echo "k: T" >"$1.bbl"'))["one"], ("equal", ""))
+
+    def test_programs_that_fail(self):
+        self.job("one", b"")
+        rows = [("kill -SEGV $$", "was ended by signal 11"), ("exit 3", "wrote no list (status 3)"), ("sleep 30", "took longer than 1 second")]
+        for text, reason in rows:
+            with self.subTest(text=text):
+                outcome, said = self.outcomes("--with", self.program(text), "--time-limit", 1)["one"]
+                self.assertEqual(outcome, "not run")
+                self.assertIn(reason, said)
+
+    def test_no_program(self):
+        self.assertEqual(self.compare("--with", "no-such-program")[0], 1)
+
+    def test_a_program_of_the_present_folder(self):
+        self.job("one", b"")
+        path = os.path.relpath(self.program('echo "k: T" >"$1.bbl"'))
+        self.assertEqual(self.outcomes("--with", path)["one"], ("equal", ""))
+
+    def test_it_gets_files_of_folders_above(self):
+        folder = self.job("one", b"", **{"job.aux": AUX.replace(b"{d}", b"{../../d,a/../../e}").replace(b"{s}", b"{sub/s}")})
+        inner = folder / "two" / "three"
+        inner.mkdir(parents=True)
+        (inner / "sub").mkdir()
+        for name, path in (("s.bst", "sub/s.bst"), ("job.aux", "job.aux"), ("job.bbl", "job.bbl")):
+            (folder / name).rename(inner / path)
+        (inner / "a").mkdir()
+        (folder / "two" / "e.bib").write_bytes(b"")
+        script = 'test ! -e ../../job.bbl && cat sub/s.bst ../../d.bib a/../../e.bib >/dev/null && echo "k: T" >"$1.bbl"'
+        self.assertEqual(self.outcomes("--with", self.program(script))["three"], ("equal", ""))
+
+    def test_it_gets_files_found_along_a_path(self):
+        folder = self.job("one", b"")
+        (folder / "in").mkdir()
+        (folder / "d.bib").rename(folder / "in" / "d.bib")
+        script = 'case $BIBINPUTS in .:in:*) cat d.bib >/dev/null && echo "k: T" >"$1.bbl";; esac'
+        with mock.patch.dict(os.environ, {"BIBINPUTS": "in:"}):
+            self.assertEqual(self.outcomes("--with", self.program(script))["one"], ("equal", ""))
+
+    def test_names_that_lead_too_far(self):
+        self.job("up", b"", **{"job.aux": AUX.replace(b"{d}", b"{%sd}" % (b"../" * 1200)), "s.bst": b""})
+        self.job("one", b"")
+        root = os.fsencode(self.folder)[1:]
+        (self.folder / "up" / "job.aux").write_bytes(AUX.replace(b"{d}", b"{%s%s/one/d}" % (b"../" * 1200, root)))
+        outcomes = self.outcomes("--with", self.program('echo "k: T" >"$1.bbl"'))
+        self.assertEqual((outcomes["up"][0], outcomes["one"][0]), ("not run", "equal"))
+        self.assertNotIn("process", outcomes["up"][1])
+
+    def test_a_job_whose_name_looks_like_an_option(self):
+        folder = self.job("one", b"")
+        for ending in (".aux", ".bbl"):
+            (folder / f"job{ending}").rename(folder / f"-job{ending}")
+        self.assertEqual(self.outcomes("--with", self.program('echo "k: T" >"$1.bbl"; [ "$1" = ./-job ]'))["one"], ("equal", ""))
+
+    def test_one_that_floods_and_one_that_leaves_children(self):
+        self.job("one", b"")
+        rows = [('yes & child=$!; sleep 1; kill $child; echo "k: T" >"$1.bbl"', "equal"), ('sleep 61.5 & echo "k: T" >"$1.bbl"', "equal"), ("trap '' TERM INT; sleep 61.5 & sleep 61.5", "not run")]
+        for text, outcome in rows:
+            with self.subTest(text=text):
+                began = time.monotonic()
+                self.assertEqual(self.outcomes("--with", self.program(text), "--time-limit", 3)["one"][0], outcome)
+                self.assertLess(time.monotonic() - began, 20)
+                self.assertFalse([words for words in command_lines() if words == ["sleep", "61.5"]])
+
+
+class Reports(InFolder):
+    def test_page(self):
+        self.job("one", b"<script>\n")
+        page = self.folder / "report.html"
+        self.compare("--html", page)
+        text = page.read_text(encoding="utf8")
+        self.assertIn("&lt;script&gt;", text)
+        self.assertNotIn("<script", text)
+        self.assertIn('name="viewport"', text)
+
+    def test_resume(self):
+        self.job("one", b"k: T\n")
+        self.job("two", b"k: U\n")
+        kept = self.folder / "kept"
+        first = self.outcomes("--resume", kept)
+        lines = kept.read_text().splitlines()
+        self.assertEqual(len(lines), 2)
+        kept.write_text(lines[0] + "\n" + lines[1][:20])
+        self.assertEqual(self.outcomes("--resume", kept), first)
+        self.assertEqual(self.outcomes("--resume", kept), first)
+        self.assertEqual(len(kept.read_text().splitlines()), 3)
+        (self.folder / "two" / "job.bbl").write_bytes(b"k: T\n")
+        self.assertEqual(self.outcomes("--resume", kept)["two"], ("equal", ""))
+
+    def test_resume_under_other_conditions(self):
+        self.job("loops", b"k: T\n", **{"s.bst": STYLE.replace(b"{cite$", b"{#900 {duplicate$ #0 >} {#1 -} while$ pop$ cite$")})
+        kept = self.folder / "kept"
+        self.assertEqual(self.outcomes("--resume", kept, "--budget", 100)["loops"], ("different", Cause.STOPPED.value))
+        self.assertEqual(self.outcomes("--resume", kept)["loops"], ("equal", ""))
+        program = self.program('echo "k: U" >"$1.bbl"')
+        self.assertEqual(self.outcomes("--resume", kept, "--with", program)["loops"][0], "different")
+        self.program('echo "k: T" >"$1.bbl"')
+        self.assertEqual(self.outcomes("--resume", kept, "--with", program)["loops"][0], "equal")
+
+    def test_resume_runs_again_what_was_not_run(self):
+        folder = self.job("one", b"k: T\n")
+        (folder / "s.bst").unlink()
+        kept = self.folder / "kept"
+        self.assertEqual(self.outcomes("--resume", kept)["one"][0], "not run")
+        (folder / "s.bst").write_bytes(STYLE)
+        self.assertEqual(self.outcomes("--resume", kept)["one"], ("equal", ""))
+
+    def test_resume_from_a_spoilt_file(self):
+        self.job("one", b"k: T\n")
+        kept = self.folder / "kept"
+        wanted = self.outcomes("--resume", kept)
+        whole = json.loads(kept.read_text())
+        results = [7, [], {}, {"job": 1}, {**whole["result"], "more": 1}, {**whole["result"], "reason": 5}, {**whole["result"], "outcome": []}, {**whole["result"], "line": "x"}]
+        lines = [json.dumps({**whole, "result": result}) for result in results]
+        for text in (b"\0\xff\n", b"[" * 5000 + b"\n", b"7\n[]\nnull\n", *(line.encode() + b"\n" for line in lines)):
+            with self.subTest(text=text[:40]):
+                kept.write_bytes(text)
+                self.assertEqual(self.outcomes("--resume", kept), wanted)
+
+    def test_files_that_cannot_be_written(self):
+        self.job("one", b"k: T\n")
+        status, printed = self.compare("--html", self.folder / "none" / "page.html")
+        self.assertEqual((status, printed.splitlines()[1]), (1, "       1  equal"))
+        for file in (self.folder, "/dev/zero"):
+            self.assertEqual(self.compare("--resume", file)[0], 1)
+
+    def test_a_folder_that_is_not_there(self):
+        self.job("one", b"k: T\n")
+        with contextlib.redirect_stdout(io.StringIO()) as printed, contextlib.redirect_stderr(io.StringIO()) as complaints:
+            self.assertEqual(compare.main([str(self.folder), str(self.folder / "none")]), 1)
+        self.assertIn("1  equal", printed.getvalue())
+        self.assertIn("No such file", complaints.getvalue())
+
+    def test_refused_words(self):
+        for words in (["--processes", "0"], ["--budget", "-1"], ["--budget", "1e3"], ["--time-limit", "nan"], ["--time-limit", "0"], ["--nonsense"]):
+            with self.subTest(words=words), self.assertRaises(SystemExit) as caught:
+                self.compare(*words)
+            self.assertEqual(caught.exception.code, 1)
+
+    def test_nobody_reads_on(self):
+        for number in range(30):
+            self.job(f"job{number}", b"k: U\n")
+        for words in ([], ["--json"]):
+            with self.subTest(words=words):
+                command = [sys.executable, "-m", "btx", "compare", str(self.folder), "--processes", "2", *words]
+                process = subprocess.Popen(command, env=ENVIRONMENT, stdout=subprocess.PIPE, stderr=subprocess.PIPE)
+                process.stdout.close()
+                self.assertEqual(process.stderr.read(), b"")
+                process.stderr.close()
+                self.assertEqual(process.wait(30), 141)
+
+    def test_an_encoding_without_the_characters(self):
+        self.job("ä\x1b", b"\xc3\xa4 \x1b[2J\n")
+        words = [sys.executable, "-m", "btx", "compare", str(self.folder)]
+        done = subprocess.run(words, env={**ENVIRONMENT, "PYTHONIOENCODING": "ascii"}, capture_output=True, timeout=60)
+        self.assertEqual((done.returncode, done.stderr), (2, b""))
+        self.assertIn(b"\\xe4?", done.stdout)
+        self.assertNotIn(b"\x1b", done.stdout)
+
+    def test_progress_fits_the_terminal(self):
+        reader, writer = pty.openpty()
+        fcntl.ioctl(writer, termios.TIOCSWINSZ, struct.pack("HHHH", 5, 20, 0, 0))
+        self.job("\x1b[2Jodd", b"k: U\n")
+        words = [sys.executable, "-m", "btx", "compare", str(self.folder)]
+        subprocess.run(words, env=ENVIRONMENT, stdout=subprocess.DEVNULL, stderr=writer, timeout=60)
+        os.close(writer)
+        text = os.read(reader, 10_000).decode()
+        os.close(reader)
+        self.assertIn("1 of 1 jobs", text)
+        self.assertNotIn("[2J", text)
+        for line in text.replace("\033[K", "").split("\r"):
+            self.assertLess(len(line), 20)
+
+    def test_a_worker_that_is_killed(self):
+        for number in range(12):
+            self.job(f"job{number}", b"")
+        marker = self.folder / "marker"
+        script = f'echo "k: T" >"$1.bbl"; mkdir {marker} 2>/dev/null && kill -KILL $PPID && sleep 1; :'
+        outcomes = self.outcomes("--with", self.program(script))
+        self.assertEqual(sorted(outcome for outcome, _ in outcomes.values()), ["equal"] * 11 + ["not run"])
+
+    def test_interrupted_with_a_program(self):
+        for number in range(10):
+            self.job(f"job{number}", b"")
+        with tempfile.TemporaryDirectory() as room:
+            words = [sys.executable, "-m", "btx", "compare", str(self.folder), "--processes", "2", "--with", str(self.program("sleep 62.5"))]
+            process = subprocess.Popen(words, env={**ENVIRONMENT, "TMPDIR": room}, stdout=subprocess.PIPE, stderr=subprocess.PIPE)
+            while ["sleep", "62.5"] not in command_lines():
+                time.sleep(0.1)
+            process.send_signal(2)
+            printed, complaints = process.communicate(timeout=30)
+            self.assertEqual((process.returncode, complaints), (130, b""))
+            self.assertIn(b"0 jobs in", printed)
+            self.assertNotIn(["sleep", "62.5"], command_lines())
+            self.assertEqual(os.listdir(room), [])
+
+    def test_interrupted(self):
+        for number in range(40):
+            self.job(f"job{number}", b"k: T\n", **{"s.bst": STYLE.replace(b"{cite$", b"{{#1} {skip$} while$ cite$")})
+        words = [sys.executable, "-m", "btx", "compare", str(self.folder), "--processes", "2", "--budget", "30000000"]
+        process = subprocess.Popen(words, env=ENVIRONMENT, stdout=subprocess.PIPE, stderr=subprocess.DEVNULL, text=True)
+        time.sleep(3)
+        process.send_signal(2)
+        began = time.monotonic()
+        printed = process.communicate(timeout=30)[0]
+        self.assertLess(time.monotonic() - began, 5)
+        self.assertEqual(process.returncode, 130)
+        self.assertIn("jobs in", printed)
+
+
+class Command(InFolder):
+    def command(self, *words):
+        return subprocess.run([sys.executable, "-m", "btx", *words], env=ENVIRONMENT, cwd=self.folder / "one", capture_output=True, timeout=60)
+
+    def test_runs_a_job(self):
+        folder = self.job("one", None)
+        done = self.command("job")
+        self.assertEqual(done.returncode, 0)
+        self.assertEqual((folder / "job.bbl").read_bytes(), b"k: T\n")
+        self.assertEqual((folder / "job.blg").read_bytes(), done.stdout)
+
+    def test_statuses(self):
+        self.job("one", None, **{"d.bib": b"@misc{k, title 1}"})
+        rows = [(["job"], 2), (["none"], 3), (["job", "--budget", "1"], 4), (["--line", "19", "job"], 1), (["--nonsense", "job"], 1), ([], 1), (["--help"], 0)]
+        for words, status in rows:
+            with self.subTest(words=words):
+                self.assertEqual(self.command(*words).returncode, status)
+
+    def test_a_missing_job_changes_nothing(self):
+        folder = self.job("one", None)
+        (folder / "none.bbl").write_bytes(b"old")
+        self.command("none")
+        self.assertEqual((folder / "none.bbl").read_bytes(), b"old")
+        self.assertFalse((folder / "none.blg").exists())
+
+
+if __name__ == "__main__":
+    unittest.main()
