@@ -1,0 +1,79 @@
+"""`btx compare` over a Dask cluster: the jobs below some folders, compared on all machines of the cluster.
+
+    dask-scheduler --host 127.0.0.1 --port 8786
+    dask-worker 127.0.0.1:8786 --nthreads 1          on each machine, as often as it has processors
+    python3 compare.py --scheduler 127.0.0.1:8786 FOLDER..
+
+Each machine needs the package `btx`, TeX, and the folders under the same paths. Jobs share nothing. Those of a worker that is lost are run again by
+another one. What is printed is what `python3 -m btx compare` prints on one machine, in the order of the jobs' names."""
+
+import argparse
+import os
+import sys
+from concurrent.futures import CancelledError
+
+from btx.compare import BUDGET, SECONDS, compared, not_run, result_of
+from btx.corpus import found_jobs
+from btx.reports import Table
+from distributed import Client, as_completed
+
+# How many jobs are one piece of work: a message for each job would take longer than the job.
+JOBS_IN_A_PIECE = 50
+
+
+def compared_piece(jobs, budget, program, seconds):
+    """What comes of some jobs, on a worker."""
+    return [result_of(job, compared(job, budget, program, seconds)) for job in jobs]
+
+
+def words():
+    parser = argparse.ArgumentParser(description="Compares reference lists over a Dask cluster.")
+    parser.add_argument("folders", metavar="FOLDER", nargs="+")
+    parser.add_argument("--scheduler", metavar="ADDRESS", required=True, help="where the scheduler listens: HOST:PORT")
+    parser.add_argument("--with", dest="program", metavar="PROGRAM", help="compare with what PROGRAM writes in a copy")
+    parser.add_argument("--budget", type=int, default=BUDGET, metavar="N")
+    parser.add_argument("--time-limit", type=float, default=SECONDS, metavar="S")
+    return parser.parse_args()
+
+
+def main():
+    given = words()
+    jobs = found_jobs(map(os.fsencode, given.folders), lambda text: print(text, file=sys.stderr))
+    pieces = [jobs[begin:begin + JOBS_IN_A_PIECE] for begin in range(0, len(jobs), JOBS_IN_A_PIECE)]
+    table = Table()
+    with Client(given.scheduler) as client:
+        def ask(piece):
+            # (two pieces with the same jobs are never the same work: a file may have changed)
+            return client.submit(compared_piece, piece, given.budget, given.program, given.time_limit, pure=False)
+
+        asked = {ask(piece): piece for piece in pieces}
+        waited_for = as_completed(asked)
+        for future in waited_for:
+            piece = asked.pop(future)
+            results, alone = results_of(future, piece)
+            for job in alone:
+                again = ask([job])
+                asked[again] = [job]
+                waited_for.add(again)
+            for result in results:
+                table.add(result)
+    for result in sorted(table.results, key=lambda result: result.job):
+        if result.outcome != "equal":
+            print(result)
+    table.end(False)
+    return 2 if table.differs() else 0
+
+
+def results_of(future, piece):
+    """What a piece of work came to, and which of its jobs are to be run alone: where it was lost more often than Dask tries again, all of them, so that
+    one job that ends its worker doesn't take the others with it. Such a job wasn't run."""
+    try:
+        return future.result(), []
+    except (Exception, CancelledError) as error:
+        if len(piece) > 1:
+            return [], piece
+        return [not_run(job, f"its worker was lost: {error}") for job in piece], []
+
+
+if __name__ == "__main__":
+    raise SystemExit(main())
