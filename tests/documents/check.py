@@ -2,7 +2,7 @@
 
     python3 check.py
 
-It reads README.md and the .md files of docs/, .ci/, crates/, tests/, examples/ and contrib/. A table says what its columns hold by their heads. Each
+It reads README.md and the .md files of docs/, .ci/, crates/, tests/, examples/, contrib/, library/, python/ and lua/. A table says what its columns hold by their heads. Each
 failure is a line; the last line is 'N passed, M failed', of citations, and the exit status is 0 only where M is 0. The user's reference also has the
 words that people search for, and README the right sizes, and the version of the kit that `rt version` prints, where there is `rt`.
 
@@ -24,10 +24,10 @@ import places
 
 ROOT = pathlib.Path(__file__).resolve().parents[2]
 DOCUMENTS = sorted(path for pattern in ("README.md", "docs/*.md", "docs/book/README.md", ".ci/*.md", "crates/*/README.md", "crates/*/docs/*.md", "tests/**/*.md",
-                                        "examples/**/*.md", "contrib/*.md") for path in ROOT.glob(pattern))
+                                        "examples/**/*.md", "contrib/*.md", "library/*.md", "python/*.md", "lua/*.md") for path in ROOT.glob(pattern))
 # What a build makes, and no clone has.
-BUILT = re.compile(r"crates/\w+/out\b")
-PATH = re.compile(r"(?<![\w./-])(?:crates|docs|tests|examples|contrib|\.ci|specs|proofs|src)/[\w.*/-]*\w\*?/?")
+BUILT = re.compile(r"(?:crates/\w+|library)/out\b")
+PATH = re.compile(r"(?<![\w./-])(?:crates|docs|tests|examples|contrib|library|\.ci|specs|proofs|src)/[\w.*/-]*\w\*?/?")
 CODE = re.compile(r"`([^`]+)`")
 NAME = re.compile(r"[A-Za-z_]\w*(?:-\w+)*")
 CITED = re.compile(r"[A-Za-z_][\w-]*(?:::[A-Za-z_][\w-]*)*(?:\.antt)?")

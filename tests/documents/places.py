@@ -20,21 +20,21 @@ KINDS = {
     "a default": ("the budget, 1,000,000,000", r"\b1_000_000_000\b|\b1000000000\b|1,000,000,000",
                   ("crates/btx_machine/", "tests/speed/")),
     "an exit status": ("4, the budget was spent", r"\bstatus_(of|at)\b|STATUSES|^Exit status|exit status|\bfn status\b|\| 4 \||[Ss]tatus 4|status = \(4|def status",
-                       ("tests/documents/", "tests/speed/", "tests/wrong_bodies/", "docs/book/", "contrib/build", "contrib/check", "examples/check", ".ci/", "CHANGELOG.md")),
+                       ("tests/documents/", "tests/speed/", "tests/wrong_bodies/", "docs/book/", "contrib/build", "tests/front/", "examples/check", ".ci/", "CHANGELOG.md")),
     "a message": ("is an unknown function", r"is an unknown function|\bUnknown\b",
                   ("crates/btx_command", "tests/reference/wrong_bodies.py", "crates/btx_machine/", "crates/btx_step", "crates/btx_bib")),
     "a count": ("warnings", r"\bwarnings\b", ("crates/btx_step/specs/", "examples/", "CHANGELOG.md")),
     "a field of the report": ("deepest", r"\bdeepest\b", ("crates/btx_step/", "docs/book/chapters.py")),
     "a limit": ("4,096 open bodies", r"\b4096\b|4_096|4,096",
-                ("crates/btx_command_tests/src/directory.rt", "crates/btx_names/", "crates/btx_text/", "crates/btx_bst/", "docs/SERVICES.md")),
+                ("crates/btx_command_tests/src/directory.rt", "crates/btx_names/", "crates/btx_text/", "crates/btx_bst/", "docs/SERVICES.md", "library/")),
     "a function of the language": ("add.period$", r"AddPeriod|\badd_period|add\.period\$", ()),
     "a command of styles": ("REVERSE", r"\bREVERSE\b|\bReverse\b|\"reverse\"", ()),
     "a predefined name": ("sort.key$", r"sort\.key\$|\bsort_key|SORT_KEY", ()),
     "a kind of file": ("a style, .bst", r"\\bibstyle|\"\.bst\"|The style file|couldn't open style", ("CHANGELOG.md",)),
 }
 # What a file is, by its path: the first that fits.
-SORTS = (("documents", re.compile(r"\.md$|\.1$|^docs/")), ("tests", re.compile(r"^tests/|^examples/|_tests/|/wrong-bodies/|/must-fail/|/checks/|/stdout$")),
-         ("definitions", re.compile(r"/specs/")), ("proofs", re.compile(r"/proofs/")), ("code", re.compile(r"^crates/\w+/src/")), ("scripts", re.compile("")))
+SORTS = (("documents", re.compile(r"\.md$|\.[13]$|^docs/")), ("tests", re.compile(r"^tests/|^examples/|^library/tests/|^python/tests/|_tests/|/wrong-bodies/|/must-fail/|/checks/|/stdout$")),
+         ("definitions", re.compile(r"/specs/")), ("proofs", re.compile(r"/proofs/")), ("code", re.compile(r"^crates/\w+/src/|^front/src/")), ("scripts", re.compile("")))
 ORDER = ("code", "definitions", "proofs", "tests", "documents", "scripts")
 
 
@@ -43,7 +43,7 @@ def texts():
     """The project's own files with their texts, but for this one and the table itself."""
     found = {}
     for folder, inner, names in os.walk(ROOT):
-        inner[:] = [name for name in inner if name not in (".git", "out", "__pycache__")]
+        inner[:] = [name for name in inner if name not in (".git", "out", "target", "__pycache__")]
         for path in (pathlib.Path(folder) / name for name in names):
             name = str(path.relative_to(ROOT))
             if name not in ("tests/documents/places.py", "docs/ARCHITECTURE.md"):
