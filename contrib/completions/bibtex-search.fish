@@ -15,7 +15,7 @@ for command in bibtex-search bibtex-confined bibtex-proved
         set form o
     end
     complete -c $command -f -a '(__fish_complete_suffix .aux)'
-    __bibtex_option $command $form min-crossrefs 'List a parent that so many entries name' 2
+    __bibtex_option $command $form min-crossrefs 'List a parent that this number of entries name' 2
     __bibtex_option $command $form text 'How text is read' bytes utf8
     __bibtex_option $command $form line 'The length of a line of the list' 79
     __bibtex_option $command $form entry-max 'Bytes of a variable of an entry' 500

@@ -2,7 +2,7 @@
 //!
 //!     read_log shapes|explain [--terse] [--width N] FOLDER JOB
 //!
-//! reads FOLDER/JOB.blg and the files that it names, in FOLDER. With `--width` explanations are for a terminal of so many columns.
+//! reads FOLDER/JOB.blg and the files that it names, in FOLDER. With `--width` explanations are for a terminal of N columns.
 
 use bibtex_front::job::{File, Files};
 use bibtex_front::log::{Content, Log};

@@ -7,7 +7,7 @@
 //! | module | what |
 //! |---|---|
 //! | [`words`] | the words of the command line |
-//! | [`limits`] | the numbers, and what the system is told of them |
+//! | [`limits`] | the numbers, and how they are set for a process |
 //! | [`names`] | the names that an `.aux` file gives |
 //! | [`files`] | the look at the job's files, before the run |
 //! | [`output`] | the list and the log |

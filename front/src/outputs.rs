@@ -52,7 +52,7 @@ impl Output {
         Ok(Output { file: Some(file), has_room: 512 * data.blocks(), made, ..unopened(number) })
     }
 
-    /// Makes sure that the disk has room for so many bytes.
+    /// Makes sure that the disk has room for `len` bytes.
     fn reserve(&self, len: usize) -> io::Result<()> {
         match &self.file {
             Some(file) if self.number.is_some() => reserve(file, len as u64, self.has_room),

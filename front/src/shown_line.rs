@@ -76,7 +76,7 @@ fn first_of_character(line: &[u8], from: usize) -> usize {
     if inside < LONGEST_CHARACTER { from + inside } else { from }
 }
 
-/// The beginning of a text that takes at most so many columns.
+/// The longest prefix of a text that takes at most `most` columns.
 pub fn first_columns(text: &str, most: usize) -> &str {
     let mut taken = 0;
     let end = text.char_indices().find(|(_, character)| {
@@ -86,7 +86,7 @@ pub fn first_columns(text: &str, most: usize) -> &str {
     &text[..end.map_or(text.len(), |(at, _)| at)]
 }
 
-/// The end of a text that takes at most so many columns.
+/// The longest suffix of a text that takes at most `most` columns.
 fn last_columns(text: &str, most: usize) -> &str {
     let mut taken = 0;
     let before = text.char_indices().rev().find(|(_, character)| {

@@ -403,7 +403,7 @@ pub enum Resource {
     Memory = 9,
 }
 
-/// Limits this process, and those that it begins: past `soft` it is told, and past `hard` it is ended or refused. A limit is never raised.
+/// Limits this process, and those that it begins: past `soft` a process gets a signal, and past `hard` it is ended or refused. A limit is never raised.
 pub fn limit(resource: Resource, soft: u64, hard: u64) -> io::Result<()> {
     let mut old = Limit { soft: 0, hard: 0 };
     // SAFETY: the limit is written to a valid place.
@@ -449,7 +449,7 @@ pub fn reserve(file: &impl AsRawFd, len: u64, has_room: u64) -> io::Result<()> {
     if matches!(fault.raw_os_error(), Some(NO_SPACE | NO_QUOTA)) { Err(fault) } else { Ok(()) }
 }
 
-/// So many zeros, as long as they are only read: then they take no memory. None where memory is refused.
+/// `len` zeros. As long as they are only read they take no memory. None if memory is refused.
 pub fn zeros(len: usize) -> Option<Vec<u8>> {
     let layout = Layout::array::<u8>(len).ok().filter(|_| len > 0)?;
     // SAFETY: the layout has bytes.

@@ -1,4 +1,4 @@
-//! Logs and files of any bytes: nothing breaks off, and no message is lost or told twice.
+//! Logs and files of any bytes: nothing breaks off, and no message is lost or printed twice.
 //!
 //! `ODD_LOGS=N` is how many jobs are made.
 

@@ -51,7 +51,7 @@ static void check_run(const job *its, const btx_options *options, const outcome 
     free_outcome(&one);
 }
 
-/* Whether btx_needs, of which request `number` is refused, has made so many requests. */
+/* Whether btx_needs, whose request for memory number `number` is refused, has made that request. */
 static int check_needs(const job *its, size_t known, long number) {
     unsigned char names[4096];
     size_t len = 77;

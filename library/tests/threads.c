@@ -1,4 +1,4 @@
-/* threads TIMES FOLDER JOB [FOLDER JOB]..: four threads run the jobs beside one another, each so many times and each beginning with another job, and
+/* threads TIMES FOLDER JOB [FOLDER JOB]..: four threads run the jobs beside one another, each TIMES times and each beginning with another job, and
    compare list, log and report with those of a first run. */
 #include "jobs.h"
 

@@ -174,7 +174,7 @@ ONE_AT_A_TIME = threading.Lock()
 
 
 def compared(job: Job, budget: int, program: Optional[str], seconds: float, room: Optional[str] = None) -> Union[Compared, Ended]:
-    """What comes of one job; whatever goes wrong in it is its own result. Where the program takes longer than so many seconds, an Ended says so,
+    """What comes of one job; whatever goes wrong in it is its own result. Where the program takes longer than `seconds`, an Ended says so,
     since what it started may still run. Copies are made in `room`, which is where temporary files are if none is named."""
     with ONE_AT_A_TIME:
         try:

@@ -45,7 +45,7 @@ def found_jobs(folders: Iterable[bytes], complain: Callable[[str], None]) -> Lis
     """The jobs below these folders, in the order of their paths.
 
     An `.aux` file that another one includes is no job of its own, unless it names a style: then it is a chapter with a list of its own, and is
-    run where the other one is. A folder that can't be read is told to `complain`."""
+    run where the other one is. `complain` gets the reason why a folder can't be read."""
     files = sorted(aux_files(folders, complain))
     scanned = {path: scanned_file(path) for path in files}
     includers = includers_of(scanned)

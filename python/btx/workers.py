@@ -45,7 +45,7 @@ class Worker(Generic[Task, Done]):
     is_ready: bool = False
 
     def is_late(self, seconds: float) -> bool:
-        """Whether its task takes longer than so many seconds, or the process as long as none needs to start."""
+        """Whether its task takes longer than `seconds`, or the process as long as none needs to start."""
         return time.monotonic() - self.began > (seconds if self.is_ready else STARTS_WITHIN)
 
     def end(self) -> None:
@@ -77,7 +77,7 @@ def serve(pipe: Connection, work: Callable[[Task], Done]) -> None:
 
 
 def side_by_side(tasks: Sequence[Task], work: Callable[[Task], Done], processes: int, seconds: float) -> Generator[Tuple[Task, object], None, None]:
-    """What `work` answers for each task, as it comes. A task that takes longer than so many seconds, or whose process ends, has an Ended."""
+    """What `work` answers for each task, as it comes. A task that takes longer than `seconds`, or whose process ends, has an Ended."""
     context = multiprocessing.get_context("spawn")
     left = list(reversed(tasks))
     workers: List[Worker[Task, Done]] = []

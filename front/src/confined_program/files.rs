@@ -34,7 +34,7 @@ pub fn look_at(name: &FileName) -> Result<Option<Metadata>, Stop> {
     Ok(Some(known))
 }
 
-/// A file of this length is taken, under a limit of so many KB.
+/// Refuses a file of `length` bytes that doesn't have less than `most` KB.
 fn check_length(name: &FileName, length: u64, most: u64) -> Result<(), Stop> {
     if length < bytes(most) {
         return Ok(());

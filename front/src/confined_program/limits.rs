@@ -89,7 +89,7 @@ impl Limits {
     }
 }
 
-/// The number of bytes of so many KB.
+/// The bytes in `kilobytes` KB.
 pub fn bytes(kilobytes: u64) -> u64 {
     kilobytes * 1024
 }

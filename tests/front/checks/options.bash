@@ -8,7 +8,7 @@ parents() {
     use_style 'FUNCTION {f} {cite$ write$ newline$} ITERATE {f}'
 }
 
-# beginnings NAME SHORTEST: the name, and what it begins with, down to so many letters.
+# beginnings NAME SHORTEST: the name, and its prefixes, down to SHORTEST letters.
 beginnings() {
     local length
     for ((length = $2; length <= ${#1}; length++)); do

@@ -276,7 +276,7 @@ TMPDIR=/nosuch run_search job
 wants_first job
 end
 
-# No file may have more than so many bytes.
+# The system limits the length of a file.
 begin limit_of_file_size
 leave_old
 use_style 'FUNCTION {f} {{#1} {"a line of the list" write$ newline$} while$} EXECUTE {f}'

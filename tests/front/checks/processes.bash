@@ -92,7 +92,7 @@ wants_status 2
 [ "$(messages many.blg | wc -l)" -eq 20000 ] || complaints+=("the log has $(messages many.blg | wc -l) messages")
 end
 
-# costs FILE SIZE KB: where this file has so many bytes, a run takes at most so much memory.
+# costs FILE SIZE KB: where FILE has SIZE bytes, a run takes at most KB KB of memory.
 costs() {
     begin "memory_of_a_large_${1//./_}_$2"
     truncate -s "$2" "$1"
