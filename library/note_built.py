@@ -3,28 +3,20 @@ note, and without it each of them would be proved anew, one after another. It is
 
     python3 note_built.py"""
 
-import importlib.machinery
-import importlib.util
 import os
 import pathlib
-import shutil
 import sys
 
-
-def load_kit():
-    """The kit's command, as a module."""
-    sys.dont_write_bytecode = True
-    loader = importlib.machinery.SourceFileLoader("rt", os.path.realpath(shutil.which("rt")))
-    kit = importlib.util.module_from_spec(importlib.util.spec_from_loader("rt", loader))
-    loader.exec_module(kit)
-    return kit
+ROOT = pathlib.Path(__file__).resolve().parents[1]
+sys.path.insert(0, str(ROOT / "tests/wrong_bodies"))
+from plant import load_kit  # noqa: E402
 
 
 def main():
     kit = load_kit()
     kit.rtlib.Crate = kit.Crate
     noted = 0
-    for crate in kit.rtlib.crates_below(str(pathlib.Path(__file__).resolve().parents[1])):
+    for crate in kit.rtlib.crates_below(str(ROOT)):
         if not crate.is_program and not crate.is_static and os.path.isdir(crate.rlib):
             pathlib.Path(crate.folder, "out/rlib/stamp").write_text(crate.stamp(), encoding="utf8")
             noted += 1
