@@ -4,11 +4,13 @@
 
 It reads README.md and the .md files of docs/, .ci/, crates/, tests/, examples/, contrib/, library/, python/ and lua/. A table says what its columns hold by their heads. Each
 failure is a line; the last line is 'N passed, M failed', of citations, and the exit status is 0 only where M is 0. The user's reference also has the
-words that people search for, and README the right sizes, and the version of the kit that `rt version` prints, where there is `rt`.
+words that people search for, and README the right sizes; and where there is `rt`, README names the kit that `rt version` prints among those that the program is
+proved with.
 
 Each crate has a README with the parts that one looks for. It names each wrong body of its crate, and its examples of Rattle are lines of the file that it
 says, in the file's order (a line `..` stands for what is left out). docs/PROOFS.md has an index of the promises of each crate with wrong bodies.
-The table at the end of docs/ARCHITECTURE.md, of what a change touches, has the files and numbers that places.py finds.
+The table at the end of docs/ARCHITECTURE.md, of what a change touches, has the files and numbers that places.py finds. Each recipe of docs/CONTRIBUTING.md that has
+an example names the files of code and definitions that have it, and no others. Names are as that document says.
 
 The table of crates in .ci/README.md has each crate's numbers of functions and of wrong bodies, right within a tenth or two.
 
@@ -45,6 +47,11 @@ FUNCTION = re.compile(r"(?m)^ *(?:pub(?:\([^)]*\))? )?(?:const |unsafe |extern )
 TEST_MODULE = re.compile(r"(?m)^#\[cfg\(test\)\]\n(?:pub )?mod (\w+);$")
 TESTS_IN_PLACE = re.compile(r"(?m)^#\[cfg\(test\)\]\nmod \w+ \{")
 FENCED = re.compile(r"```.*?```", re.S)
+# The recipes of docs/CONTRIBUTING.md that have an example, with its kind in places.py.
+RECIPES = {"A message": "a message", "An option": "an option", "A built-in function": "a function of the language"}
+# The name of a lemma or of a definition, where it is declared; and how many lemmas may have names that break the rule: those that are older.
+DECLARED = re.compile(r"(?m)^(?:(?:abbrev|pub|unfoldable|abstract|data|record) )*([A-Za-z][\w'-]*) :")
+OLDER_NAMES = 80
 # What each crate's README has, by the name of the crate.
 PARTS = ["# `{}`: ", "**Contract in a sentence.** ", "**Read first.** ", "## A call"]
 
@@ -64,6 +71,13 @@ def bodies():
     for path in ROOT.glob("crates/*/*/*.edit"):
         found.setdefault(path.stem, set()).add(path.parts[-3])
     return found
+
+
+@functools.cache
+def words_of(crate):
+    """The words that stand in a crate's code and definitions."""
+    files = [path for folder, ending in (("src", "*.rt"), ("specs", "*.antt")) for path in (ROOT / "crates" / crate / folder).rglob(ending)]
+    return {word for path in files for word in re.findall(r"[A-Za-z_][\w']*", path.read_text(encoding="utf-8"))}
 
 
 @functools.cache
@@ -211,6 +225,37 @@ def changes():
             yield f"docs/ARCHITECTURE.md: {kind}: {number} {sort}, and there are {count}", abs(number - count) <= max(3, count // 10)
 
 
+def recipes():
+    """The recipes with an example: each has all files of code and definitions that name the example, and all that it has of these and of proofs do."""
+    text = (ROOT / "docs/CONTRIBUTING.md").read_text(encoding="utf-8")
+    for heading, kind in RECIPES.items():
+        rows = [line for line in text.split(f"\n### {heading}\n")[1].split("\n## ")[0].split("\n### ")[0].split("\n") if line.startswith("| `")]
+        named, found = {cited for line in rows for cited in PATH.findall(line) + re.findall(r"`(front/[\w/.]+)`", line)}, places.files_of(kind)
+        for name in sorted(name for name in found if places.sort_of(name) in ("code", "definitions")):
+            yield f"docs/CONTRIBUTING.md: {heading}: the recipe hasn't {name}, which names the example", name in named
+        for name in sorted(name for name in named if places.sort_of(name) in ("code", "definitions", "proofs")):
+            yield f"docs/CONTRIBUTING.md: {heading}: {name} doesn't name the example", name in found
+
+
+def declared_in(crate, folder):
+    """The names that files of this folder of a crate declare, those of the goals of functions aside."""
+    files = [path for path in (ROOT / "crates" / crate / folder).rglob("*.antt") if path.name not in ("Answers.antt", "Invariants.antt", "Proof.antt")]
+    return {name for path in files for name in DECLARED.findall(path.read_text(encoding="utf-8"))}
+
+
+def names():
+    """Names as docs/CONTRIBUTING.md says: a `-` stands in lemmas alone, once, behind the whole name of something that there is."""
+    lemmas = {crate: declared_in(crate, "proofs") for crate in crates()}
+    for crate in crates():
+        hyphens = sorted(name for name in declared_in(crate, "specs") if "-" in name)
+        yield f"{crate}: definitions have a `-` in their names: {' '.join(hyphens)}", not hyphens
+    hyphens = sorted(name for name in bodies() if "-" in name)
+    yield f"wrong bodies have a `-` in their names: {' '.join(hyphens)}", not hyphens
+    known = set().union(*lemmas.values(), *(words_of(crate) for crate in crates()))
+    odd = sorted(name for name in set().union(*lemmas.values()) if "-" in name and (name.count("-") > 1 or name.split("-")[0] not in known))
+    yield f"{len(odd)} lemmas aren't named as docs/CONTRIBUTING.md says, and {OLDER_NAMES} are allowed: {' '.join(odd)}", len(odd) <= OLDER_NAMES
+
+
 def functions_of(crate):
     """How many functions stand in a crate's code: without those of its tests, unless the whole crate is tests."""
     texts = {path: path.read_text(encoding="utf-8") for path in (ROOT / "crates" / crate / "src").rglob("*.rt")}
@@ -259,12 +304,13 @@ def wrong_sizes():
 
 
 def wrong_kit():
-    """Of the kit that README says the program is proved with: what is wrong, or None. Nothing where there is no `rt`."""
+    """Of the kits that README says the program is proved with: what is wrong, or None. Nothing where there is no `rt`."""
     if not shutil.which("rt"):
         return []
     version = subprocess.run(["rt", "version"], capture_output=True, text=True, check=True).stdout.strip()
-    said = f"Proved with `{version}`" in (ROOT / "README.md").read_text(encoding="utf-8")
-    return [None if said else f"README.md: it doesn't say that the program is proved with `{version}`, which `rt version` prints"]
+    said = re.search(r"(?m)^Proved with (`[^.]*`)\.", (ROOT / "README.md").read_text(encoding="utf-8"))
+    is_named = bool(said) and version in CODE.findall(said[1])
+    return [None if is_named else f"README.md: `{version}`, which `rt version` prints, isn't among the kits that the program is proved with"]
 
 
 def main():
@@ -277,7 +323,7 @@ def main():
             passed, failed = passed + (wrong is None), failed + (wrong is not None)
             if wrong:
                 print(f"{path.relative_to(ROOT)}, line {number}: `{cited}`: {wrong}")
-    for message, is_right in (*unnamed_bodies(), *missing_parts(), *examples(), *changes(), *gate_numbers()):
+    for message, is_right in (*unnamed_bodies(), *missing_parts(), *examples(), *changes(), *recipes(), *names(), *gate_numbers()):
         passed, failed = passed + is_right, failed + (not is_right)
         if not is_right:
             print(message)

@@ -4,7 +4,7 @@
     python3 tests/documents/places.py KIND     those files, as `places.py 'an option'`
 
 docs/ARCHITECTURE.md ends with a table of these changes. check.py sees that its numbers are still right, up to a tenth or three files, and that each file that it
-names has the example."""
+names has the example. The recipes of docs/CONTRIBUTING.md for some of them have all of its files of code and definitions."""
 
 import functools
 import os
@@ -22,7 +22,7 @@ KINDS = {
     "an exit status": ("4, the budget was spent", r"\bstatus_(of|at)\b|STATUSES|^Exit status|exit status|\bfn status\b|\| 4 \||[Ss]tatus 4|status = \(4|def status",
                        ("tests/documents/", "tests/speed/", "tests/wrong_bodies/", "docs/book/", "contrib/build", "tests/front/", "examples/check", ".ci/", "CHANGELOG.md")),
     "a message": ("is an unknown function", r"is an unknown function|\bUnknown\b",
-                  ("crates/btx_command", "tests/reference/wrong_bodies.py", "crates/btx_machine/", "crates/btx_step", "crates/btx_bib")),
+                  ("crates/btx_command", "tests/reference/wrong_bodies.py", "crates/btx_machine/", "crates/btx_step", "crates/btx_bib", "crates/btx_c/", "crates/btx_check/")),
     "a count": ("warnings", r"\bwarnings\b", ("crates/btx_step/specs/", "examples/", "CHANGELOG.md")),
     "a field of the report": ("deepest", r"\bdeepest\b", ("crates/btx_step/", "docs/book/chapters.py")),
     "a limit": ("4,096 open bodies", r"\b4096\b|4_096|4,096",
@@ -40,13 +40,13 @@ ORDER = ("code", "definitions", "proofs", "tests", "documents", "scripts")
 
 @functools.cache
 def texts():
-    """The project's own files with their texts, but for this one and the table itself."""
+    """The project's own files with their texts, but for this one, the table itself and the recipes."""
     found = {}
     for folder, inner, names in os.walk(ROOT):
         inner[:] = [name for name in inner if name not in (".git", "out", "target", "__pycache__")]
         for path in (pathlib.Path(folder) / name for name in names):
             name = str(path.relative_to(ROOT))
-            if name not in ("tests/documents/places.py", "docs/ARCHITECTURE.md"):
+            if name not in ("tests/documents/places.py", "docs/ARCHITECTURE.md", "docs/CONTRIBUTING.md"):
                 try:
                     found[name] = path.read_text(encoding="utf-8")
                 except UnicodeDecodeError:
