@@ -28,7 +28,7 @@ struct Ran {
     answer: Result<Report, RunFault>,
 }
 
-// What can be asked of a run: of each option what the program takes where no word says otherwise, but a small budget.
+// What can be asked of a run: each option as the program has it by default, but a small budget, and text that is read as UTF-8.
 fn options() -> Options {
     Options {
         min_crossrefs: 2,
