@@ -9,6 +9,8 @@
 //! | [`words`] | the words of the command line |
 //! | [`system`] | what the standard library doesn't have of the system: libraries opened at run time, signals, limits, terminals |
 //! | [`kpathsea`] | TeX's own path search, where it is installed |
+//! | [`texmf`] | TeX's set-up, read from its files, where that isn't installed |
+//! | [`databases`] | TeX's file databases (`ls-R`) |
 //! | [`search`] | where the files of a job are found, and which may be read and written |
 //! | [`btx`] | the proved library's calls |
 //! | [`job`] | the files of a job, found and read |
@@ -33,6 +35,7 @@ pub mod aux_text;
 pub mod btx;
 pub mod confined_program;
 pub mod database;
+pub mod databases;
 pub mod entries;
 pub mod exit;
 pub mod explain;
@@ -53,5 +56,6 @@ pub mod style_text;
 pub mod system;
 pub mod task;
 pub mod terminal;
+pub mod texmf;
 pub mod text;
 pub mod words;

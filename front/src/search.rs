@@ -1,12 +1,15 @@
 //! Where the files of a job are found, and which may be read and written.
 //!
-//! Where TeX's path search is installed, files are found where that finds them. Its library reads all file databases (`ls-R`) at the first
-//! question, which takes most of its time. So its set-up is read here without them; a name is looked for in the databases' text, and what
-//! isn't found so is asked of the library in full.
+//! Where TeX is installed, files are found where TeX finds them. Its library reads all file databases (`ls-R`) at the first question, which takes
+//! most of its time. So its set-up is read here without them; a name is looked for in the databases' text, and what isn't found so is asked of
+//! the library in full. Where the library isn't installed, TeX's set-up is read by [`crate::texmf`], and the same search does the rest.
 
+use crate::databases::{Databases, first_in};
 use crate::kpathsea::{Format, Kpathsea};
 use crate::system::{PathLibrary, position, set_variable};
 use crate::terminal::plain;
+use crate::texmf::Texmf;
+use crate::texmf::home::Home;
 use std::cell::{Cell, OnceCell};
 use std::env;
 use std::ffi::{CStr, OsStr, OsString};
@@ -18,7 +21,7 @@ use std::path::Path;
 /// The longest name that is looked for: no path of the system is longer.
 const LONGEST_NAME: usize = 4096;
 
-/// For how many names the text of the databases is looked through; for more of them the library's own search is quicker.
+/// How many names are looked for before TeX's library is asked: for more of them its own search is quicker.
 const MOST_QUICK: usize = 16;
 
 /// The variable that lists the folders which have a database.
@@ -29,10 +32,36 @@ pub fn path_of(name: &[u8]) -> &Path {
     Path::new(OsStr::from_bytes(name))
 }
 
+/// TeX's set-up.
+pub trait SetUp {
+    /// The path along which such files are looked for.
+    fn path(&self, format: Format) -> Option<Vec<u8>>;
+
+    /// The folders that are there of a path.
+    fn folders(&self, path: &[u8]) -> Option<Vec<u8>>;
+
+    /// What the files of the set-up say of a variable.
+    fn setting(&self, name: &CStr) -> Option<Vec<u8>>;
+
+    /// The value of a variable: of the environment, or else of the set-up.
+    fn value(&self, name: &CStr) -> Option<Vec<u8>>;
+
+    /// Where the disk has a file of this name in an element of a path.
+    fn find_in(&self, element: &[u8], name: &[u8]) -> Option<Vec<u8>>;
+
+    /// Whether a file of this name may be read.
+    fn may_read(&self, name: &[u8]) -> bool;
+
+    /// Whether a file of this name may be written.
+    fn may_write(&self, name: &[u8]) -> bool;
+}
+
 /// Where files are looked for.
 pub enum Search {
-    /// By TeX's path search.
-    Tex(Box<TexSearch>),
+    /// Where TeX's library of path search finds them.
+    ByLibrary(LibrarySearch),
+    /// Where TeX's set-up, which is read here, says that they are.
+    BySetUp(SetUpSearch),
     /// In the folders that BSTINPUTS and BIBINPUTS list: TeX isn't installed.
     Folders,
 }
@@ -40,7 +69,10 @@ pub enum Search {
 impl Search {
     /// Begins a search. To be called as long as the program has one thread.
     pub fn begin() -> Search {
-        PathLibrary::open().map_or(Search::Folders, |library| Search::Tex(Box::new(TexSearch::begin(library))))
+        match PathLibrary::open() {
+            Some(library) => Search::ByLibrary(LibrarySearch::begin(library)),
+            None => Texmf::find().map_or(Search::Folders, |texmf| Search::BySetUp(SetUpSearch::new(texmf))),
+        }
     }
 
     /// Where a style or a database is found.
@@ -49,8 +81,9 @@ impl Search {
             return None;
         }
         match self {
-            Search::Tex(tex) if !is_warned_of_raw(name) => tex.find(name, format),
-            _ => places(name, format).find(|path| stands_at(path) == Stands::File),
+            Search::ByLibrary(search) if !is_warned_of_raw(name) => search.find(name, format),
+            Search::BySetUp(search) => search.find(name, format),
+            _ => places(name, format).find(|path| stands_as_file(path)),
         }
     }
 
@@ -61,28 +94,28 @@ impl Search {
         places(name, format).find(|path| stands_at(path) == Stands::Unreadable || is_other(path))
     }
 
+    /// TeX's set-up, where TeX is installed.
+    fn set_up(&self) -> Option<&dyn SetUp> {
+        match self {
+            Search::ByLibrary(search) => Some(&search.set_up),
+            Search::BySetUp(search) => Some(&search.texmf),
+            Search::Folders => None,
+        }
+    }
+
     /// Whether a file of this name may be read.
     pub fn may_read(&self, name: &[u8]) -> bool {
-        match self {
-            Search::Tex(tex) => tex.quick.may_read(name),
-            Search::Folders => true,
-        }
+        self.set_up().is_none_or(|set_up| set_up.may_read(name))
     }
 
     /// Whether a file of this name may be written.
     pub fn may_write(&self, name: &[u8]) -> bool {
-        match self {
-            Search::Tex(tex) => tex.quick.may_write(name),
-            Search::Folders => true,
-        }
+        self.set_up().is_none_or(|set_up| set_up.may_write(name))
     }
 
     /// The value of a variable of TeX's set-up.
     pub fn value(&self, name: &CStr) -> Option<Vec<u8>> {
-        match self {
-            Search::Tex(tex) => tex.quick.value(name),
-            Search::Folders => None,
-        }
+        self.set_up()?.value(name)
     }
 
     /// A number of TeX's set-up that can be the limit of a variable.
@@ -109,14 +142,23 @@ fn places(name: &[u8], format: Format) -> impl Iterator<Item = Vec<u8>> {
     folders(format).into_iter().map(move |folder| within(&folder, name))
 }
 
-/// The path of a file in a folder. A name that says its folder itself isn't looked for in others.
-fn within(folder: &[u8], name: &[u8]) -> Vec<u8> {
-    let says_folder = [&b"/"[..], b"./", b"../"].iter().any(|begin| name.starts_with(begin));
+/// Whether a name says its folder itself, so that it isn't looked for in others.
+fn says_folder(name: &[u8]) -> bool {
+    [&b"/"[..], b"./", b"../"].iter().any(|begin| name.starts_with(begin))
+}
+
+/// The path of a file in a folder.
+pub fn within(folder: &[u8], name: &[u8]) -> Vec<u8> {
     match folder {
-        _ if says_folder || folder == b"." => name.to_vec(),
+        _ if says_folder(name) || folder == b"." => name.to_vec(),
         _ if folder.ends_with(b"/") => [folder, name].concat(),
         _ => [folder, b"/", name].concat(),
     }
+}
+
+/// A text without the `/` at its beginning.
+pub fn without_slashes(text: &[u8]) -> &[u8] {
+    &text[text.iter().take_while(|byte| **byte == b'/').count()..]
 }
 
 /// What stands at a path.
@@ -141,10 +183,9 @@ fn stands_at(path: &[u8]) -> Stands {
     })
 }
 
-/// A file database: the folder that it is of, with a `/`, and its text.
-struct Database {
-    root: Vec<u8>,
-    text: Vec<u8>,
+/// Whether an ordinary file stands at a path, and can be read.
+pub fn stands_as_file(path: &[u8]) -> bool {
+    stands_at(path) == Stands::File
 }
 
 /// An element of a search path.
@@ -158,12 +199,11 @@ struct Element<'a> {
 }
 
 impl<'a> Element<'a> {
-    /// What an element of a path says; None where only the library knows.
-    fn read(element: &'a [u8], databases: &[Database]) -> Option<Element<'a>> {
+    /// What an element of a path says; several `/` at its beginning are one.
+    fn read(element: &'a [u8], databases: &Databases) -> Element<'a> {
         let (folder, is_database) = element.strip_prefix(b"!!").map_or((element, false), |folder| (folder, true));
-        let is_listed = databases.iter().any(|database| folder.starts_with(&database.root));
-        let is_plain = !folder.is_empty() && !folder.starts_with(b"//");
-        is_plain.then_some(Element { folder, is_database, is_listed })
+        let folder = &folder[(folder.len() - without_slashes(folder).len()).saturating_sub(1)..];
+        Element { folder, is_database, is_listed: databases.list(folder) }
     }
 
     /// Whether it is one folder, which no database lists.
@@ -172,52 +212,103 @@ impl<'a> Element<'a> {
     }
 }
 
-/// A text without the `/` at its beginning.
-fn without_slashes(text: &[u8]) -> &[u8] {
-    &text[text.iter().take_while(|byte| **byte == b'/').count()..]
+/// The first file of this name along a path. As TeX's library does, it looks twice: first, in folders that are listed in a database, for the files that
+/// are listed; then, on the disk, for those that aren't. `listed` are the files of this name that the databases list.
+fn find_along(elements: &[Element<'_>], name: &[u8], listed: &[Vec<u8>], set_up: &dyn SetUp) -> Option<Vec<u8>> {
+    let (below, _) = split_name(name);
+    let in_databases = |element: &Element<'_>| first_in(listed, &[element.folder, &below].concat()).cloned();
+    let first =
+        |element: &Element<'_>| if element.is_listed { in_databases(element) } else { on_disk(element, name, set_up) };
+    let second = || {
+        let listed = elements.iter().filter(|element| element.is_listed);
+        listed.map(|element| on_disk(element, name, set_up)).find_map(|found| found)
+    };
+    elements.iter().find_map(first).or_else(second)
 }
 
-/// Whether a file of a database is one of an element's, by the library's own rule: the file is in the element's folder, or below it where that
-/// ends with `//`.
-fn is_in(file: &[u8], element: &[u8]) -> bool {
-    let same = file.iter().zip(element).take_while(|(one, other)| one == other).count();
-    let (file_rest, element_rest) = (&file[same..], &element[same..]);
-    if element_rest.is_empty() {
-        let rest = file_rest.strip_prefix(b"/").unwrap_or(file_rest);
-        return !rest.contains(&b'/');
+/// The folders that a name says, with a `/` before them, and the rest of it.
+fn split_name(name: &[u8]) -> (Vec<u8>, &[u8]) {
+    match name.iter().rposition(|byte| *byte == b'/') {
+        Some(at) => ([b"/", &name[..at]].concat(), &name[at + 1..]),
+        None => (Vec::new(), name),
     }
-    let is_deep = same > 0 && element[same - 1] == b'/' && element_rest[0] == b'/' && !file_rest.is_empty();
-    if !is_deep {
-        return false;
-    }
-    let below = without_slashes(element_rest);
-    below.is_empty() || (same..file.len()).any(|at| file[at - 1] == b'/' && is_in(&file[at..], below))
 }
 
-/// TeX's path search.
-pub struct TexSearch {
+/// The file of this name that the disk has in an element of a path.
+fn on_disk(element: &Element<'_>, name: &[u8], set_up: &dyn SetUp) -> Option<Vec<u8>> {
+    if element.is_database || element.folder.is_empty() {
+        return None;
+    }
+    if element.is_folder() {
+        let path = within(element.folder, name);
+        match stands_at(&path) {
+            Stands::File => return Some(path),
+            Stands::Unreadable => return None,
+            Stands::Other => {}
+        }
+    }
+    set_up.find_in(element.folder, name)
+}
+
+/// TeX's path search by its set-up alone.
+pub struct SetUpSearch {
+    texmf: Texmf,
+    databases: OnceCell<Databases>,
+    /// How many names were looked for in the databases.
+    looked_for: Cell<usize>,
+}
+
+impl SetUpSearch {
+    fn new(texmf: Texmf) -> SetUpSearch {
+        SetUpSearch { texmf, databases: OnceCell::new(), looked_for: Cell::new(0) }
+    }
+
+    fn databases(&self) -> &Databases {
+        self.databases.get_or_init(|| Databases::read(&self.texmf.databases()))
+    }
+
+    fn find(&self, name: &[u8], format: Format) -> Option<Vec<u8>> {
+        let name = self.texmf.written_out(name);
+        if says_folder(&name) {
+            return Some(name).filter(|path| stands_as_file(path));
+        }
+        let path = self.texmf.path(format)?;
+        let elements: Vec<Element<'_>> =
+            path.split(|byte| *byte == b':').map(|element| Element::read(element, self.databases())).collect();
+        let (_, last) = split_name(&name);
+        let looked_for = self.looked_for.replace(self.looked_for.get() + 1);
+        find_along(&elements, &name, &self.databases().files_named(last, looked_for), &self.texmf)
+    }
+}
+
+/// TeX's path search by its library.
+pub struct LibrarySearch {
     library: PathLibrary,
     /// What the environment says of the databases.
     given: Option<OsString>,
     /// The set-up without databases.
-    quick: Kpathsea,
+    set_up: Kpathsea,
     /// The set-up with them, where it was needed.
     full: OnceCell<Kpathsea>,
-    databases: OnceCell<Option<Vec<Database>>>,
-    /// How many names were looked for in the databases' text.
+    databases: OnceCell<Databases>,
+    /// How many names were looked for in the databases.
     looked_for: Cell<usize>,
 }
 
-impl TexSearch {
-    fn begin(library: PathLibrary) -> TexSearch {
+impl LibrarySearch {
+    fn begin(library: PathLibrary) -> LibrarySearch {
+        // The system's library doesn't know where a TeX has its set-up that the system didn't install.
+        if let Some(folders) = Home::of_user().and_then(|home| home.folders_beside_system()) {
+            set_variable("TEXMFCNF", Some(OsStr::from_bytes(&folders)));
+        }
         let given = env::var_os(DATABASES);
         set_variable(DATABASES, Some(OsStr::new("/nonexistent")));
-        let quick = Kpathsea::begin(&library);
+        let set_up = Kpathsea::begin(&library);
         // Its set-up is read at the first question.
-        quick.path(Format::Style);
+        set_up.path(Format::Style);
         set_variable(DATABASES, given.as_deref());
         let (full, databases) = (OnceCell::new(), OnceCell::new());
-        TexSearch { library, given, quick, full, databases, looked_for: Cell::new(0) }
+        LibrarySearch { library, given, set_up, full, databases, looked_for: Cell::new(0) }
     }
 
     fn find(&self, name: &[u8], format: Format) -> Option<Vec<u8>> {
@@ -232,116 +323,34 @@ impl TexSearch {
         })
     }
 
-    /// The databases, each with its text. None where a file beside one may give files other names, or the database has another name.
-    fn databases(&self) -> Option<&[Database]> {
-        self.databases.get_or_init(|| self.read_databases()).as_deref()
-    }
-
-    fn read_databases(&self) -> Option<Vec<Database>> {
-        let given = self.given.as_ref().map(|given| given.as_bytes().to_vec());
-        let all = given.or_else(|| self.quick.setting(c"TEXMFDBS")).and_then(|all| self.quick.expanded(&all));
-        let mut databases = Vec::new();
-        for folder in all.unwrap_or_default().split(|byte| *byte == b':').filter(|folder| !folder.is_empty()) {
-            let root = [folder.strip_suffix(b"/").unwrap_or(folder), b"/"].concat();
-            let beside = |name: &[u8]| [&root, name].concat();
-            if [&b"aliases"[..], b"ls-r"].iter().any(|name| path_of(&beside(name)).exists()) {
-                return None;
-            }
-            if let Ok(text) = fs::read(path_of(&beside(b"ls-R"))) {
-                databases.push(Database { root, text });
-            }
-        }
-        Some(databases)
+    fn databases(&self) -> &Databases {
+        self.databases.get_or_init(|| {
+            let given = self.given.as_ref().map(|given| given.as_bytes().to_vec());
+            let all = given.or_else(|| self.set_up.setting(c"TEXMFDBS")).and_then(|all| self.set_up.folders(&all));
+            Databases::read(&all.unwrap_or_default())
+        })
     }
 
     /// Where the quick search finds a file; None where it doesn't, or where only the library's own search knows.
-    ///
-    /// As the library does, it looks twice: first, in folders that are listed in a database, for the files that are listed; then, on the
-    /// disk, for those that aren't.
     fn quickly(&self, name: &[u8], format: Format) -> Option<Vec<u8>> {
         let is_plain = !name.iter().any(|byte| b"$~{}".contains(byte)) && !name.is_empty() && !name.starts_with(b".");
         if !is_plain || self.looked_for.get() >= MOST_QUICK {
             return None;
         }
-        self.looked_for.set(self.looked_for.get() + 1);
-        let path = self.quick.path(format)?;
-        let databases = self.databases()?;
-        let read = path.split(|byte| *byte == b':').map(|element| Element::read(element, databases));
-        let elements: Vec<Element<'_>> = read.collect::<Option<_>>()?;
+        let looked_for = self.looked_for.replace(self.looked_for.get() + 1);
+        let path = self.set_up.path(format)?;
+        let databases = self.databases();
+        let elements: Vec<Element<'_>> =
+            path.split(|byte| *byte == b':').map(|element| Element::read(element, databases)).collect();
+        if databases.have_aliases || elements.iter().any(|element| element.folder.is_empty()) {
+            return None;
+        }
         if name.contains(&b'/') {
             // As long as the elements are folders of their own, such a name says where below them the file is.
             let folders = elements.iter().take_while(|element| element.is_folder());
-            return folders.map(|element| within(element.folder, name)).find(|path| stands_at(path) == Stands::File);
+            return folders.map(|element| within(element.folder, name)).find(|path| stands_as_file(path));
         }
-        let listed = |element: &Element<'_>| in_databases(databases, element.folder, name);
-        let first =
-            |element: &Element<'_>| if element.is_listed { listed(element) } else { self.on_disk(element, name) };
-        let second =
-            || elements.iter().filter(|element| element.is_listed).find_map(|element| self.on_disk(element, name));
-        elements.iter().find_map(first).or_else(second)
-    }
-
-    /// The file of this name that the disk has in an element of a path.
-    fn on_disk(&self, element: &Element<'_>, name: &[u8]) -> Option<Vec<u8>> {
-        if element.is_database {
-            return None;
-        }
-        if element.is_folder() {
-            let path = within(element.folder, name);
-            match stands_at(&path) {
-                Stands::File => return Some(path),
-                Stands::Unreadable => return None,
-                Stands::Other => {}
-            }
-        }
-        self.quick.find_in(element.folder, name)
-    }
-}
-
-/// The first file of this name that the databases have in the folders of an element.
-fn in_databases(databases: &[Database], element: &[u8], name: &[u8]) -> Option<Vec<u8>> {
-    let line = [b"\n", name, b"\n"].concat();
-    databases.iter().find_map(|database| in_database(database, element, name, &line))
-}
-
-fn in_database(database: &Database, element: &[u8], name: &[u8], line: &[u8]) -> Option<Vec<u8>> {
-    let mut from = 0;
-    while let Some(at) = position(&database.text[from..], line) {
-        let place = from + at;
-        from = place + 1;
-        let folder = heading(&database.text[..=place]).and_then(|heading| folder_of(&database.root, heading));
-        let Some(folder) = folder else { continue };
-        let path = [&folder, name].concat();
-        if is_in(&path, element) && fs::File::open(path_of(&path)).is_ok() && path_of(&path).is_file() {
-            return Some(path);
-        }
-    }
-    None
-}
-
-/// The folder that a heading names, with a `/`, below that of its database. None for a hidden one.
-fn folder_of(root: &[u8], heading: &[u8]) -> Option<Vec<u8>> {
-    let is_hidden = |part: &[u8]| part.starts_with(b".") && part.len() > 1;
-    if heading.split(|byte| *byte == b'/').skip(1).any(is_hidden) {
-        return None;
-    }
-    match heading.strip_prefix(b"./") {
-        Some(below) => Some([root, below, b"/"].concat()),
-        None => Some([heading, b"/"].concat()),
-    }
-}
-
-/// The folder whose files a database lists where this text ends: the last line that names a folder and ends with a `:`, without that.
-fn heading(text: &[u8]) -> Option<&[u8]> {
-    let mut rest = text;
-    loop {
-        let end = rest.windows(2).rposition(|pair| pair == b":\n")?;
-        let begin = rest[..end].iter().rposition(|byte| *byte == b'\n').map_or(0, |line_end| line_end + 1);
-        let line = &rest[begin..end];
-        if [&b"/"[..], b"./", b"../"].iter().any(|mark| line.starts_with(mark)) {
-            return Some(line);
-        }
-        rest = &rest[..begin];
+        find_along(&elements, name, &databases.files_named(name, looked_for), &self.set_up)
     }
 }
 
@@ -349,63 +358,77 @@ fn heading(text: &[u8]) -> Option<&[u8]> {
 mod tests {
     use super::*;
 
-    #[test]
-    fn an_element_has_its_files() {
-        for (file, element, is_its) in [
-            ("/t/b/x.bst", "/t/b", true),
-            ("/t/b/x.bst", "/t/b/", true),
-            ("/t/b/x.bst", "/t", false),
-            ("/t/b/c/x.bst", "/t//", true),
-            ("/t/bc/x.bst", "/t/b//", false),
-            ("/t/b/x.bst", "/t/b//", true),
-            ("/t/a/b/x.bst", "/t//b", true),
-            ("/t/a/b/c/x.bst", "/t//b", false),
-            ("/t/a/b/c/x.bst", "/t//b//", true),
-            ("/t//x.bst", "/t", false),
-            ("/t//x.bst", "/t//", true),
-        ] {
-            assert_eq!(is_in(file.as_bytes(), element.as_bytes()), is_its, "{file} {element}");
-        }
-    }
-
-    #[test]
-    fn a_heading_is_the_last_line_that_names_a_folder() {
-        assert_eq!(heading(b"% ls-R\n./:\na\n\n./bibtex/bst:\nx.bst\n"), Some(&b"./bibtex/bst"[..]));
-        assert_eq!(heading(b"./:\n.:\nx.bst\n"), Some(&b"./"[..]));
-        assert_eq!(heading(b"x\n"), None);
-    }
-
-    #[test]
-    fn a_heading_names_a_folder_below_the_databases() {
-        assert_eq!(folder_of(b"/t/", b"./a/b").as_deref(), Some(&b"/t/a/b/"[..]));
-        assert_eq!(folder_of(b"/t/", b"/u/a").as_deref(), Some(&b"/u/a/"[..]));
-        assert_eq!(folder_of(b"/t/", b"./a/.git"), None);
-    }
-
-    /// The names of the styles and databases that TeX's file databases list.
-    fn names(tex: &TexSearch) -> Vec<(Vec<u8>, Format)> {
-        let all =
-            tex.databases().unwrap_or_default().iter().flat_map(|database| database.text.split(|byte| *byte == b'\n'));
-        let format = |name: &&[u8]| match name {
+    /// TeX's own search, and the names of the styles and databases that TeX's file databases list; None where TeX's library isn't installed.
+    fn tex() -> Option<(LibrarySearch, Kpathsea, Vec<(Vec<u8>, Format)>)> {
+        let Search::ByLibrary(search) = Search::begin() else {
+            eprintln!("TeX isn't installed: not tried");
+            return None;
+        };
+        let format = |name: &[u8]| match name {
             _ if name.ends_with(b".bst") => Some(Format::Style),
             _ if name.ends_with(b".bib") => Some(Format::Database),
             _ => None,
         };
-        all.filter_map(|name| Some((name.to_vec(), format(&name)?))).collect()
+        let names = search.databases().names().filter_map(|name| Some((name.to_vec(), format(name)?))).collect();
+        let full = Kpathsea::begin(&search.library);
+        Some((search, full, names))
     }
 
     #[test]
     fn what_is_found_quickly_is_what_tex_finds() {
-        let Search::Tex(tex) = Search::begin() else { return eprintln!("TeX isn't installed: not tried") };
-        let full = Kpathsea::begin(&tex.library);
-        let names = names(&tex);
+        let Some((search, full, names)) = tex() else { return };
         let mut quick = 0;
         for (name, format) in &names {
-            tex.looked_for.set(0);
-            let (found, wanted) = (tex.quickly(name, *format), full.find(name, *format));
+            search.looked_for.set(0);
+            let (found, wanted) = (search.quickly(name, *format), full.find(name, *format));
             quick += usize::from(found.is_some());
             assert!(found.is_none() || found == wanted, "{found:?} {wanted:?}");
         }
         eprintln!("{quick} of {} files of TeX's were found quickly, where TeX finds them", names.len());
+    }
+
+    #[test]
+    fn what_is_found_by_the_set_up_alone_is_what_tex_finds() {
+        let Some((_, full, names)) = tex() else { return };
+        let search = SetUpSearch::new(Texmf::find().unwrap());
+        for (name, format) in &names {
+            assert_eq!(search.find(name, *format), full.find(name, *format), "{}", String::from_utf8_lossy(name));
+        }
+        let folders = [
+            (&b"base/plain.bst"[..], Format::Style),
+            (b"bst/base/alpha.bst", Format::Style),
+            (b"none.bst", Format::Style),
+        ];
+        for (name, format) in folders {
+            assert_eq!(search.find(name, format), full.find(name, format), "{}", String::from_utf8_lossy(name));
+        }
+        eprintln!("{} files of TeX's were found by its set-up, where TeX finds them", names.len());
+    }
+
+    #[test]
+    fn the_set_up_says_what_tex_says() {
+        let Some((search, ..)) = tex() else { return };
+        let texmf = Texmf::find().unwrap();
+        for name in [
+            c"openin_any",
+            c"openout_any",
+            c"ent_str_size",
+            c"glob_str_size",
+            c"TEXMFOUTPUT",
+            c"TEXMFHOME",
+            c"TEXMFDIST",
+            c"nothing",
+        ] {
+            assert_eq!(texmf.value(name), search.set_up.value(name), "{name:?}");
+        }
+        assert_eq!(texmf.path(Format::Style), search.set_up.path(Format::Style));
+        assert_eq!(texmf.path(Format::Database), search.set_up.path(Format::Database));
+        for name in [
+            "a", ".a", "./a", "../a", "/a", "a/../b", "a/..", "..", "...", ".tex", "a/.tex", ".tex/a", "a//b", "",
+            "..a", "a/..b",
+        ] {
+            assert_eq!(texmf.may_write(name.as_bytes()), search.set_up.may_write(name.as_bytes()), "{name}");
+            assert_eq!(texmf.may_read(name.as_bytes()), search.set_up.may_read(name.as_bytes()), "{name}");
+        }
     }
 }

@@ -1,6 +1,6 @@
 # What the checks of the front end are written with, beside tests/checks.bash. `check` sets the names that stand here.
 
-unset BIBINPUTS BSTINPUTS TEXINPUTS TEXMFOUTPUT NO_COLOR BIBTEX_PROGRAM openout_any openin_any
+unset BIBINPUTS BSTINPUTS TEXINPUTS TEXMFOUTPUT TEXMFCNF TEXMFDBS TEXMFHOME NO_COLOR BIBTEX_PROGRAM openout_any openin_any
 export BIBTEX_PROGRAM=$program TMPDIR=$room/temporary
 mkdir "$TMPDIR" "$room/no_tex"
 
@@ -13,9 +13,12 @@ python3() {
 # Where TeX's search library is not to be found: one that can't be opened stands before it.
 : >"$room/no_tex/libkpathsea.so.6"
 
-# The folder in which the loader looks first for TeX's search library.
+# The folder in which the loader looks first for TeX's search library. Without TeX, its set-up isn't found either.
 libraries=
-[ "$with_tex" = yes ] || libraries=$room/no_tex
+if [ "$with_tex" != yes ]; then
+    libraries=$room/no_tex
+    export TEXMFCNF=$room/no_tex
+fi
 
 # has TOOL: this tool of TeX may be used, and is there.
 has() {
@@ -47,7 +50,15 @@ run_search() {
 
 # run_plainly WORD..: the same without TeX.
 run_plainly() {
+    TEXMFCNF=$room/no_tex libraries=$room/no_tex run_search "$@"
+}
+
+# run_by_set_up WORD..: runs bibtex-search where TeX is installed, but not its search library.
+run_by_set_up() {
+    local kept=${TEXMFCNF-}
+    unset TEXMFCNF
     libraries=$room/no_tex run_search "$@"
+    [ -z "$kept" ] || export TEXMFCNF=$kept
 }
 
 # messages LOG: its messages, in the shape of the program's log.
@@ -156,4 +167,89 @@ run_as_another() {
 # on_terminal COLUMNS WORD..: runs bibtex-search on a terminal of its own; what it prints there.
 on_terminal() {
     LD_LIBRARY_PATH=$libraries python3 "$here/on_terminal.py" "$1" "$search" "${@:2}"
+}
+
+# named DATABASE STYLE: the job names these.
+named() {
+    printf '\\citation{k}\n\\bibdata{%s}\n\\bibstyle{%s}\n' "$1" "$2" >job.aux
+}
+
+# files_of_tex_live ENDING: the names of all styles (bst) or databases (bib) that kpsewhich finds in TeX's trees.
+files_of_tex_live() {
+    find $(kpsewhich -expand-braces='$TEXMF' | tr : '\n' | sed 's/^!!//' | sort -u) -name "*.$1" -printf '%f\n' 2>/dev/null | grep -v "[ ,{}]" | sort -u >"$folder/all" || true
+    kpsewhich -progname=bibtex -format="$1" $(cat "$folder/all") | sed 's,.*/,,' || true
+}
+
+# find_each ENDING RUN: a job that names one of the files finds it, for each of standard input's.
+find_each() {
+    local name number=0
+    while read -r name; do
+        case $1 in
+        bst) printf '\\bibstyle{%s}\n' "$name" >job.aux ;;
+        bib) printf '\\citation{k}\n\\bibdata{%s}\n\\bibstyle{s}\n' "$name" >job.aux ;;
+        esac
+        "$2" -budget=0 -terse job
+        grep -qE '^(The style file|Database file #1): ' job.blg || complaints+=("not found: $name")
+        number=$((number + 1))
+    done < <(if [ -n "$few" ]; then head -n 20; else cat; fi)
+    echo "        $number files"
+    [ "$number" -gt 0 ] || complaints+=('no file was looked for')
+}
+
+# The rules for names: with which of openout_any's choices, any, restricted and paranoid, a name is allowed where TEXMFOUTPUT is the folder
+# ALLOWED. The same holds of openin_any.
+rules='
+arp job.bbl
+arp ./job.bbl
+arp a/./job.bbl
+arp a//job.bbl
+arp j..b.bbl
+arp a b.bbl
+arp $HOME/x.bbl
+arp ~/job.bbl
+arp ALLOWED/job.bbl
+ar ../job.bbl
+ar ./../job.bbl
+ar a/../job.bbl
+ar /tmp/job.bbl
+ar ALLOWEDto/job.bbl
+ar ALLOWED/../job.bbl
+a .job.bbl
+a ..job.bbl
+a ./.job.bbl
+a .../job.bbl
+a a/.job.bbl
+a a/..job.bbl
+a .a/job.bbl
+a ALLOWED/.job.bbl
+'
+
+# each_rule COMMAND: calls it with each choice that openout_any may have, each name, and whether it is allowed then: 0 or 1.
+each_rule() {
+    local letters name choice
+    while IFS=' ' read -r letters name; do
+        [ -n "$letters" ] || continue
+        for choice in any yes 1 restricted no 0 paranoid x; do
+            case $choice in
+            [ay1]*) letter=a ;;
+            [rn0]*) letter=r ;;
+            *) letter=p ;;
+            esac
+            case $letters in
+            *$letter*) "$1" "$choice" "${name/ALLOWED/$PWD/allowed}" 0 ;;
+            *) "$1" "$choice" "${name/ALLOWED/$PWD/allowed}" 1 ;;
+            esac
+        done
+    done <<<"$rules"
+}
+
+# by_run RUN CHOICE NAME STATUS: bibtex-search, called by RUN, says of an output with this name whether it may be written.
+by_run() {
+    local found=0 job=${3%.bbl}
+    mkdir -p "$(dirname "$3")" 2>/dev/null
+    cp "$folder/job.aux" "$job.aux" 2>/dev/null || return 0
+    TEXMFOUTPUT=$PWD/allowed openout_any=$2 "$1" -terse -- "$job"
+    ! grep -q 'Not writing to' "$folder/stderr" || found=1
+    [ "$4" -eq "$found" ] || complaints+=("$3 with $2: $found, and not $4: $(cat "$folder/stderr")")
+    rm -f "$job".*
 }

@@ -156,7 +156,7 @@ class Runner:
         (no_tex / "libkpathsea.so.6").touch()
         kept = {name: value for name, value in os.environ.items() if name not in ("BIBINPUTS", "BSTINPUTS", "TERM")}
         self.with_tex = {**kept, "BIBTEX_PROGRAM": str(arguments.program.resolve())}
-        self.without_tex = {**self.with_tex, "PATH": str(plain), "LD_LIBRARY_PATH": str(no_tex)}
+        self.without_tex = {**self.with_tex, "PATH": str(plain), "LD_LIBRARY_PATH": str(no_tex), "TEXMFCNF": str(no_tex)}
 
     def run(self, command, job, read):
         with tempfile.TemporaryDirectory() as folder:

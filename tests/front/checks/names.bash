@@ -88,11 +88,6 @@ for kind in ':' '$HOME' '~' '%' ' ' $'\n' "'"; do
 done
 
 # What `\bibdata` and `\bibstyle` may say, and the command that gets the files there.
-# named DATABASE STYLE: the job names these.
-named() {
-    printf '\\citation{k}\n\\bibdata{%s}\n\\bibstyle{%s}\n' "$1" "$2" >job.aux
-}
-
 begin names_above
 mkdir inner
 named ../d ../s
@@ -306,18 +301,8 @@ if has kpsewhich; then
     # All styles and databases of TeX Live are found where kpsewhich finds them.
     for ending in bst bib; do
         begin "all_files_of_tex_live_$ending"
-        find $(kpsewhich -expand-braces='$TEXMF' | tr : '\n' | sed 's/^!!//' | sort -u) -name "*.$ending" -printf '%f\n' 2>/dev/null | grep -v "[ ,{}]" | sort -u >all || true
-        kpsewhich -progname=bibtex -format="$ending" $(cat all) >wanted || true
-        echo "        $(wc -l <all) files"
-        while read -r name; do
-            case $ending in
-            bst) printf '\\bibstyle{%s}\n' "$name" >job.aux ;;
-            bib) printf '\\citation{k}\n\\bibdata{%s}\n\\bibstyle{s}\n' "$name" >job.aux ;;
-            esac
-            (start_search -budget=0 -terse job) </dev/null >/dev/null 2>&1 || true
-            grep -qE '^(The style file|Database file #1): ' job.blg || echo "$name" >>lost
-        done < <(sed 's,.*/,,' wanted | if [ -n "$few" ]; then head -n 20; else cat; fi)
-        [ ! -e lost ] || complaints+=("not found: $(cat lost)")
+        files_of_tex_live "$ending" >wanted
+        find_each "$ending" run_search <wanted
         end
     done
 else

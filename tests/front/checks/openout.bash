@@ -132,62 +132,9 @@ libraries=$PWD/other run_search job
 wants_first job
 end
 
-# The rules for names: with which of openout_any's choices, any, restricted and paranoid, a name is allowed where TEXMFOUTPUT is the folder
-# ALLOWED. The same holds of openin_any.
-rules='
-arp job.bbl
-arp ./job.bbl
-arp a/./job.bbl
-arp a//job.bbl
-arp j..b.bbl
-arp a b.bbl
-arp $HOME/x.bbl
-arp ~/job.bbl
-arp ALLOWED/job.bbl
-ar ../job.bbl
-ar ./../job.bbl
-ar a/../job.bbl
-ar /tmp/job.bbl
-ar ALLOWEDto/job.bbl
-ar ALLOWED/../job.bbl
-a .job.bbl
-a ..job.bbl
-a ./.job.bbl
-a .../job.bbl
-a a/.job.bbl
-a a/..job.bbl
-a .a/job.bbl
-a ALLOWED/.job.bbl
-'
-
-# each_rule COMMAND: calls it with each choice that openout_any may have, each name, and whether it is allowed then: 0 or 1.
-each_rule() {
-    local letters name choice
-    while IFS=' ' read -r letters name; do
-        [ -n "$letters" ] || continue
-        for choice in any yes 1 restricted no 0 paranoid x; do
-            case $choice in
-            [ay1]*) letter=a ;;
-            [rn0]*) letter=r ;;
-            *) letter=p ;;
-            esac
-            case $letters in
-            *$letter*) "$1" "$choice" "${name/ALLOWED/$PWD/allowed}" 0 ;;
-            *) "$1" "$choice" "${name/ALLOWED/$PWD/allowed}" 1 ;;
-            esac
-        done
-    done <<<"$rules"
-}
-
 # by_search CHOICE NAME STATUS: bibtex-search says of an output with this name whether it may be written.
 by_search() {
-    local found=0 job=${2%.bbl}
-    mkdir -p "$(dirname "$2")" 2>/dev/null
-    cp "$folder/job.aux" "$job.aux" 2>/dev/null || return 0
-    TEXMFOUTPUT=$PWD/allowed openout_any=$1 run_search -terse -- "$job"
-    ! grep -q 'Not writing to' "$folder/stderr" || found=1
-    [ "$3" -eq "$found" ] || complaints+=("$2 with $1: $found, and not $3: $(cat "$folder/stderr")")
-    rm -f "$job".*
+    by_run run_search "$@"
 }
 
 by_kpsewhich() {

@@ -74,7 +74,7 @@ if command -v dpkg-deb >/dev/null && command -v make >/dev/null; then
     rm job.bbl
     for name in search explain; do
         status=0
-        LD_LIBRARY_PATH=$room/no_tex "$folder/root/usr/bin/bibtex-$name" -explain job </dev/null >"$folder/stdout" 2>"$folder/stderr" || status=$?
+        TEXMFCNF=$room/no_tex LD_LIBRARY_PATH=$room/no_tex "$folder/root/usr/bin/bibtex-$name" -explain job </dev/null >"$folder/stdout" 2>"$folder/stderr" || status=$?
         wants_status 0
         wants_words "$folder/stdout" "I didn't find a database entry for \"nosuch\""
         [ "$name" = explain ] || [ -f job.bbl ] || complaints+=('there is no list')

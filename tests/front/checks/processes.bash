@@ -41,7 +41,7 @@ if there_is strace 'which processes are made'; then
     mkdir elsewhere
     echo secret >elsewhere/secret.bib
     run_plainly job
-    LD_LIBRARY_PATH=$room/no_tex strace -f -o "$folder/trace" -e trace=open,openat "$search" job >/dev/null </dev/null
+    TEXMFCNF=$room/no_tex LD_LIBRARY_PATH=$room/no_tex strace -f -o "$folder/trace" -e trace=open,openat "$search" job >/dev/null </dev/null
     grep -o '"[^"]*"' "$folder/trace" | grep -vE '^"(/etc/ld|/lib|/usr/lib|/proc|/sys|/dev)|no_tex' | tr -d '"' | sort -u >found
     printf '%s\n' d.bib job.aux job.bbl job.blg s.bst | cmp -s - <(sed 's,.*/,,' found | sort -u) || complaints+=("opened: $(tr '\n' ' ' <found)")
     end

@@ -1,0 +1,94 @@
+//! The files in an element of a search path, as the disk has them. A `//` in an element stands for any folders between.
+
+use crate::job::FileNumber;
+use crate::search::{path_of, stands_as_file, within, without_slashes};
+use crate::system::position;
+use std::collections::HashSet;
+use std::fs;
+use std::os::unix::ffi::OsStringExt;
+use std::os::unix::fs::MetadataExt;
+
+/// The first file of this name in an element.
+pub fn find_in(element: &[u8], name: &[u8]) -> Option<Vec<u8>> {
+    let element = &element[element.iter().take_while(|byte| **byte == b'/').count().saturating_sub(1)..];
+    let Some(at) = element.get(1..).and_then(|rest| position(rest, b"//")) else {
+        return Some(within(element, name)).filter(|path| stands_as_file(path));
+    };
+    let (top, below) = element.split_at(at + 1);
+    find_below(top, without_slashes(below), name)
+}
+
+/// The first file of this name that stands, behind `below`, in a folder or in one of those below it. Hidden folders don't count.
+fn find_below(top: &[u8], below: &[u8], name: &[u8]) -> Option<Vec<u8>> {
+    let (mut left, mut seen) = (vec![top.to_vec()], HashSet::new());
+    while let Some(folder) = left.pop() {
+        if !is_new_folder(&folder, &mut seen) {
+            continue;
+        }
+        let inside = if below.is_empty() { folder.clone() } else { within(&folder, below) };
+        if let Some(path) = find_in(&inside, name) {
+            return Some(path);
+        }
+        left.extend(folders_in(&folder).into_iter().rev());
+    }
+    None
+}
+
+/// Whether it is a folder that wasn't seen before: links can lead back.
+fn is_new_folder(path: &[u8], seen: &mut HashSet<FileNumber>) -> bool {
+    fs::metadata(path_of(path)).is_ok_and(|data| data.is_dir() && seen.insert((data.dev(), data.ino())))
+}
+
+/// What stands in a folder and may be a folder itself.
+fn folders_in(folder: &[u8]) -> Vec<Vec<u8>> {
+    let Ok(entries) = fs::read_dir(path_of(folder)) else { return Vec::new() };
+    let may_be_folder = |entry: &fs::DirEntry| entry.file_type().is_ok_and(|kind| kind.is_dir() || kind.is_symlink());
+    let names = entries.flatten().filter(may_be_folder).map(|entry| entry.file_name().into_vec());
+    names.filter(|name| !name.starts_with(b".")).map(|name| within(folder, &name)).collect()
+}
+
+#[cfg(test)]
+mod tests {
+    use super::*;
+    use std::path::PathBuf;
+
+    /// A folder with files in it, which is removed at the end.
+    struct Room(PathBuf);
+
+    impl Room {
+        fn new(name: &str, files: &[&str]) -> Room {
+            let room = std::env::temp_dir().join(format!("bibtex-front-{name}-{}", std::process::id()));
+            for file in files.iter().map(|file| room.join(file)) {
+                fs::create_dir_all(file.parent().unwrap()).unwrap();
+                fs::write(file, "").unwrap();
+            }
+            Room(room)
+        }
+
+        /// Where the file is found, from the room on.
+        fn find(&self, element: &str, name: &str) -> Option<String> {
+            let room = format!("{}/", self.0.display());
+            let found = String::from_utf8(find_in(format!("{room}{element}").as_bytes(), name.as_bytes())?).unwrap();
+            Some(found.strip_prefix(&room).unwrap().to_string())
+        }
+    }
+
+    impl Drop for Room {
+        fn drop(&mut self) {
+            let _ = fs::remove_dir_all(&self.0);
+        }
+    }
+
+    #[test]
+    fn files_are_found_below_an_element() {
+        let room = Room::new("elements", &["t/x", "t/a/b/y", "t/a/.hidden/z", "t/a/bst/base/w"]);
+        std::os::unix::fs::symlink("..", room.0.join("t/a/round")).unwrap();
+        let find = |element: &str, name: &str| room.find(element, name).unwrap_or_default();
+        assert_eq!(find("t", "x"), "t/x");
+        assert_eq!([find("t", "y"), find("t//", "z"), find("none//", "x")], [""; 3]);
+        assert_eq!(find("t//", "y"), "t/a/b/y");
+        assert_eq!(find("t//bst//", "w"), "t/a/bst/base/w");
+        assert_eq!(find("t//b", "y"), "t/a/b/y");
+        assert_eq!(find("t//", "b/y"), "t/a/b/y");
+    }
+}
