@@ -12,18 +12,13 @@ import os
 import sys
 from concurrent.futures import CancelledError
 
-from btx.compare import BUDGET, SECONDS, compared, not_run, result_of
+from btx.compare import BUDGET, SECONDS, compared_piece, not_run
 from btx.corpus import found_jobs
 from btx.reports import Table
 from distributed import Client, as_completed
 
 # How many jobs are one piece of work: a message for each job would take longer than the job.
 JOBS_IN_A_PIECE = 50
-
-
-def compared_piece(jobs, budget, program, seconds):
-    """What comes of some jobs, on a worker."""
-    return [result_of(job, compared(job, budget, program, seconds)) for job in jobs]
 
 
 def words():

@@ -17,7 +17,7 @@ import sys
 import tempfile
 import threading
 from dataclasses import replace
-from typing import Dict, Iterator, List, Optional, Tuple, Union
+from typing import Dict, Generator, List, Optional, Sequence, Tuple, Union
 
 from .causes import cause_of, first_difference
 from .commands import STATUS_REFUSED, Words, broken_pipe
@@ -29,9 +29,9 @@ from .refusals import Refusal
 from .reports import Compared, Progress, Resumed, Table, shown
 from .results import End, Result
 from .searching import Search, found_search
-from .workers import Ended, side_by_side
+from .workers import Ended, Team
 
-__all__ = ["main"]
+__all__ = ["compared_piece", "main"]
 
 BUDGET = 100_000_000
 SECONDS = 60.0
@@ -127,10 +127,12 @@ def compare_all(given: argparse.Namespace, program: Optional[str], table: Table)
             else:
                 progress.add(earlier)
                 table.add(earlier)
-        for job, result in compared_side_by_side(left, given, program):
-            kept.keep(job, result)
-            table.add(result)
-            progress.add(result)
+        comparers = Comparers(given.budget, program, given.time_limit, given.processes)
+        with contextlib.closing(comparers), contextlib.closing(comparers.results(left)) as results:
+            for job, result in results:
+                kept.keep(job, result)
+                table.add(result)
+                progress.add(result)
     return STATUS_REFUSED if refused else 0
 
 
@@ -140,14 +142,54 @@ def conditions_of(given: argparse.Namespace, program: Optional[str]) -> Dict[str
     return {"program": program, "changed": changed, "budget": given.budget}
 
 
-def compared_side_by_side(jobs: List[Job], given: argparse.Namespace, program: Optional[str]) -> Iterator[Tuple[Job, Compared]]:
-    """The result of each job, as it comes. The processes and their temporary files are gone at the end, however it ends."""
-    with tempfile.TemporaryDirectory(prefix="btx-") as room:
-        work = functools.partial(compared, budget=given.budget, program=program, seconds=given.time_limit, room=room)
-        seconds = given.time_limit * (2 if program else 1) + 1
-        with contextlib.closing(side_by_side(jobs, work, given.processes, seconds)) as answers:
+class Comparers:
+    """Processes that compare jobs side by side, each within a time limit, and the folder of their temporary files; both are gone at the end.
+
+    budget: how many steps a style may take. program: what is compared with, or None for the list that is there. seconds: how long the library may take for a job, and
+    then PROGRAM. processes: how many jobs are run side by side."""
+
+    def __init__(self, budget: int, program: Optional[str], seconds: float, processes: int) -> None:
+        self.room = tempfile.TemporaryDirectory(prefix="btx-")
+        work = functools.partial(compared, budget=budget, program=program, seconds=seconds, room=self.room.name)
+        self.team: Team[Job, Union[Compared, Ended]] = Team(work, processes, seconds * (2 if program else 1) + 1)
+
+    def results(self, jobs: Sequence[Job]) -> Generator[Tuple[Job, Compared], None, None]:
+        """The result of each job, as it comes."""
+        with contextlib.closing(self.team.answers(jobs)) as answers:
             for job, answer in answers:
                 yield job, result_of(job, answer)
+
+    def close(self) -> None:
+        self.team.end()
+        self.room.cleanup()
+
+
+class Kept(threading.local):
+    """The process that a thread keeps for its next piece of jobs, and under which conditions it compares."""
+
+    comparers: Optional[Comparers] = None
+    conditions: Optional[Tuple[int, Optional[str], float]] = None
+
+    def under(self, budget: int, program: Optional[str], seconds: float) -> Comparers:
+        """The process for jobs under these conditions; one for others is ended."""
+        if self.comparers is None or self.conditions != (budget, program, seconds):
+            self.close()
+            self.comparers, self.conditions = Comparers(budget, program, seconds, 1), (budget, program, seconds)
+        return self.comparers
+
+    def close(self) -> None:
+        if self.comparers is not None:
+            self.comparers.close()
+        self.comparers = None
+
+
+KEPT = Kept()
+
+
+def compared_piece(jobs: Sequence[Job], budget: int, program: Optional[str], seconds: float) -> List[Compared]:
+    """The results of some jobs, from a process of their own that is kept for the next call of this thread: for an engine that spreads jobs over machines. A job
+    that takes too long is ended there, and the engine's own process goes on."""
+    return [result for _, result in KEPT.under(budget, program, seconds).results(jobs)]
 
 
 def result_of(job: Job, answer: object) -> Compared:

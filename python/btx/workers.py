@@ -3,16 +3,18 @@
 from __future__ import annotations
 
 import contextlib
-import multiprocessing
 import os
 import signal
+import subprocess
+import sys
+import threading
 import time
 from dataclasses import dataclass
+from multiprocessing import Pipe
 from multiprocessing.connection import Connection, wait
-from multiprocessing.context import SpawnContext, SpawnProcess
 from typing import Callable, Generator, Generic, Iterator, List, Optional, Sequence, Tuple, TypeVar
 
-__all__ = ["Ended", "side_by_side"]
+__all__ = ["Ended", "Team", "serve"]
 
 Task = TypeVar("Task")
 Done = TypeVar("Done")
@@ -20,6 +22,13 @@ Done = TypeVar("Done")
 LOOKS_AFTER = 0.2
 # How long a process may take to start, in seconds.
 STARTS_WITHIN = 60.0
+# What a process of Python's is told to do: the number of its pipe is its only word, and what comes first through it is where modules are found.
+BEGIN = """import sys
+from multiprocessing.connection import Connection
+pipe = Connection(int(sys.argv[1]))
+sys.path[:] = pipe.recv()
+from btx.workers import serve
+serve(pipe)"""
 
 
 @dataclass(frozen=True)
@@ -34,115 +43,147 @@ class Ready:
     """What a process sends when it has started: the time of its first task begins then."""
 
 
-@dataclass
 class Worker(Generic[Task, Done]):
-    """A process, and the task that it is at."""
+    """A process, and the task that it is at.
 
-    process: SpawnProcess
-    pipe: Connection
-    task: Optional[Task] = None
-    began: float = 0.0
-    is_ready: bool = False
+    An interrupt waits until the process leads its own session, where it is meant for the others alone."""
+
+    def __init__(self, work: Callable[[Task], Done]) -> None:
+        self.pipe, theirs = Pipe()
+        self.task: Optional[Task] = None
+        self.began = 0.0
+        self.is_ready = False
+        words = [sys.executable, "-c", BEGIN, str(theirs.fileno())]
+        blocked = signal.pthread_sigmask(signal.SIG_BLOCK, {signal.SIGINT})
+        try:
+            self.process = subprocess.Popen(words, stdin=subprocess.DEVNULL, pass_fds=[theirs.fileno()], start_new_session=True)
+        finally:
+            signal.pthread_sigmask(signal.SIG_SETMASK, blocked)
+            theirs.close()
+        self.send(sys.path)
+        self.send(work)
+
+    def send(self, value: object) -> None:
+        """Sends a value. A process that has ended is found out when its answer is waited for."""
+        with contextlib.suppress(OSError):
+            self.pipe.send(value)
+
+    def take(self, left: List[Task]) -> None:
+        """Takes the next task, if there is one."""
+        self.task, self.began = (left.pop(), time.monotonic()) if left else (None, 0.0)
+        if self.task is not None:
+            self.send(self.task)
 
     def is_late(self, seconds: float) -> bool:
         """Whether its task takes longer than `seconds`, or the process as long as none needs to start."""
         return time.monotonic() - self.began > (seconds if self.is_ready else STARTS_WITHIN)
 
+    def has_ended(self) -> bool:
+        return self.pipe.closed or self.process.poll() is not None
+
+    def answer(self) -> object:
+        """What the process sent, or that it ended."""
+        try:
+            answer: object = self.pipe.recv()
+            return answer
+        except (EOFError, OSError):
+            with contextlib.suppress(subprocess.TimeoutExpired):
+                self.process.wait(1.0)
+            return Ended(f"the process ended by itself (status {self.process.returncode})")
+
     def end(self) -> None:
-        """Ends the process and what it started: it leads a group of its own as soon as it serves."""
-        if self.process.pid is not None:
-            with contextlib.suppress(ProcessLookupError, PermissionError):
-                os.killpg(self.process.pid, signal.SIGKILL)
+        """Ends the process and what it started."""
+        with contextlib.suppress(ProcessLookupError, PermissionError):
+            os.killpg(self.process.pid, signal.SIGKILL)
         self.process.kill()
-        self.process.join(1.0)
+        with contextlib.suppress(subprocess.TimeoutExpired):
+            self.process.wait(1.0)
         self.pipe.close()
 
 
-def serve(pipe: Connection, work: Callable[[Task], Done]) -> None:
-    """What a process does: it takes tasks and sends what comes of them, until nobody hands on tasks any more.
+def serve(pipe: Connection) -> None:
+    """What a process does: it takes its work and then tasks, and sends what comes of them, until nobody hands on tasks any more.
 
     It leads a group of processes of its own, so that an interrupt at the terminal reaches neither it nor the programs that it runs."""
-    os.setpgid(0, 0)
     signal.signal(signal.SIGINT, signal.SIG_IGN)
     signal.pthread_sigmask(signal.SIG_UNBLOCK, {signal.SIGINT})
     signal.signal(signal.SIGINT, signal.SIG_DFL)
+    threading.Thread(target=end_with, args=(os.getppid(),), daemon=True).start()
     answer: object = Ready()
-    while True:
-        try:
+    try:
+        work = pipe.recv()
+        while True:
             pipe.send(answer)
-            task = pipe.recv()
-        except (BrokenPipeError, ConnectionResetError, EOFError):
-            return
-        answer = work(task)
+            answer = work(pipe.recv())
+    except (BrokenPipeError, ConnectionResetError, EOFError):
+        return
 
 
-def side_by_side(tasks: Sequence[Task], work: Callable[[Task], Done], processes: int, seconds: float) -> Generator[Tuple[Task, object], None, None]:
-    """What `work` answers for each task, as it comes. A task that takes longer than `seconds`, or whose process ends, has an Ended."""
-    context = multiprocessing.get_context("spawn")
-    left = list(reversed(tasks))
-    workers: List[Worker[Task, Done]] = []
-    try:
-        for _ in range(min(processes, len(left))):
-            workers.append(started(context, work))
-            hand_on(workers[-1], left)
-        while any(worker.task is not None for worker in workers):
-            yield from one_look(workers, left, seconds, lambda: started(context, work))
-    finally:
-        for worker in workers:
-            worker.end()
+def end_with(parent: int) -> None:
+    """Ends this process and what it started as soon as the one that started it is gone, also in the middle of a task."""
+    while os.getppid() == parent:
+        time.sleep(LOOKS_AFTER)
+    os.killpg(0, signal.SIGKILL)
 
 
-def started(context: SpawnContext, work: Callable[[Task], Done]) -> Worker[Task, Done]:
-    """A new worker. An interrupt waits until its process leads its own group, where it is meant for the others alone."""
-    ours, theirs = context.Pipe()
-    process = context.Process(target=serve, args=(theirs, work), daemon=True)
-    blocked = signal.pthread_sigmask(signal.SIG_BLOCK, {signal.SIGINT})
-    try:
-        process.start()
-    finally:
-        signal.pthread_sigmask(signal.SIG_SETMASK, blocked)
-    theirs.close()
-    return Worker(process, ours)
+class Team(Generic[Task, Done]):
+    """Processes that work side by side: at most `processes`, each of which is started when there is a task for it and kept for the next ones.
 
+    work: what is done with each task; it and the tasks are sent by pickle. seconds: how long a task may take."""
 
-def hand_on(worker: Worker[Task, Done], left: List[Task]) -> None:
-    """Gives a worker its next task, if there is one. A worker whose process has ended is found out when its answer is waited for."""
-    worker.task, worker.began = (left.pop(), time.monotonic()) if left else (None, 0.0)
-    if worker.task is not None:
-        with contextlib.suppress(OSError):
-            worker.pipe.send(worker.task)
+    def __init__(self, work: Callable[[Task], Done], processes: int, seconds: float) -> None:
+        self.work = work
+        self.processes = processes
+        self.seconds = seconds
+        self.workers: List[Worker[Task, Done]] = []
+        # Whether a process has started: from then on one that ends is a task's trouble.
+        self.has_begun = False
 
+    def answers(self, tasks: Sequence[Task]) -> Generator[Tuple[Task, object], None, None]:
+        """What `work` answers for each task, as it comes. A task that takes too long, or whose process ends, has an Ended. Where this is closed before
+        its end, all processes are ended. Raises OSError where the first process ends before it takes a task."""
+        left = list(reversed(tasks))
+        self.workers = [worker for worker in self.workers if not worker.has_ended()]
+        try:
+            while len(self.workers) < min(self.processes, len(left)):
+                self.workers.append(Worker(self.work))
+            for worker in self.workers:
+                worker.take(left)
+            while any(worker.task is not None for worker in self.workers):
+                yield from self.one_look(left)
+        except BaseException:
+            self.end()
+            raise
 
-def one_look(
-    workers: List[Worker[Task, Done]], left: List[Task], seconds: float, start: Callable[[], Worker[Task, Done]]
-) -> Iterator[Tuple[Task, object]]:
-    """What came while the workers were waited for once."""
-    ready = wait([worker.pipe for worker in workers if worker.task is not None], LOOKS_AFTER)
-    for place, worker in enumerate(workers):
-        if worker.task is None:
-            continue
-        if worker.pipe in ready:
-            answer = answer_of(worker)
-            if isinstance(answer, Ready):
-                worker.is_ready, worker.began = True, time.monotonic()
+    def one_look(self, left: List[Task]) -> Iterator[Tuple[Task, object]]:
+        """What came while the workers were waited for once."""
+        ready = wait([worker.pipe for worker in self.workers if worker.task is not None], LOOKS_AFTER)
+        for place, worker in enumerate(self.workers):
+            if worker.task is None:
                 continue
-        elif worker.is_late(seconds):
-            answer = Ended(f"took longer than {seconds:g} seconds" if worker.is_ready else "its process didn't start")
-        else:
-            continue
-        task = worker.task
-        if isinstance(answer, Ended):
+            if worker.pipe in ready:
+                answer = worker.answer()
+                if isinstance(answer, Ready):
+                    self.has_begun = worker.is_ready = True
+                    worker.began = time.monotonic()
+                    continue
+                if not self.has_begun:
+                    raise OSError("a process of Python's doesn't start")
+            elif worker.is_late(self.seconds):
+                answer = Ended(f"took longer than {self.seconds:g} seconds" if worker.is_ready else "its process didn't start")
+            else:
+                continue
+            task, worker.task = worker.task, None
+            if isinstance(answer, Ended):
+                worker.end()
+                if left:
+                    worker = self.workers[place] = Worker(self.work)
+            if not worker.has_ended():
+                worker.take(left)
+            yield task, answer
+
+    def end(self) -> None:
+        """Ends all processes, with what they started."""
+        for worker in self.workers:
             worker.end()
-            workers[place] = start() if left else worker
-        hand_on(workers[place], left)
-        yield task, answer
-
-
-def answer_of(worker: Worker[Task, Done]) -> object:
-    """What a worker sent, or that its process ended."""
-    try:
-        answer: object = worker.pipe.recv()
-        return answer
-    except (EOFError, OSError):
-        worker.process.join(1.0)
-        return Ended(f"the process ended by itself (status {worker.process.exitcode})")
+        self.workers = []
