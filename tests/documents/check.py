@@ -10,7 +10,7 @@ proved with.
 Each crate has a README with the parts that one looks for. It names each wrong body of its crate, and its examples of Rattle are lines of the file that it
 says, in the file's order (a line `..` stands for what is left out). docs/PROOFS.md has an index of the promises of each crate with wrong bodies.
 The table at the end of docs/ARCHITECTURE.md, of what a change touches, has the files and numbers that places.py finds. Each recipe of docs/CONTRIBUTING.md that has
-an example names the files of code and definitions that have it, and no others. Names are as that document says.
+an example names the files of code and definitions that have it, up to three, and no others. Names are as that document says.
 
 The table of crates in .ci/README.md has each crate's numbers of functions and of wrong bodies, right within a tenth or two.
 
@@ -226,13 +226,13 @@ def changes():
 
 
 def recipes():
-    """The recipes with an example: each has all files of code and definitions that name the example, and all that it has of these and of proofs do."""
+    """The recipes with an example: each has the files of code and definitions that name the example, up to three, and all that it has of these and of proofs do."""
     text = (ROOT / "docs/CONTRIBUTING.md").read_text(encoding="utf-8")
     for heading, kind in RECIPES.items():
         rows = [line for line in text.split(f"\n### {heading}\n")[1].split("\n## ")[0].split("\n### ")[0].split("\n") if line.startswith("| `")]
         named, found = {cited for line in rows for cited in PATH.findall(line) + re.findall(r"`(front/[\w/.]+)`", line)}, places.files_of(kind)
-        for name in sorted(name for name in found if places.sort_of(name) in ("code", "definitions")):
-            yield f"docs/CONTRIBUTING.md: {heading}: the recipe hasn't {name}, which names the example", name in named
+        lacking = sorted(name for name in found if places.sort_of(name) in ("code", "definitions") and name not in named)
+        yield f"docs/CONTRIBUTING.md: {heading}: the recipe hasn't {', '.join(lacking)}, which name the example", len(lacking) <= 3
         for name in sorted(name for name in named if places.sort_of(name) in ("code", "definitions", "proofs")):
             yield f"docs/CONTRIBUTING.md: {heading}: {name} doesn't name the example", name in found
 
