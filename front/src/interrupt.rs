@@ -1,10 +1,10 @@
 //! A run that a signal can end. A second thread waits for one of the signals that end a program, and runs the job once more with so small a
 //! budget that it ends within a second: what that writes begins what the long run would have written.
 
-use crate::btx::{self, Answer, Options, Ran, Rooms};
-use crate::job::Files;
+use crate::btx::{self, Answer, Ran};
 use crate::system::{Held, Signal};
 use std::io;
+use std::sync::mpsc::{self, Receiver, Sender};
 use std::thread;
 use std::time::{Duration, Instant};
 
@@ -17,8 +17,13 @@ const DAY: Duration = Duration::from_secs(86_400);
 /// As long as this time isn't over, a longer beginning is tried.
 const SHORT: Duration = Duration::from_millis(500);
 
-/// The budget of the first beginning that is tried.
-const FIRST_BUDGET: u64 = 1000;
+/// After this time, what was done last is the beginning that is kept.
+const LATEST: Duration = Duration::from_secs(1);
+
+/// The budget of the first beginning that is tried, how many times as much each next one has, and the budget where even the first takes too long.
+const FIRST_BUDGET: u64 = 16;
+const GROWTH: u64 = 4;
+const LEAST_BUDGET: u64 = 1;
 
 /// The stack of the second thread. A run takes 64 KB at most.
 const STACK: usize = 1 << 20;
@@ -43,16 +48,96 @@ pub fn watch(
     thread::Builder::new().stack_size(STACK).spawn(wait).map(|_| ())
 }
 
-/// Runs the job with a small budget, doubled while half a second isn't over.
-pub fn beginning(files: &Files, options: &Options, rooms: &Rooms) -> Ran {
-    let start = Instant::now();
-    let mut budget = FIRST_BUDGET.min(options.budget);
-    loop {
-        let ran = btx::run(&files.top, &files.all, &Options { budget, ..*options }, rooms);
-        let is_stopped = matches!(ran.answer, Answer::Done(report) if report.status == btx::STOPPED);
-        if !is_stopped || budget == options.budget || start.elapsed() >= SHORT {
-            return ran;
+/// A beginning of a run, and whether no longer one is to be tried.
+struct Try {
+    ran: Ran,
+    is_last: bool,
+}
+
+/// The beginnings of a run that a thread of its own tries, each with several times the budget of the one before, as long as half a second isn't over.
+pub struct Tries<F> {
+    done: Receiver<Try>,
+    until: Instant,
+    run: F,
+}
+
+impl<F: Fn(u64) -> Ran + Clone + Send + 'static> Tries<F> {
+    /// Begins to try. `run` runs the job with a budget, and `budget` is that of the whole run. The thread holds the same signals back as this one.
+    pub fn begin(budget: u64, run: F) -> Tries<F> {
+        let (sender, done) = mpsc::channel();
+        let (tried, until) = (run.clone(), Instant::now() + LATEST);
+        // Where there can be no thread, nothing is received.
+        let _ = thread::Builder::new().stack_size(STACK).spawn(move || try_all(budget, tried, &sender));
+        Tries { done, until, run }
+    }
+
+    /// The longest beginning that was done in time. What is tried then is left alone; where nothing was done, the run's first step is.
+    pub fn longest(self) -> Ran {
+        let mut longest = None;
+        while let Ok(Try { ran, is_last }) =
+            self.done.recv_timeout(self.until.saturating_duration_since(Instant::now()))
+        {
+            longest = Some(ran);
+            if is_last {
+                break;
+            }
         }
-        budget = budget.saturating_mul(2).min(options.budget);
+        longest.unwrap_or_else(|| (self.run)(LEAST_BUDGET))
+    }
+}
+
+fn try_all(whole: u64, run: impl Fn(u64) -> Ran, done: &Sender<Try>) {
+    let start = Instant::now();
+    let mut budget = FIRST_BUDGET.min(whole);
+    loop {
+        let ran = run(budget);
+        let is_stopped = matches!(ran.answer, Answer::Done(report) if report.status == btx::STOPPED);
+        let is_last = !is_stopped || budget == whole || start.elapsed() >= SHORT;
+        if done.send(Try { ran, is_last }).is_err() || is_last {
+            return;
+        }
+        budget = budget.saturating_mul(GROWTH).min(whole);
+    }
+}
+
+#[cfg(test)]
+mod tests {
+    use super::*;
+    use crate::btx::Report;
+
+    /// A run of this budget, which is stopped there.
+    fn stopped(budget: u64) -> Ran {
+        let mut report = Report::default();
+        (report.status, report.steps) = (btx::STOPPED, budget);
+        Ran { list: Vec::new(), log: Vec::new(), answer: Answer::Done(report) }
+    }
+
+    fn steps(ran: &Ran) -> u64 {
+        match ran.answer {
+            Answer::Done(report) => report.steps,
+            _ => 0,
+        }
+    }
+
+    #[test]
+    fn a_longer_beginning_is_tried_as_long_as_there_is_time() {
+        assert_eq!(steps(&Tries::begin(5000, stopped).longest()), 5000);
+        assert_eq!(steps(&Tries::begin(7, stopped).longest()), 7);
+    }
+
+    #[test]
+    fn a_beginning_that_takes_too_long_is_left_alone() {
+        let slow = |from: u64| {
+            move |budget: u64| {
+                if budget >= from {
+                    thread::sleep(Duration::from_secs(20));
+                }
+                stopped(budget)
+            }
+        };
+        let start = Instant::now();
+        assert_eq!(steps(&Tries::begin(u64::MAX, slow(4000)).longest()), 1024);
+        assert_eq!(steps(&Tries::begin(u64::MAX, slow(2)).longest()), LEAST_BUDGET);
+        assert!(start.elapsed() < 4 * LATEST);
     }
 }

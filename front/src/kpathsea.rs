@@ -69,7 +69,8 @@ impl SetUp for Kpathsea {
     }
 
     fn may_read(&self, name: &[u8]) -> bool {
-        c_text(name).is_some_and(|name| self.0.may_read(&name))
+        // No file has a name with a byte 0, so there is nothing to be read.
+        c_text(name).is_none_or(|name| self.0.may_read(&name))
     }
 
     fn may_write(&self, name: &[u8]) -> bool {

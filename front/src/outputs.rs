@@ -6,12 +6,18 @@
 use crate::exit::Failure;
 use crate::job::FileNumber;
 use crate::search::path_of;
-use crate::system::{close_file, reserve};
+use crate::system::{close_file, lock, reserve};
 use std::collections::HashSet;
 use std::fs::{self, OpenOptions};
 use std::io::{self, ErrorKind, Write};
 use std::os::unix::fs::{FileTypeExt, MetadataExt};
 use std::path::PathBuf;
+use std::thread;
+use std::time::{Duration, Instant};
+
+/// How long a run waits at most until another one has written, and after how much time it looks again.
+const LONGEST_WAIT: Duration = Duration::from_secs(2);
+const MOMENT: Duration = Duration::from_millis(5);
 
 /// An output.
 #[derive(Debug)]
@@ -136,8 +142,18 @@ impl Outputs {
             .try_for_each(|(output, len)| output.reserve(len).map_err(|fault| Failure::unwritten(&output.name, &fault)))
     }
 
+    /// Waits, for a while, as long as another run of the same job writes its list and log: what stands there is then of one run.
+    fn wait_for_others(&self) {
+        let end = Instant::now() + LONGEST_WAIT;
+        let Some(list) = self.list.file.as_ref().filter(|_| self.list.number.is_some()) else { return };
+        while !lock(list) && Instant::now() < end {
+            thread::sleep(MOMENT);
+        }
+    }
+
     /// Replaces both by what a run wrote. Where there is no room for it, all stays as it was.
     pub fn replace(self, list: &[u8], log: &[u8]) -> Result<(), Failure> {
+        self.wait_for_others();
         if let Err(failure) = self.reserve(list.len(), log.len()) {
             self.leave();
             return Err(failure);
@@ -190,6 +206,19 @@ mod tests {
         assert_eq!((room.text("a.bbl").as_deref(), room.text("a.blg")), (Some("old list"), None));
         room.open().unwrap().replace(b"new", b"log").unwrap();
         assert_eq!((room.text("a.bbl").as_deref(), room.text("a.blg").as_deref()), (Some("new"), Some("log")));
+    }
+
+    #[test]
+    fn what_stands_there_is_of_one_run() {
+        let room = Room::new("two");
+        let (first, second) = (room.open().unwrap(), room.open().unwrap());
+        assert!(lock(first.list.file.as_ref().unwrap()));
+        let other = thread::spawn(move || second.replace(b"2", b"2"));
+        thread::sleep(20 * MOMENT);
+        assert_eq!(room.text("a.blg").as_deref(), Some(""));
+        first.replace(b"first", b"first").unwrap();
+        other.join().unwrap().unwrap();
+        assert_eq!((room.text("a.bbl").as_deref(), room.text("a.blg").as_deref()), (Some("2"), Some("2")));
     }
 
     #[test]

@@ -48,11 +48,11 @@ impl<'a> RunLog<'a> {
         let _ = shapes::write(&Log::new(&self.ran.log), self.files, part, into);
     }
 
-    /// What is to be said of a run that was ended, before its messages; the first of them is said here as well.
+    /// What is to be said of a run that was ended, before its messages.
     fn notes(&self) -> Vec<u8> {
         let megabytes = |room: usize| room as f64 / f64::from(1 << 20);
         let rooms = &self.words.rooms;
-        let mut notes = match (self.signal, self.ran.answer) {
+        match (self.signal, self.ran.answer) {
             (Some(signal), Answer::Done(report)) => format!(
                 "Interrupted by {}: list and log are those of the first {} steps, and begin what the run would have written.\n",
                 signal.name(),
@@ -66,20 +66,7 @@ impl<'a> RunLog<'a> {
             }
             _ => return Vec::new(),
         }
-        .into_bytes();
-        if matches!(self.ran.answer, Answer::LogFull | Answer::ListFull) {
-            notes.extend_from_slice(&self.first_message());
-        }
-        notes
-    }
-
-    /// The first message of a log, in the original's shape.
-    fn first_message(&self) -> Vec<u8> {
-        let is_message = |line: &&[u8]| line.starts_with(b"Error--") || line.starts_with(b"Warning--");
-        let Some(first) = self.ran.log.split(|byte| *byte == b'\n').find(is_message) else { return Vec::new() };
-        let mut message = b"The first message is:\n".to_vec();
-        let _ = shapes::write(&Log::new(first), self.files, Part::Messages, &mut message);
-        message
+        .into_bytes()
     }
 
     /// Prints the log: explained, or as it stands in the `.blg`, which is handed in, or what went wrong alone.
@@ -137,8 +124,10 @@ fn shown<'a>(text: &'a [u8], terminal: &Terminal) -> Cow<'a, [u8]> {
     if !terminal.is_terminal {
         return text.into();
     }
-    let lines = text.split_inclusive(|byte| *byte == b'\n');
-    let line =
-        |line: &[u8]| plain(line.strip_suffix(b"\n").unwrap_or(line)) + if line.ends_with(b"\n") { "\n" } else { "" };
-    lines.map(line).collect::<String>().into_bytes().into()
+    let lines = text.split_inclusive(|byte| *byte == b'\n').map(|line| match line.strip_suffix(b"\n") {
+        // A line of a file may end with a carriage return as well.
+        Some(line) => plain(line.strip_suffix(b"\r").unwrap_or(line)) + "\n",
+        None => plain(line),
+    });
+    lines.collect::<String>().into_bytes().into()
 }

@@ -357,6 +357,14 @@ impl LibrarySearch {
 #[cfg(test)]
 mod tests {
     use super::*;
+    use std::sync::{Mutex, MutexGuard};
+
+    /// Held while TeX's library is called, which is made for programs with one thread.
+    static ALONE: Mutex<()> = Mutex::new(());
+
+    fn alone() -> MutexGuard<'static, ()> {
+        ALONE.lock().unwrap_or_else(|poisoned| poisoned.into_inner())
+    }
 
     /// TeX's own search, and the names of the styles and databases that TeX's file databases list; None where TeX's library isn't installed.
     fn tex() -> Option<(LibrarySearch, Kpathsea, Vec<(Vec<u8>, Format)>)> {
@@ -376,6 +384,7 @@ mod tests {
 
     #[test]
     fn what_is_found_quickly_is_what_tex_finds() {
+        let _alone = alone();
         let Some((search, full, names)) = tex() else { return };
         let mut quick = 0;
         for (name, format) in &names {
@@ -389,6 +398,7 @@ mod tests {
 
     #[test]
     fn what_is_found_by_the_set_up_alone_is_what_tex_finds() {
+        let _alone = alone();
         let Some((_, full, names)) = tex() else { return };
         let search = SetUpSearch::new(Texmf::find().unwrap());
         for (name, format) in &names {
@@ -407,6 +417,7 @@ mod tests {
 
     #[test]
     fn the_set_up_says_what_tex_says() {
+        let _alone = alone();
         let Some((search, ..)) = tex() else { return };
         let texmf = Texmf::find().unwrap();
         for name in [

@@ -1,5 +1,6 @@
 //! A log in the shapes of the original's, which editors and other tools look for.
 
+use crate::aux_text::without_white_at_end;
 use crate::job::Files;
 use crate::log::{Content, Ended, Line, Log, Message, Place, Severity};
 use crate::sources::{Sources, Spot};
@@ -178,7 +179,8 @@ impl<'a, W: Write> Shapes<'a, W> {
         self.shown += 1;
         let Some(spot) = spot.filter(|_| self.shown <= MOST_SHOWN) else { return self.put(&[b" : "]) };
         let Some((before, behind)) = spot.halves() else {
-            return self.put(&[b" : ", &spot.line[..spot.line.len().min(2 * LONGEST_SHOWN)]]);
+            let line = without_white_at_end(spot.line);
+            return self.put(&[b" : ", &line[..line.len().min(2 * LONGEST_SHOWN)]]);
         };
         let before = with_spaces(&before[before.len().saturating_sub(LONGEST_SHOWN)..]);
         let behind = with_spaces(&behind[..behind.len().min(LONGEST_SHOWN)]);

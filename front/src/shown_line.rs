@@ -29,6 +29,11 @@ pub struct ShownLine<'a> {
 impl ShownLine<'_> {
     /// The lines to show, for a terminal of its width. A long line is cut round the mark.
     pub fn lines(&self, terminal: &Terminal) -> Vec<String> {
+        // A carriage return before the end of the line is a part of that.
+        ShownLine { line: self.line.strip_suffix(b"\r").unwrap_or(self.line), ..*self }.lines_as_they_are(terminal)
+    }
+
+    fn lines_as_they_are(&self, terminal: &Terminal) -> Vec<String> {
         let place = format!("{}:{}: ", self.name, self.number);
         let room = terminal.width.saturating_sub(INDENT);
         let beside = room.saturating_sub(columns(&place) + DOTS.len());
@@ -111,6 +116,7 @@ mod tests {
         assert_eq!(lines("nöte 1}".as_bytes(), Some(6), Some(80)), ["d.bib:7: nöte 1}", "              ^"]);
         assert_eq!(lines("田 1}".as_bytes(), Some(4), Some(80)), ["d.bib:7: 田 1}", "            ^"]);
         assert_eq!(lines(b"x", None, None), ["d.bib:7: x"]);
+        assert_eq!(lines(b"x\r", Some(2), None), ["d.bib:7: x", "          ^"]);
     }
 
     #[test]

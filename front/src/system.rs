@@ -53,6 +53,7 @@ unsafe extern "C" {
     fn setrlimit(resource: c_int, limit: *const Limit) -> c_int;
     fn getrlimit(resource: c_int, limit: *mut Limit) -> c_int;
     fn ioctl(file: c_int, request: c_ulong, ...) -> c_int;
+    fn flock(file: c_int, operation: c_int) -> c_int;
     fn fallocate(file: c_int, mode: c_int, offset: i64, len: i64) -> c_int;
     fn close(file: c_int) -> c_int;
     fn atexit(handler: extern "C" fn()) -> c_int;
@@ -447,6 +448,17 @@ pub fn reserve(file: &impl AsRawFd, len: u64, has_room: u64) -> io::Result<()> {
     }
     let fault = io::Error::last_os_error();
     if matches!(fault.raw_os_error(), Some(NO_SPACE | NO_QUOTA)) { Err(fault) } else { Ok(()) }
+}
+
+// LOCK_EX and LOCK_NB.
+const ALONE_WITHOUT_A_WAIT: c_int = 2 | 4;
+
+/// Takes the lock of an open file, by which programs agree that one alone writes it; false where another one has it. Closing the file gives it
+/// back. A system that can't lock this file has no fault here.
+pub fn lock(file: &impl AsRawFd) -> bool {
+    // SAFETY: the file is open, and the call has no other preconditions.
+    let is_locked = unsafe { flock(file.as_raw_fd(), ALONE_WITHOUT_A_WAIT) == 0 };
+    is_locked || io::Error::last_os_error().kind() != io::ErrorKind::WouldBlock
 }
 
 /// `len` zeros. As long as they are only read they take no memory. None if memory is refused.

@@ -1,8 +1,8 @@
 //! A job with all that its run needs: it is run, and what it gives is written and printed, also where a signal ends it.
 
-use crate::btx::{self, Answer, Ran};
+use crate::btx::{self, Answer, Options, Ran};
 use crate::exit::{Failure, Name, Status};
-use crate::interrupt;
+use crate::interrupt::{self, Tries};
 use crate::job::Files;
 use crate::outputs::Outputs;
 use crate::run_log::RunLog;
@@ -57,7 +57,7 @@ impl Task {
         if watched.is_err() {
             self.held.release();
         }
-        let ran = btx::run(&self.files.top, &self.files.all, &self.words.options, &self.words.rooms);
+        let ran = self.run_with(self.words.options.budget);
         if !self.claim() {
             // The other thread was quicker, and ends the program.
             loop {
@@ -65,6 +65,12 @@ impl Task {
             }
         }
         self.finish(&ran, None)
+    }
+
+    /// What the job gives with this budget.
+    fn run_with(&self, budget: u64) -> Ran {
+        let options = Options { budget, ..self.words.options };
+        btx::run(&self.files.top, &self.files.all, &options, &self.words.rooms)
     }
 
     /// Whether this thread is the first that has something to write.
@@ -80,10 +86,12 @@ impl Task {
 
     /// Ends the program by this signal. Where the run isn't done, the beginning of what it would have written is kept; a second signal ends
     /// the program at once.
-    fn end_by(&self, signal: Signal) {
+    fn end_by(self: &Arc<Self>, signal: Signal) {
         if !self.is_claimed.load(Ordering::SeqCst) {
+            let task = self.clone();
+            let tries = Tries::begin(self.words.options.budget, move |budget| task.run_with(budget));
             self.held.release();
-            let ran = interrupt::beginning(&self.files, &self.words.options, &self.words.rooms);
+            let ran = tries.longest();
             self.held.hold_again();
             if self.claim()
                 && let Err(failure) = self.finish(&ran, Some(signal))

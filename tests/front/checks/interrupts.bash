@@ -43,6 +43,18 @@ for signal in INT TERM; do
     end
 done
 
+# Where a step is slow, so are a thousand; the beginning that is kept is then a shorter one.
+begin interrupted_in_slow_steps
+{
+    echo 'ENTRY {title}{}{} FUNCTION {misc}{} STRINGS {s} READ'
+    echo 'FUNCTION {f} {"begun" warning$ "a line of the list" write$ newline$ "a " '"$(printf 'duplicate$ * %.0s' {1..18})"' '"'"'s := {#1} {s #1 "{ff}" format.name$ pop$} while$} EXECUTE {f}'
+} >s.bst
+leave_old
+interrupt INT 1 -global-max=1000000 job
+wants_status 130
+wants_begun
+end
+
 begin interrupted_on_a_terminal
 endless
 leave_old
@@ -152,6 +164,7 @@ messages job.blg | head -n 1 | grep -qx "Error--INTEGER isn't a command--line 4 
 messages "$folder/stdout" | head -n 1 | grep -qx "Error--INTEGER isn't a command--line 4 of file s.bst" || complaints+=("the first message printed is $(messages "$folder/stdout" | head -n 1)")
 wants_words job.blg -log-room
 wants_words "$folder/stdout" -log-room
+[ "$(grep -c "INTEGER isn't a command" job.blg)" -eq 1 ] || complaints+=("the first message stands there $(grep -c "INTEGER isn't a command" job.blg) times")
 [ "$(stat -c %s job.blg)" -le 200000000 ] || complaints+=("the log has $(stat -c %s job.blg) bytes")
 end
 

@@ -225,6 +225,16 @@ wants_status 2
 wants_words job.blg "I couldn't open style file s.bst"
 end
 
+# No file has a name with a byte 0: it isn't found, and TeX's rules for names aren't blamed.
+begin names_with_a_byte_0
+printf '\\citation{k}\n\\@input{a\0b.aux}\n\\bibdata{d,d\0e}\n\\bibstyle{s}\n' >job.aux
+run_search job
+wants_status 2
+grep -qa "couldn't open database file d.e.bib" job.blg || complaints+=("the log is $(cat -v job.blg)")
+! grep -q openin_any "$folder/stderr" || complaints+=("it says $(cat "$folder/stderr")")
+wants_text job.bbl $'a\n'
+end
+
 # One name a million times is one name, and one that is longer than any path is none.
 begin names_again_and_again
 {

@@ -212,6 +212,10 @@ for output in bbl blg; do
     chmod +x "job.$output"
     "./job.$output" 20 &
     sleeper=$!
+    for _ in {1..50}; do
+        [ "$(readlink "/proc/$sleeper/exe")" != "$PWD/job.$output" ] || break
+        sleep 0.1
+    done
     run_search job
     kill $sleeper
     wait $sleeper 2>/dev/null || true
@@ -391,4 +395,18 @@ rm s.bst
 run_search job
 wants_status 2
 wants_text job.bbl ''
+end
+
+# Two runs of a job at once: what stands there is of one of them.
+begin two_runs_at_once
+use_style 'FUNCTION {f} {#3000 {duplicate$ #0 >} {"a line of the list" write$ newline$ #1 -} while$ pop$} EXECUTE {f}'
+for _ in 1 2 3 4 5; do
+    run_search -terse -line=20 job &
+    other=$!
+    run_search -terse job
+    wait $other
+    lines=$(sort -u job.bbl | wc -l)
+    [ "$lines" -eq 1 ] || complaints+=("the list is of two runs: $(sort job.bbl | uniq -c | head -n 5)")
+    [ "$(grep -c '^Ended: ' job.blg)" -eq 1 ] || complaints+=("the log is of two runs: $(cat job.blg)")
+done
 end

@@ -125,3 +125,11 @@ cite nosuch
 NO_COLOR= TERM=xterm on_terminal 80 job >shown
 grep -q $'\e\[' shown || complaints+=('there is no colour')
 end
+
+# The carriage return before the end of a line is a part of that, and nothing to be shown.
+begin lines_with_carriage_returns
+printf '@misc{k,\r\n  title = {A},\r\n  note 1}\r\n' >d.bib
+on_terminal 80 job >"$folder/found" || true
+grep -q 'note 1}' "$folder/found" || complaints+=("the line isn't shown: $(cat -v "$folder/found")")
+! grep 'note 1}' "$folder/found" | grep -q '?' || complaints+=("it shows $(cat -v "$folder/found")")
+end
