@@ -398,7 +398,7 @@ wants_text job.bbl ''
 end
 
 # Two runs of a job at once: what stands there is of one of them.
-begin two_runs_at_once
+begin two_runs_at_once_with_long_lists
 use_style 'FUNCTION {f} {#3000 {duplicate$ #0 >} {"a line of the list" write$ newline$ #1 -} while$ pop$} EXECUTE {f}'
 for _ in 1 2 3 4 5; do
     run_search -terse -line=20 job &
