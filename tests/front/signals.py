@@ -1,8 +1,8 @@
 """Sends a signal to bibtex-search at moments made by chance, and looks at what stands in the outputs.
 
-    python3 signals.py [--seed N] TIMES FRONT
+    python3 signals.py [--seed N] [--endless N] TIMES FRONT
 
-The job's list has 60,000 lines. Whatever moment it is: the list is the old one, or a beginning of the new one; beside a new list there is no old log; no other file
+The job's list has 60,000 lines; with --endless, N more signals meet a job whose list has no end. Whatever moment it is: the list is the old one, or a beginning of the new one; beside a new list there is no old log; no other file
 is left; and a run that didn't end by itself has the signal's status. SIGINT, SIGTERM, SIGHUP, SIGQUIT and SIGKILL take turns. What is wrong is printed; the last line says how
 many signals met a run that was going, and in how many of these a list was begun. The exit status is 0 only where nothing is wrong, and a tenth met one."""
 
@@ -19,15 +19,18 @@ STYLE = """ENTRY {title}{}{} INTEGERS {i} FUNCTION {misc}{} READ
 FUNCTION {f} {#0 'i := {i #60000 <} {i #1 + 'i := "line " i int.to.str$ * write$ newline$} while$ #1 warning$ "end" warning$}
 EXECUTE {f}
 """
+ENDLESS = STYLE.replace("i #60000 <", "i i =")
 OLD_LIST, OLD_LOG = b"old list\n", b"old log\n"
+KEEPING = [signal.SIGINT, signal.SIGTERM, signal.SIGHUP]
 SIGNALS = [signal.SIGINT, signal.SIGTERM, signal.SIGHUP, signal.SIGQUIT, signal.SIGKILL]
+LONGEST_END = 10
 FILES = {"d.bib", "job.aux", "job.bbl", "job.blg", "s.bst"}
 
 
-def write_job(folder):
+def write_job(folder, style=STYLE):
     (folder / "job.aux").write_text("\\citation{k}\n\\bibdata{d}\n\\bibstyle{s}\n")
     (folder / "d.bib").write_text("@misc{k, title = {T}}\n")
-    (folder / "s.bst").write_text(STYLE)
+    (folder / "s.bst").write_text(style)
     (folder / "job.bbl").write_bytes(OLD_LIST)
     (folder / "job.blg").write_bytes(OLD_LOG)
 
@@ -58,9 +61,27 @@ def complaints(folder, number, status, wanted):
         yield f"left over: {left}"
 
 
+def of_endless(front, folder, number, seconds):
+    """What is wrong where a job without an end gets a signal after these seconds; and whether a list was begun."""
+    write_job(folder, ENDLESS)
+    running = subprocess.Popen([front, "-terse", "-budget=1000000000000", "job"], cwd=folder, stdin=subprocess.DEVNULL, stdout=subprocess.DEVNULL, stderr=subprocess.DEVNULL)
+    time.sleep(seconds)
+    sent = time.monotonic()
+    running.send_signal(number)
+    status, took = running.wait(60), time.monotonic() - sent
+    references = (folder / "job.bbl").read_bytes()
+    is_old = references == OLD_LIST
+    wanted = b"".join(b"line %d\n" % line for line in range(1, references.count(b"\n") + 2))
+    wrong = list(complaints(folder, number, status, OLD_LIST if is_old else wanted))
+    if took > LONGEST_END:
+        wrong.append(f"it ends after {took:.1f} seconds")
+    return wrong, not is_old and references != b""
+
+
 def main():
     parser = argparse.ArgumentParser()
     parser.add_argument("--seed", type=int, default=1)
+    parser.add_argument("--endless", type=int, default=0)
     parser.add_argument("times", type=int)
     parser.add_argument("front")
     arguments = parser.parse_args()
@@ -80,8 +101,15 @@ def main():
             for what in complaints(folder, number, status, wanted):
                 wrong += 1
                 print(f"turn {turn}, {signal.Signals(number).name}: {what}")
-    print(f"{met} of {arguments.times} signals met a run; a list was begun in {begun}")
-    return wrong > 0 or 10 * met < arguments.times
+        for turn in range(arguments.endless):
+            number = KEEPING[turn % len(KEEPING)]
+            found, is_begun = of_endless(arguments.front, folder, number, chance.uniform(0.05, 1))
+            begun += is_begun
+            wrong += len(found)
+            for what in found:
+                print(f"endless, turn {turn}, {signal.Signals(number).name}: {what}")
+    print(f"{met} of {arguments.times} signals met a run, and {arguments.endless} one without an end; a list was begun in {begun}")
+    return wrong > 0 or 10 * met < arguments.times or 2 * begun < arguments.endless
 
 
 if __name__ == "__main__":
