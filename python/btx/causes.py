@@ -4,7 +4,7 @@ from __future__ import annotations
 
 import enum
 import re
-from typing import Dict, List, NamedTuple, Optional
+from typing import Dict, NamedTuple, Optional
 
 from .messages import Kind
 from .results import End, Result
@@ -13,6 +13,7 @@ __all__ = ["Cause", "Difference", "cause_of", "first_difference"]
 
 ITEM = re.compile(rb"^(?=\\(?:bib|harvard)item|\\entry\{)", re.MULTILINE)
 KEY = re.compile(rb"\\(?:bib|harvard)item\s*(?:\[(?:[^\]{]|\{(?:[^{}]|\{[^{}]*\})*\})*\])?\s*\{([^}]*)\}|\\entry\{([^}]*)\}")
+WHITE_SPACE = b" \t\r\n"
 LONGEST_SHOWN = 160
 CUT = re.compile(r"string of [0-9]+ bytes cut to [0-9]+")
 
@@ -43,16 +44,35 @@ class Difference(NamedTuple):
 
 def first_difference(here: bytes, there: bytes) -> Difference:
     """The first line in which two texts that aren't equal differ."""
-    ours, theirs = here.split(b"\n"), there.split(b"\n")
-    for number, (one, other) in enumerate(zip(ours, theirs), 1):
-        if one != other:
-            return Difference(number, shown(one), shown(other))
-    number = min(len(ours), len(theirs))
-    return Difference(number + 1, shown_at(ours, number), shown_at(theirs, number))
+    place = common_prefix(here, there)
+    begin = here.rfind(b"\n", 0, place) + 1
+    number = here.count(b"\n", 0, place) + 1
+    if line_at(here, begin) == line_at(there, begin):
+        begin = place + 1
+        number += 1
+    return Difference(number, shown_at(here, begin), shown_at(there, begin))
 
 
-def shown_at(lines: List[bytes], place: int) -> Optional[str]:
-    return shown(lines[place]) if place < len(lines) else None
+def common_prefix(here: bytes, there: bytes) -> int:
+    """How many bytes two texts have in common at their fronts."""
+    least, most = 0, min(len(here), len(there))
+    while least < most:
+        middle = (least + most + 1) // 2
+        if here[least:middle] == there[least:middle]:
+            least = middle
+        else:
+            most = middle - 1
+    return least
+
+
+def line_at(text: bytes, begin: int) -> bytes:
+    """The line that begins at a place of a text, without its end."""
+    end = text.find(b"\n", begin)
+    return text[begin:] if end < 0 else text[begin:end]
+
+
+def shown_at(text: bytes, begin: int) -> Optional[str]:
+    return shown(line_at(text, begin)) if begin <= len(text) else None
 
 
 def shown(line: bytes) -> str:
@@ -71,7 +91,7 @@ def cause_of(result: Result, there: bytes) -> Cause:
         return Cause.LIMIT
     if here.replace(b"\r\n", b"\n") == there.replace(b"\r\n", b"\n"):
         return Cause.LINE_ENDS
-    if here.split() == there.split():
+    if here.translate(None, WHITE_SPACE) == there.translate(None, WHITE_SPACE):
         return Cause.SPACES
     if any(message.kind is Kind.ERROR and message.text.startswith("I couldn't open database file") for message in result.messages):
         return Cause.DATABASE

@@ -77,6 +77,9 @@ class Kpathsea(Search):
     def along_path(self, name: bytes, ending: bytes) -> Optional[bytes]:
         if b"\0" in name:
             return None
+        # (TeX's search would print that it may not read a file, and then look on; here the job isn't run)
+        if os.path.isfile(name) and not os.access(name, os.R_OK):
+            return name
         found: Optional[bytes] = self.library.kpathsea_find_file(self.setup, name, FORMATS[ending][0], 1)
         return found if found is not None and os.path.isfile(found) else None
 

@@ -3,10 +3,12 @@
 import contextlib
 import fcntl
 import io
+import itertools
 import json
 import os
 import pathlib
 import pty
+import random
 import shutil
 import stat
 import struct
@@ -70,6 +72,22 @@ class Causes(unittest.TestCase):
         for here, there, wanted in rows:
             with self.subTest(here=here):
                 self.assertEqual(tuple(first_difference(here, there)), wanted)
+
+    def test_first_differences_are_those_of_the_lines(self):
+        maker = random.Random(3)
+        for _ in range(2000):
+            here, there = (bytes(maker.choices(b"ab\n", k=maker.randrange(9))) for _ in range(2))
+            lines = enumerate(itertools.zip_longest(here.decode().split("\n"), there.decode().split("\n")), 1)
+            wanted = next(((number, *pair) for number, pair in lines if pair[0] != pair[1]), None)
+            if wanted is not None:
+                self.assertEqual(tuple(first_difference(here, there)), wanted)
+
+    def test_lists_of_100_megabytes(self):
+        here, there = b"k: T\n" * 20_000_000, b"k: T\n" * 20_000_000 + b"x"
+        began = time.process_time()
+        self.assertEqual(tuple(first_difference(here, there)), (20_000_001, "", "x"))
+        self.assertEqual(cause_of(result_of(here), there), Cause.OTHER)
+        self.assertLess(time.process_time() - began, 10)
 
 
 class InFolder(unittest.TestCase):
