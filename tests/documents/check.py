@@ -226,14 +226,14 @@ def changes():
 
 
 def recipes():
-    """The recipes with an example: each has the files of code and definitions that name the example, up to three, and all that it has of these and of proofs do."""
+    """The recipes with an example: each has the files of code and definitions that name the example, up to three, and all that it has of these do."""
     text = (ROOT / "docs/CONTRIBUTING.md").read_text(encoding="utf-8")
     for heading, kind in RECIPES.items():
         rows = [line for line in text.split(f"\n### {heading}\n")[1].split("\n## ")[0].split("\n### ")[0].split("\n") if line.startswith("| `")]
         named, found = {cited for line in rows for cited in PATH.findall(line) + re.findall(r"`(front/[\w/.]+)`", line)}, places.files_of(kind)
         lacking = sorted(name for name in found if places.sort_of(name) in ("code", "definitions") and name not in named)
         yield f"docs/CONTRIBUTING.md: {heading}: the recipe hasn't {', '.join(lacking)}, which name the example", len(lacking) <= 3
-        for name in sorted(name for name in named if places.sort_of(name) in ("code", "definitions", "proofs")):
+        for name in sorted(name for name in named if places.sort_of(name) in ("code", "definitions")):
             yield f"docs/CONTRIBUTING.md: {heading}: {name} doesn't name the example", name in found
 
 
