@@ -69,9 +69,11 @@ pub enum Search {
 impl Search {
     /// Begins a search. To be called as long as the program has one thread.
     pub fn begin() -> Search {
+        // The library may be there without a TeX, for other programs.
+        let has_set_up = || Home::of_user().is_some_and(|home| home.has_set_up_for_library());
         match PathLibrary::open() {
-            Some(library) => Search::ByLibrary(LibrarySearch::begin(library)),
-            None => Texmf::find().map_or(Search::Folders, |texmf| Search::BySetUp(SetUpSearch::new(texmf))),
+            Some(library) if has_set_up() => Search::ByLibrary(LibrarySearch::begin(library)),
+            _ => Texmf::find().map_or(Search::Folders, |texmf| Search::BySetUp(SetUpSearch::new(texmf))),
         }
     }
 

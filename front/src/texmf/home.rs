@@ -78,8 +78,18 @@ impl Home {
 
     /// The files `texmf.cnf` in the folders that `TEXMFCNF` lists, or else in the usual ones.
     pub fn set_up_files(&self) -> Vec<Vec<u8>> {
+        self.files_in(&self.usual_folders())
+    }
+
+    /// Whether TeX's library finds a set-up: without one it looks for files nowhere.
+    pub fn has_set_up_for_library(&self) -> bool {
+        !self.files_in(&[&self.usual_folders(), &b":"[..], OF_SYSTEM].concat()).is_empty()
+    }
+
+    /// The files `texmf.cnf` in the folders that `TEXMFCNF` lists, or else in these.
+    fn files_in(&self, usual: &[u8]) -> Vec<Vec<u8>> {
         let given = env::var_os("TEXMFCNF").map(|given| paths::with_colons(&given.into_vec()));
-        let listed = paths::with_default(given.as_deref(), &self.usual_folders());
+        let listed = paths::with_default(given.as_deref(), usual);
         let folders = paths::written_out(&listed, &Variables::new(self, Settings::default()));
         let file = |folder: &[u8]| [folder.strip_prefix(b"!!").unwrap_or(folder), b"/texmf.cnf"].concat();
         let files = folders.split(|byte| *byte == b':').filter(|folder| !folder.is_empty()).map(file);

@@ -1,7 +1,7 @@
 # A signal ends a run, and keeps the beginning of what it would have written. A run whose outputs take too much room ends too.
 
 begin signals_at_random_moments
-python3 "$here/signals.py" --seed "${seed:-1}" --endless "$([ -n "$few" ] && echo 4 || echo 40)" "$([ -n "$few" ] && echo 40 || echo 200)" "$search" >found || complaints+=("$(cat found)")
+LD_LIBRARY_PATH=$libraries python3 "$here/signals.py" --seed "${seed:-1}" --endless "$([ -n "$few" ] && echo 4 || echo 40)" "$([ -n "$few" ] && echo 40 || echo 200)" "$search" >found || complaints+=("$(cat found)")
 echo "        $(tail -n 1 found)"
 end
 

@@ -1,11 +1,12 @@
 # TeX lets a document call bibtex, since bibtex honours openout_any and openin_any. So does bibtex-search: it asks TeX's own library of each name that it reads or writes.
 
 mkdir "$room/fake"
+: >"$room/fake/texmf.cnf"
 gcc -O2 -Wall -Werror -shared -fPIC -o "$room/fake/libkpathsea.so.6" "$here/fake_kpathsea.c"
 
 # run_fake WORD..: bibtex-search with a library of our own in the place of TeX's.
 run_fake() {
-    libraries=$room/fake run_search "$@"
+    TEXMFCNF=$room/fake libraries=$room/fake run_search "$@"
 }
 
 # victim: a job above the present folder, with an old list.

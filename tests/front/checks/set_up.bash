@@ -163,6 +163,12 @@ wants_error_like 'Not reading from .*job.aux \(openin_any = p\)'
 TEXMFOUTPUT=$PWD/allowed
 end
 
+# The library may be there for other programs, without a TeX: then files are found as without it.
+begin library_without_a_set_up
+TEXMFCNF=$room/no_tex libraries= run_search job
+wants_first job
+end
+
 if has kpsewhich; then
     for ending in bst bib; do
         begin "all_files_of_tex_live_by_its_set_up_$ending"
