@@ -7,7 +7,7 @@
 //! | [`settings`] | what these files say |
 //! | [`variables`] | the values of variables: of the environment, or else of the set-up |
 //! | [`paths`] | a search path, with all its parts written out |
-//! | [`folders`] | the files in an element of a path, as the disk has them |
+//! | [`folders`] | the folders that an element of a path stands for |
 //! | [`names`] | which names may be read and written |
 
 pub mod folders;
@@ -18,17 +18,25 @@ pub mod settings;
 pub mod variables;
 
 use crate::kpathsea::Format;
-use crate::search::{SetUp, path_of};
+use crate::search::{SetUp, path_of, stands_as_file, within};
 use home::Home;
 use names::Openness;
 use settings::Settings;
+use std::cell::RefCell;
+use std::collections::HashMap;
 use std::ffi::CStr;
 use std::fs;
+use std::rc::Rc;
 use variables::Variables;
+
+/// The paths of folders.
+type Folders = Rc<[Vec<u8>]>;
 
 /// TeX's set-up.
 pub struct Texmf {
     variables: Variables,
+    /// The folders of the elements that were looked through, so that each is read once.
+    folders: RefCell<HashMap<Vec<u8>, Folders>>,
 }
 
 /// The path of files of any kind, where TeX's set-up says nothing of them.
@@ -41,7 +49,13 @@ impl Texmf {
         let files = home.set_up_files();
         let texts: Vec<Vec<u8>> = files.iter().filter_map(|file| fs::read(path_of(file)).ok()).collect();
         let settings = Settings::read(texts.iter().map(Vec::as_slice));
-        (!texts.is_empty()).then(|| Texmf { variables: Variables::new(&home, settings) })
+        (!texts.is_empty()).then(|| Texmf { variables: Variables::new(&home, settings), folders: RefCell::default() })
+    }
+
+    /// The folders that an element of a path stands for.
+    fn folders_of(&self, element: &[u8]) -> Folders {
+        let mut known = self.folders.borrow_mut();
+        known.entry(element.to_vec()).or_insert_with(|| folders::folders_of(element).into()).clone()
     }
 
     /// A name with its variables, and a `~` at its beginning, written out.
@@ -87,7 +101,8 @@ impl SetUp for Texmf {
     }
 
     fn find_in(&self, element: &[u8], name: &[u8]) -> Option<Vec<u8>> {
-        folders::find_in(element, name)
+        let folders = self.folders_of(element);
+        folders.iter().map(|folder| within(folder, name)).find(|path| stands_as_file(path))
     }
 
     fn may_read(&self, name: &[u8]) -> bool {

@@ -1,37 +1,38 @@
-//! The files in an element of a search path, as the disk has them. A `//` in an element stands for any folders between.
+//! The folders that an element of a search path stands for. A `//` in an element stands for any folders between.
 
 use crate::job::FileNumber;
-use crate::search::{path_of, stands_as_file, within, without_slashes};
+use crate::search::{path_of, within, without_slashes};
 use crate::system::position;
 use std::collections::HashSet;
 use std::fs;
 use std::os::unix::ffi::OsStringExt;
 use std::os::unix::fs::MetadataExt;
 
-/// The first file of this name in an element.
-pub fn find_in(element: &[u8], name: &[u8]) -> Option<Vec<u8>> {
+/// The folders that an element stands for, in the order in which they are looked through.
+pub fn folders_of(element: &[u8]) -> Vec<Vec<u8>> {
     let element = &element[element.iter().take_while(|byte| **byte == b'/').count().saturating_sub(1)..];
-    let Some(at) = element.get(1..).and_then(|rest| position(rest, b"//")) else {
-        return Some(within(element, name)).filter(|path| stands_as_file(path));
-    };
-    let (top, below) = element.split_at(at + 1);
-    find_below(top, without_slashes(below), name)
+    match element.get(1..).and_then(|rest| position(rest, b"//")) {
+        Some(at) => folders_below(&element[..at + 1], without_slashes(&element[at + 1..])),
+        None => vec![element.to_vec()],
+    }
 }
 
-/// The first file of this name that stands, behind `below`, in a folder or in one of those below it. Hidden folders don't count.
-fn find_below(top: &[u8], below: &[u8], name: &[u8]) -> Option<Vec<u8>> {
-    let (mut left, mut seen) = (vec![top.to_vec()], HashSet::new());
+/// The folders that stand, behind `below`, in a folder and in those below it. Hidden folders don't count.
+fn folders_below(top: &[u8], below: &[u8]) -> Vec<Vec<u8>> {
+    let (mut found, mut left, mut seen) = (Vec::new(), vec![top.to_vec()], HashSet::new());
     while let Some(folder) = left.pop() {
         if !is_new_folder(&folder, &mut seen) {
             continue;
         }
-        let inside = if below.is_empty() { folder.clone() } else { within(&folder, below) };
-        if let Some(path) = find_in(&inside, name) {
-            return Some(path);
-        }
         left.extend(folders_in(&folder).into_iter().rev());
+        if below.is_empty() {
+            found.push(folder);
+        } else {
+            let inside = folders_of(&within(&folder, below)).into_iter();
+            found.extend(inside.filter(|folder| path_of(folder).is_dir()));
+        }
     }
-    None
+    found
 }
 
 /// Whether it is a folder that wasn't seen before: links can lead back.
@@ -68,8 +69,10 @@ mod tests {
         /// Where the file is found, from the room on.
         fn find(&self, element: &str, name: &str) -> Option<String> {
             let room = format!("{}/", self.0.display());
-            let found = String::from_utf8(find_in(format!("{room}{element}").as_bytes(), name.as_bytes())?).unwrap();
-            Some(found.strip_prefix(&room).unwrap().to_string())
+            let folders = folders_of(format!("{room}{element}").as_bytes());
+            let found =
+                folders.iter().map(|folder| within(folder, name.as_bytes())).find(|path| path_of(path).is_file())?;
+            Some(String::from_utf8(found).unwrap().strip_prefix(&room).unwrap().to_string())
         }
     }
 

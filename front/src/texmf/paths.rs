@@ -3,7 +3,7 @@
 use super::variables::Variables;
 
 /// How deep values may hold values with braces in them. TeX's own are two deep.
-const DEEPEST: usize = 16;
+const DEEPEST: usize = 6;
 
 /// A path with `:` between its elements, where it has `;` as in a file for another system.
 pub fn with_colons(path: &[u8]) -> Vec<u8> {

@@ -147,6 +147,17 @@ wants_status 0
 [ "$(grep -c '^Database file' job.blg)" -eq 301 ] || complaints+=("$(grep -c '^Database file' job.blg) databases were found")
 end
 
+# A tree is looked through once, however many names aren't there.
+begin set_up_with_many_folders
+live_tree
+mkdir -p home/texmf/bibtex/bib/{1..30}/{1..30}
+printf '\\citation{k}\n\\bibdata{d,%s}\n\\bibstyle{s}\n' "$(seq -f missing%g -s , 2000)" >job.aux
+HOME=$PWD/home run_live -terse job
+wants_status 2
+wants_text job.bbl $'a\n'
+[ "$(messages job.blg | wc -l)" -eq 2000 ] || complaints+=("the log has $(messages job.blg | wc -l) messages")
+end
+
 begin set_up_with_rules_for_names
 live_tree
 cp job.aux "$folder"
