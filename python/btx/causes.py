@@ -100,17 +100,19 @@ def cause_of(result: Result, there: bytes) -> Cause:
         return Cause.KEYS
     if ours == theirs and list(ours) == list(theirs):
         return Cause.OTHER
-    return cause_of_items(result) or (Cause.ORDER if list(ours) != list(theirs) else Cause.ITEMS)
+    return cause_of_items(result, ours, theirs)
 
 
-def cause_of_items(result: Result) -> Optional[Cause]:
-    """Why items of the same keys differ or stand in another order, if the log says it."""
+def cause_of_items(result: Result, ours: Dict[bytes, bytes], theirs: Dict[bytes, bytes]) -> Cause:
+    """Why items of the same keys differ or stand in another order: what the log says of it, unless their order alone differs."""
     messages = result.messages
     if any(message.kind is Kind.WARNING and CUT.match(message.text) for message in messages):
         return Cause.CUT
+    if ours == theirs:
+        return Cause.ORDER
     if any(message.kind is Kind.ERROR and (message.function or (message.file or "").endswith(".bst")) for message in messages):
         return Cause.STYLE
-    return None
+    return Cause.ORDER if list(ours) != list(theirs) else Cause.ITEMS
 
 
 def items_of(text: bytes) -> Dict[bytes, bytes]:

@@ -96,7 +96,8 @@ def checked(content: Content, name: bytes) -> Content:
         return content
     if isinstance(content, (bytearray, memoryview)):
         return bytes(content)
-    raise FinderRefused(f"the file {name_text(name)} is bytes or None, and not {type(content).__name__}")
+    hint = ": open it in binary mode" if isinstance(content, str) else ""
+    raise FinderRefused(f"the file {name_text(name)} is bytes or None, and not {type(content).__name__}{hint}")
 
 
 def job_name(job: Name) -> bytes:

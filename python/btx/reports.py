@@ -224,7 +224,7 @@ pre {{ margin: .3rem 0; white-space: pre-wrap; overflow-wrap: anywhere; font-siz
 {rows}
 </table>
 <h2>Jobs that aren't equal</h2>
-<p>Green: as the job comes out now. Orange: as the other side has it.</p>
+<p>The first line that differs: first (green) as the job comes out now, then (orange) as the other side has it.</p>
 {jobs}
 </html>
 """

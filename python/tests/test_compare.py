@@ -54,6 +54,8 @@ class Causes(unittest.TestCase):
             (result_of(one), one.replace(b"\n", b"\r\n"), Cause.LINE_ENDS),
             (result_of(one), one.replace(b"\n", b"\n  "), Cause.SPACES),
             (result_of(one + two), two + one, Cause.ORDER),
+            (result_of(one + two, log=error), two + one, Cause.ORDER),
+            (result_of(one + two, log=error), two + one.replace(b"One", b"Eins"), Cause.STYLE),
             (result_of(one, log=b"Error--I couldn't open database file d.bib\n"), one + two, Cause.DATABASE),
             (result_of(one), two, Cause.KEYS),
             (result_of(one), one + two, Cause.KEYS),
