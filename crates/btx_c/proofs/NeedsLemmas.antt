@@ -15,12 +15,13 @@ use Rattle.btx_aux.specs.language.Job.{AuxJob}
 use Rattle.btx_aux.specs.language.Names.{with_ending}
 use Rattle.btx_machine.specs.language.Product.{Product}
 use Rattle.btx_machine.specs.language.Saying.{ended_line}
-use Rattle.btx_run.specs.declared.files.found.FilesRead.{FilesRead}
-use Rattle.btx_run.specs.declared.options.Options.{Options}
-use Rattle.btx_run.specs.language.Files.Counts.{counts_of}
-use Rattle.btx_run.specs.language.Files.Found.{NamedFile, file_at}
-use Rattle.btx_run.specs.language.Files.Readings.{Logged, after_job, behind, databases_logged, files_found, job_named, reading_of, style_named, style_read}
-use Rattle.btx_run.specs.language.Product.{product_of_files, product_with}
+use Rattle.btx_core.specs.declared.found.FilesRead.{FilesRead}
+use Rattle.btx_core.specs.declared.options.Options.{Options}
+use Rattle.btx_core.specs.language.Files.Counts.{counts_of}
+use Rattle.btx_core.specs.language.Files.Found.{NamedFile, file_at}
+use Rattle.btx_core.specs.language.Files.Databases.{databases_logged, files_found}
+use Rattle.btx_core.specs.refinement.Files.Readings.{Logged, after_job, behind, job_named, reading_of, style_named, style_read}
+use Rattle.btx_core.specs.refinement.ComputedProduct.{product_of_files, product_with}
 use Rattle.btx_c.specs.declared.handed.BtxFile.{BtxFile}
 use Rattle.btx_c.specs.declared.needs.Needs.{Needs}
 use Rattle.btx_c.specs.Handed.{OtherFiles, beside, file_in, is_known, known}

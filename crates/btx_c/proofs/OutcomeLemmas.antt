@@ -1,8 +1,8 @@
 -- What a call has left in the caller's memory.
 use Rattle.std.proofs.Common.{◌≡◌, ℕ, List, [], Some, length, subst}
 use Rattle.btx_machine.specs.language.KeepingStep.{AtFault}
-use Rattle.btx_run.specs.declared.options.Options.{Options}
-use Rattle.btx_run.specs.language.Product.{product_with}
+use Rattle.btx_core.specs.declared.options.Options.{Options}
+use Rattle.btx_core.specs.refinement.ComputedProduct.{product_with}
 use Rattle.btx_c.specs.declared.handed.BtxFile.{BtxFile}
 use Rattle.btx_c.specs.declared.options.BtxOptions.{BtxOptions}
 use Rattle.btx_c.specs.declared.report.BtxReport.{BtxReport}

@@ -2,8 +2,8 @@
 use Rattle.std.specs.Prelude.{◌≡◌, ℕ, Bool, true, false, List, [], ◌∷◌, ◌++◌, Option, None, Some, if◌then◌else◌}
 use Rattle.std.specs.List.{flat_map}
 use Rattle.btx_aux.specs.language.Files.{Files}
-use Rattle.btx_run.specs.declared.options.Options.{Options}
-use Rattle.btx_run.specs.language.Product.{product_with}
+use Rattle.btx_core.specs.declared.options.Options.{Options}
+use Rattle.btx_core.specs.refinement.ComputedProduct.{product_with}
 use Rattle.btx_c.specs.declared.handed.BtxFile.{BtxFile}
 use Rattle.btx_c.specs.declared.needs.Needs.{Needs}
 use Rattle.btx_c.specs.declared.needs.Needs.TheVariants.{Ends, Names}

@@ -4,7 +4,7 @@ use Rattle.btx_text.specs.declared.element_kind.TextMode.{TextMode}
 use Rattle.btx_text.specs.declared.element_kind.TextMode.TheVariants.{Bytes, Utf8}
 use Rattle.btx_out.specs.laws.Lengths.{IsLineLength}
 use Rattle.btx_step.specs.refinement.Limits.{IsKeptBytes}
-use Rattle.btx_run.specs.declared.options.Options.{Options}
+use Rattle.btx_core.specs.declared.options.Options.{Options}
 use Rattle.btx_c.specs.declared.options.BtxOptions.{BtxOptions}
 
 -- how text is read: as UTF-8, or byte by byte

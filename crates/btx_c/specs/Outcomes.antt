@@ -3,7 +3,7 @@ use Rattle.std.specs.Prelude.{◌≡◌, ℕ, List, [], ◌++◌, Some, length, 
 use Rattle.btx_aux.specs.language.Files.{Files}
 use Rattle.btx_machine.specs.language.KeepingStep.{AtFault}
 use Rattle.btx_machine.specs.language.Product.{Product, log_of}
-use Rattle.btx_run.specs.language.Product.{product, product_with}
+use Rattle.btx_core.specs.refinement.ComputedProduct.{product, product_with}
 use Rattle.btx_c.specs.declared.handed.BtxFile.{BtxFile}
 use Rattle.btx_c.specs.declared.options.BtxOptions.{BtxOptions}
 use Rattle.btx_c.specs.declared.report.BtxReport.{BtxReport}

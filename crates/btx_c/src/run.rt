@@ -1,7 +1,7 @@
 //! A run over files that were handed in.
 ghost use Rattle.std.specs.Prelude.{◌≤◌, [], Some, IfOk, OnErr};
 ghost use Rattle.btx_machine.specs.language.KeepingStep.{AtFault, Completes};
-ghost use Rattle.btx_run.specs.language.Product.{product, product_with};
+ghost use Rattle.btx_core.specs.refinement.ComputedProduct.{product, product_with};
 ghost use Rattle.btx_c.specs.Handed.{OtherFiles};
 ghost use Rattle.btx_c.specs.Outcomes.{all_files};
 

@@ -10,7 +10,7 @@ use Rattle.clap.specs.declared.builder.value_parser.ValueParser.TheVariants.{Nam
 use Rattle.clap.specs.declared.error.kind.ErrorKind.{ErrorKind}
 use Rattle.btx_text.specs.declared.element_kind.TextMode.{TextMode}
 use Rattle.btx_text.specs.declared.element_kind.TextMode.TheVariants.{Bytes, Utf8}
-use Rattle.btx_run.specs.declared.options.Options.{Options}
+use Rattle.btx_core.specs.declared.options.Options.{Options}
 use Rattle.btx_command.specs.Status.{fault_exit, refusal_exit, refused_memory}
 use Rattle.btx_command.specs.declared.given.Refusal.{Refusal}
 use Rattle.btx_command.specs.declared.given.Settings.{Settings}

@@ -7,7 +7,7 @@ use Rattle.btx_machine.specs.language.KeepingStep.{Received, AtFault}
 use Rattle.btx_machine.specs.language.Product.{log_of}
 use Rattle.btx_machine.specs.declared.report.Report.{Report}
 use Rattle.btx_run.specs.language.Answered.{CompletesAsAnswered, FailsAsAnswered}
-use Rattle.btx_run.specs.language.Product.{product, product_with}
+use Rattle.btx_core.specs.refinement.ComputedProduct.{product, product_with}
 use Rattle.btx_run.specs.declared.run_fault.RunFault.{RunFault}
 use Rattle.btx_run.specs.declared.run_fault.RunFault.TheVariants.{Memory}
 use Rattle.btx_command.specs.Acts.{ClosedList, WereDone, Done, EmptiedLog, OpenedList, Printed, StoredLog}

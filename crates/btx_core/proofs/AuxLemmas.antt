@@ -6,7 +6,7 @@ use Rattle.btx_aux.specs.declared.reading.TheConstants.{MOST_OPEN}
 use Rattle.btx_aux.specs.language.Files.{Files}
 use Rattle.btx_aux.specs.language.Grammar.{Absent, NoTop, Opens, TooLong}
 use Rattle.btx_aux.specs.language.Events.{AuxEvent, event_at, expanded, followed, job_events, opened, said, until_end}
-use Rattle.btx_core.specs.laws.AuxFiles.{asks_for, FileGives, full, too_long, read, LinesGive, none, plain, absent, opens, AreJobEvents}
+use Rattle.btx_core.specs.language.AuxFiles.{asks_for, FileGives, full, too_long, read, LinesGive, none, plain, absent, opens, AreJobEvents}
 
 module _ (files : Files) where
   opening_is : (r level : ℕ) → suc r + level ≡ MOST_OPEN → level ≡ MOST_OPEN - 1 - r

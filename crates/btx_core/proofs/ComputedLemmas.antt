@@ -20,9 +20,9 @@ use Rattle.btx_names.specs.language.FormattedNames.{between_text, ends_in_tie, f
 use Rattle.btx_names.specs.language.NameLists.{names_of}
 use Rattle.btx_names.specs.language.NameParts.{NameParts, parts_by, sections_of, split_at_comma}
 use Rattle.btx_names.specs.language.Tokens.{NameToken, tokens_of}
-use Rattle.btx_core.specs.laws.Divisions.{Divisions}
-use Rattle.btx_core.specs.laws.Strings as strings
-use Rattle.btx_core.specs.laws.Names as names
+use Rattle.btx_core.specs.language.Divisions.{Divisions}
+use Rattle.btx_core.specs.language.Strings as strings
+use Rattle.btx_core.specs.language.Names as names
 
 abbrev pub computed : Divisions
 computed = record {

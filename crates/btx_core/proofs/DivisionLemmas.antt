@@ -13,12 +13,12 @@ use Rattle.btx_names.specs.language.Tokens.{NameToken, joint_of}
 use Rattle.btx_names.specs.language.Formats.{FormatItem}
 use Rattle.btx_names.specs.language.NameParts.{NameParts, Sections, One, Two, Three, is_hyphen}
 use Rattle.btx_names.proofs.WrittenLemmas.{written_items}
-use Rattle.btx_core.specs.laws.Divisions.{Divisions}
+use Rattle.btx_core.specs.language.Divisions.{Divisions}
 use Rattle.btx_text.specs.declared.element_kind.TextMode.TheVariants.{Bytes}
 use Rattle.btx_names.specs.language.VonTokens.{first_is_lower}
 use Rattle.btx_names.specs.language.NameParts.{cut_again}
 use Rattle.std.specs.Option.{option_map_or}
-use Rattle.btx_core.specs.laws.Names.{IsFront, AreNames, AreTokens, IsCut, sections, is_von, HaveNoVon, AreVonLast, HasVon, HasNoVon, AreParts, IsFormat, AreDivisions}
+use Rattle.btx_core.specs.language.Names.{IsFront, AreNames, AreTokens, IsCut, sections, is_von, HaveNoVon, AreVonLast, HasVon, HasNoVon, AreParts, IsFormat, AreDivisions}
 
 -- ---- two ways to cut a list
 

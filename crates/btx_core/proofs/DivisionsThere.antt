@@ -25,7 +25,7 @@ use Rattle.std.specs.Option.{option_map_or}
 use Rattle.btx_names.specs.language.VonTokens.{is_von as is_von_computed}
 use Rattle.btx_core.proofs.ComputedLemmas.{computed}
 use Rattle.btx_names.proofs.GapLemmas.{names_between}
-use Rattle.btx_core.specs.laws.Names.{IsFront, AreNames, AreTokens, AreVonLast, AreParts, AreDivisions, CutsAt, HasVon, HasNoVon, IsCut, IsFormat, is_von, sections}
+use Rattle.btx_core.specs.language.Names.{IsFront, AreNames, AreTokens, AreVonLast, AreParts, AreDivisions, CutsAt, HasVon, HasNoVon, IsCut, IsFormat, is_von, sections}
 
 -- ---- fronts
 

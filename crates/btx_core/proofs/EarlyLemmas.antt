@@ -16,17 +16,18 @@ use Rattle.btx_machine.specs.declared.report.End.TheVariants as ended
 use Rattle.btx_machine.specs.language.Product.{Product}
 use Rattle.btx_machine.specs.language.Reports.{report_of}
 use Rattle.btx_machine.specs.language.Saying.{ended_line}
-use Rattle.btx_run.specs.declared.files.found.FilesRead.{FilesRead}
-use Rattle.btx_run.specs.declared.files.found.FilesRead.TheVariants.{Ends, Found}
-use Rattle.btx_run.specs.declared.files.found.JobFiles.{JobFiles}
-use Rattle.btx_run.specs.declared.options.Options.{Options}
-use Rattle.btx_run.specs.language.Files.Counts.{counts_of}
-use Rattle.btx_run.specs.language.Files.Found.{NamedFile}
-use Rattle.btx_run.specs.language.Files.Lines.{style_line}
-use Rattle.btx_run.specs.language.Files.Readings.{Logged, after_job, style_named, style_read, databases_logged, files_found}
-use Rattle.btx_run.specs.language.Product.{product, product_of_files}
-use Rattle.btx_core.specs.laws.AuxFiles.{job_of}
-use Rattle.btx_core.specs.laws.Product.{ends_with, IsFound, IsNamed, IsAsked, IsBehind}
+use Rattle.btx_core.specs.declared.found.FilesRead.{FilesRead}
+use Rattle.btx_core.specs.declared.found.FilesRead.TheVariants.{Ends, Found}
+use Rattle.btx_core.specs.declared.found.JobFiles.{JobFiles}
+use Rattle.btx_core.specs.declared.options.Options.{Options}
+use Rattle.btx_core.specs.language.Files.Counts.{counts_of}
+use Rattle.btx_core.specs.language.Files.Found.{NamedFile}
+use Rattle.btx_core.specs.language.Files.Lines.{style_line}
+use Rattle.btx_core.specs.language.Files.Databases.{databases_logged, files_found}
+use Rattle.btx_core.specs.refinement.Files.Readings.{Logged, after_job, style_named, style_read}
+use Rattle.btx_core.specs.refinement.ComputedProduct.{product, product_of_files}
+use Rattle.btx_core.specs.language.AuxFiles.{job_of}
+use Rattle.btx_core.specs.language.Product.{ends_with, IsFound, IsNamed, IsAsked, IsBehind}
 use Rattle.btx_core.specs.laws.ProductLaws.{EarlyEnds}
 use Rattle.btx_core.proofs.AuxLemmas.{there_are_events}
 

@@ -19,7 +19,7 @@ use Rattle.btx_names.specs.laws.FormatTexts.{in_braces, in_lower_case, is_brace,
 use Rattle.btx_names.specs.laws.WrittenFormats.{are_items, begin_literal, can_be_between, is_balanced, is_item, is_outer, IsFormatOf, IsTextOf}
 use Rattle.btx_names.proofs.ItemLemmas.{deeper, letter_keeps}
 use Rattle.btx_names.proofs.RunLemmas.{run_len-le}
-use Rattle.btx_core.specs.laws.Names.{AreDivisions, IsFront}
+use Rattle.btx_core.specs.language.Names.{AreDivisions, IsFront}
 use Rattle.btx_core.proofs.ComputedLemmas.{computed}
 use Rattle.btx_core.proofs.DivisionsThere.{WrittenSo, are_divisions, run_front}
 

@@ -11,9 +11,9 @@ use Rattle.btx_text.specs.declared.limits.Limit.{Limit}
 use Rattle.btx_text.specs.declared.limits.Limit.TheVariants as limit
 use Rattle.btx_text.specs.language.Limits.{is_too_long}
 use Rattle.std.specs.Prelude.{is_some}
-use Rattle.btx_core.specs.laws.Styles.{Library}
-use Rattle.btx_core.specs.laws.Databases.{Request, Known, keeping, known_after, closed, AreEvents, IsReadBy, AreRead, with_macros}
-use Rattle.btx_core.specs.laws.Lists.{Slot, IsInherited, library_as, entry_at, places, parent_messages, slots_of, IsGathered, IsLibrary}
+use Rattle.btx_core.specs.language.Styles.{Library}
+use Rattle.btx_core.specs.language.Databases.{Request, Known, keeping, known_after, closed, AreEvents, IsReadBy, AreRead, with_macros}
+use Rattle.btx_core.specs.language.Lists.{Slot, IsInherited, library_as, entry_at, places, parent_messages, slots_of, IsGathered, IsLibrary}
 use Rattle.btx_core.proofs.StandsLemmas.{stands-step, nothing-step, step-stands, known-outcome, OptionStands}
 use Rattle.btx_bib.proofs.GrammarLemmas.LengthLemmas.{left, StepsTo, next-leaves}
 use Rattle.btx_bib.specs.refinement.Grammar.Items.{known_step}

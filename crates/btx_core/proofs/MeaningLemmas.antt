@@ -3,10 +3,10 @@ use Rattle.std.proofs.Common.{◌≡◌, ℕ, zero, suc, ◌+◌, ◌<◌, ◌�
 use Rattle.std.proofs.lemmas.Bool.{ltb-true, ltb-false, lt-ltb, le-ltb}
 use Rattle.btx_text.specs.declared.limits.Limit.TheVariants as limit
 use Rattle.btx_machine.specs.declared.marks.TheConstants.{MOST_BODIES, MOST_LOOPS}
-use Rattle.btx_core.specs.laws.Styles.{Body, Empty, Then, Word, Run, Function, Job, State}
-use Rattle.btx_core.specs.laws.Divisions.{Divisions}
-use Rattle.btx_core.specs.laws.Functions.{Effect, Leaves, Meets, Runs, Opens, Loops, word_effect, test_of}
-use Rattle.btx_core.specs.laws.Meanings.{Action, Outcome, Done, Stopped, Limited, then_do, if_so, deeper, Meaning, IsMeaning}
+use Rattle.btx_core.specs.language.Styles.{Body, Empty, Then, Word, Run, Function, Job, State}
+use Rattle.btx_core.specs.language.Divisions.{Divisions}
+use Rattle.btx_core.specs.language.Functions.{Effect, Leaves, Meets, Runs, Opens, Loops, word_effect, test_of}
+use Rattle.btx_core.specs.language.Meanings.{Action, Outcome, Done, Stopped, Limited, then_do, if_so, deeper, Meaning, IsMeaning}
 
 -- of b steps at least e were taken where it is done, and one where it met a limit
 abbrev Spent : ℕ → ℕ → Outcome → Type 0

@@ -11,10 +11,10 @@ use Rattle.btx_machine.specs.language.States.{State as Store, Outcome as Came, D
 use Rattle.btx_machine.specs.language.Steps.{token_effect, turn_of}
 use Rattle.btx_machine.specs.language.Meaning.{Action as Acts, after_test, then_do as then_act}
 use Rattle.btx_machine.specs.language.MeaningBySteps as by_steps
-use Rattle.btx_core.specs.laws.Styles.{Body, Empty, Then, Word, Run, Function, Job, State}
-use Rattle.btx_core.specs.laws.Divisions.{Divisions}
-use Rattle.btx_core.specs.laws.Functions.{Effect, Leaves, Meets, Runs, Opens, Loops, word_effect, test_of}
-use Rattle.btx_core.specs.laws.Meanings.{Action, Outcome, Done, Stopped, Limited, then_do, deeper}
+use Rattle.btx_core.specs.language.Styles.{Body, Empty, Then, Word, Run, Function, Job, State}
+use Rattle.btx_core.specs.language.Divisions.{Divisions}
+use Rattle.btx_core.specs.language.Functions.{Effect, Leaves, Meets, Runs, Opens, Loops, word_effect, test_of}
+use Rattle.btx_core.specs.language.Meanings.{Action, Outcome, Done, Stopped, Limited, then_do, deeper}
 use Rattle.btx_core.proofs.MeaningLemmas as named
 
 -- `same` relates a state with numbers and one in names; `known` are the tokens whose functions the style has; `word` and `of` name tokens and functions

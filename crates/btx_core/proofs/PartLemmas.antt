@@ -9,8 +9,8 @@ use Rattle.btx_out.specs.language.Breaking.{Break, Broken, Unbroken, break_of, w
 use Rattle.btx_out.proofs.BreakLemmas.{cut_short, cut_long, table_ends, table_more}
 use Rattle.btx_out.specs.laws.Places.{IsBreakInside, IsBreakPast, IsUnbroken}
 use Rattle.btx_out.proofs.PlaceLemmas.{place_inside, place_past, place_none}
-use Rattle.btx_core.specs.laws.Lines.{IsBroken, IsWrapped, IsSure, goes_on}
-use Rattle.btx_core.specs.laws.Lists.{Slot, own, parent, IsInherited}
+use Rattle.btx_core.specs.language.Lines.{IsBroken, IsWrapped, IsSure, goes_on}
+use Rattle.btx_core.specs.language.Lists.{Slot, own, parent, IsInherited}
 
 module _ (slots : List Slot) (one other : ℕ → List ℕ → Option (List ℕ)) (is : IsInherited slots one) (also : IsInherited slots other) where
   -- what is the same at all places before one is the same at it

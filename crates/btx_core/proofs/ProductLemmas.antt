@@ -10,17 +10,17 @@ use Rattle.btx_aux.specs.language.Names.{with_ending}
 use Rattle.std.specs.Prelude.{codes}
 use Rattle.btx_bib.specs.language.Messages.{Database}
 use Rattle.btx_machine.specs.language.Product.{Product}
-use Rattle.btx_run.specs.declared.options.Options.{Options}
-use Rattle.btx_run.specs.language.Files.Found.{NamedFile}
-use Rattle.btx_run.specs.language.Files.Lines.{style_line}
-use Rattle.btx_run.specs.language.Files.Readings.{databases_logged, files_found}
-use Rattle.btx_core.specs.laws.Styles.{Command, Says, Read, Execute, Iterate, Reverse, Sort, Entry, Job, Library, State, Style, first_state}
-use Rattle.btx_core.specs.laws.Meanings.{Outcome, Done, Stopped, Limited, Meaning, IsMeaning}
-use Rattle.btx_core.specs.laws.Runs.{IsListBehind, sort_key, command_does, GoesOn, CommandsCome}
-use Rattle.btx_core.specs.laws.AuxFiles.{job_of}
-use Rattle.btx_core.specs.laws.Product.{comes_to, IsExecuted, asked_by, IsStyled, IsFound, IsNamed, IsAsked, IsBehind}
+use Rattle.btx_core.specs.declared.options.Options.{Options}
+use Rattle.btx_core.specs.language.Files.Found.{NamedFile}
+use Rattle.btx_core.specs.language.Files.Lines.{style_line}
+use Rattle.btx_core.specs.language.Files.Databases.{databases_logged, files_found}
+use Rattle.btx_core.specs.language.Styles.{Command, Says, Read, Execute, Iterate, Reverse, Sort, Entry, Job, Library, State, Style, first_state}
+use Rattle.btx_core.specs.language.Meanings.{Outcome, Done, Stopped, Limited, Meaning, IsMeaning}
+use Rattle.btx_core.specs.language.Runs.{IsListBehind, sort_key, command_does, GoesOn, CommandsCome}
+use Rattle.btx_core.specs.language.AuxFiles.{job_of}
+use Rattle.btx_core.specs.language.Product.{comes_to, IsExecuted, asked_by, IsStyled, IsFound, IsNamed, IsAsked, IsBehind}
 use Rattle.btx_core.specs.laws.ProductLaws.{OneProduct}
-use Rattle.btx_core.specs.laws.Lists.{IsLibrary}
+use Rattle.btx_core.specs.language.Lists.{IsLibrary}
 use Rattle.btx_core.proofs.SortLemmas.{order_one}
 use Rattle.btx_core.proofs.MeaningLemmas.{one_meaning}
 use Rattle.btx_core.proofs.PartLemmas.{one_breaking}

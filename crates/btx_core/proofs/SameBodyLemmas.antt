@@ -17,8 +17,8 @@ use Rattle.btx_bst.specs.language.Words as words
 use Rattle.btx_bst.specs.language.Words.{BodyWord}
 use Rattle.btx_bst.specs.laws.Spelling.{Parts, Nothing, Plain, Group, Fragment, Here, After, AfterGroup, Inner, Made, made_named, made_word, nameless_begun, nameless_defined, made_by, made_till}
 use Rattle.btx_core.specs.laws.SameStyles.{Numbers, stands_for, word_of, IsBodyOf, AreFunctionsOf, AreCommandsOf, IsMeant}
-use Rattle.btx_core.specs.laws.Styles.{Body, Command, Defined, Function, Integer, Push, Quoted, Run, Says, Text, Then, Word}
-use Rattle.btx_core.specs.laws.StyleTexts.{and_word, body_of, wrong_in_word, wrong_in, wrong_till}
+use Rattle.btx_core.specs.language.Styles.{Body, Command, Defined, Function, Integer, Push, Quoted, Run, Says, Text, Then, Word}
+use Rattle.btx_core.specs.language.StyleTexts.{and_word, body_of, wrong_in_word, wrong_in, wrong_till}
 use Rattle.btx_core.proofs.SameNumberLemmas.{Kept, kept_same, kept_push, last_of, Extends, extends_both, extends_by, still_stands, still_body, still_meant, still_functions, functions_length, one_more_word, one_more_function}
 
 -- a name means the same in both ways

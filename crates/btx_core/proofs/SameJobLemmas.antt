@@ -27,8 +27,8 @@ use Rattle.btx_step.specs.language.Entries.{entry_of}
 use Rattle.btx_step.specs.language.Jobs.{Job as NumberedJob}
 use Rattle.btx_core.specs.laws.SameLibraries.{IsSameEntry, AreSameEntries, IsSameLibrary}
 use Rattle.btx_core.specs.laws.SameStyles.{Numbers, numbers_of, stands_for, word_of, IsBodyOf, AreFunctionsOf, IsMeant, IsSameStyle}
-use Rattle.btx_core.specs.laws.Styles.{Body, Built, Declared, Defined, Empty, Entry, Function, Integer, Library, Push, Quoted, Run, Style, Text, Then, Word}
-use Rattle.btx_core.specs.laws.Notes.{name_of as shown_name}
+use Rattle.btx_core.specs.language.Styles.{Body, Built, Declared, Defined, Empty, Entry, Function, Integer, Library, Push, Quoted, Run, Style, Text, Then, Word}
+use Rattle.btx_core.specs.language.Notes.{name_of as shown_name}
 use Rattle.btx_core.proofs.SameNumberLemmas.{functions_length}
 use Rattle.btx_core.proofs.VariableLemmas.{Numbering}
 

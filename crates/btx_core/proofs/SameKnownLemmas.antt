@@ -36,10 +36,10 @@ use Rattle.btx_bib.specs.laws.Grammar.Reading.{IsOutcome, IsReading}
 use Rattle.btx_bib.proofs.DefinitionLemmas.{lookup-own, lookup-other}
 use Rattle.btx_bib.proofs.GrammarLemmas.ReadingLemmas.{is_reading}
 use Rattle.btx_bst.specs.declared.callee.Callee.TheVariants as callee
-use Rattle.btx_core.specs.laws.Databases.{Request, Stored, Known, all_stored, closed, if_fits, stored_with, parents_named, is_asked, meaning_of, part_messages, saying, field_read, known_behind, known_after, keeping, AreEvents, IsReadBy, AreRead, with_macros}
+use Rattle.btx_core.specs.language.Databases.{Request, Stored, Known, all_stored, closed, if_fits, stored_with, parents_named, is_asked, meaning_of, part_messages, saying, field_read, known_behind, known_after, keeping, AreEvents, IsReadBy, AreRead, with_macros}
 use Rattle.btx_core.specs.laws.SameLibraries.{limit_met, value_named}
 use Rattle.btx_core.specs.laws.SameStyles.{IsMeant, Numbers}
-use Rattle.btx_core.specs.laws.Styles.{Function, set}
+use Rattle.btx_core.specs.language.Styles.{Function, set}
 use Rattle.btx_text.specs.declared.limits.Limit.TheVariants as limit
 use Rattle.btx_text.specs.language.Keys.{folded}
 use Rattle.btx_text.specs.language.Limits.{greatest_string, is_too_long}

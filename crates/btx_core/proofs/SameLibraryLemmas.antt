@@ -41,11 +41,11 @@ use Rattle.btx_bst.specs.language.Style.{as_field}
 use Rattle.btx_bst.specs.language.StyleText.{style_of}
 use Rattle.btx_bst.specs.laws.FirstNames.{FirstNamesLaw}
 use Rattle.btx_bst.proofs.FirstNameLemmas.{first-names}
-use Rattle.btx_core.specs.laws.Databases.{Request, Stored, Known, parents_named, stored_with, with_macros}
-use Rattle.btx_core.specs.laws.Lists.{Slot, slot_of, slots_of, listed_keys, IsInherited, keeps_parent, parent_key, parent_messages, entry_at, places, library_as, IsGathered, IsLibrary}
+use Rattle.btx_core.specs.language.Databases.{Request, Stored, Known, parents_named, stored_with, with_macros}
+use Rattle.btx_core.specs.language.Lists.{Slot, slot_of, slots_of, listed_keys, IsInherited, keeps_parent, parent_key, parent_messages, entry_at, places, library_as, IsGathered, IsLibrary}
 use Rattle.btx_core.specs.laws.SameLibraries.{value_named, IsSameEntry, AreSameEntries, limit_met, IsSameLibrary, asked_of, SameLibrary}
 use Rattle.btx_core.specs.laws.SameStyles.{IsMeant, IsSameStyle, Numbers, numbers_of}
-use Rattle.btx_core.specs.laws.Styles.{Entry, Library, Style, set}
+use Rattle.btx_core.specs.language.Styles.{Entry, Library, Style, set}
 use Rattle.btx_core.proofs.SameKnownLemmas.{SameRequest, AreSameGiven, IsSameCurrent, SameReading, values_length, value_kept, parent_named, found_same, parents_same, databases_same, macros_same}
 use Rattle.btx_core.proofs.SamePassLemmas.{AllFrom, IsSameBody, Own, Passed, Checked, Second, first_pass, second_pass}
 use Rattle.btx_core.proofs.LibraryLemmas.{library_one}

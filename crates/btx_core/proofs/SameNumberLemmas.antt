@@ -10,7 +10,7 @@ use Rattle.btx_bst.specs.language.Items as item
 use Rattle.btx_bst.specs.language.Items.{Item}
 use Rattle.btx_bst.specs.language.Names.{Names, name_of}
 use Rattle.btx_core.specs.laws.SameStyles.{Numbers, stands_for, word_of, IsBodyOf, AreFunctionsOf, commands_of, AreCommandsOf, IsMeant}
-use Rattle.btx_core.specs.laws.Styles.{Body, Command, Declared, Defined, Execute, Function, Iterate, Push, Quoted, Reverse, Run, Text, Then, Word}
+use Rattle.btx_core.specs.language.Styles.{Body, Command, Declared, Defined, Execute, Function, Iterate, Push, Quoted, Reverse, Run, Text, Then, Word}
 
 -- ---- lists that only grow
 

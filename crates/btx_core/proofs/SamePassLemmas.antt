@@ -22,8 +22,8 @@ use Rattle.btx_bib.specs.language.Wanted.{Request as NumberedRequest}
 use Rattle.btx_bib.proofs.ListedKeyLemmas.{folded-same}
 use Rattle.btx_bib.proofs.PassLemmas.{inherited-alone, inherited-by, key-inherited, checked-alone, checked-is, messages-alone, messages-is, key-checked}
 use Rattle.btx_bib.proofs.StayingLemmas.{view-next}
-use Rattle.btx_core.specs.laws.Databases.{Request, Stored}
-use Rattle.btx_core.specs.laws.Lists.{Slot, own, place_of, parent, key_at, parent_key, has_entry, stays_at, IsInherited, keeps_parent, parent_messages}
+use Rattle.btx_core.specs.language.Databases.{Request, Stored}
+use Rattle.btx_core.specs.language.Lists.{Slot, own, place_of, parent, key_at, parent_key, has_entry, stays_at, IsInherited, keeps_parent, parent_messages}
 use Rattle.btx_core.specs.laws.SameLibraries.{value_named}
 use Rattle.btx_core.specs.laws.SameStyles.{Numbers}
 use Rattle.btx_core.proofs.SameKnownLemmas.{SameRequest}

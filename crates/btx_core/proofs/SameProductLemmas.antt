@@ -38,21 +38,22 @@ use Rattle.btx_machine.specs.language.States.{state}
 use Rattle.btx_machine.specs.language.States.{State as NumberedState, Outcome as Came, Done as CameDone, Stopped as CameStopped, Limit as CameLimit}
 use Rattle.btx_out.specs.language.Breaking.{wrap, sure}
 use Rattle.btx_out.specs.language.Breakers.{written_at_end}
-use Rattle.btx_run.specs.declared.files.found.FilesRead.{FilesRead}
-use Rattle.btx_run.specs.declared.files.found.FilesRead.TheVariants.{Ends, Found}
-use Rattle.btx_run.specs.declared.options.Options.{Options}
-use Rattle.btx_run.specs.language.Files.Counts.{counts_of}
-use Rattle.btx_run.specs.language.Files.Found.{NamedFile}
-use Rattle.btx_run.specs.language.Files.Lines.{no_style_line, style_line}
-use Rattle.btx_run.specs.language.Files.Readings.{Logged, after_job, style_named, style_read, databases_logged, files_found}
-use Rattle.btx_run.specs.language.Product.{product, product_of_files}
-use Rattle.btx_core.specs.laws.AuxFiles.{job_of}
-use Rattle.btx_core.specs.laws.Meanings.{Done, Limited, Outcome, Stopped}
-use Rattle.btx_core.specs.laws.Product.{comes_to, ends_with, line_at_end, IsAsked, IsBehind, IsExecuted, IsFound, IsNamed, IsProduct, IsStyled, asked_by}
+use Rattle.btx_core.specs.declared.found.FilesRead.{FilesRead}
+use Rattle.btx_core.specs.declared.found.FilesRead.TheVariants.{Ends, Found}
+use Rattle.btx_core.specs.declared.options.Options.{Options}
+use Rattle.btx_core.specs.language.Files.Counts.{counts_of}
+use Rattle.btx_core.specs.language.Files.Found.{NamedFile}
+use Rattle.btx_core.specs.language.Files.Lines.{no_style_line, style_line}
+use Rattle.btx_core.specs.language.Files.Databases.{databases_logged, files_found}
+use Rattle.btx_core.specs.refinement.Files.Readings.{Logged, after_job, style_named, style_read}
+use Rattle.btx_core.specs.refinement.ComputedProduct.{product, product_of_files}
+use Rattle.btx_core.specs.language.AuxFiles.{job_of}
+use Rattle.btx_core.specs.language.Meanings.{Done, Limited, Outcome, Stopped}
+use Rattle.btx_core.specs.language.Product.{comes_to, ends_with, line_at_end, IsAsked, IsBehind, IsExecuted, IsFound, IsNamed, IsProduct, IsStyled, asked_by}
 use Rattle.btx_core.specs.laws.ProductLaws.{SameProduct}
 use Rattle.btx_core.specs.laws.SameLibraries.{IsSameLibrary}
 use Rattle.btx_core.specs.laws.SameStyles.{IsSameStyle, numbers_of}
-use Rattle.btx_core.specs.laws.Styles.{Job, Library, State, Style, first_state, set}
+use Rattle.btx_core.specs.language.Styles.{Job, Library, State, Style, first_state, set}
 use Rattle.btx_core.proofs.AuxLemmas.{there_are_events}
 use Rattle.btx_core.proofs.ComputedLemmas.{computed}
 use Rattle.btx_core.proofs.FormatsThere.{divided}

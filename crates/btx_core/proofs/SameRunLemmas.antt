@@ -50,12 +50,12 @@ use Rattle.btx_machine.specs.language.Meaning.{then_do as then_act}
 use Rattle.btx_machine.specs.language.MeaningBySteps as by_steps
 use Rattle.btx_machine.specs.language.Saying.{logging}
 use Rattle.btx_machine.specs.language.States.{State as NumberedState, Outcome as Came, Done as CameDone, Stopped as CameStopped, Limit as CameLimit}
-use Rattle.btx_core.specs.laws.Meanings.{Done, Limited, Meaning, Outcome, Stopped, then_do}
-use Rattle.btx_core.specs.laws.Notes.{error, shows}
-use Rattle.btx_core.specs.laws.Runs.{Ascends, CommandsCome, GoesOn, IsInOrder, IsListBehind, NoneBefore, cleared, command_does, reads, sort_key, visits, visits_all}
+use Rattle.btx_core.specs.language.Meanings.{Done, Limited, Meaning, Outcome, Stopped, then_do}
+use Rattle.btx_core.specs.language.Notes.{error, shows}
+use Rattle.btx_core.specs.language.Runs.{Ascends, CommandsCome, GoesOn, IsInOrder, IsListBehind, NoneBefore, cleared, command_does, reads, sort_key, visits, visits_all}
 use Rattle.btx_core.specs.laws.SameLibraries.{limit_met}
 use Rattle.btx_core.specs.laws.SameStyles.{AreCommandsOf, commands_of, stands_for}
-use Rattle.btx_core.specs.laws.Styles.{Body, Command, Entry, Execute, Function, Iterate, Job, Library, Literal, Read, Reverse, Says, Sort, State, Style, Word}
+use Rattle.btx_core.specs.language.Styles.{Body, Command, Entry, Execute, Function, Iterate, Job, Library, Literal, Read, Reverse, Says, Sort, State, Style, Word}
 use Rattle.btx_core.proofs.ComputedLemmas.{computed}
 use Rattle.btx_core.proofs.MeaningLemmas as named
 use Rattle.btx_core.proofs.MeaningSame as meaning

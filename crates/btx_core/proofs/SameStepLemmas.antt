@@ -42,12 +42,12 @@ use Rattle.btx_machine.specs.language.Saying.{ended_line, counted_if, lines_logg
 use Rattle.btx_machine.specs.language.States.{Out, state}
 use Rattle.btx_machine.specs.language.States.{State as NumberedState}
 use Rattle.btx_machine.specs.language.Steps.{token_effect, turn_of}
-use Rattle.btx_run.specs.language.Files.Counts.{counts_of}
-use Rattle.btx_core.specs.laws.Functions.{AFunction, AnyLiteral, Effect, Leaves, Meets, Runs, Opens, Loops, assigns, by_rule, function_effect, not_what_was_asked, on_literals, or_instead, push, push_instead, push_text, row, test_of, tested, word_effect}
-use Rattle.btx_core.specs.laws.Meanings.{deeper}
-use Rattle.btx_core.specs.laws.Notes.{empty_stack, error, errors}
-use Rattle.btx_core.specs.laws.Notes.{name_of as shown_name}
-use Rattle.btx_core.specs.laws.Styles.{Body, Entry, Function, Integer, Job, Library, Literal, Missing, Quoted, State, Style, Text, Then, Word}
+use Rattle.btx_core.specs.language.Files.Counts.{counts_of}
+use Rattle.btx_core.specs.language.Functions.{AFunction, AnyLiteral, Effect, Leaves, Meets, Runs, Opens, Loops, assigns, by_rule, function_effect, not_what_was_asked, on_literals, or_instead, push, push_instead, push_text, row, test_of, tested, word_effect}
+use Rattle.btx_core.specs.language.Meanings.{deeper}
+use Rattle.btx_core.specs.language.Notes.{empty_stack, error, errors}
+use Rattle.btx_core.specs.language.Notes.{name_of as shown_name}
+use Rattle.btx_core.specs.language.Styles.{Body, Entry, Function, Integer, Job, Library, Literal, Missing, Quoted, State, Style, Text, Then, Word}
 use Rattle.btx_core.proofs.ComputedLemmas.{computed}
 use Rattle.btx_core.proofs.KnownStoreLemmas.{Has, HasLiteral, HasAll, HasNext, Fine, step_fine, tested_fine}
 use Rattle.btx_core.proofs.MeaningSame as meaning

@@ -22,8 +22,8 @@ use Rattle.btx_bst.specs.laws.TokenSpelling.{Gap, LettersHere}
 use Rattle.btx_bst.proofs.CommandSpellingLemmas.{style-read}
 use Rattle.btx_bst.proofs.TokenSpellingLemmas.{gap_one}
 use Rattle.btx_core.specs.laws.SameStyles.{numbers_of, IsMeant, IsSameStyle, OneStyle, SameStyle}
-use Rattle.btx_core.specs.laws.Styles.{Built, Function, Style}
-use Rattle.btx_core.specs.laws.StyleTexts.{SoFar, unread, and_says, CommandEnd, ended_at, Next, Named, FollowsOn, AreCommands, is_a_field}
+use Rattle.btx_core.specs.language.Styles.{Built, Function, Style}
+use Rattle.btx_core.specs.language.StyleTexts.{SoFar, unread, and_says, CommandEnd, ended_at, Next, Named, FollowsOn, AreCommands, is_a_field}
 use Rattle.btx_core.proofs.StyleLemmas.{style_one}
 use Rattle.btx_core.proofs.StyleThere.{there_is_style, gap_again}
 use Rattle.btx_core.proofs.SameRuleLemmas.{SameSoFar, SameTypes, SameEnd, lower_meaning, and_messages, declares, own, word_agree}

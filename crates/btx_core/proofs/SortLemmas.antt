@@ -18,8 +18,8 @@ use Rattle.btx_step.specs.language.Sorting.{sorted_by}
 use Rattle.std.proofs.Common.{⊎_elim, true≢false}
 use Rattle.std.proofs.lemmas.Bool.{cases_Bool}
 use Rattle.std.proofs.lemmas.Slice.Eq.{bytes_eq-Decides}
-use Rattle.btx_core.specs.laws.Styles.{Entry}
-use Rattle.btx_core.specs.laws.Runs.{NoneBefore, Ascends, IsInOrder}
+use Rattle.btx_core.specs.language.Styles.{Entry}
+use Rattle.btx_core.specs.language.Runs.{NoneBefore, Ascends, IsInOrder}
 
 neither : (o : Ordering) → not (is_lt o) && not (is_lt (ordering_reverse o)) ≡ is_eq o
 neither Less = refl

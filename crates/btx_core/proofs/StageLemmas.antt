@@ -39,14 +39,14 @@ use Rattle.btx_machine.specs.laws.Meaning.{Meaning, IsMeaning}
 use Rattle.btx_machine.specs.laws.MeaningBySteps.{by_steps}
 use Rattle.btx_machine.proofs.EquationLemmas as exists
 use Rattle.btx_machine.proofs.UniqueLemmas as unique
-use Rattle.btx_run.specs.declared.files.found.FilesRead.{FilesRead}
-use Rattle.btx_run.specs.declared.files.found.FilesRead.TheVariants.{Ends, Found}
-use Rattle.btx_run.specs.declared.options.Options.{Options}
-use Rattle.btx_run.specs.language.Contents.{style_in}
-use Rattle.btx_run.specs.language.Files.Found.{NamedFile}
-use Rattle.btx_run.specs.language.Files.Counts.{counts_of}
-use Rattle.btx_run.specs.language.Files.Readings.{job_named, reading_of}
-use Rattle.btx_run.specs.language.Product.{product_of_files, product}
+use Rattle.btx_core.specs.declared.found.FilesRead.{FilesRead}
+use Rattle.btx_core.specs.declared.found.FilesRead.TheVariants.{Ends, Found}
+use Rattle.btx_core.specs.declared.options.Options.{Options}
+use Rattle.btx_core.specs.refinement.Contents.{style_in}
+use Rattle.btx_core.specs.language.Files.Found.{NamedFile}
+use Rattle.btx_core.specs.language.Files.Counts.{counts_of}
+use Rattle.btx_core.specs.refinement.Files.Readings.{job_named, reading_of}
+use Rattle.btx_core.specs.refinement.ComputedProduct.{product_of_files, product}
 use Rattle.btx_machine.specs.language.Saying.{ended_line}
 use Rattle.btx_core.specs.laws.ByNumbers.{item_by, IsListBehind, GoesOn, ItemsCome, IsStyleProduct, IsReadBy, AreRead, IsLibrary, IsStyleOf, IsProductOfFiles, IsTheProduct}
 

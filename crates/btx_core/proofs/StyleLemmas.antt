@@ -24,8 +24,8 @@ use Rattle.btx_bst.specs.laws.CommandSpelling.{IsWordOf, Skips}
 use Rattle.btx_bst.specs.laws.Places.{beginning}
 use Rattle.btx_bst.proofs.TokenSpellingLemmas.{gap_one, Agrees, spaced, sign_agrees, name_agrees, text_agrees, letters_agrees}
 use Rattle.btx_bst.proofs.WordSpellingLemmas.{token-met}
-use Rattle.btx_core.specs.laws.Styles.{Function, Declared, Defined, Command, Execute, Iterate, Reverse, Style}
-use Rattle.btx_core.specs.laws.StyleTexts.{SoFar, meaning, unread, and_name, and_command, and_says, CommandEnd, ended_at, Rule, Next, Opened, Closed, Where, Makes, is_list_byte, Names, Lists, body_of, wrong_in, wrong_till, HasBody, is_function, Executes, Behind, Named, FollowsOn, AreCommands, IsStyle, is_a_field}
+use Rattle.btx_core.specs.language.Styles.{Function, Declared, Defined, Command, Execute, Iterate, Reverse, Style}
+use Rattle.btx_core.specs.language.StyleTexts.{SoFar, meaning, unread, and_name, and_command, and_says, CommandEnd, ended_at, Rule, Next, Opened, Closed, Where, Makes, is_list_byte, Names, Lists, body_of, wrong_in, wrong_till, HasBody, is_function, Executes, Behind, Named, FollowsOn, AreCommands, IsStyle, is_a_field}
 use Rattle.btx_text.specs.laws.Bytes.{open_brace, close_brace}
 
 -- a rule determines what a command comes to

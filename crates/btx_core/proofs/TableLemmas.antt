@@ -37,13 +37,13 @@ use Rattle.btx_step.specs.language.Notes.{note_line, note_text, place_of, note_k
 use Rattle.btx_step.specs.language.Operands as operands
 use Rattle.btx_step.specs.language.Operands.{Any, Of}
 use Rattle.btx_step.specs.language.Stores.{Store, EntryVariables}
-use Rattle.btx_core.specs.laws.Styles.{set, Declared, Defined, Body, Entry, Function, Built, Integer, Text, Quoted, Missing, Job, Library, Literal, State, Style}
-use Rattle.btx_core.specs.laws.Notes.{cut_to, not_assignable, name_of, shown, logs, place, error, errors, shows, empty_stack, no_entry, incomparable, overflow, not_ascii, not_one_character, no_conversion, illegal_format, no_such_name, final_comma, too_many_commas}
-use Rattle.btx_core.specs.laws.Functions.{Effect, Leaves, Meets, Runs, Opens, Loops, push, push_text_in, push_instead, zero_instead, empty_instead, Operand, AnyLiteral, AnInteger, AString, AFunction, AField, Value, not_what_was_asked, Does, on_literals, or_instead, by_rule, takes}
+use Rattle.btx_core.specs.language.Styles.{set, Declared, Defined, Body, Entry, Function, Built, Integer, Text, Quoted, Missing, Job, Library, Literal, State, Style}
+use Rattle.btx_core.specs.language.Notes.{cut_to, not_assignable, name_of, shown, logs, place, error, errors, shows, empty_stack, no_entry, incomparable, overflow, not_ascii, not_one_character, no_conversion, illegal_format, no_such_name, final_comma, too_many_commas}
+use Rattle.btx_core.specs.language.Functions.{Effect, Leaves, Meets, Runs, Opens, Loops, push, push_text_in, push_instead, zero_instead, empty_instead, Operand, AnyLiteral, AnInteger, AString, AFunction, AField, Value, not_what_was_asked, Does, on_literals, or_instead, by_rule, takes}
 use Rattle.std.specs.Fmt.{signed_decimal}
-use Rattle.btx_core.specs.laws.Functions.{function_effect, push_truth, push_text, in_entry, equals, push_result, code_of, character_of, changes_case, is_empty_field, is_positive, calls_type, row, built_in_effect, missing_without_entry, swaps, formats_name, assigns, tested}
-use Rattle.btx_core.specs.laws.Names.{sections, has_third, numbered_name}
-use Rattle.btx_core.specs.laws.Strings.{in_case, purified, text_length, text_prefix, width}
+use Rattle.btx_core.specs.language.Functions.{function_effect, push_truth, push_text, in_entry, equals, push_result, code_of, character_of, changes_case, is_empty_field, is_positive, calls_type, row, built_in_effect, missing_without_entry, swaps, formats_name, assigns, tested}
+use Rattle.btx_core.specs.language.Names.{sections, has_third, numbered_name}
+use Rattle.btx_core.specs.language.Strings.{in_case, purified, text_length, text_prefix, width}
 use Rattle.btx_core.proofs.ComputedLemmas.{computed, in_case_same, formatted_same}
 use Rattle.btx_text.specs.declared.element_kind.TextMode.TheVariants.{Bytes}
 use Rattle.btx_text.specs.language.Class.{is_white}

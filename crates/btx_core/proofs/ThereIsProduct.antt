@@ -14,17 +14,17 @@ use Rattle.btx_bib.specs.language.Messages.{Database}
 use Rattle.btx_machine.specs.declared.report.End.TheVariants as ended
 use Rattle.btx_machine.specs.language.Product.{Product}
 use Rattle.btx_out.specs.language.Breaking.{wrap, sure}
-use Rattle.btx_run.specs.declared.options.Options.{Options}
-use Rattle.btx_run.specs.language.Files.Found.{NamedFile}
-use Rattle.btx_run.specs.language.Files.Lines.{no_style_line, style_line}
-use Rattle.btx_run.specs.language.Files.Readings.{databases_logged, files_found}
-use Rattle.btx_core.specs.laws.Styles.{Command, Says, Read, Execute, Iterate, Reverse, Sort, Entry, Job, Library, State, first_state}
-use Rattle.btx_core.specs.laws.Divisions.{Divisions}
-use Rattle.btx_core.specs.laws.Names.{AreDivisions}
-use Rattle.btx_core.specs.laws.Meanings.{Outcome, Done, Stopped, Limited, Meaning}
-use Rattle.btx_core.specs.laws.Runs.{IsListBehind, sort_key, command_does, GoesOn, CommandsCome}
-use Rattle.btx_core.specs.laws.AuxFiles.{job_of}
-use Rattle.btx_core.specs.laws.Product.{comes_to, ends_with, IsExecuted, asked_by, IsStyled, IsFound, IsNamed, IsAsked, IsBehind}
+use Rattle.btx_core.specs.declared.options.Options.{Options}
+use Rattle.btx_core.specs.language.Files.Found.{NamedFile}
+use Rattle.btx_core.specs.language.Files.Lines.{no_style_line, style_line}
+use Rattle.btx_core.specs.language.Files.Databases.{databases_logged, files_found}
+use Rattle.btx_core.specs.language.Styles.{Command, Says, Read, Execute, Iterate, Reverse, Sort, Entry, Job, Library, State, first_state}
+use Rattle.btx_core.specs.language.Divisions.{Divisions}
+use Rattle.btx_core.specs.language.Names.{AreDivisions}
+use Rattle.btx_core.specs.language.Meanings.{Outcome, Done, Stopped, Limited, Meaning}
+use Rattle.btx_core.specs.language.Runs.{IsListBehind, sort_key, command_does, GoesOn, CommandsCome}
+use Rattle.btx_core.specs.language.AuxFiles.{job_of}
+use Rattle.btx_core.specs.language.Product.{comes_to, ends_with, IsExecuted, asked_by, IsStyled, IsFound, IsNamed, IsAsked, IsBehind}
 use Rattle.btx_core.specs.laws.ProductLaws.{SomeProduct}
 use Rattle.btx_core.proofs.SortLemmas.{there_is_order}
 use Rattle.btx_core.proofs.MeaningLemmas.{by_steps, there_is_meaning}

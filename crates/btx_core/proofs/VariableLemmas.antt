@@ -4,7 +4,7 @@ use Rattle.std.specs.Option.{option_map_or}
 use Rattle.std.specs.Str.{bytes_eq}
 use Rattle.std.proofs.lemmas.Slice.Eq.{bytes_eq-Decides}
 use Rattle.std.proofs.lemmas.Bool.{eqb-true, eq-eqb}
-use Rattle.btx_core.specs.laws.Styles.{set}
+use Rattle.btx_core.specs.language.Styles.{set}
 
 -- names of numbers: which name a number has, and which number a name has, if it has one
 pub record Numbering : Type 0 where

@@ -1,4 +1,10 @@
-//! The product of a job as one relation, in which no function, string, field or entry has a number: definitions and laws about them, and no code.
+//! What a run of BibTeX comes to, as one relation in which no function, string, field or entry has a number (`specs/language`): definitions, and laws about
+//! them; with the types that they name, the options of a run and the files that it found.
 #![tactic(auto)]
 
+pub mod found;
 pub mod laws;
+pub mod options;
+
+pub use found::{FilesRead, FoundFile, FoundFiles, JobFiles};
+pub use options::Options;

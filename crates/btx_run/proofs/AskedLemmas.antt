@@ -14,7 +14,7 @@ use Rattle.btx_aux.specs.language.Names.{has_ending}
 use Rattle.btx_aux.proofs.AnswerLemmas.{all-both, by_both, by_map, some_files}
 use Rattle.btx_aux.proofs.NameEndings.{distinct-both, job_databases_end, job_databases_once, job_style_ends, one_ending, with_ending-ends}
 use Rattle.btx_run.specs.refinement.Files.Asked.{AreAmong, names_in, style_name}
-use Rattle.btx_run.specs.language.Files.Readings.{job_named}
+use Rattle.btx_core.specs.refinement.Files.Readings.{job_named}
 use Rattle.btx_run.proofs.ReadingLemmas.{names_more}
 use Rattle.btx_run.specs.refinement.Files.Names.{top_name}
 

@@ -12,16 +12,16 @@ use Rattle.btx_machine.specs.declared.report.LogCounts.{LogCounts}
 use Rattle.btx_machine.specs.language.DirectDepth.{StaysWithin}
 use Rattle.btx_machine.specs.laws.DirectDepth.{KindsRefer}
 use Rattle.btx_machine.proofs.DirectRuns as machine
-use Rattle.btx_run.specs.declared.files.found.FilesRead.{FilesRead}
-use Rattle.btx_run.specs.declared.files.found.FilesRead.TheVariants.{Ends, Found}
-use Rattle.btx_run.specs.declared.files.found.JobFiles.{JobFiles}
-use Rattle.btx_run.specs.declared.options.Options.{Options}
-use Rattle.btx_run.specs.language.Contents.{style_in}
+use Rattle.btx_core.specs.declared.found.FilesRead.{FilesRead}
+use Rattle.btx_core.specs.declared.found.FilesRead.TheVariants.{Ends, Found}
+use Rattle.btx_core.specs.declared.found.JobFiles.{JobFiles}
+use Rattle.btx_core.specs.declared.options.Options.{Options}
+use Rattle.btx_core.specs.refinement.Contents.{style_in}
 use Rattle.btx_run.specs.language.DirectStyles.{WhereDirect}
-use Rattle.btx_run.specs.language.Files.Readings.{job_named, reading_of}
+use Rattle.btx_core.specs.refinement.Files.Readings.{job_named, reading_of}
 use Rattle.btx_run.specs.laws.Laws.{DirectLaw}
-use Rattle.btx_run.specs.language.Files.Counts.{counts_of}
-use Rattle.btx_run.specs.language.Product.{product, product_of_files}
+use Rattle.btx_core.specs.language.Files.Counts.{counts_of}
+use Rattle.btx_core.specs.refinement.ComputedProduct.{product, product_of_files}
 use Rattle.btx_run.proofs.KindLemmas.{databases_fit, kind_fits, types_first}
 use Rattle.btx_run.specs.refinement.Contents.{database_of, library_in}
 use Rattle.btx_run.specs.refinement.Product.{work_in}

@@ -6,11 +6,11 @@ use Rattle.std.specs.Prelude.{is_none, option_to_list}
 use Rattle.std.proofs.lemmas.Grind.{flat_map-append}
 use Rattle.btx_text.specs.language.LogLines.{Line, is_error}
 use Rattle.btx_aux.specs.language.Files.{Files}
-use Rattle.btx_run.specs.language.Files.Lines.{database_line, no_database_line}
-use Rattle.btx_run.specs.language.Files.Found.{NamedFile, file_at}
+use Rattle.btx_core.specs.language.Files.Lines.{database_line, no_database_line}
+use Rattle.btx_core.specs.language.Files.Found.{NamedFile, file_at}
 use Rattle.btx_run.specs.laws.Files.Laws.{FoundAreNumbered, MissingAreErrors, OneLineEach, is_plain_line, numbered}
-use Rattle.btx_run.specs.language.Files.Readings.{databases_logged, files_found}
-use Rattle.btx_run.specs.refinement.Files.Found.{named_file}
+use Rattle.btx_core.specs.language.Files.Databases.{databases_logged, files_found}
+use Rattle.btx_core.specs.refinement.Files.Found.{named_file}
 use Rattle.btx_run.specs.refinement.Files.Readings.{database_logged}
 
 -- ---- the databases that were found are numbered

@@ -7,14 +7,14 @@ use Rattle.btx_aux.specs.laws.Pairs.{files_of_pairs}
 use Rattle.btx_aux.specs.language.Grammar.{pieces_of, aux_command_named, words_of}
 use Rattle.btx_aux.specs.language.Events.{said, job_events}
 use Rattle.btx_aux.specs.language.Job.{job_of_files}
-use Rattle.btx_run.specs.declared.files.found.FilesRead.{FilesRead}
-use Rattle.btx_run.specs.declared.files.found.FilesRead.TheVariants.{Ends, Found}
+use Rattle.btx_core.specs.declared.found.FilesRead.{FilesRead}
+use Rattle.btx_core.specs.declared.found.FilesRead.TheVariants.{Ends, Found}
 use Rattle.btx_machine.specs.declared.report.End.TheVariants as ended
-use Rattle.btx_run.specs.language.Files.Lines.{database_line, no_style_line, style_line, no_database_line}
-use Rattle.btx_run.specs.language.Files.Counts.{counts_of}
-use Rattle.btx_run.specs.language.Files.Readings.{Logged, after_job, reading_of, style_named, style_read}
+use Rattle.btx_core.specs.language.Files.Lines.{database_line, no_style_line, style_line, no_database_line}
+use Rattle.btx_core.specs.language.Files.Counts.{counts_of}
+use Rattle.btx_core.specs.refinement.Files.Readings.{Logged, after_job, reading_of, style_named, style_read}
 use Rattle.btx_run.specs.refinement.Files.Readings.{after_style}
-use Rattle.btx_run.specs.refinement.Files.Found.{named_file}
+use Rattle.btx_core.specs.refinement.Files.Found.{named_file}
 use Rattle.btx_aux.specs.refinement.Notes.{aux_note_line}
 use Rattle.btx_machine.specs.laws.Reports.{log_counts}
 

@@ -7,13 +7,13 @@ use Rattle.btx_machine.specs.declared.report.LogCounts.{LogCounts}
 use Rattle.btx_machine.specs.language.Product.{Product}
 use Rattle.btx_machine.specs.laws.ProductLaws.{Foretells}
 use Rattle.btx_machine.proofs.LawLemmas as machine
-use Rattle.btx_run.specs.declared.files.found.FilesRead.{FilesRead}
-use Rattle.btx_run.specs.declared.files.found.FilesRead.TheVariants.{Ends, Found}
-use Rattle.btx_run.specs.declared.options.Options.{Options}
-use Rattle.btx_run.specs.language.Files.Readings.{job_named, reading_of}
+use Rattle.btx_core.specs.declared.found.FilesRead.{FilesRead}
+use Rattle.btx_core.specs.declared.found.FilesRead.TheVariants.{Ends, Found}
+use Rattle.btx_core.specs.declared.options.Options.{Options}
+use Rattle.btx_core.specs.refinement.Files.Readings.{job_named, reading_of}
 use Rattle.btx_run.specs.laws.Laws.{BudgetLaw}
-use Rattle.btx_run.specs.language.Files.Counts.{counts_of}
-use Rattle.btx_run.specs.language.Product.{product_of_files}
+use Rattle.btx_core.specs.language.Files.Counts.{counts_of}
+use Rattle.btx_core.specs.refinement.ComputedProduct.{product_of_files}
 use Rattle.btx_run.specs.refinement.Files.Logging.{bytes_of_lines}
 use Rattle.btx_run.specs.refinement.Product.{logged_before, work_in}
 

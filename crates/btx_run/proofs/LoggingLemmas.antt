@@ -10,7 +10,7 @@ use Rattle.btx_text.specs.language.LogLines.{Line, is_error, is_warning}
 use Rattle.btx_out.specs.language.Pieces.{AppendsPrefix}
 use Rattle.btx_out.proofs.PieceLemmas.{prefix-after, prefix-all, prefix-longer}
 use Rattle.btx_machine.specs.declared.report.LogCounts.{LogCounts}
-use Rattle.btx_run.specs.language.Files.Counts.{counts_of}
+use Rattle.btx_core.specs.language.Files.Counts.{counts_of}
 use Rattle.btx_run.specs.refinement.Files.Counts.{at_most_greatest, counts_at}
 use Rattle.btx_run.specs.refinement.Files.Logging.{Logs, bytes_of_lines}
 use Rattle.btx_machine.specs.language.Saying.{counted_if, ended_line}

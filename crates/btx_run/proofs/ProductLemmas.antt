@@ -29,14 +29,14 @@ use Rattle.btx_machine.specs.declared.report.Report.{Report}
 use Rattle.btx_machine.specs.declared.report.LogCounts.{LogCounts}
 use Rattle.btx_machine.proofs.ComesLemmas.{ok_map}
 use Rattle.btx_machine.proofs.DeepLemmas as depth
-use Rattle.btx_run.specs.declared.files.found.FilesRead.{FilesRead}
-use Rattle.btx_run.specs.declared.files.found.JobFiles.{JobFiles}
-use Rattle.btx_run.specs.declared.options.Options.{Options}
-use Rattle.btx_run.specs.language.Files.Counts.{counts_of}
-use Rattle.btx_run.specs.language.Files.Readings.{Logged, job_named}
+use Rattle.btx_core.specs.declared.found.FilesRead.{FilesRead}
+use Rattle.btx_core.specs.declared.found.JobFiles.{JobFiles}
+use Rattle.btx_core.specs.declared.options.Options.{Options}
+use Rattle.btx_core.specs.language.Files.Counts.{counts_of}
+use Rattle.btx_core.specs.refinement.Files.Readings.{Logged, job_named}
 use Rattle.btx_run.specs.refinement.Files.Readings.{IsRead, files_read}
-use Rattle.btx_run.specs.language.Contents.{style_in}
-use Rattle.btx_run.specs.language.Product.{product, product_of_files, product_with}
+use Rattle.btx_core.specs.refinement.Contents.{style_in}
+use Rattle.btx_core.specs.refinement.ComputedProduct.{product, product_of_files, product_with}
 use Rattle.btx_run.specs.refinement.Files.Logging.{Logs, bytes_of_lines}
 use Rattle.btx_run.specs.refinement.Product.{logged_before, product_of_reading, work_in, work_of}
 use Rattle.btx_machine.specs.refinement.KeepingStep.{LastLineBehindList, KeepsStep}

@@ -12,21 +12,22 @@ use Rattle.btx_aux.specs.language.Files.{Files, file_of}
 use Rattle.btx_out.specs.language.Pieces.{AppendsPrefix}
 use Rattle.btx_out.proofs.PieceLemmas.{prefix-none_same}
 use Rattle.btx_machine.specs.declared.report.LogCounts.{LogCounts}
-use Rattle.btx_run.specs.language.Files.Found.{NamedFile, file_at}
+use Rattle.btx_core.specs.language.Files.Found.{NamedFile, file_at}
 use Rattle.btx_aux.specs.language.Job.{AuxJob}
 use Rattle.btx_aux.specs.declared.end.End.{End as AuxEnd}
 use Rattle.btx_aux.specs.declared.end.End.TheVariants as aux
-use Rattle.btx_run.specs.declared.files.found.FilesRead.{FilesRead}
-use Rattle.btx_run.specs.declared.files.found.FilesRead.TheVariants.{Ends, Found}
+use Rattle.btx_core.specs.declared.found.FilesRead.{FilesRead}
+use Rattle.btx_core.specs.declared.found.FilesRead.TheVariants.{Ends, Found}
 use Rattle.btx_text.specs.declared.limits.Limit.TheVariants as kind
 use Rattle.btx_machine.specs.declared.report.End.TheVariants as ended
 use Rattle.btx_run.specs.refinement.Files.Logging.{Counted, LogReceived, Logs, bytes_of_lines}
-use Rattle.btx_run.specs.language.Files.Lines.{no_style_line, style_line}
+use Rattle.btx_core.specs.language.Files.Lines.{no_style_line, style_line}
 use Rattle.btx_run.proofs.LoggingLemmas.{logs_both, logs_nothing, part_begins, rest_begins}
-use Rattle.btx_run.specs.language.Files.Readings.{Logged, after_job, behind, databases_logged, files_found, logged, style_named, style_read}
+use Rattle.btx_core.specs.language.Files.Databases.{databases_logged, files_found}
+use Rattle.btx_core.specs.refinement.Files.Readings.{Logged, after_job, behind, logged, style_named, style_read}
 use Rattle.btx_run.specs.refinement.Files.Readings.{AddsAs, IsAdded, IsRead, ReadsAs, after_style, database_logged, database_read, databases_read}
 use Rattle.std.specs.Prelude.{option_to_list}
-use Rattle.btx_run.specs.refinement.Files.Found.{named_file}
+use Rattle.btx_core.specs.refinement.Files.Found.{named_file}
 
 -- ---- contents
 

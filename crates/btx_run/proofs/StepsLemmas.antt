@@ -13,15 +13,15 @@ use Rattle.btx_machine.specs.declared.report.LogCounts.{LogCounts}
 use Rattle.btx_machine.specs.language.Product.{Product}
 use Rattle.btx_machine.specs.laws.StepsNeeded.{NeedsSteps, NeededSteps, StoppedSteps}
 use Rattle.btx_machine.proofs.NeedsLemmas as machine
-use Rattle.btx_run.specs.declared.files.found.FilesRead.{FilesRead}
-use Rattle.btx_run.specs.declared.files.found.FilesRead.TheVariants.{Ends, Found}
-use Rattle.btx_run.specs.declared.options.Options.{Options}
-use Rattle.btx_run.specs.language.Files.Found.{NamedFile, file_at}
-use Rattle.btx_run.specs.language.Files.Readings.{Logged, logged, style_read, style_named, after_job, job_named, reading_of}
+use Rattle.btx_core.specs.declared.found.FilesRead.{FilesRead}
+use Rattle.btx_core.specs.declared.found.FilesRead.TheVariants.{Ends, Found}
+use Rattle.btx_core.specs.declared.options.Options.{Options}
+use Rattle.btx_core.specs.language.Files.Found.{NamedFile, file_at}
+use Rattle.btx_core.specs.refinement.Files.Readings.{Logged, logged, style_read, style_named, after_job, job_named, reading_of}
 use Rattle.btx_run.specs.refinement.Files.Readings.{after_style, with_style, databases_read}
 use Rattle.btx_run.specs.laws.Laws.{NeedsLaw, StoppedLaw}
-use Rattle.btx_run.specs.language.Files.Counts.{counts_of}
-use Rattle.btx_run.specs.language.Product.{product_of_files}
+use Rattle.btx_core.specs.language.Files.Counts.{counts_of}
+use Rattle.btx_core.specs.refinement.ComputedProduct.{product_of_files}
 use Rattle.btx_text.specs.language.Limits.{is_too_long}
 use Rattle.btx_run.specs.refinement.Product.{work_in, logged_before}
 

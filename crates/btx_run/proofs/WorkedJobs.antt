@@ -41,11 +41,11 @@ use Rattle.btx_machine.specs.laws.MeaningBySteps.{loop_of}
 use Rattle.btx_machine.specs.language.Reports.{last_line, end_word}
 use Rattle.btx_machine.specs.language.Saying.{lines_logged, said_on}
 use Rattle.btx_machine.specs.language.Steps.{token_effect, turn_of}
-use Rattle.btx_run.specs.language.Files.Lines.{database_line, no_database_line, no_style_line, style_line}
-use Rattle.btx_run.specs.language.Files.Readings.{after_job, style_named, style_read}
+use Rattle.btx_core.specs.language.Files.Lines.{database_line, no_database_line, no_style_line, style_line}
+use Rattle.btx_core.specs.refinement.Files.Readings.{after_job, style_named, style_read}
 use Rattle.btx_run.specs.refinement.Files.Readings.{after_style}
-use Rattle.btx_run.specs.laws.WorkedJobs as jobs
-use Rattle.btx_run.specs.laws.WorkedJobs.{JobsAreSo, IsSo}
+use Rattle.btx_core.specs.laws.WorkedJobs as jobs
+use Rattle.btx_core.specs.laws.WorkedJobs.{JobsAreSo, IsSo}
 use Rattle.btx_bst.specs.language.MessageTexts.{complaint_text}
 
 -- opens each definition that the rows compute with

@@ -5,10 +5,10 @@ ghost use Rattle.btx_bib.specs.language.Requests.{asked};
 ghost use Rattle.btx_bib.specs.refinement.Sources.{source_databases};
 ghost use Rattle.btx_run.specs.refinement.Contents.{database_of};
 
-use crate::files::found::FoundFiles;
 use btx_aux::AuxJob;
 use btx_bib::{Library, Source, read_databases};
 use btx_bst::Style;
+use btx_core::FoundFiles;
 use btx_text::Fault;
 use std::alloc::{AllocError, Global};
 

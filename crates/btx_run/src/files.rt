@@ -2,12 +2,12 @@
 //! what it is about happens.
 
 mod databases;
-pub mod found;
+pub mod fetching;
 pub mod laws;
 mod lines;
 mod logging;
 mod names;
 pub mod reading;
 
-pub use found::{FilesRead, FoundFile, FoundFiles, JobFiles};
+pub use btx_core::{FilesRead, FoundFile, FoundFiles, JobFiles};
 pub use reading::{read_files, read_job};

@@ -1,6 +1,6 @@
 //! Laws over whole runs, each the contract of a function that does nothing.
 ghost use Rattle.btx_run.specs.laws.Laws.{BudgetLaw, DirectLaw, NeedsLaw, StoppedLaw};
-ghost use Rattle.btx_run.specs.laws.WorkedJobs.{JobsAreSo, worked_jobs};
+ghost use Rattle.btx_core.specs.laws.WorkedJobs.{JobsAreSo, worked_jobs};
 
 /// For any two budgets: what a run with the smaller one writes begins what a run with the larger one writes, the log's last line aside; and a
 /// run that isn't stopped writes and answers the same with every larger budget.

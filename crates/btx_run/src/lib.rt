@@ -4,16 +4,15 @@
 mod contents;
 pub mod files;
 pub mod law;
-pub mod options;
 pub mod run_fault;
 pub mod runner;
 
 pub use btx_aux::{FetchFault, Finder, MemoryFinder};
+pub use btx_core::Options;
 pub use btx_machine::{End, Report};
 pub use btx_out::{LineLength, Over, Sink, SinkFault};
 pub use btx_step::KeptBytes;
 pub use btx_text::{Limit, TextMode};
 pub use law::{budget_law, direct_law, steps_law, worked_jobs_come_to_this};
-pub use options::Options;
 pub use run_fault::RunFault;
 pub use runner::run;

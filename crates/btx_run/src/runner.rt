@@ -12,15 +12,15 @@ ghost use Rattle.btx_run.specs.language.Answered.{CompletesAsAnswered, FailsAsAn
 ghost use Rattle.btx_run.specs.language.DirectStyles.{WhereDirect};
 ghost use Rattle.btx_run.specs.refinement.Files.Asked.{AreAmong, names_in};
 ghost use Rattle.btx_run.specs.refinement.Files.Faults.{CountsOfThree};
-ghost use Rattle.btx_run.specs.language.Files.Readings.{reading_of};
+ghost use Rattle.btx_core.specs.refinement.Files.Readings.{reading_of};
 ghost use Rattle.btx_run.specs.refinement.Files.Readings.{StyleFits, files_read};
-ghost use Rattle.btx_run.specs.language.Product.{product, product_of_files, product_with};
+ghost use Rattle.btx_core.specs.refinement.ComputedProduct.{product, product_of_files, product_with};
 ghost use Rattle.btx_run.specs.language.RunFaults.{CountsOfRun};
 ghost use Rattle.btx_run.specs.refinement.Product.{work_of, work_in, product_of_reading};
 
 use crate::contents::read_library;
 use crate::files::{FilesRead, JobFiles, read_files, read_job};
-use crate::options::Options;
+use btx_core::Options;
 use crate::run_fault::RunFault;
 use btx_aux::{AuxJob, Finder};
 use btx_bib::Library;

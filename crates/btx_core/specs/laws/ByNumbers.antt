@@ -35,14 +35,14 @@ use Rattle.btx_machine.specs.language.Reports.{report_of}
 use Rattle.btx_machine.specs.language.Saying.{ended_line, logging}
 use Rattle.btx_machine.specs.language.States.{Done, Limit, Outcome, State, Stopped, state}
 use Rattle.btx_machine.specs.laws.Meaning.{IsMeaning, Meaning}
-use Rattle.btx_run.specs.declared.files.found.FilesRead.{FilesRead}
-use Rattle.btx_run.specs.declared.files.found.FilesRead.TheVariants.{Ends, Found}
-use Rattle.btx_run.specs.declared.files.found.JobFiles.{JobFiles}
-use Rattle.btx_run.specs.declared.options.Options.{Options}
-use Rattle.btx_run.specs.language.Files.Counts.{counts_of}
-use Rattle.btx_run.specs.language.Files.Found.{NamedFile}
-use Rattle.btx_run.specs.language.Files.Readings.{job_named, reading_of}
-use Rattle.btx_run.specs.language.Product.{product}
+use Rattle.btx_core.specs.declared.found.FilesRead.{FilesRead}
+use Rattle.btx_core.specs.declared.found.FilesRead.TheVariants.{Ends, Found}
+use Rattle.btx_core.specs.declared.found.JobFiles.{JobFiles}
+use Rattle.btx_core.specs.declared.options.Options.{Options}
+use Rattle.btx_core.specs.language.Files.Counts.{counts_of}
+use Rattle.btx_core.specs.language.Files.Found.{NamedFile}
+use Rattle.btx_core.specs.refinement.Files.Readings.{job_named, reading_of}
+use Rattle.btx_core.specs.refinement.ComputedProduct.{product}
 use Rattle.btx_step.specs.language.Jobs.{Job}
 use Rattle.btx_step.specs.language.Starts.{first_store}
 use Rattle.btx_step.specs.language.Stores.{Store}

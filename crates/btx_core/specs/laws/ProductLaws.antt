@@ -1,14 +1,14 @@
 -- What is proved of the relation in names.
 use Rattle.btx_aux.specs.language.Files.{Files}
 use Rattle.btx_aux.specs.laws.Pairs.{files_of_pairs}
-use Rattle.btx_core.specs.laws.Product.{IsProduct}
+use Rattle.btx_core.specs.language.Product.{IsProduct}
 use Rattle.btx_machine.specs.declared.report.End.{End}
 use Rattle.btx_machine.specs.language.Product.{Product}
-use Rattle.btx_run.specs.declared.files.found.FilesRead.TheVariants.{Ends}
-use Rattle.btx_run.specs.declared.options.Options.{Options}
-use Rattle.btx_run.specs.language.Files.Readings.{reading_of}
-use Rattle.btx_run.specs.language.Product.{product}
-use Rattle.btx_run.specs.laws.WorkedJobs.{WorkedJob, outputs_shown, worked_jobs}
+use Rattle.btx_core.specs.declared.found.FilesRead.TheVariants.{Ends}
+use Rattle.btx_core.specs.declared.options.Options.{Options}
+use Rattle.btx_core.specs.refinement.Files.Readings.{reading_of}
+use Rattle.btx_core.specs.refinement.ComputedProduct.{product}
+use Rattle.btx_core.specs.laws.WorkedJobs.{WorkedJob, outputs_shown, worked_jobs}
 use Rattle.std.specs.Prelude.{List, [], codes, ℕ, ◌∷◌, ◌↔◌, ◌≡◌, ◌≤◌}
 
 -- two products of a job are the same. (A line has 20 bytes at least, so that 3 is no condition)

@@ -13,10 +13,10 @@ use Rattle.btx_bib.specs.language.Values.{field_value}
 use Rattle.btx_bst.specs.declared.callee.Callee.TheVariants as callee
 use Rattle.btx_bst.specs.language.Style.{field_of}
 use Rattle.btx_bst.specs.language.StyleText.{style_of}
-use Rattle.btx_core.specs.laws.Databases.{Request}
-use Rattle.btx_core.specs.laws.Lists.{IsLibrary}
+use Rattle.btx_core.specs.language.Databases.{Request}
+use Rattle.btx_core.specs.language.Lists.{IsLibrary}
 use Rattle.btx_core.specs.laws.SameStyles.{IsMeant, IsSameStyle, Numbers, numbers_of}
-use Rattle.btx_core.specs.laws.Styles.{Entry, Library, Style}
+use Rattle.btx_core.specs.language.Styles.{Entry, Library, Style}
 use Rattle.btx_text.specs.declared.limits.Limit.{Limit}
 use Rattle.btx_text.specs.declared.limits.Limit.TheVariants as limit
 use Rattle.std.specs.Prelude.{List, None, Option, Some, [], if◌then◌else◌, is_some, map, option_and_then, option_map, ℕ, ◌∷◌, ◌≡◌}

@@ -4,8 +4,8 @@ use Rattle.std.specs.Prelude.{ℕ, List}
 use Rattle.btx_aux.specs.language.Files.{Files}
 use Rattle.btx_machine.specs.declared.report.Report.{Report}
 use Rattle.btx_machine.specs.language.KeepingStep.{Received, AtFault, Completes}
-use Rattle.btx_run.specs.declared.options.Options.{Options}
-use Rattle.btx_run.specs.language.Product.{product, product_with}
+use Rattle.btx_core.specs.declared.options.Options.{Options}
+use Rattle.btx_core.specs.refinement.ComputedProduct.{product, product_with}
 
 -- there are files such that the report is that of their product, and both outputs received its bytes. `before` and `after` are what the two sinks had
 -- received before the run and after it

@@ -5,10 +5,10 @@ use Rattle.btx_out.specs.laws.Lengths.{IsLineLength}
 use Rattle.btx_machine.specs.language.DirectDepth.{StaysWithin}
 use Rattle.btx_machine.specs.laws.ProductLaws.{Foretells}
 use Rattle.btx_machine.specs.laws.StepsNeeded.{NeededSteps, StoppedSteps}
-use Rattle.btx_run.specs.declared.options.Options.{Options}
+use Rattle.btx_core.specs.declared.options.Options.{Options}
 use Rattle.btx_run.specs.language.DirectStyles.{WhereDirect}
-use Rattle.btx_run.specs.language.Files.Readings.{reading_of}
-use Rattle.btx_run.specs.language.Product.{product_with}
+use Rattle.btx_core.specs.refinement.Files.Readings.{reading_of}
+use Rattle.btx_core.specs.refinement.ComputedProduct.{product_with}
 
 -- the list of references of a smaller budget begins that of a larger one, and so does the log, its last line aside; where the run isn't
 -- stopped, both and the report stay the same

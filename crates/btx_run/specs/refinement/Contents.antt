@@ -1,13 +1,13 @@
 -- What the databases that were found hold, as the code's clauses have it.
 use Rattle.btx_bib.specs.language.Messages.{Database}
-use Rattle.btx_run.specs.language.Files.Found.{NamedFile}
+use Rattle.btx_core.specs.language.Files.Found.{NamedFile}
 use Rattle.std.specs.Prelude.{ℕ, map}
 use Rattle.btx_aux.specs.language.Job.{AuxJob}
 use Rattle.btx_bib.specs.language.Databases.{library_of}
 use Rattle.btx_bib.specs.language.Library.{Library}
 use Rattle.btx_bib.specs.language.Requests.{asked}
-use Rattle.btx_run.specs.declared.files.found.JobFiles.{JobFiles}
-use Rattle.btx_run.specs.language.Contents.{style_in}
+use Rattle.btx_core.specs.declared.found.JobFiles.{JobFiles}
+use Rattle.btx_core.specs.refinement.Contents.{style_in}
 
 -- a file as a database
 abbrev pub database_of : NamedFile → Database

@@ -4,4 +4,3 @@ pub mod Readings
 pub mod Asked
 pub mod Faults
 pub mod Names
-pub mod Found

@@ -2,19 +2,19 @@
 use Rattle.btx_bst.specs.language.Style.{Style}
 use Rattle.btx_bib.specs.language.Library.{Library}
 use Rattle.btx_step.specs.language.Jobs.{Job}
-use Rattle.btx_run.specs.declared.options.Options.{Options}
+use Rattle.btx_core.specs.declared.options.Options.{Options}
 use Rattle.btx_aux.specs.language.Job.{AuxJob}
-use Rattle.btx_run.specs.declared.files.found.JobFiles.{JobFiles}
-use Rattle.btx_run.specs.language.Contents.{style_in}
+use Rattle.btx_core.specs.declared.found.JobFiles.{JobFiles}
+use Rattle.btx_core.specs.refinement.Contents.{style_in}
 use Rattle.btx_run.specs.refinement.Contents.{library_in}
 use Rattle.std.specs.Prelude.{List, ◌++◌, ℕ}
 use Rattle.btx_text.specs.language.LogLines.{Line}
 use Rattle.btx_machine.specs.language.Product.{Product}
 use Rattle.btx_run.specs.refinement.Files.Logging.{bytes_of_lines}
-use Rattle.btx_run.specs.language.Product.{product_of_files}
-use Rattle.btx_run.specs.declared.files.found.FilesRead.{FilesRead}
-use Rattle.btx_run.specs.language.Files.Counts.{counts_of}
-use Rattle.btx_run.specs.language.Files.Readings.{Logged}
+use Rattle.btx_core.specs.refinement.ComputedProduct.{product_of_files}
+use Rattle.btx_core.specs.declared.found.FilesRead.{FilesRead}
+use Rattle.btx_core.specs.language.Files.Counts.{counts_of}
+use Rattle.btx_core.specs.refinement.Files.Readings.{Logged}
 
 -- what the machine works on: the style and the library of the files that were found, and what was asked
 abbrev pub work_in : AuxJob → JobFiles → Options → Job

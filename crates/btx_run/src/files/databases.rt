@@ -7,9 +7,10 @@ ghost use Rattle.btx_run.specs.refinement.Files.Counts.{counts_at};
 ghost use Rattle.btx_run.specs.refinement.Files.Faults.{CountsOfReading};
 ghost use Rattle.btx_run.specs.refinement.Files.Readings.{AddsAs, ReadsAs, database_read, database_logged, databases_read};
 
-use crate::files::found::{FoundFile, FoundFiles, fetch_file};
+use crate::files::fetching::fetch_file;
 use crate::files::lines::{database_line, no_database_line};
 use btx_aux::Finder;
+use btx_core::{FoundFile, FoundFiles};
 use btx_machine::Journal;
 use btx_out::Sink;
 use btx_text::{Fault, LogLine};

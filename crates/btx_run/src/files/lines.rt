@@ -1,14 +1,14 @@
 //! The lines of a log on files, without byte 10.
 ghost use Rattle.std.specs.Prelude.{◌≡◌, ◌++◌, IfOk, OnOk, codes, decimal};
 ghost use Rattle.btx_text.specs.language.LogLines.{message};
-ghost use Rattle.btx_run.specs.language.Files.Lines.{database_line, no_database_line, no_style_line, style_line};
+ghost use Rattle.btx_core.specs.language.Files.Lines.{database_line, no_database_line, no_style_line, style_line};
 
 use btx_text::log_texts::{push_mark, push_number, push_two};
 use btx_text::{LineKind, LogLine};
 use std::alloc::{AllocError, Global};
 
 /// Makes the log line for a style that was found.
-#[tactic(auto, unfolding(crate::specs::language::Files::Lines::style_line))]
+#[tactic(auto, unfolding(btx_core::specs::language::Files::Lines::style_line))]
 pub fn style_line(alloc: Global, name: &[u8]) -> Result<LogLine, AllocError>
     ensures { IfOk result (λ line. line ≡ style_line name.now) }
 {
@@ -16,7 +16,7 @@ pub fn style_line(alloc: Global, name: &[u8]) -> Result<LogLine, AllocError>
 }
 
 /// Makes the log line for a style that wasn't found.
-#[tactic(auto, unfolding(crate::specs::language::Files::Lines::no_style_line))]
+#[tactic(auto, unfolding(btx_core::specs::language::Files::Lines::no_style_line))]
 pub fn no_style_line(alloc: Global, name: &[u8]) -> Result<LogLine, AllocError>
     ensures { IfOk result (λ line. line ≡ no_style_line name.now) }
 {
@@ -39,7 +39,7 @@ fn line_of_two(
 }
 
 /// Makes the log line for a database that was found; `number` counts those that were found, from 1 up.
-#[tactic(auto, unfolding(crate::specs::language::Files::Lines::database_line))]
+#[tactic(auto, unfolding(btx_core::specs::language::Files::Lines::database_line))]
 pub fn database_line(alloc: Global, number: u64, name: &[u8]) -> Result<LogLine, AllocError>
     ensures { IfOk result (λ line. line ≡ database_line number name.now) }
 {
@@ -50,7 +50,7 @@ pub fn database_line(alloc: Global, number: u64, name: &[u8]) -> Result<LogLine,
 }
 
 /// Makes the log line for a database that wasn't found.
-#[tactic(auto, unfolding(crate::specs::language::Files::Lines::no_database_line))]
+#[tactic(auto, unfolding(btx_core::specs::language::Files::Lines::no_database_line))]
 pub fn no_database_line(alloc: Global, name: &[u8]) -> Result<LogLine, AllocError>
     ensures { IfOk result (λ line. line ≡ no_database_line name.now) }
 {

@@ -3,7 +3,7 @@ use Rattle.btx_bst.specs.language.StyleText.{style_of}
 use Rattle.btx_machine.specs.language.Product.{style_product}
 use Rattle.btx_machine.proofs.ComesLemmas.{on_err}
 use Rattle.btx_machine.proofs.RunLemmas.{nothing_written}
-use Rattle.btx_run.specs.language.Contents.{style_in}
+use Rattle.btx_core.specs.refinement.Contents.{style_in}
 use Rattle.btx_run.proofs.ProductLemmas.{completes_of, counts_of_style, fails_of, found_is}
 use Rattle.btx_run.proofs.runner.execute_found.Goals as goal
 use Rattle.btx_run.specs.refinement.Product.{work_of, work_in}

@@ -3,8 +3,8 @@ use Rattle.btx_aux.proofs.AnswerLemmas.{by_map}
 use Rattle.btx_machine.specs.language.KeepingStep.{AtFault, Completes}
 use Rattle.btx_machine.proofs.ComesLemmas.{err_map, ok_map, on_err}
 use Rattle.btx_machine.proofs.EdgeLemmas.{ends_as}
-use Rattle.btx_run.specs.language.Files.Counts.{counts_of}
-use Rattle.btx_run.specs.language.Product.{product_of_files}
+use Rattle.btx_core.specs.language.Files.Counts.{counts_of}
+use Rattle.btx_core.specs.refinement.ComputedProduct.{product_of_files}
 use Rattle.btx_run.specs.refinement.Files.Counts.{counts_at}
 use Rattle.btx_run.specs.refinement.Files.Readings.{files_read}
 use Rattle.btx_run.proofs.ProductLemmas.{behind_ends, completes_reading, counts_are, counts_of_none, fails_in_lines, fails_reading}

@@ -2,7 +2,7 @@ use Rattle.std.proofs.Common.{None}
 use Rattle.btx_aux.proofs.AnswerLemmas.{shown_by}
 use Rattle.btx_machine.proofs.ComesLemmas.{err_map, ok_map, on_err}
 use Rattle.btx_machine.proofs.RunLemmas.{nothing_written}
-use Rattle.btx_run.specs.language.Product.{product_with}
+use Rattle.btx_core.specs.refinement.ComputedProduct.{product_with}
 use Rattle.btx_run.proofs.AskedLemmas.{some_of_run}
 use Rattle.btx_run.proofs.ReadingLemmas.{of_any, of_both}
 use Rattle.btx_run.proofs.ProductLemmas.{completes_named, fails_named}

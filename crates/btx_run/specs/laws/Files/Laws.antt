@@ -4,9 +4,9 @@ use Rattle.btx_text.specs.declared.log_line.LineKind.{LineKind}
 use Rattle.btx_text.specs.declared.log_line.LineKind.TheVariants.{Plain, Warning, Error}
 use Rattle.btx_text.specs.language.LogLines.{Line, is_error}
 use Rattle.btx_aux.specs.language.Files.{Files}
-use Rattle.btx_run.specs.language.Files.Lines.{database_line, no_database_line}
-use Rattle.btx_run.specs.language.Files.Found.{NamedFile}
-use Rattle.btx_run.specs.language.Files.Readings.{databases_logged, files_found}
+use Rattle.btx_core.specs.language.Files.Lines.{database_line, no_database_line}
+use Rattle.btx_core.specs.language.Files.Found.{NamedFile}
+use Rattle.btx_core.specs.language.Files.Databases.{databases_logged, files_found}
 
 -- the line is neither a warning nor an error
 abbrev pub is_plain_line : LineKind → Bool

@@ -3,7 +3,7 @@ use Rattle.std.specs.Prelude.{◌≡◌, ℕ, List, ◌++◌, Option}
 use Rattle.std.specs.Io.KnownBytes.{Appends}
 use Rattle.btx_text.specs.language.LogLines.{Line}
 use Rattle.btx_machine.specs.declared.report.LogCounts.{LogCounts}
-use Rattle.btx_run.specs.language.Files.Counts.{counts_of}
+use Rattle.btx_core.specs.language.Files.Counts.{counts_of}
 use Rattle.std.specs.List.{flat_map}
 use Rattle.btx_machine.specs.language.Saying.{ended_line}
 

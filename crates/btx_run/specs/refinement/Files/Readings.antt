@@ -1,18 +1,19 @@
 -- What calls answer that read files, and what they log.
-use Rattle.std.specs.Prelude.{ℕ, ◌+◌, ◌≤◌, List, [], ◌∷◌, ◌++◌, length, Option, Result, Ok, Err, ◌≡◌, option_to_list, if◌then◌else◌}
+use Rattle.std.specs.Prelude.{ℕ, ◌≤◌, List, [], ◌∷◌, ◌++◌, length, Option, Result, Ok, Err, ◌≡◌, option_to_list, if◌then◌else◌}
 use Rattle.std.specs.Option.{option_map_or}
 use Rattle.btx_aux.specs.language.Files.{Files}
 use Rattle.btx_aux.specs.language.Job.{AuxJob}
 use Rattle.btx_text.specs.declared.fault.Fault.{Fault}
 use Rattle.btx_text.specs.language.Limits.{greatest_file, is_too_long}
 use Rattle.btx_out.specs.language.Pieces.{AppendsPrefix}
-use Rattle.btx_run.specs.declared.files.found.FilesRead.{FilesRead}
-use Rattle.btx_run.specs.declared.files.found.FilesRead.TheVariants.{Ends, Found}
+use Rattle.btx_core.specs.declared.found.FilesRead.{FilesRead}
+use Rattle.btx_core.specs.declared.found.FilesRead.TheVariants.{Ends, Found}
 use Rattle.btx_run.specs.refinement.Files.Logging.{Counted, LogReceived, Logs, bytes_of_lines}
-use Rattle.btx_run.specs.language.Files.Found.{NamedFile, file_at}
-use Rattle.btx_run.specs.language.Files.Readings.{Logged, logged, behind, after_job, files_found, databases_logged}
+use Rattle.btx_core.specs.language.Files.Found.{NamedFile, file_at}
+use Rattle.btx_core.specs.language.Files.Databases.{files_found, databases_logged}
+use Rattle.btx_core.specs.refinement.Files.Readings.{Logged, logged, behind, after_job}
 use Rattle.btx_text.specs.language.LogLines.{Line}
-use Rattle.btx_run.specs.language.Files.Lines.{database_line, no_database_line}
+use Rattle.btx_core.specs.language.Files.Lines.{database_line, no_database_line}
 use Rattle.btx_text.specs.declared.limits.Limit.TheVariants as kind
 use Rattle.btx_machine.specs.declared.report.End.TheVariants as ended
 

@@ -1,6 +1,6 @@
 use Rattle.std.proofs.Common.{rules, ◌≡◌, ◌∙◌, ◌++◌, ◌∷◌, [], List, None, Option, Some, ap, append-nil, sym}
 use Rattle.btx_aux.proofs.AnswerLemmas.{by_map}
-use Rattle.btx_run.specs.language.Files.Found.{NamedFile}
+use Rattle.btx_core.specs.language.Files.Found.{NamedFile}
 use Rattle.btx_run.specs.refinement.Files.Readings.{database_read}
 use Rattle.btx_run.proofs.ReadingLemmas.{adds_begun, adds_found}
 use Rattle.btx_run.proofs.LoggingLemmas.{logged_begins}

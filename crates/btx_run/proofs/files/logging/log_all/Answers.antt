@@ -1,6 +1,6 @@
-use Rattle.std.proofs.Common.{rules, ◌∙◌, refl}
+use Rattle.std.proofs.Common.{rules, ◌∙◌}
 use Rattle.btx_out.proofs.PieceLemmas.{on_err}
-use Rattle.btx_run.proofs.LoggingLemmas.{line_begins, line_begun, logs_line, logs_nothing, logs_one_more}
+use Rattle.btx_run.proofs.LoggingLemmas.{line_begins, line_begun, logs_line, logs_one_more}
 use Rattle.btx_run.proofs.files.logging.log_all.Goals as goal
 
 pub returns-in_err-log_one-clause-err : goal.returns-in_err-log_one-clause-err

@@ -3,7 +3,7 @@ use Rattle.btx_aux.proofs.AnswerLemmas.{by_map, by_none}
 use Rattle.btx_out.specs.language.Pieces.{AppendsPrefix}
 use Rattle.btx_run.specs.refinement.Files.Counts.{counts_at}
 use Rattle.btx_run.specs.refinement.Files.Logging.{Logs, bytes_of_lines}
-use Rattle.btx_run.specs.language.Files.Lines.{style_line}
+use Rattle.btx_core.specs.language.Files.Lines.{style_line}
 use Rattle.btx_run.proofs.AskedLemmas.{among-none}
 use Rattle.btx_run.proofs.ReadingLemmas.{reads_behind, reads_is, reads_nothing, reads_part, style_is_read}
 use Rattle.btx_run.proofs.LoggingLemmas.{line_begun, logs_line}

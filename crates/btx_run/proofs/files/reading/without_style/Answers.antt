@@ -1,6 +1,6 @@
 use Rattle.std.proofs.Common.{rules, ◌∷◌, [], subst}
 use Rattle.btx_out.specs.language.Pieces.{AppendsPrefix}
-use Rattle.btx_run.specs.language.Files.Lines.{no_style_line}
+use Rattle.btx_core.specs.language.Files.Lines.{no_style_line}
 use Rattle.btx_run.proofs.ReadingLemmas.{reads_is, reads_part, style_is_missed, style_missed}
 use Rattle.btx_run.proofs.LoggingLemmas.{line_begun, logs_line}
 use Rattle.btx_run.proofs.files.reading.without_style.Goals as goal

@@ -1,6 +1,6 @@
 -- A file that was found, as the code's clauses make it.
 use Rattle.std.specs.Prelude.{ℕ, List}
-use Rattle.btx_run.specs.language.Files.Found.{NamedFile}
+use Rattle.btx_core.specs.language.Files.Found.{NamedFile}
 
 -- a file, of its name and its bytes
 abbrev pub named_file : List ℕ → List ℕ → NamedFile

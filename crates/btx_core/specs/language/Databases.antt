@@ -12,7 +12,7 @@ use Rattle.btx_bib.specs.language.Grammar.ValueTexts.{squeezed, value_text}
 use Rattle.btx_bib.specs.language.Grammar.Values.{Named, Part}
 use Rattle.btx_bib.specs.language.Messages.{Database, spot_at, spot_before}
 use Rattle.btx_bib.specs.laws.Grammar.Reading.{HasNoAt, IsOutcome, Stands}
-use Rattle.btx_core.specs.laws.Styles.{Function, set}
+use Rattle.btx_core.specs.language.Styles.{Function, set}
 use Rattle.btx_text.specs.declared.limits.Limit.{Limit}
 use Rattle.btx_text.specs.language.Keys.{folded}
 use Rattle.btx_text.specs.language.Limits.{greatest_string, is_too_long}

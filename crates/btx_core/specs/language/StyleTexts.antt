@@ -13,7 +13,7 @@ use Rattle.btx_bst.specs.laws.Places.{beginning}
 use Rattle.btx_bst.specs.laws.Spelling.{After, AfterGroup, Fragment, Group, Here, Inner, Nothing, Parts, Plain, complaint_in}
 use Rattle.btx_bst.specs.laws.TokenSpelling.{BehindGap, Gap, IsMissing, LettersHere, StyleGrammar, StyleNameHere, StyleSignHere, TextHere}
 use Rattle.btx_bst.specs.laws.WordSpelling.{BreakOff}
-use Rattle.btx_core.specs.laws.Styles.{Body, Built, Command, Declared, Defined, Empty, Execute, Function, Integer, Iterate, Push, Quoted, Read, Reverse, Run, Says, Sort, Style, Text, Then, set}
+use Rattle.btx_core.specs.language.Styles.{Body, Built, Command, Declared, Defined, Empty, Execute, Function, Integer, Iterate, Push, Quoted, Read, Reverse, Run, Says, Sort, Style, Text, Then, set}
 use Rattle.btx_text.specs.language.Class.{begins_name}
 use Rattle.btx_text.specs.language.Keys.{folded}
 use Rattle.btx_text.specs.language.Lists.{only_if}

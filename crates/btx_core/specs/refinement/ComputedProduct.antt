@@ -13,13 +13,13 @@ use Rattle.btx_machine.specs.language.Product.{Product, style_product}
 use Rattle.btx_machine.specs.language.Reports.{report_of}
 use Rattle.btx_machine.specs.language.Saying.{ended_line}
 use Rattle.btx_machine.specs.declared.report.LogCounts.{LogCounts}
-use Rattle.btx_run.specs.declared.files.found.FilesRead.{FilesRead}
-use Rattle.btx_run.specs.declared.files.found.FilesRead.TheVariants.{Ends, Found}
-use Rattle.btx_run.specs.declared.options.Options.{Options}
-use Rattle.btx_run.specs.language.Files.Counts.{counts_of}
-use Rattle.btx_run.specs.language.Contents.{style_in}
-use Rattle.btx_run.specs.language.Files.Found.{NamedFile}
-use Rattle.btx_run.specs.language.Files.Readings.{job_named, reading_of}
+use Rattle.btx_core.specs.declared.found.FilesRead.{FilesRead}
+use Rattle.btx_core.specs.declared.found.FilesRead.TheVariants.{Ends, Found}
+use Rattle.btx_core.specs.declared.options.Options.{Options}
+use Rattle.btx_core.specs.language.Files.Counts.{counts_of}
+use Rattle.btx_core.specs.refinement.Contents.{style_in}
+use Rattle.btx_core.specs.language.Files.Found.{NamedFile}
+use Rattle.btx_core.specs.refinement.Files.Readings.{job_named, reading_of}
 
 -- what follows the reading of the files, with a budget: the run ends at once, or the style is executed, with the library of the databases that were
 -- found and with the options. In that library an entry that isn't cited needs at least `options.min_crossrefs` references to stay. `counts` are the

@@ -4,8 +4,8 @@ use Rattle.btx_bib.specs.declared.message.Message.{Message}
 use Rattle.btx_bib.specs.declared.message.Message.TheVariants.{BadReference, NestedReference, NoEntry}
 use Rattle.btx_bib.specs.language.MessageTexts.{message_line}
 use Rattle.btx_bib.specs.language.Messages.{Database}
-use Rattle.btx_core.specs.laws.Databases.{AreRead, Known, Request, Stored, parents_named, stored_with, with_macros}
-use Rattle.btx_core.specs.laws.Styles.{Entry, Function, Library, set}
+use Rattle.btx_core.specs.language.Databases.{AreRead, Known, Request, Stored, parents_named, stored_with, with_macros}
+use Rattle.btx_core.specs.language.Styles.{Entry, Function, Library, set}
 use Rattle.btx_text.specs.declared.limits.Limit.{Limit}
 use Rattle.btx_text.specs.language.Keys.{folded}
 use Rattle.btx_text.specs.language.Lists.{only_if}

@@ -3,24 +3,24 @@ use Rattle.btx_aux.specs.language.Events.{AuxEvent}
 use Rattle.btx_aux.specs.language.Files.{Files}
 use Rattle.btx_aux.specs.language.Job.{AuxJob}
 use Rattle.btx_aux.specs.language.Names.{with_ending}
-use Rattle.btx_core.specs.laws.AuxFiles.{AreJobEvents, job_of}
-use Rattle.btx_core.specs.laws.Databases.{Request}
-use Rattle.btx_core.specs.laws.Divisions.{Divisions}
-use Rattle.btx_core.specs.laws.Lines.{IsSure, IsWrapped}
-use Rattle.btx_core.specs.laws.Lists.{IsLibrary}
-use Rattle.btx_core.specs.laws.Meanings.{Done, IsMeaning, Limited, Meaning, Outcome, Stopped}
-use Rattle.btx_core.specs.laws.Names.{AreDivisions}
-use Rattle.btx_core.specs.laws.Runs.{CommandsCome}
-use Rattle.btx_core.specs.laws.StyleTexts.{IsStyle}
-use Rattle.btx_core.specs.laws.Styles.{Job, Library, Style, first_state}
+use Rattle.btx_core.specs.language.AuxFiles.{AreJobEvents, job_of}
+use Rattle.btx_core.specs.language.Databases.{Request}
+use Rattle.btx_core.specs.language.Divisions.{Divisions}
+use Rattle.btx_core.specs.language.Lines.{IsSure, IsWrapped}
+use Rattle.btx_core.specs.language.Lists.{IsLibrary}
+use Rattle.btx_core.specs.language.Meanings.{Done, IsMeaning, Limited, Meaning, Outcome, Stopped}
+use Rattle.btx_core.specs.language.Names.{AreDivisions}
+use Rattle.btx_core.specs.language.Runs.{CommandsCome}
+use Rattle.btx_core.specs.language.StyleTexts.{IsStyle}
+use Rattle.btx_core.specs.language.Styles.{Job, Library, Style, first_state}
 use Rattle.btx_machine.specs.language.Product.{Product}
 use Rattle.btx_machine.specs.language.Reports.{report_of}
 use Rattle.btx_machine.specs.language.Saying.{ended_line}
-use Rattle.btx_run.specs.declared.options.Options.{Options}
-use Rattle.btx_run.specs.language.Files.Counts.{counts_of}
-use Rattle.btx_run.specs.language.Files.Found.{NamedFile}
-use Rattle.btx_run.specs.language.Files.Lines.{no_style_line, style_line}
-use Rattle.btx_run.specs.language.Files.Readings.{databases_logged, files_found}
+use Rattle.btx_core.specs.declared.options.Options.{Options}
+use Rattle.btx_core.specs.language.Files.Counts.{counts_of}
+use Rattle.btx_core.specs.language.Files.Found.{NamedFile}
+use Rattle.btx_core.specs.language.Files.Lines.{no_style_line, style_line}
+use Rattle.btx_core.specs.language.Files.Databases.{databases_logged, files_found}
 use Rattle.btx_text.specs.language.Limits.{is_too_long}
 use Rattle.btx_text.specs.language.LogLines.{Line}
 use Rattle.std.specs.List.{flat_map}

@@ -1,8 +1,8 @@
 use Rattle.std.proofs.Common.{◌∙◌, ap}
 use Rattle.btx_aux.proofs.AnswerLemmas.{by_fetch, by_map}
-use Rattle.btx_run.specs.refinement.Files.Found.{named_file}
+use Rattle.btx_core.specs.refinement.Files.Found.{named_file}
 use Rattle.btx_run.proofs.ReadingLemmas.{file_is_missing, file_is_there}
-use Rattle.btx_run.proofs.files.found.fetch_file.Goals as goal
+use Rattle.btx_run.proofs.files.fetching.fetch_file.Goals as goal
 
 pub returns-then-branch-clause-answered : goal.returns-then-branch-clause-answered
 returns-then-branch-clause-answered g c =

@@ -1,7 +1,7 @@
 -- 4. What the commands of a style do (btxhak, section 5.2).
-use Rattle.btx_core.specs.laws.Meanings.{Done, Limited, Meaning, Outcome, Stopped, then_do}
-use Rattle.btx_core.specs.laws.Notes.{error, shows}
-use Rattle.btx_core.specs.laws.Styles.{Command, Entry, Execute, Function, Iterate, Library, Read, Reverse, Run, Says, Sort, State}
+use Rattle.btx_core.specs.language.Meanings.{Done, Limited, Meaning, Outcome, Stopped, then_do}
+use Rattle.btx_core.specs.language.Notes.{error, shows}
+use Rattle.btx_core.specs.language.Styles.{Command, Entry, Execute, Function, Iterate, Library, Read, Reverse, Run, Says, Sort, State}
 use Rattle.btx_step.specs.laws.Orders.{comes_first}
 use Rattle.btx_text.specs.declared.limits.Limit.{Limit}
 use Rattle.std.specs.Option.{option_map_or}

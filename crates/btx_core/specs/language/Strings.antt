@@ -1,6 +1,6 @@
 -- 6. The functions on strings (btxhak, section 5.3), by the elements of a string and the glyphs of special characters. `add.period$` and `substring$` go by
 -- bytes (`add_period_of`, `substring_of`); classes, widths and foreign letters are tables.
-use Rattle.btx_core.specs.laws.Divisions.{Divisions}
+use Rattle.btx_core.specs.language.Divisions.{Divisions}
 use Rattle.btx_strings.specs.declared.conversions.Conversion.{Conversion}
 use Rattle.btx_strings.specs.language.Case.{becomes_letters, begins_title, case_of, cased_glyph, is_title}
 use Rattle.btx_strings.specs.language.Controls.{without_white}

@@ -1,6 +1,6 @@
 -- What the functions of a style log. The texts are this project's own, but for `Warning--`, which is the original's (btxhak, section 5.3, at `warning$`).
 use Rattle.btx_bst.specs.language.BuiltIns.{built_in_name}
-use Rattle.btx_core.specs.laws.Styles.{Built, Declared, Defined, Entry, Function, Integer, Literal, Missing, Quoted, State, Text}
+use Rattle.btx_core.specs.language.Styles.{Built, Declared, Defined, Entry, Function, Integer, Literal, Missing, Quoted, State, Text}
 use Rattle.btx_text.specs.declared.log_line.LineKind.{LineKind}
 use Rattle.btx_text.specs.language.LogLines.{message}
 use Rattle.std.specs.Fmt.{signed_decimal}

@@ -4,8 +4,8 @@ use Rattle.std.specs.Prelude.{◌≡◌, ℕ, List, [], ◌∷◌, ◌++◌, cod
 use Rattle.btx_text.specs.declared.element_kind.TextMode.TheVariants as mode
 use Rattle.btx_aux.specs.laws.Pairs.{files_of_pairs}
 use Rattle.btx_machine.specs.language.Product.{Product, log_of}
-use Rattle.btx_run.specs.declared.options.Options.{Options}
-use Rattle.btx_run.specs.language.Product.{product}
+use Rattle.btx_core.specs.declared.options.Options.{Options}
+use Rattle.btx_core.specs.refinement.ComputedProduct.{product}
 
 -- a file: its name and its bytes
 abbrev pub File : Type 0

@@ -1,8 +1,8 @@
 -- 7. Names and formats (btxhak, sections 5.3 and 5.4; btxdoc, section 4).
 use Rattle.btx_bib.specs.language.Grammar.ByteSets.{begins}
-use Rattle.btx_core.specs.laws.Divisions.{Divisions}
-use Rattle.btx_core.specs.laws.Notes.{final_comma, illegal_format, no_such_name, too_many_commas}
-use Rattle.btx_core.specs.laws.Strings.{text_length}
+use Rattle.btx_core.specs.language.Divisions.{Divisions}
+use Rattle.btx_core.specs.language.Notes.{final_comma, illegal_format, no_such_name, too_many_commas}
+use Rattle.btx_core.specs.language.Strings.{text_length}
 use Rattle.btx_names.specs.declared.name_tokens.Joint.{Joint}
 use Rattle.btx_names.specs.declared.name_tokens.Joint.TheVariants.{Hyphen, Space, Tie}
 use Rattle.btx_names.specs.language.Answered.{names_before}

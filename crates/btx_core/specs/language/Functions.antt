@@ -2,11 +2,11 @@
 use Rattle.btx_bst.specs.declared.built_in.BuiltIn.{BuiltIn}
 use Rattle.btx_bst.specs.declared.callee.Kind.{Kind}
 use Rattle.btx_bst.specs.language.BuiltIns.{built_in_name}
-use Rattle.btx_core.specs.laws.Divisions.{Divisions}
-use Rattle.btx_core.specs.laws.Names.{formatted_name, name_errors}
-use Rattle.btx_core.specs.laws.Notes.{cut_to, empty_stack, error, errors, incomparable, logs, name_of, no_conversion, no_entry, not_ascii, not_assignable, not_one_character, overflow, shown, shows}
-use Rattle.btx_core.specs.laws.Strings.{in_case, purified, text_length, text_prefix, width}
-use Rattle.btx_core.specs.laws.Styles.{Body, Built, Declared, Defined, Entry, Function, Integer, Job, Literal, Missing, Push, Quoted, Run, State, Text, Word, set}
+use Rattle.btx_core.specs.language.Divisions.{Divisions}
+use Rattle.btx_core.specs.language.Names.{formatted_name, name_errors}
+use Rattle.btx_core.specs.language.Notes.{cut_to, empty_stack, error, errors, incomparable, logs, name_of, no_conversion, no_entry, not_ascii, not_assignable, not_one_character, overflow, shown, shows}
+use Rattle.btx_core.specs.language.Strings.{in_case, purified, text_length, text_prefix, width}
+use Rattle.btx_core.specs.language.Styles.{Body, Built, Declared, Defined, Entry, Function, Integer, Job, Literal, Missing, Push, Quoted, Run, State, Text, Word, set}
 use Rattle.btx_step.specs.language.Arithmetic.{fits}
 use Rattle.btx_strings.specs.declared.conversions.Conversion.{Conversion}
 use Rattle.btx_strings.specs.language.Case.{conversion_of}

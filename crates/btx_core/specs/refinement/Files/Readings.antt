@@ -1,19 +1,18 @@
 -- What the reading of a job's files gives, up to the execution of the style. The `.aux` files come first; then the style is looked for, and
 -- then the databases that they name (btxdoc, section 2), each in turn. A database is judged when the style reads it, not here.
-use Rattle.std.specs.Prelude.{ℕ, ◌+◌, List, [], ◌∷◌, ◌++◌, length, Option, None, Some, if◌then◌else◌, option_to_list, codes}
-use Rattle.std.specs.List.{flat_map}
-use Rattle.std.specs.Option.{option_map_or}
+use Rattle.std.specs.Prelude.{ℕ, List, [], ◌∷◌, ◌++◌, Option, None, Some, if◌then◌else◌, codes}
 use Rattle.btx_aux.specs.language.Files.{Files}
 use Rattle.btx_aux.specs.language.Job.{AuxJob, job_of_files}
 use Rattle.btx_aux.specs.declared.end.End.{End as AuxEnd}
 use Rattle.btx_aux.specs.declared.end.End.TheVariants as aux
 use Rattle.btx_text.specs.language.LogLines.{Line}
-use Rattle.btx_run.specs.declared.files.found.FilesRead.{FilesRead}
-use Rattle.btx_run.specs.declared.files.found.FilesRead.TheVariants.{Ends, Found}
+use Rattle.btx_core.specs.declared.found.FilesRead.{FilesRead}
+use Rattle.btx_core.specs.declared.found.FilesRead.TheVariants.{Ends, Found}
 use Rattle.btx_text.specs.declared.limits.Limit.TheVariants as kind
 use Rattle.btx_machine.specs.declared.report.End.TheVariants as ended
-use Rattle.btx_run.specs.language.Files.Lines.{database_line, no_style_line, style_line, no_database_line}
-use Rattle.btx_run.specs.language.Files.Found.{NamedFile, file_at}
+use Rattle.btx_core.specs.language.Files.Lines.{no_style_line, style_line}
+use Rattle.btx_core.specs.language.Files.Databases.{databases_logged, files_found}
+use Rattle.btx_core.specs.language.Files.Found.{NamedFile, file_at}
 use Rattle.btx_text.specs.language.Limits.{is_too_long}
 use Rattle.btx_aux.specs.language.Names.{with_ending}
 
@@ -29,20 +28,6 @@ logged lines gives = record { lines = lines; gives = gives }
 -- a part of the reading with further log lines before its own
 abbrev pub behind : {T : Type 0} → List Line → Logged T → Logged T
 behind lines part = logged (lines ++ part.lines) part.gives
-
--- ---- databases
-
--- the files of these names that are there, in order
-abbrev pub files_found : Files → List (List ℕ) → List NamedFile
-files_found files names = flat_map (λ name. option_to_list (file_at files name)) names
-
--- the log lines of the databases, which are numbered as they are found; a database that isn't there has a line too, but no number. `earlier` are the
--- names before these
-abbrev pub databases_logged : Files → List (List ℕ) → List (List ℕ) → List Line
-databases_logged files earlier [] = []
-databases_logged files earlier (name ∷ names) =
-    option_map_or (λ (file : NamedFile). database_line (length (files_found files earlier) + 1) name) (file_at files name) (no_database_line name)
-    ∷ databases_logged files (earlier ++ name ∷ []) names
 
 -- ---- the style
 

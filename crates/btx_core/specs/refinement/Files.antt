@@ -1,4 +1,2 @@
-pub mod Counts
 pub mod Found
-pub mod Lines
 pub mod Readings

@@ -1,13 +1,8 @@
 //! Files that were found.
-ghost use Rattle.std.specs.Prelude.{◌≡◌, ◌+◌, ◌++◌, ◌∷◌, [], length, IfOk, IfSome, OnOk};
-ghost use Rattle.btx_aux.specs.refinement.Answers.{ByAnswers};
-ghost use Rattle.btx_aux.specs.refinement.Faults.{CountsOfOne};
-ghost use Rattle.btx_run.specs.language.Files.Found.{file_at};
-ghost use Rattle.btx_run.specs.refinement.Files.Found.{named_file};
+ghost use Rattle.std.specs.Prelude.{◌≡◌, ◌+◌, ◌++◌, ◌∷◌, [], length, OnOk};
+ghost use Rattle.btx_core.specs.refinement.Files.Found.{named_file};
 
-use btx_aux::Finder;
 use btx_machine::End;
-use btx_text::Fault;
 use std::alloc::{AllocError, Global};
 use std::marker::Model;
 
@@ -19,7 +14,7 @@ pub struct FoundFile<'a> {
 }
 
 impl<'a> Model for FoundFile<'a> {
-    ghost use Rattle.btx_run.specs.language.Files.Found.{NamedFile};
+    ghost use Rattle.btx_core.specs.language.Files.Found.{NamedFile};
 
     ghost Value = { NamedFile };
 
@@ -57,7 +52,7 @@ pub struct FoundFiles<'a> {
 
 impl<'a> Model for FoundFiles<'a> {
     ghost use Rattle.std.specs.Prelude.{List};
-    ghost use Rattle.btx_run.specs.language.Files.Found.{NamedFile};
+    ghost use Rattle.btx_core.specs.language.Files.Found.{NamedFile};
 
     ghost Value = { List NamedFile };
 
@@ -112,24 +107,4 @@ pub enum FilesRead<'a> {
     Ends(End),
     /// The style is executed.
     Found(JobFiles<'a>),
-}
-
-/// Fetches the file `name`, if it is there, into memory of its size.
-pub fn fetch_file<'a, F: Finder>(
-    alloc: Global,
-    finder: &mut F,
-    name: &'a [u8],
-) -> Result<Option<FoundFile<'a>>, Fault>
-    ensures file { IfSome (F.content finder.old) (λ files. IfOk result (λ found. found ≡ file_at files name.entry.now)) }
-    ensures answered { IfOk result (λ found. ByAnswers (F.content finder.old) (λ names. names ≡ name.entry.now ∷ []) (λ files. found ≡ file_at files name.entry.now)) }
-    ensures stays { F.content finder.new ≡ F.content finder.old }
-    ensures counts { CountsOfOne result (F.failures finder.old, F.failures finder.new) }
-{
-    let mut bytes = Vec::new(alloc);
-    if finder.fetch(alloc, name, &mut bytes)? {
-        bytes.shrink_to_fit();
-        Ok(Some(FoundFile::new(name, bytes)))
-    } else {
-        Ok(None)
-    }
 }

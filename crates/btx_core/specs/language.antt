@@ -1,0 +1,15 @@
+pub mod Files
+pub mod Styles
+pub mod Notes
+pub mod Divisions
+pub mod Strings
+pub mod Names
+pub mod Functions
+pub mod Meanings
+pub mod Runs
+pub mod Lines
+pub mod Databases
+pub mod Lists
+pub mod StyleTexts
+pub mod AuxFiles
+pub mod Product
