@@ -9,3 +9,4 @@ pub mod LawLemmas
 pub mod StepsLemmas
 pub mod KindLemmas
 pub mod DirectLemmas
+pub mod WrittenLemmas

@@ -1,3 +1,4 @@
 pub mod DirectStyles
+pub mod Written
 pub mod Answered
 pub mod RunFaults

@@ -10,6 +10,7 @@ ghost use Rattle.btx_machine.specs.language.Product.{log_of, style_product as ex
 ghost use Rattle.btx_machine.specs.declared.report.End.TheVariants.{NoTopFile};
 ghost use Rattle.btx_run.specs.language.Answered.{CompletesAsAnswered, FailsAsAnswered};
 ghost use Rattle.btx_run.specs.language.DirectStyles.{WhereDirect};
+ghost use Rattle.btx_run.specs.language.Written.{BeganTheProduct, WroteTheProduct};
 ghost use Rattle.btx_run.specs.refinement.Files.Asked.{AreAmong, names_in};
 ghost use Rattle.btx_run.specs.refinement.Files.Faults.{CountsOfThree};
 ghost use Rattle.btx_core.specs.refinement.Files.Readings.{reading_of};
@@ -20,11 +21,11 @@ ghost use Rattle.btx_run.specs.refinement.Product.{work_of, work_in, product_of_
 
 use crate::contents::read_library;
 use crate::files::{FilesRead, JobFiles, read_files, read_job};
-use btx_core::Options;
 use crate::run_fault::RunFault;
 use btx_aux::{AuxJob, Finder};
 use btx_bib::Library;
 use btx_bst::{Style, read_style};
+use btx_core::Options;
 use btx_machine::report::report_of;
 use btx_machine::{Journal, LogCounts, Report, execute_style, log_end};
 use btx_out::Sink;
@@ -161,6 +162,13 @@ fn run_named<F: Finder, W: Sink, L: Sink>(
     run_job(alloc, finder, &job, options, bbl, log)
 }
 
+// Says that a line has room for a break, which its length gives. It does nothing.
+fn has_room(options: &Options)
+    ensures { 3 ≤ options.now.line }
+{
+    let _ = options.line.get();
+}
+
 /// Runs the job of this name, which may end in `.aux`: reads its `.aux` files, its style and its databases, executes the style, and writes the
 /// list of references to `bbl` and the log to `log`. The outputs aren't flushed.
 pub fn run<F: Finder, W: Sink, L: Sink>(
@@ -171,7 +179,14 @@ pub fn run<F: Finder, W: Sink, L: Sink>(
     bbl: &mut W,
     log: &mut L,
 ) -> Result<Report, RunFault>
-    // Of a finder that shows its content the product is known; at Ok the report is the product's, and both outputs received its bytes.
+    // What was written is the one thing that stands in the relation between the job and its product, for a finder that shows its content. After a fault both
+    // outputs are prefixes of it, and keep step.
+    ensures written { IfOk result (λ report. IfSome (F.content finder.old) (λ files.
+        WroteTheProduct files name.now options.now (W.received bbl.old, L.received log.old) (W.received bbl.new, L.received log.new) report)) }
+    ensures broken_off { OnErr result (IfSome (F.content finder.old) (λ files.
+        BeganTheProduct files name.now options.now (W.received bbl.old, L.received log.old) (W.received bbl.new, L.received log.new))) }
+
+    // The same by the definition that computes the product: at Ok the report is the product's, and both outputs received its bytes.
     ensures report { IfOk result (λ report. IfSome (F.content finder.old) (λ files. report ≡ (product files name.now options.now).report)) }
     ensures bbl { OnOk result (IfSome (F.content finder.old) (λ files.
         Appends (W.received bbl.old) (W.received bbl.new) (product files name.now options.now).bbl)) }
@@ -202,6 +217,7 @@ pub fn run<F: Finder, W: Sink, L: Sink>(
     // Where there is no top file, the list's sink isn't touched.
     ensures untouched { IfOk result (λ report. report.end ≡ NoTopFile → bbl.new ≡ bbl.old) }
 {
+    has_room(options);
     match run_named(alloc, finder, name, options, bbl, log) {
         Ok(report) => Ok(report),
         Err(Fault::Memory) => Err(RunFault::Memory),

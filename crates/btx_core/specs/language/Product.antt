@@ -121,3 +121,8 @@ pub record IsProduct (files : Files) (name : List ℕ) (options : Options) (prod
   pub events : List AuxEvent
   pub read : AreJobEvents files (with_ending (codes ".aux") name) events
   pub behind : IsBehind (job_of events).ending files (job_of events) options product
+
+-- THE ONE PRODUCT OF A JOB: it stands in the relation, and nothing else does
+pub record IsTheOne (files : Files) (name : List ℕ) (options : Options) (product : Product) : Type 0 where
+  pub stands : IsProduct files name options product
+  pub alone : (other : Product) → IsProduct files name options other → other ≡ product
