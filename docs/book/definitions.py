@@ -41,7 +41,7 @@ class Definition:
         self.comment, self.lines, self.heading, self.bound = [], [], None, set()
         self.links, self.uses, self.words, self.unknown, self.users = {}, [], set(), set(), []
         self.renamed = {}
-        self.place, self.reach, self.carriers = None, None, []
+        self.place, self.reach, self.carriers, self.is_believed = None, None, [], False
 
     @property
     def id(self):

@@ -17,6 +17,7 @@ import pathlib
 import re
 import sys
 
+import believed
 import chapters
 import definitions
 import examples
@@ -31,7 +32,7 @@ HERE = pathlib.Path(__file__).parent
 OUT = HERE / "out"
 # Where the repository says how many definitions of how many lines have to be believed.
 SIZES = {"README.md": r"some ([\d,]+) definitions of ([\d,]+) lines", "docs/PROOFS.md": r"some ([\d,]+) definitions of ([\d,]+) lines",
-         "docs/book/README.md": r"(?m)^\| language \|.*\| ([\d,]+) \| ([\d,]+) \|$"}
+         "docs/book/README.md": r"(?m)^\| believed \|.*\| ([\d,]+) \| ([\d,]+) \|$"}
 
 
 class Book:
@@ -50,9 +51,9 @@ class Book:
     @property
     def summary(self):
         """What has to be believed, in numbers."""
-        language, laws = self.reach.language, self.reach.laws
-        return (f"{len(language):,} definitions of {reach.lines_in(language):,} lines have to be believed: those that the contract of `run` is made of. "
-                f"{len(laws):,} more, of {reach.lines_in(laws):,} lines, say laws about them and worked examples.")
+        believed, others = self.reach.believed, [it for it in self.found if not it.is_believed]
+        return (f"{len(believed):,} definitions of {reach.lines_in(believed):,} lines have to be believed: those that `run` says with what it writes. "
+                f"{len(others):,} more, of {reach.lines_in(others):,} lines, say the same as a program would, and laws and worked examples.")
 
     # ---- checks ----
 
@@ -79,6 +80,7 @@ class Book:
         forward = [f"{where(it)}: `{it.name}` uses `{used.name}` of a later chapter" for it, used in chapters.forward_references(self.found)]
         self.check_few("forward references between chapters", forward, len(self.found))
         self.check_folders()
+        self.check_believed()
         self.check_sections()
         self.check_words()
         self.check_notation()
@@ -86,11 +88,18 @@ class Book:
         self.check_sizes()
 
     def check_folders(self):
-        """Each folder of specs/ has what it is named after, definition by definition: `language` what the contract of `run` reaches and nothing else."""
+        """Each folder of specs/ has what it is named after, definition by definition (`folder_wanted` of reach.py)."""
         for it in (it for module in definitions.all_modules() for it in module.definitions):
             folder = definitions.folder_of(it.file)
             if folder:
-                self.check(folder == it.reach, f"{where(it)}: `{it.name}` belongs into specs/{it.reach}")
+                wanted = reach.folder_wanted(it)
+                self.check(folder == wanted, f"{where(it)}: `{it.name}` belongs into specs/{wanted}")
+
+    def check_believed(self):
+        """What has to be believed has no program in it."""
+        wrong = list(believed.wrong_in(self.reach.believed, {it.id: it for module in definitions.all_modules() for it in module.definitions} | self.by_id))
+        self.passed += len(self.reach.believed) - len(wrong)
+        self.wrong += [f"{where(it)}: `{it.name}`: {said}" if it else said for it, said in wrong]
 
     def check_sections(self):
         for section in self.sections:
@@ -146,7 +155,7 @@ class Book:
 
     def check_sizes(self):
         """What README, docs/PROOFS.md and the book's own page say of how much has to be believed, right within a twentieth."""
-        sizes = (len(self.reach.language), reach.lines_in(self.reach.language))
+        sizes = (len(self.reach.believed), reach.lines_in(self.reach.believed))
         for name, said in SIZES.items():
             found = re.search(said, (chapters.ROOT / name).read_text(encoding="utf-8"))
             numbers = [int(number.replace(",", "")) for number in found.groups()] if found else []
@@ -158,7 +167,9 @@ class Book:
     def print_reach(self):
         language, laws, others = self.reach.language, self.reach.laws, self.reach.refinement
         in_public = sum(bool(it.carriers) for it in others)
-        print(f"language: {len(language):,} definitions, {reach.lines_in(language):,} lines, which have to be believed")
+        believed = self.reach.believed
+        print(f"believed: {len(believed):,} definitions, {reach.lines_in(believed):,} lines, which have to be believed")
+        print(f"language: {len(language):,} definitions, {reach.lines_in(language):,} lines, which the other clauses of `run` reach")
         print(f"laws: {len(laws):,} more, {reach.lines_in(laws):,} lines")
         print(f"refinement: {len(others):,} others, {reach.lines_in(others):,} lines, of which {in_public:,} stand in a public contract")
 

@@ -1,7 +1,15 @@
-"""Which definitions have to be believed: what the contract of `run` reaches (`language`), what only laws reach (`laws`), and the others (`refinement`)."""
+"""Which definitions have to be believed, and which have not: what two clauses of `run` reach, which say what it writes (`believed`); what the rest of its contract
+reaches (`language`, which has the first too); what only laws reach (`laws`); and the others (`refinement`)."""
+
+import re
 
 import definitions
 import contracts
+
+# What has to be believed: the definitions that these clauses of `run` name. The other clauses say the same with the definitions that the code is proved by.
+CLAUSES = ("written", "broken_off")
+# The crate whose specs/language has the relation between a job and its product: there, and in no other crate, it has only what has to be believed.
+CORE = "btx_core"
 
 
 class Reach:
@@ -11,9 +19,11 @@ class Reach:
         self.language, self.laws, self.refinement = [], [], []
         self.headline, self.traits, self.law_contracts = contracts.headline(), list(contracts.traits()), contracts.laws()
         self.resolved = set()
+        self.promised = self.named_by_clauses()
         self.walk(self.headline + self.traits, "language", self.language)
-        self.walk(self.law_contracts, "laws", self.laws)
+        self.walk(self.law_contracts + [used for it in self.promised for used in it.uses], "laws", self.laws)
         self.collect_others()
+        self.believed = self.reached_by(self.promised + self.traits)
         self.name_carriers()
 
     def walk(self, roots, reach, found):
@@ -30,7 +40,29 @@ class Reach:
                 definitions.resolve(it, home_of(it))
             for used in it.uses:
                 used.users.append(it)
-            work += it.uses
+            # (what the clauses name is walked along with what only laws reach: it is another way down than that of the other clauses)
+            work += [] if it in self.promised and reach == "language" else it.uses
+
+    def named_by_clauses(self):
+        """The definitions that the clauses name by which `run` says what it writes."""
+        found = []
+        for contract in self.headline:
+            for clause in CLAUSES:
+                text = re.search(rf"ensures {clause} (.*?)(?=\n *(?:ensures|//|\{{)|\Z)", "\n".join(contract.lines), re.S)
+                words = set(re.findall(definitions.IDENTIFIER, text[1])) if text else set()
+                found += [it for it in contract.uses if it.name in words and it.kind in ("record", "data", "equations") and it not in found]
+        return found
+
+    def reached_by(self, roots):
+        """What these reach, which is resolved."""
+        work, seen = list(roots), {}
+        while work:
+            it = work.pop()
+            if it not in seen:
+                seen[it] = True
+                it.is_believed = True
+                work += it.uses
+        return list(seen)
 
     def collect_others(self):
         """What neither reaches."""
@@ -81,6 +113,13 @@ def nearest_carriers(it):
         if laws:
             return laws
     return []
+
+
+def folder_wanted(it):
+    """The folder of specs/ in which a definition is to stand. In the core's crate `language` has what has to be believed, and nothing else."""
+    if it.crate != CORE:
+        return it.reach
+    return "language" if it.is_believed else "laws" if it.reach == "laws" else "refinement"
 
 
 def home_of(it):
