@@ -1,6 +1,6 @@
 """Plants the wrong bodies that the crates keep, and sees that the prover refuses each of them.
 
-    python3 plant.py [--alone] [--kept] [--unplanted] [--jobs N] [CRATE..]
+    python3 plant.py [--all] [--named NAME] [--alone] [--kept] [--unplanted] [--jobs N] [CRATE..]
 
 A wrong body is a file crates/NAME/wrong-bodies/*.edit, or must-fail/*.edit: a line 'function:' with the function that must be refused, a line 'file:', and pairs of
 lines 'old:' and 'new:'; each old text stands in that file once. Further lines 'file:' may follow, with their pairs: so a slip is made in a
@@ -16,7 +16,11 @@ With --unplanted nothing is planted, and the prover must take each function over
 on the stand-ins.
 
 One that changes a definition too, a file of specs/, has a round of its own behind the others, which are to be judged by the definitions that stand. Two of
-these in one round could not be distinguished: a law that the one breaks may be refused for the other's definition.
+these in one round could not be distinguished: a law that the one breaks may be refused for the other's definition. But slips that change definitions alone share a round if
+none of the files that the law of the one is proved by, and that its statement is made of, is changed by another: then each law can only be refused for its own slip.
+
+A file with a line 'rare: REASON' is tried only with --all, and the number of those that were left out is printed: the gate has no minutes for a round of its own for each of many slips in one
+definition that others guard too. With --named only the bodies of these names are tried.
 
 Each file also has a line 'witness:', which witnesses.py checks; here it must only be there.
 
@@ -26,6 +30,7 @@ It stands on the libraries that the gate has built (rt ci), and on the kit's own
 import argparse
 import concurrent.futures
 import copy
+import functools
 import importlib.machinery
 import importlib.util
 import os
@@ -61,6 +66,9 @@ class WrongBody:
         self.path, self.name, self.text = path, path.stem, path.read_text(encoding="utf-8")
         self.function = "".join(re.findall(r"(?m)^function: (\S+)$", self.text))
         self.changes_definitions = re.search(r"(?m)^file: (specs|proofs)/", self.text) is not None
+        self.files = set(re.findall(r"(?m)^file: (\S+)$", self.text))
+        self.is_rare = re.search(r"(?m)^rare: \S", self.text) is not None
+        self.is_slip = all(file.startswith("specs/") for file in self.files)
 
     def planted_in(self, texts, folder):
         """The texts of the files that this body changes, above those that others have changed."""
@@ -81,14 +89,46 @@ class WrongBody:
 
 
 def in_rounds(bodies, alone):
-    """The bodies in rounds that have each function once at most. One that changes a definition stands alone, behind the others."""
+    """The bodies in rounds that have each function once at most. One that changes a definition stands alone, behind the others, or with others that it can't be
+    refused for."""
     rounds = []
-    for body in sorted(bodies, key=lambda it: it.changes_definitions):
-        free = next((it for it in rounds if not alone and all(body.function != other.function for other in it)), None)
-        if free is None or body.changes_definitions:
+    for body in sorted(bodies, key=lambda it: (it.changes_definitions, it.name)):
+        free = next((it for it in rounds if not alone and all(may_share(body, other) for other in it)), None)
+        if free is None:
             rounds.append(free := [])
         free.append(body)
     return rounds
+
+
+def may_share(one, other):
+    """Whether two bodies are told apart in one round: by their functions; slips in definitions, also by the files that the law of each reaches."""
+    if one.function == other.function or one.changes_definitions != other.changes_definitions:
+        return False
+    if not one.changes_definitions:
+        return True
+    return one.is_slip and other.is_slip and not one.files & reached_by(other) and not other.files & reached_by(one)
+
+
+def reached_by(body):
+    """The files of its crate that the law of a body is proved by, and that its statement is made of."""
+    crate = body.path.parents[1]
+    *modules, name = body.function.split("::")
+    return reached_from(crate, (f"proofs/{'/'.join([*modules, name])}/Answers.antt",))
+
+
+@functools.lru_cache(maxsize=None)
+def reached_from(crate, files):
+    """The files of specs/ and proofs/ that these import, and what those import, and so on."""
+    seen, work = set(), list(files)
+    while work:
+        file = work.pop()
+        if file in seen or not (crate / file).is_file():
+            continue
+        seen.add(file)
+        for path in re.findall(rf"(?m)^(?:pub )?use Rattle\.{crate.name}\.((?:specs|proofs)\.[\w.]+)", (crate / file).read_text(encoding="utf-8")):
+            parts = path.rstrip(".").split(".")
+            work += ["/".join(parts[:end]) + ".antt" for end in range(len(parts), 1, -1)]
+    return frozenset(seen)
 
 
 class Judged:
@@ -109,7 +149,8 @@ def judged(crate, body, said):
         return Judged(body, goal=goal_of(body, said, open_goal[1]))
     errors = re.findall(rf"(?m)^(?:\./)?(proofs/{folder_of(body)}/\S+?:\d+:\d+: error.*)$", said)
     if body.changes_definitions:
-        errors += re.findall(r"(?m)^(?:\./)?(proofs/\w+\.antt:\d+:\d+: error.*)$", said)
+        others = re.findall(r"(?m)^(?:\./)?(proofs/\w+\.antt:\d+:\d+: error.*)$", said)
+        errors += [it for it in others if not body.is_slip or it.split(":")[0] in reached_by(body)]
     of_goals = [it for it in errors if not GONE.search(it)]
     if not of_goals and "did not prove" not in verdict[1]:
         return Judged(body, f"refused only since a name is gone, or another function isn't proved: {[verdict[0], *errors][-1][:300]}")
@@ -201,7 +242,9 @@ def kept_folder(crate, room, is_given):
 
 def try_crate(kit, crate, given):
     paths = sorted(path for folder in FOLDERS for path in pathlib.Path(crate.folder, folder).glob("*.edit"))
-    bodies, began = [WrongBody(path) for path in paths], time.monotonic()
+    bodies, began = [it for it in map(WrongBody, paths) if not given.named or it.name in given.named], time.monotonic()
+    left_out = [it for it in bodies if it.is_rare and not (given.all or given.named)]
+    bodies = [it for it in bodies if it not in left_out]
     if not bodies:
         return []
     with tempfile.TemporaryDirectory() as room:
@@ -213,6 +256,8 @@ def try_crate(kit, crate, given):
     for it in results:
         verdict = it.why or (it.goal if given.unplanted else f"refused, as it must be, at {it.body.function}, {it.goal}")
         print(f"{crate.name}/{it.body.name}: {verdict}", flush=True)
+    if left_out:
+        print(f"{crate.name}: {len(left_out)} rare ones are left out, which --all tries too", flush=True)
     again = f", and once more {rounds[1:]}" if rounds[1:] else ""
     print(f"{crate.name}: wrong bodies {len(results)}, rounds {rounds[0]}{again}, seconds {time.monotonic() - began:.0f}", flush=True)
     return results
@@ -220,6 +265,8 @@ def try_crate(kit, crate, given):
 
 def main():
     parser = argparse.ArgumentParser()
+    parser.add_argument("--all", action="store_true")
+    parser.add_argument("--named", action="append", default=[])
     parser.add_argument("--alone", action="store_true")
     parser.add_argument("--kept", action="store_true")
     parser.add_argument("--unplanted", action="store_true")

@@ -18,6 +18,7 @@ pub mod TableLemmas
 pub mod WorkedCore
 pub mod VariableLemmas
 pub mod MeaningSame
+pub mod SamePartLemmas
 pub mod SameNumberLemmas
 pub mod SameBodyLemmas
 pub mod SameRuleLemmas

@@ -2,6 +2,7 @@
 ghost use Rattle.btx_core.specs.laws.ByNumbers.{IsTheProduct};
 ghost use Rattle.btx_core.specs.laws.ProductLaws.{EarlyEnds, OneProduct, SameProduct, SomeProduct, WorkedProducts};
 ghost use Rattle.btx_core.specs.laws.SameLibraries.{SameLibrary};
+ghost use Rattle.btx_core.specs.laws.SameParts.{OneDivision, SameEvents, SameLines, SameSure, SomeDivision};
 ghost use Rattle.btx_core.specs.laws.SameStyles.{OneStyle, SameStyle};
 
 /// The relation in which functions, strings, fields and entries still have numbers holds of the product of a job, and of nothing else: its styles and
@@ -35,6 +36,23 @@ pub fn early_ends()
 /// any definition.
 pub fn worked_products()
     ensures { WorkedProducts }
+{}
+
+/// The `.aux` files of a job come to the events that the reader of `.aux` files gives, and to no others.
+pub fn aux_files_agree()
+    ensures { SameEvents }
+{}
+
+/// Lines of the list are written in one way alone, for lines of 3 bytes or more: as the breaker writes them that have ended, and those that are pending.
+pub fn lines_agree()
+    ensures ended { SameLines }
+    ensures pending { SameSure }
+{}
+
+/// Strings are divided in one way alone.
+pub fn divisions_agree()
+    ensures one { OneDivision }
+    ensures some { SomeDivision }
 {}
 
 /// Each text is one style in names; and that is the style that the reader of styles makes of the text, whose functions, strings, fields and variables have
