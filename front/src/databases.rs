@@ -31,7 +31,8 @@ impl Databases {
             let root = [folder.strip_suffix(b"/").unwrap_or(folder), b"/"].concat();
             let beside = |name: &[u8]| [&root, name].concat();
             databases.have_aliases |= [&b"aliases"[..], b"ls-r"].iter().any(|name| path_of(&beside(name)).exists());
-            if let Ok(text) = fs::read(path_of(&beside(b"ls-R"))) {
+            let database = beside(b"ls-R");
+            if let Some(Ok(text)) = path_of(&database).is_file().then(|| fs::read(path_of(&database))) {
                 databases.all.push(Database { root, text, sorted: OnceCell::new() });
             }
         }

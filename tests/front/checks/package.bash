@@ -101,7 +101,7 @@ if command -v dpkg-deb >/dev/null && command -v make >/dev/null; then
         bin/update-alternatives --install /usr/bin/bibtex bibtex /usr/bin/bibtex.original 100 >/dev/null 2>&1
         [ "$(readlink root/etc/alternatives/bibtex)" = /usr/bin/bibtex.original ] || complaints+=("beside the original bibtex is $(readlink root/etc/alternatives/bibtex)")
         PATH=$PWD/bin:$PATH scripts/prerm upgrade 9.9 >/dev/null 2>&1 || complaints+=('prerm upgrade failed')
-        bin/update-alternatives --list bibtex | grep -qx /usr/bin/bibtex-search || complaints+=('an upgrade takes the choice away')
+        [[ $(bin/update-alternatives --list bibtex) == *bibtex-search* ]] || complaints+=('an upgrade takes the choice away')
         PATH=$PWD/bin:$PATH scripts/prerm remove >/dev/null 2>&1 || complaints+=('prerm remove failed')
         [ "$(bin/update-alternatives --list bibtex)" = /usr/bin/bibtex.original ] || complaints+=('the package is offered after it was removed')
         end
