@@ -9,7 +9,7 @@
 //! | [`words`] | the words of the command line |
 //! | [`system`] | what the standard library doesn't have of the system: libraries opened at run time, signals, limits, terminals |
 //! | [`kpathsea`] | TeX's own path search, where it is installed |
-//! | [`texmf`] | TeX's set-up, read from its files, where that isn't installed |
+//! | [`texmf`] | TeX's set-up, read from its own files, where that library isn't installed |
 //! | [`databases`] | TeX's file databases (`ls-R`) |
 //! | [`search`] | where the files of a job are found, and which may be read and written |
 //! | [`btx`] | the proved library's calls |
