@@ -17,6 +17,7 @@ import sys
 import tempfile
 import threading
 from dataclasses import replace
+from multiprocessing.util import Finalize
 from typing import Dict, Generator, List, Optional, Sequence, Tuple, Union
 
 from .causes import cause_of, first_difference
@@ -175,6 +176,8 @@ class Kept(threading.local):
         if self.comparers is None or self.conditions != (budget, program, seconds):
             self.close()
             self.comparers, self.conditions = Comparers(budget, program, seconds, 1), (budget, program, seconds)
+            # (at the end of a process of multiprocessing's, such as a worker of Dask's, nothing else is cleaned up)
+            Finalize(None, self.comparers.close, exitpriority=0)
         return self.comparers
 
     def close(self) -> None:

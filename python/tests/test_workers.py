@@ -140,10 +140,13 @@ class Pieces(unittest.TestCase):
         self.jobs(a=STYLE)
         context = multiprocessing.get_context("spawn")
         answers = context.Queue()
-        process = context.Process(target=one_piece, args=(bytes(self.folder), answers), daemon=True)
-        process.start()
+        (self.folder / "temporary").mkdir()
+        with mock.patch.dict(os.environ, {"TMPDIR": str(self.folder / "temporary")}):
+            process = context.Process(target=one_piece, args=(bytes(self.folder), answers), daemon=True)
+            process.start()
         self.assertEqual(answers.get(timeout=60), ["equal"])
-        process.join(10)
+        process.join(30)
+        self.assertEqual(os.listdir(self.folder / "temporary"), [])
 
     def test_the_parent_is_killed_in_the_middle(self):
         self.jobs(a=LOOPS)
