@@ -1,7 +1,7 @@
 //! The command `bibtex`: runs a job of a folder.
 #![tactic(auto)]
 
-use btx_command::{RealSystem, SystemOutputs, run_command_line};
+use btx_command::{History, RealSystem, SystemOutputs, run_command_line};
 use std::process::ExitCode;
 use std::rt::Files;
 use std::{env, fs};
@@ -14,10 +14,12 @@ fn hold_places<R: Files>(rt: &R) -> [Option<R::File>; 3] {
 
 fn main(rt: HostRuntime) -> ExitCode {
     let _places = hold_places(&rt);
+    let mut history = History::new(rt.alloc());
     let mut outputs = SystemOutputs::new(&rt);
     run_command_line(
         rt.alloc(),
         RealSystem::new(&rt),
+        &mut history,
         &mut outputs,
         env::args(&rt),
     )

@@ -1,5 +1,5 @@
 -- The names that a reading of `.aux` files asks for.
-use Rattle.std.proofs.Common.{◌≡◌, ℕ, zero, suc, ◌-◌, ◌≤◌, ◌&&◌, not, Bool, true, false, if◌then◌else◌, List, [], ◌∷◌, ◌++◌, map, fold, Option, None, Some, refl, sym, ap, ◌∙◌, arith, subst, append_assoc, append-nil}
+use Rattle.std.proofs.Common.{◌≡◌, ℕ, zero, suc, ◌-◌, ◌≤◌, ◌&&◌, not, Bool, true, false, if◌then◌else◌, List, [], ◌∷◌, ◌++◌, map, fold, Option, None, Some, inl, inr, refl, sym, ap, ◌∙◌, arith, subst, append_assoc, append-nil}
 use Rattle.std.specs.Prelude.{codes}
 use Rattle.std.specs.List.{IsDistinct}
 use Rattle.std.specs.Option.{option_or}
@@ -9,12 +9,12 @@ use Rattle.std.proofs.lemmas.Map.Keys.{IsDistinct-push}
 use Rattle.btx_aux.specs.declared.draft.Draft.{Draft}
 use Rattle.btx_aux.specs.declared.command.Command.{Command}
 use Rattle.btx_aux.specs.declared.command.Command.TheVariants.{Citation, Bibdata, Bibstyle, Input}
-use Rattle.btx_aux.specs.refinement.Answers.{AsksTop}
+use Rattle.btx_aux.specs.refinement.Answers.{AsksTop, AsksTopAtMost}
 use Rattle.btx_aux.specs.language.Names.{has_ending, with_name_once}
 use Rattle.btx_aux.specs.language.Grammar.{Piece, Taken, Cut, Cites, Includes, Opens, Absent, words_of, words_of_command, pieces_of}
 use Rattle.btx_aux.specs.language.Events.{event_at, named_by, asked_of}
 use Rattle.btx_aux.specs.refinement.Drafts.{blank, learned, learned_words, asked_in}
-use Rattle.btx_aux.specs.refinement.Reads.{AddsNames, AsksFirst, names_opened}
+use Rattle.btx_aux.specs.refinement.Reads.{AddsNames, AsksFirst, AsksNew, AsksOneAtMost, names_opened}
 use Rattle.btx_aux.proofs.AnswerLemmas.{all-both}
 use Rattle.btx_aux.proofs.DraftLemmas.{asked_in-Cites}
 use Rattle.btx_text.specs.language.Lists.{is_among}
@@ -37,6 +37,20 @@ adds_both before between after xs ys first second = record {
   added = second.added ∙ ap (λ (names : Names). names ++ ys) first.added ∙ append_assoc before xs ys;
   once = λ distinct. second.once (first.once distinct);
   endings = all-both _ xs ys first.endings second.endings;
+}
+
+-- ---- parts up to a fault
+
+pub new_none : (known : Names) → AsksNew known []
+new_none known = record {
+  once = subst (λ (names : Names). IsDistinct bytes_eq names) (sym (append-nil known));
+  endings = tt;
+}
+
+pub new_behind : (before between xs ys : Names) → AddsNames before between xs → AsksNew between ys → AsksNew before (xs ++ ys)
+new_behind before between xs ys adds new = record {
+  once = λ distinct. subst (λ (names : Names). IsDistinct bytes_eq names) (ap (λ (names : Names). names ++ ys) adds.added ∙ append_assoc before xs ys) (new.once (adds.once distinct));
+  endings = all-both _ xs ys adds.endings new.endings;
 }
 
 -- ---- a line
@@ -86,19 +100,29 @@ module _ (file : List ℕ) (line : ℕ) where
       subst (λ (asked : Option (List ℕ)). Grows draft.files asked (learned_words file line draft (words_of text)).files) (sym none) (line_grows draft text) in
       adds_none draft.files after.files (ap (λ (d : Draft). d.files) is ∙ grows)
 
-  -- a line that asks for one
-  pub asking_adds : (draft between after : Draft) (text name : List ℕ) → between ≡ learned_words file line draft (words_of text) → Some name ≡ asked_in draft.files (words_of text)
-      → (names : Names) → AsksFirst name between.files after.files names → AddsNames draft.files after.files names
-  asking_adds draft between after text name is asked names first =
+  -- a line that asks for one: its name is new
+  asking_one : (draft between : Draft) (text name : List ℕ) → between ≡ learned_words file line draft (words_of text) → Some name ≡ asked_in draft.files (words_of text) → AddsNames draft.files between.files (name ∷ [])
+  asking_one draft between text name is asked =
       let grows : Grows draft.files (Some name) (learned_words file line draft (words_of text)).files =
       subst (λ (asked : Option (List ℕ)). Grows draft.files asked (learned_words file line draft (words_of text)).files) (sym asked) (line_grows draft text) in
       let named : between.files ≡ draft.files ++ name ∷ [] = ap (λ (d : Draft). d.files) is ∙ grows.0 in
-      let one : AddsNames draft.files between.files (name ∷ []) = record {
+      record {
         added = named;
         once = λ distinct. subst (λ (names : Names). IsDistinct bytes_eq names) (sym named) (IsDistinct-push nat_list_eq_equiv draft.files name distinct grows.2);
         endings = (grows.1, tt);
-      } in
-      subst (AddsNames draft.files after.files) (sym first.is) (adds_both draft.files between.files after.files (name ∷ []) first.later one first.adds)
+      }
+
+  pub asking_adds : (draft between after : Draft) (text name : List ℕ) → between ≡ learned_words file line draft (words_of text) → Some name ≡ asked_in draft.files (words_of text)
+      → (names : Names) → AsksFirst name between.files after.files names → AddsNames draft.files after.files names
+  asking_adds draft between after text name is asked names first =
+      subst (AddsNames draft.files after.files) (sym first.is) (adds_both draft.files between.files after.files (name ∷ []) first.later (asking_one draft between text name is asked) first.adds)
+
+  -- the same up to a fault
+  pub asking_new : (draft between : Draft) (text name : List ℕ) → between ≡ learned_words file line draft (words_of text) → Some name ≡ asked_in draft.files (words_of text)
+      → (names : Names) → AsksOneAtMost name between.files names → AsksNew draft.files names
+  asking_new draft between text name is asked names (inl none) = subst (AsksNew draft.files) (sym none) (new_none draft.files)
+  asking_new draft between text name is asked names (inr one) =
+      subst (AsksNew draft.files) (sym one.is) (new_behind draft.files between.files (name ∷ []) one.later (asking_one draft between text name is asked) one.new)
 
 -- ---- a file
 
@@ -139,6 +163,22 @@ pub read_adds : (draft between after : Draft) (name : List ℕ) (room : ℕ) →
     → (names : Names) → AddsNames between.files after.files names → AddsNames (names_opened draft.files name room) after.files names
 read_adds draft between after name room is names adds = subst (λ (before : Names). AddsNames before after.files names) (opened_names draft between name room is) adds
 
+-- the same up to a fault
+pub one_alone : (name : List ℕ) (known names : Names) → names ≡ name ∷ [] → AsksOneAtMost name known names
+one_alone name known names is = inr (record { later = []; is = is; new = new_none known })
+
+pub one_found : (known : Names) (name : List ℕ) (room : ℕ) → room ≤ 19
+    → (xs ys : Names) → xs ≡ name ∷ [] → AsksNew (names_opened known name room) ys → AsksOneAtMost name known (xs ++ ys)
+one_found known name room le xs ys asked new = inr (record {
+  later = ys;
+  is = ap (λ (names : Names). names ++ ys) asked;
+  new = subst (λ (known : Names). AsksNew known ys) (inside_opens known name room le) new;
+})
+
+pub read_new : (draft between : Draft) (name : List ℕ) (room : ℕ) → between ≡ learned draft (event_at name 0 (Opens (20 - room)))
+    → (names : Names) → AsksNew between.files names → AsksNew (names_opened draft.files name room) names
+read_new draft between name room is names new = subst (λ (known : Names). AsksNew known names) (opened_names draft between name room is) new
+
 -- ---- the top file
 
 distinct-one : (name : List ℕ) → IsDistinct bytes_eq (name ∷ [])
@@ -159,3 +199,10 @@ top_found top draft after none xs ys asked adds =
       once = subst (λ (names : Names). IsDistinct bytes_eq names) (adds'.added ∙ sym whole) (adds'.once (distinct-one top));
       endings = adds'.endings;
     }
+
+-- the same up to a fault
+pub top_begun : (top : List ℕ) (draft : Draft) → draft ≡ blank → (xs ys : Names) → xs ≡ top ∷ [] → AsksNew (names_opened draft.files top 20) ys → AsksTopAtMost top (xs ++ ys)
+top_begun top draft none xs ys asked new =
+    let new' : AsksNew (top ∷ []) ys = subst (λ (d : Draft). AsksNew (names_opened d.files top 20) ys) none new in
+    let whole : xs ++ ys ≡ top ∷ ys = ap (λ (names : Names). names ++ ys) asked in
+    inr (record { later = ys; is = whole; once = subst (λ (names : Names). IsDistinct bytes_eq names) (sym whole) (new'.once (distinct-one top)); endings = new'.endings })

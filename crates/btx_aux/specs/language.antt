@@ -1,4 +1,5 @@
 pub mod Files
+pub mod Answers
 pub mod Fetches
 pub mod Grammar
 pub mod Names

@@ -12,5 +12,6 @@ pub mod Reads
 pub mod Faults
 pub mod Events
 pub mod Job
+pub mod Noted
 pub mod Notes
 pub mod Grammar

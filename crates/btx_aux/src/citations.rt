@@ -1,6 +1,6 @@
 //! The `.aux` files of a job.
-ghost use Rattle.std.specs.Prelude.{◌≡◌, ◌∷◌, ◌++◌, map, not, IfErr, IfOk, IfSome, OnOk};
-ghost use Rattle.btx_aux.specs.refinement.Answers.{AsksTop, ByAnswers};
+ghost use Rattle.std.specs.Prelude.{◌≡◌, ◌∷◌, ◌++◌, map, not, IfErr, IfOk, IfSome, OnErr, OnOk};
+ghost use Rattle.btx_aux.specs.refinement.Answers.{Answered, AsksTop, AsksTopAtMost, ByAnswers};
 ghost use Rattle.btx_aux.specs.refinement.Faults.{CountsOfOne};
 ghost use Rattle.btx_aux.specs.language.Job.{job_of_files};
 ghost use Rattle.btx_aux.specs.refinement.Drafts.{blank};
@@ -24,8 +24,10 @@ use std::alloc::{AllocError, Global};
 pub fn read_aux<F: Finder>(alloc: Global, finder: &mut F, top: &[u8]) -> Result<AuxJob, Fault>
     ensures job { IfOk result (λ job. IfSome (F.content finder.old) (λ files. job ≡ job_of_files files top.now)) }
 
-    // Of every finder, whether it shows its content or not: no name is asked for twice, and the job is that of all files that answer as the finder did.
-    ensures answered { IfOk result (λ job. ByAnswers (F.content finder.old) (AsksTop top.now) (λ files. job ≡ job_of_files files top.now)) }
+    // Of every finder, whether it shows its content or not: it gave an answer for no name twice, and the job is that of all files that agree with the
+    // answers that it gave. After a fault too it had given an answer for no name twice.
+    ensures answered { IfOk result (λ job. ByAnswers (F.content finder.old) (F.answers finder.old) (F.answers finder.new) (AsksTop top.now) (λ files. job ≡ job_of_files files top.now)) }
+    ensures asked { OnErr result (Answered (F.content finder.old) (F.answers finder.old) (F.answers finder.new) (AsksTopAtMost top.now)) }
     ensures counts { CountsOfOne result (F.failures finder.old, F.failures finder.new) }
     ensures stays { F.content finder.new ≡ F.content finder.old }
 {
@@ -42,7 +44,8 @@ fn read_top<F: Finder>(
     top: &[u8],
 ) -> Result<(), Fault>
     requires { draft.old ≡ blank }
-    ensures draft { OnOk result (ByAnswers (F.content finder.old) (AsksTop top.now) (λ files. draft.new ≡ topped files top.now (files top.now))) }
+    ensures draft { OnOk result (ByAnswers (F.content finder.old) (F.answers finder.old) (F.answers finder.new) (AsksTop top.now) (λ files. draft.new ≡ topped files top.now (files top.now))) }
+    ensures asked { OnErr result (Answered (F.content finder.old) (F.answers finder.old) (F.answers finder.new) (AsksTopAtMost top.now)) }
     ensures counts { CountsOfOne result (F.failures finder.old, F.failures finder.new) }
     ensures stays { F.content finder.new ≡ F.content finder.old }
 {

@@ -1,6 +1,7 @@
 //! A source of files by name.
 ghost use Rattle.std.specs.Prelude.{◌≡◌, ℕ, [], Option, IfSome, IfOk, OnErr, Ok, Err, false, List};
 ghost use Rattle.btx_aux.specs.language.Files.{Files, file_of};
+ghost use Rattle.btx_aux.specs.language.Answers.{FinderAnswer, answers_after};
 ghost use Rattle.btx_text.specs.language.Counts.{count_after};
 ghost use Rattle.btx_aux.specs.language.Fetches.{is_device_fetch};
 
@@ -13,6 +14,9 @@ pub trait Finder {
     /// The content, for a finder that shows it.
     ghost content: { Self → Option Files };
 
+    /// The answers that it has given, first to last.
+    ghost answers: { Self → List FinderAnswer };
+
     /// How often the device has failed; a `u64`, which goes from its greatest value to 0.
     ghost failures: { Self → ℕ };
 
@@ -24,5 +28,6 @@ pub trait Finder {
             IfOk result (λ found. files name.now ≡ file_of found into.new.items)) }
         ensures absent { result ≡ Ok false → into.new.items ≡ [] }
         ensures fault { OnErr result (into.new.items ≡ []) }
+        ensures grows { answers self.new ≡ answers_after result name.now into.new.items (answers self.old) }
         ensures counts { failures self.new ≡ count_after (is_device_fetch result) (failures self.old) };
 }

@@ -1,7 +1,8 @@
 //! Files that are kept in memory.
-ghost use Rattle.std.specs.Prelude.{◌≡◌, ℕ, List, [], Some, IfOk, IfErr, OnOk, OnErr};
+ghost use Rattle.std.specs.Prelude.{◌≡◌, ℕ, List, [], Some, Ok, false, IfOk, IfErr, OnOk, OnErr};
 ghost use Rattle.std.specs.Option.{option_or};
-ghost use Rattle.btx_aux.specs.language.Files.{Files};
+ghost use Rattle.btx_aux.specs.language.Files.{Files, file_of};
+ghost use Rattle.btx_aux.specs.language.Answers.{FinderAnswer};
 ghost use Rattle.btx_aux.specs.laws.Pairs.{file_of_pair, files_of_pairs};
 ghost use Rattle.btx_aux.specs.refinement.Pairs.{first_file};
 ghost use Rattle.btx_aux.specs.refinement.Entries.{pairs_in};
@@ -9,6 +10,7 @@ ghost use Rattle.btx_aux.specs.refinement.Borrowed.{pairs_of};
 
 use crate::fetch_fault::FetchFault;
 use crate::finder::Finder;
+use crate::history::History;
 use indexmap::IndexMap;
 use std::alloc::{AllocError, Global};
 use std::marker::Model;
@@ -18,25 +20,29 @@ use std::marker::Model;
 #[derive(Drop)]
 pub struct MemoryFinder {
     files: IndexMap<Vec<u8>, Vec<u8>>,
+    history: History,
 }
 
 impl Model for MemoryFinder {
-    ghost Value = { List (List ℕ × List ℕ) };
+    ghost Value = { List (List ℕ × List ℕ) × List FinderAnswer };
 
-    ghost view = { λ finder. pairs_in finder.files.entries };
+    ghost view = { λ finder. (pairs_in finder.files.entries, finder.history) };
 }
 
 impl MemoryFinder {
     /// Keeps these files, given as pairs of name and bytes. The only fault is want of memory.
     pub fn new(alloc: Global, pairs: &[(&[u8], &[u8])]) -> Result<Self, FetchFault>
-        ensures files { IfOk result (λ finder. (name : List ℕ) → first_file finder name ≡ files_of_pairs (pairs_of pairs.now) name) }
+        ensures files { IfOk result (λ finder. (name : List ℕ) → first_file finder.0 name ≡ files_of_pairs (pairs_of pairs.now) name) }
         ensures fault { IfErr result (λ fault. fault ≡ FetchFault.Memory) }
     {
         let mut files = IndexMap::new(alloc);
         for (name, bytes) in pairs {
             put(alloc, &mut files, name, bytes).map_err(|_| FetchFault::Memory)?;
         }
-        Ok(MemoryFinder { files })
+        Ok(MemoryFinder {
+            files,
+            history: History::new(alloc),
+        })
     }
 }
 
@@ -67,26 +73,47 @@ fn fill(into: &mut Vec<u8>, bytes: &[u8]) -> Result<(), FetchFault>
         .map_err(|_| FetchFault::Memory)
 }
 
+// Copies the file of this name.
+fn copy(
+    files: &IndexMap<Vec<u8>, Vec<u8>>,
+    name: &[u8],
+    into: &mut Vec<u8>,
+) -> Result<bool, FetchFault>
+    ensures bytes { IfOk result (λ found. first_file (pairs_in files.now.entries) name.now ≡ file_of found into.new.items) }
+    ensures absent { result ≡ Ok false → into.new.items ≡ [] }
+    ensures fault { OnErr result (into.new.items ≡ []) }
+    ensures memory { IfErr result (λ fault. fault ≡ FetchFault.Memory) }
+{
+    match files.get(name) {
+        Some(bytes) => {
+            fill(into, bytes.as_slice())?;
+            Ok(true)
+        }
+        None => {
+            into.clear();
+            Ok(false)
+        }
+    }
+}
+
 impl Finder for MemoryFinder {
-    ghost content = { λ finder. Some (first_file finder) };
+    ghost content = { λ finder. Some (first_file finder.0) };
+
+    ghost answers = { λ finder. finder.1 };
 
     ghost failures = { λ _. 0 };
 
     fn fetch(
         &mut self,
-        _alloc: Global,
+        alloc: Global,
         name: &[u8],
         into: &mut Vec<u8>,
     ) -> Result<bool, FetchFault> {
-        match self.files.get(name) {
-            Some(bytes) => {
-                fill(into, bytes.as_slice())?;
-                Ok(true)
-            }
-            None => {
-                into.clear();
-                Ok(false)
-            }
+        let found = copy(&self.files, name, into)?;
+        if self.history.note(alloc, name, found, into).is_err() {
+            into.clear();
+            return Err(FetchFault::Memory);
         }
+        Ok(found)
     }
 }

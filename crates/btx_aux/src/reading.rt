@@ -1,11 +1,11 @@
 //! The reading of the `.aux` files.
-ghost use Rattle.std.specs.Prelude.{◌≡◌, ◌≤◌, length, map, true, OnOk};
+ghost use Rattle.std.specs.Prelude.{◌≡◌, ◌≤◌, length, map, true, OnErr, OnOk};
 ghost use Rattle.btx_text.specs.language.Limits.{greatest_file, is_too_long};
-ghost use Rattle.btx_aux.specs.refinement.Answers.{ByAnswers};
+ghost use Rattle.btx_aux.specs.refinement.Answers.{Answered, ByAnswers};
 ghost use Rattle.btx_aux.specs.refinement.Faults.{CountsOfOne};
 ghost use Rattle.btx_aux.specs.language.Grammar.{is_whole, words_of};
 ghost use Rattle.btx_aux.specs.language.Events.{event_at, said};
-ghost use Rattle.btx_aux.specs.refinement.Reads.{AddsNames, AsksFirst, included, names_opened, opened_by, run};
+ghost use Rattle.btx_aux.specs.refinement.Reads.{AddsNames, AsksFirst, AsksNew, AsksOneAtMost, included, names_opened, opened_by, run};
 
 use crate::draft::Draft;
 use crate::end::End;
@@ -28,8 +28,9 @@ fn include<F: Finder>(
 ) -> Result<(), Fault>
     requires whole { is_whole draft.old.ending ≡ true }
     requires room { room ≤ 19 }
-    ensures draft { OnOk result (ByAnswers (F.content finder.old) (AsksFirst name.now draft.old.files draft.new.files)
+    ensures draft { OnOk result (ByAnswers (F.content finder.old) (F.answers finder.old) (F.answers finder.new) (AsksFirst name.now draft.old.files draft.new.files)
         (λ files. draft.new ≡ included (opened_by files room) draft.old place.entry.file.now place.entry.line name.now (files name.now))) }
+    ensures asked { OnErr result (Answered (F.content finder.old) (F.answers finder.old) (F.answers finder.new) (AsksOneAtMost name.now draft.old.files)) }
     ensures counts { CountsOfOne result (F.failures finder.old, F.failures finder.new) }
     ensures stays { F.content finder.new ≡ F.content finder.old }
 {
@@ -53,8 +54,9 @@ pub fn open_file<F: Finder>(
 ) -> Result<(), Fault>
     requires whole { is_whole draft.old.ending ≡ true }
     requires room { room ≤ MOST_OPEN }
-    ensures draft { OnOk result (ByAnswers (F.content finder.old) (AddsNames (names_opened draft.old.files name.now room) draft.new.files)
+    ensures draft { OnOk result (ByAnswers (F.content finder.old) (F.answers finder.old) (F.answers finder.new) (AddsNames (names_opened draft.old.files name.now room) draft.new.files)
         (λ files. draft.new ≡ opened_by files room draft.old name.now text.now)) }
+    ensures asked { OnErr result (Answered (F.content finder.old) (F.answers finder.old) (F.answers finder.new) (AsksNew (names_opened draft.old.files name.now room))) }
     ensures counts { CountsOfOne result (F.failures finder.old, F.failures finder.new) }
     ensures stays { F.content finder.new ≡ F.content finder.old }
 {
@@ -90,8 +92,9 @@ fn read_lines<F: Finder>(
     requires whole { is_whole draft.old.ending ≡ true }
     requires room { room ≤ 19 }
     requires length { length text.now ≤ greatest_file }
-    ensures draft { OnOk result (ByAnswers (F.content finder.old) (AddsNames draft.old.files draft.new.files)
+    ensures draft { OnOk result (ByAnswers (F.content finder.old) (F.answers finder.old) (F.answers finder.new) (AddsNames draft.old.files draft.new.files)
         (λ files. draft.new ≡ run files (opened_by files room) draft.old (said name.now text.now))) }
+    ensures asked { OnErr result (Answered (F.content finder.old) (F.answers finder.old) (F.answers finder.new) (AsksNew draft.old.files)) }
     ensures counts { CountsOfOne result (F.failures finder.old, F.failures finder.new) }
     ensures stays { F.content finder.new ≡ F.content finder.old }
 {
@@ -122,8 +125,9 @@ fn read_line<F: Finder>(
 ) -> Result<(), Fault>
     requires whole { is_whole draft.old.ending ≡ true }
     requires room { room ≤ 19 }
-    ensures draft { OnOk result (ByAnswers (F.content finder.old) (AddsNames draft.old.files draft.new.files)
+    ensures draft { OnOk result (ByAnswers (F.content finder.old) (F.answers finder.old) (F.answers finder.new) (AddsNames draft.old.files draft.new.files)
         (λ files. draft.new ≡ run files (opened_by files room) draft.old (map (event_at place.entry.file.now place.entry.line) (words_of line.now)))) }
+    ensures asked { OnErr result (Answered (F.content finder.old) (F.answers finder.old) (F.answers finder.new) (AsksNew draft.old.files)) }
     ensures counts { CountsOfOne result (F.failures finder.old, F.failures finder.new) }
     ensures stays { F.content finder.new ≡ F.content finder.old }
 {

@@ -1,10 +1,11 @@
 //! The files that a caller hands in.
-ghost use Rattle.std.specs.Prelude.{◌≡◌, [], Some, OnOk, OnErr, IfErr};
+ghost use Rattle.std.specs.Prelude.{◌≡◌, [], false, Ok, Some, OnOk, OnErr, IfErr, IfOk};
+ghost use Rattle.btx_aux.specs.language.Files.{file_of};
 ghost use Rattle.btx_c.specs.Handed.{OtherFiles, beside, bytes_in, file_in, known};
 ghost use Rattle.btx_c.specs.Known.{known_of};
 
 use crate::others::Others;
-use btx_aux::{FetchFault, Finder};
+use btx_aux::{FetchFault, Finder, History};
 use std::alloc::Global;
 
 /// A file of a job, or that there is no file of this name. C hands in each text as a pointer, which is never null, and a length.
@@ -58,13 +59,14 @@ pub fn look<'a>(files: &[BtxFile<'a>], name: &[u8]) -> Known<'a>
 pub struct Handed<'a> {
     files: &'a [BtxFile<'a>],
     others: Others,
+    history: History,
     /// How often it was asked for a file of which nothing was said.
     pub unknown: u64,
 }
 
 impl<'a> Handed<'a> {
     /// A finder over these files, whatever others there are.
-    pub fn new(files: &'a [BtxFile<'a>]) -> Self
+    pub fn new(alloc: Global, files: &'a [BtxFile<'a>]) -> Self
         ghost others: { OtherFiles }
         ensures files { result.files.now ≡ files.now }
         ensures others { result.others.files ≡ others }
@@ -73,6 +75,7 @@ impl<'a> Handed<'a> {
         Handed {
             files,
             others: Others::any(),
+            history: History::new(alloc),
             unknown: 0,
         }
     }
@@ -89,31 +92,53 @@ pub fn fill(into: &mut Vec<u8>, bytes: &[u8]) -> Result<(), FetchFault>
         .map_err(|_| FetchFault::Memory)
 }
 
+// Copies the file of this name, if something was said of it. If nothing was, that is the device's fault.
+fn copy(files: &[BtxFile<'_>], name: &[u8], into: &mut Vec<u8>) -> Result<bool, FetchFault>
+    ensures bytes { IfOk result (λ found. known files.now name.now ≡ Some (file_of found into.new.items)) }
+    ensures absent { result ≡ Ok false → into.new.items ≡ [] }
+    ensures fault { OnErr result (into.new.items ≡ []) }
+{
+    match look(files, name) {
+        Known::Bytes(bytes) => {
+            fill(into, bytes)?;
+            Ok(true)
+        }
+        Known::Absent => {
+            into.clear();
+            Ok(false)
+        }
+        Known::Unknown => {
+            into.clear();
+            Err(FetchFault::Device)
+        }
+    }
+}
+
 impl<'a> Finder for Handed<'a> {
     ghost content = { λ finder. Some (beside finder.files.now (file_in finder.others.files)) };
 
+    ghost answers = { λ finder. finder.history };
+
     ghost failures = { λ finder. finder.unknown };
 
+    #[tactic(auto, using(crate::proofs::HandedLemmas::beside_known))]
     fn fetch(
         &mut self,
-        _alloc: Global,
+        alloc: Global,
         name: &[u8],
         into: &mut Vec<u8>,
     ) -> Result<bool, FetchFault> {
-        match look(self.files, name) {
-            Known::Bytes(bytes) => {
-                fill(into, bytes)?;
-                Ok(true)
+        let answer = copy(self.files, name, into);
+        match answer {
+            Ok(found) => {
+                if self.history.note(alloc, name, found, into).is_err() {
+                    into.clear();
+                    return Err(FetchFault::Memory);
+                }
             }
-            Known::Absent => {
-                into.clear();
-                Ok(false)
-            }
-            Known::Unknown => {
-                into.clear();
-                self.unknown = self.unknown.wrapping_add(1);
-                Err(FetchFault::Device)
-            }
+            Err(FetchFault::Memory) => {}
+            Err(_) => self.unknown = self.unknown.wrapping_add(1),
         }
+        answer
     }
 }

@@ -1,12 +1,13 @@
 //! Which files a job needs of which nothing was said.
-ghost use Rattle.std.specs.Prelude.{◌≡◌, ◌++◌, [], Some, IfOk, OnOk};
+ghost use Rattle.std.specs.Prelude.{◌≡◌, ◌++◌, [], false, Ok, Some, IfErr, IfOk, OnErr, OnOk};
+ghost use Rattle.btx_aux.specs.language.Files.{file_of};
 ghost use Rattle.btx_aux.specs.declared.end.End.TheVariants.{Whole};
 ghost use Rattle.btx_aux.specs.refinement.Entries.{texts_of};
 ghost use Rattle.btx_c.specs.Handed.{beside};
 ghost use Rattle.btx_c.specs.Needs.{AsksNothing, NeedsNoOther, line_for, lines_for, lines_named, no_files};
 
 use crate::handed::{BtxFile, Handed, Known, fill, look};
-use btx_aux::{AuxJob, End, FetchFault, Finder};
+use btx_aux::{AuxJob, End, FetchFault, Finder, History};
 use btx_run::files::read_job;
 use btx_text::Fault;
 use std::alloc::{AllocError, Global};
@@ -73,31 +74,54 @@ fn after_aux_files(alloc: Global, job: &AuxJob, files: &[BtxFile<'_>]) -> Result
 struct Asking<'a> {
     files: &'a [BtxFile<'a>],
     asked: Vec<u8>,
+    history: History,
+}
+
+// Copies the file of this name. One of which nothing was said isn't there, and `asked` gets a line for its name.
+fn copy_or_ask(
+    files: &[BtxFile<'_>],
+    name: &[u8],
+    asked: &mut Vec<u8>,
+    into: &mut Vec<u8>,
+) -> Result<bool, FetchFault>
+    ensures bytes { IfOk result (λ found. beside files.now no_files name.now ≡ file_of found into.new.items) }
+    ensures absent { result ≡ Ok false → into.new.items ≡ [] }
+    ensures fault { OnErr result (into.new.items ≡ []) }
+    ensures memory { IfErr result (λ fault. fault ≡ FetchFault.Memory) }
+{
+    into.clear();
+    match look(files, name) {
+        Known::Bytes(bytes) => {
+            fill(into, bytes)?;
+            Ok(true)
+        }
+        Known::Absent => Ok(false),
+        Known::Unknown => {
+            ask(files, name, asked).map_err(|_| FetchFault::Memory)?;
+            Ok(false)
+        }
+    }
 }
 
 impl<'a> Finder for Asking<'a> {
     ghost content = { λ finder. Some (beside finder.files.now no_files) };
 
+    ghost answers = { λ finder. finder.history };
+
     ghost failures = { λ _. 0 };
 
     fn fetch(
         &mut self,
-        _alloc: Global,
+        alloc: Global,
         name: &[u8],
         into: &mut Vec<u8>,
     ) -> Result<bool, FetchFault> {
-        into.clear();
-        match look(self.files, name) {
-            Known::Bytes(bytes) => {
-                fill(into, bytes)?;
-                Ok(true)
-            }
-            Known::Absent => Ok(false),
-            Known::Unknown => {
-                ask(self.files, name, &mut self.asked).map_err(|_| FetchFault::Memory)?;
-                Ok(false)
-            }
+        let found = copy_or_ask(self.files, name, &mut self.asked, into)?;
+        if self.history.note(alloc, name, found, into).is_err() {
+            into.clear();
+            return Err(FetchFault::Memory);
         }
+        Ok(found)
     }
 }
 
@@ -109,6 +133,7 @@ fn unknown_aux_files(alloc: Global, name: &[u8], files: &[BtxFile<'_>]) -> Resul
     let mut finder = Asking {
         files,
         asked: Vec::new(alloc),
+        history: History::new(alloc),
     };
     read_job(alloc, &mut finder, name)?;
     if finder.asked.is_empty() {
@@ -122,7 +147,7 @@ fn unknown_aux_files(alloc: Global, name: &[u8], files: &[BtxFile<'_>]) -> Resul
 pub fn needed(alloc: Global, name: &[u8], files: &[BtxFile<'_>]) -> Result<Needs, Fault>
     ensures complete { IfOk result (λ needs. AsksNothing needs → NeedsNoOther files.now name.now) }
 {
-    let mut finder = Handed::new(files);
+    let mut finder = Handed::new(alloc, files);
     match read_job(alloc, &mut finder, name) {
         Ok(job) => after_aux_files(alloc, &job, files),
         Err(Fault::Device) => unknown_aux_files(alloc, name, files),

@@ -51,7 +51,7 @@ pub fn run_handed(
     ensures bound { IfOk result.answer (λ report. report.steps ≤ options.now.budget) }
     ensures deep { IfOk result.answer (λ report. report.deepest ≤ 4096) }
 {
-    let mut finder = Handed::new(&*files);
+    let mut finder = Handed::new(alloc, &*files);
     let mut list = Kept::new(alloc, most_list);
     let mut log = Kept::new(alloc, most_log);
     let answer = run(alloc, &mut finder, name, options, &mut list, &mut log);

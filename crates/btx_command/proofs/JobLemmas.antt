@@ -2,8 +2,10 @@
 use Rattle.std.proofs.Common.{◌≡◌, ◌∙◌, ℕ, List, [], ◌∷◌, Bool, true, Option, Some, Result, Ok, Err, IfOk, IsErrAnd, OnOk, MatchBool, ap, subst, sym}
 use Rattle.std.specs.Io.KnownBytes.{Keeps}
 use Rattle.btx_aux.specs.language.Files.{Files}
+use Rattle.btx_aux.specs.language.Answers.{FinderAnswer}
+use Rattle.btx_aux.proofs.AnswerLemmas.{files_agree, files_answered}
 use Rattle.btx_machine.specs.declared.report.Report.{Report}
-use Rattle.btx_run.specs.language.Answered.{CompletesAsAnswered}
+use Rattle.btx_run.specs.language.Answered.{CompletesAsAnswered, Given}
 use Rattle.btx_run.specs.declared.run_fault.RunFault.{RunFault}
 use Rattle.btx_command.specs.Acts.{ClosedList, WereDone, Done, EmptiedLog, OpenedList, Printed, StoredLog}
 use Rattle.btx_command.specs.Jobs.{DoesWith, HandsLog, IsReportOfSome, ListsJob, both_done}
@@ -28,11 +30,11 @@ ended_untouched contents ran before written after finished untouched finishes ke
 
 -- ---- what is done, by the values that stand for the job's own
 
-pub lists_from : {W : Type 0} (content : Option Files) (contents : W → Held) (settings : Settings) (here there after : ListFile W) (before log : Held) (answer : Result Report RunFault)
-    → here ≡ there → before ≡ Some [] → ListsJob content contents settings here after (before, log) answer → ListsJob content contents settings there after (Some [], log) answer
-lists_from content contents settings here there after before log answer is none h =
-    subst (λ (list : ListFile _). ListsJob content contents settings list after (Some [], log) answer) is
-    (subst (λ (before : Held). ListsJob content contents settings here after (before, log) answer) none h)
+pub lists_from : {W : Type 0} (content : Option Files) (given : Given) (contents : W → Held) (settings : Settings) (here there after : ListFile W) (before log : Held) (answer : Result Report RunFault)
+    → here ≡ there → before ≡ Some [] → ListsJob content given contents settings here after (before, log) answer → ListsJob content given contents settings there after (Some [], log) answer
+lists_from content given contents settings here there after before log answer is none h =
+    subst (λ (list : ListFile _). ListsJob content given contents settings list after (Some [], log) answer) is
+    (subst (λ (before : Held). ListsJob content given contents settings here after (before, log) answer) none h)
 
 -- the file is closed, and the log handed on
 pub closes_and_hands : {W : Type 0} (settings : Settings) (path text log : List ℕ) (here file : W) (before mid after : Done W) (answer : Result (Unit {0}) RunFault)
@@ -63,12 +65,14 @@ opens_and_empties settings path file before mid after is_path opened empties =
     subst (λ path. WereDone before after (OpenedList (list_path settings) (Ok file) ∷ EmptiedLog path ∷ [])) is_path
     (one_after_another before mid after (OpenedList (list_path settings) (Ok file) ∷ []) (EmptiedLog path ∷ []) opened empties)
 
-pub does_with : {W : Type 0} (here there : Option Files) (contents : W → Held) (settings : Settings) (path : List ℕ) (file : W) (before after : Done W) (answer : Result Report RunFault)
-    → here ≡ there → path ≡ log_path settings
-    → DoesWith here contents settings path file before after answer → DoesWith there contents settings (log_path settings) file before after answer
-does_with here there contents settings path file before after answer is is_path h =
-    subst (λ (content : Option Files). DoesWith content contents settings (log_path settings) file before after answer) is
-    (subst (λ path. DoesWith here contents settings path file before after answer) is_path h)
+pub does_with : {W : Type 0} (here there : Option Files) (given given' : Given) (contents : W → Held) (settings : Settings) (path : List ℕ) (file : W) (before after : Done W) (answer : Result Report RunFault)
+    → here ≡ there → given.0 ≡ given'.0 → given.1 ≡ given'.1 → path ≡ log_path settings
+    → DoesWith here given contents settings path file before after answer → DoesWith there given' contents settings (log_path settings) file before after answer
+does_with here there given given' contents settings path file before after answer is first last is_path h =
+    subst (λ (it : List FinderAnswer). DoesWith there (given'.0, it) contents settings (log_path settings) file before after answer) last
+    (subst (λ (it : List FinderAnswer). DoesWith there (it, given.1) contents settings (log_path settings) file before after answer) first
+    (subst (λ (content : Option Files). DoesWith content given contents settings (log_path settings) file before after answer) is
+    (subst (λ path. DoesWith here given contents settings path file before after answer) is_path h)))
 
 -- ---- the report
 
@@ -80,12 +84,12 @@ ok_before P (Ok report) (Err fault) answer is h = subst (λ a. IfOk a P) (sym is
 ok_before P (Ok report) (Ok done) answer is h = subst (λ a. IfOk a P) (sym is) h
 
 -- a report of a run over any finder is that of some files' product
-pub of_some : (settings : Settings) (before after : Received) (ran : Result Report RunFault) → IfOk ran (CompletesAsAnswered settings.job.now settings.options before after) → IfOk ran (IsReportOfSome settings)
-of_some settings before after (Err fault) h = tt
-of_some settings before after (Ok report) h = record { files = h.files; is = h.completes.report_is }
+pub of_some : (settings : Settings) (given : Given) (before after : Received) (ran : Result Report RunFault) → IfOk ran (CompletesAsAnswered settings.job.now settings.options given before after) → IfOk ran (IsReportOfSome settings)
+of_some settings given before after (Err fault) h = tt
+of_some settings given before after (Ok report) h = record { files = files_answered h.answers; is = (h.completes (files_answered h.answers) (files_agree h.answers h.once)).report_is }
 
 -- what holds of the report of a run holds of the report of the job that was done with it
-pub report_of_job : {W : Type 0} (content : Option Files) (contents : W → Held) (settings : Settings) (path : List ℕ) (file : W) (before after : Done W) (answer : Result Report RunFault)
-    (P : Report → Type 0) (h : DoesWith content contents settings path file before after answer) → IfOk h.lists.ran P → IfOk answer P
-report_of_job content contents settings path file before after answer P h holds =
+pub report_of_job : {W : Type 0} (content : Option Files) (given : Given) (contents : W → Held) (settings : Settings) (path : List ℕ) (file : W) (before after : Done W) (answer : Result Report RunFault)
+    (P : Report → Type 0) (h : DoesWith content given contents settings path file before after answer) → IfOk h.lists.ran P → IfOk answer P
+report_of_job content given contents settings path file before after answer P h holds =
     ok_before P h.listed (both_done h.stored h.printed) answer h.first (ok_before P h.lists.ran h.lists.finished h.listed h.lists.first holds)

@@ -16,6 +16,7 @@ use Rattle.btx_run.specs.declared.run_fault.RunFault.TheVariants as run_fault
 use Rattle.btx_command.specs.Acts.{WereDone, Done, Printed, ReportedFault, ReportedText, reporting}
 use Rattle.btx_command.specs.CommandLine.{IsSettingsOf, Refuses}
 use Rattle.btx_command.specs.Jobs.{DoesJob}
+use Rattle.btx_run.specs.language.Answered.{Given}
 use Rattle.btx_command.specs.ListFiles.{Held}
 use Rattle.btx_command.specs.Spelling.{hint_of}
 use Rattle.btx_command.specs.Status.{exit_of, exit_shown, refused_memory, status_at}
@@ -34,26 +35,26 @@ IsReported hint (refusal.Mistake text) before after end = WereDone before after 
 IsReported hint refusal.Memory before after end = WereDone before after (ReportedFault run_fault.Memory ∷ []) × (end ≡ refused_memory)
 
 -- Words that are run come to this end, over a system of these files and lists' files of these contents: their job is done, and then its fault is
--- reported, if its answer is one.
-pub record RunEnds {W : Type 0} (files : Option Files) (contents : W → Held) (settings : Settings) (before after : Done W) (end : Exit) : Type 0 where
+-- reported, if its answer is one. `given` are the answers on files that were given before, and those that are given after.
+pub record RunEnds {W : Type 0} (files : Option Files) (given : Given) (contents : W → Held) (settings : Settings) (before after : Done W) (end : Exit) : Type 0 where
   pub answer : Result Report RunFault
   pub done : Done W
-  pub does : DoesJob files contents settings before done answer
+  pub does : DoesJob files given contents settings before done answer
   pub reports : WereDone done after (reporting answer)
   pub ends : end ≡ exit_of answer
 
 -- the settings that were read are run; a refusal, or a text that was asked for, is printed
-abbrev pub IsAnswered : {W : Type 0} → Option Files → (W → Held) → List ℕ → Result Settings Refusal → Done W → Done W → Exit → Type 0
-IsAnswered files contents hint (Ok settings) before after end = RunEnds files contents settings before after end
-IsAnswered files contents hint (Err refusal) before after end = IsReported hint refusal before after end
+abbrev pub IsAnswered : {W : Type 0} → Option Files → Given → (W → Held) → List ℕ → Result Settings Refusal → Done W → Done W → Exit → Type 0
+IsAnswered files given contents hint (Ok settings) before after end = RunEnds files given contents settings before after end
+IsAnswered files given contents hint (Err refusal) before after end = IsReported hint refusal before after end
 
 -- the words of a command line, the program's name first, come to this end: the job of their settings is done, once, and nothing else is, or they
 -- are refused as they are read; a mistake is reported with this hint
-pub record ComesTo {W : Type 0} (files : Option Files) (contents : W → Held) (words : List (List ℕ)) (hint : List ℕ) (before after : Done W) (end : Exit) : Type 0 where
+pub record ComesTo {W : Type 0} (files : Option Files) (given : Given) (contents : W → Held) (words : List (List ℕ)) (hint : List ℕ) (before after : Done W) (end : Exit) : Type 0 where
   pub read : Result Settings Refusal
   pub settings : IfOk read (IsSettingsOf words)
   pub refused : Refuses words read
-  pub answered : IsAnswered files contents hint read before after end
+  pub answered : IsAnswered files given contents hint read before after end
 
 -- what the system answers when it is asked for the words of the command line: its own iterator over them, or an error
 abbrev pub Args : Type 0
@@ -77,16 +78,17 @@ IsUnread _ before after end =
     WereDone before after (ReportedText (codes "error: invalid UTF-8 was detected in one or more arguments\n") [] ∷ []) × (end ≡ exit.Refused)
 
 -- words that were read come to the end of their command line; of others the reason is reported, and nothing else is done
-abbrev pub EndsFor : {W : Type 0} → Option Files → (W → Held) → Words → Done W → Done W → Exit → Type 0
-EndsFor files contents (Ok words) before after end =
-    ComesTo files contents (map (λ word. string_bytes word) words.items) (hint_of words.items) before after end
-EndsFor files contents (Err error) before after end = IsUnread (error_kind error) before after end
+abbrev pub EndsFor : {W : Type 0} → Option Files → Given → (W → Held) → Words → Done W → Done W → Exit → Type 0
+EndsFor files given contents (Ok words) before after end =
+    ComesTo files given contents (map (λ word. string_bytes word) words.items) (hint_of words.items) before after end
+EndsFor files given contents (Err error) before after end = IsUnread (error_kind error) before after end
 
 -- The whole program, over a system of these files, lists' files of these contents, and this answer on the words of the command line: the words are
--- read, they come to their end, and the exit status is that end's.
-pub record ExitsWith {W : Type 0} (files : Option Files) (contents : W → Held) (args : Args) (before after : Done W) (status : ℕ) : Type 0 where
+-- read, they come to their end, and the exit status is that end's. `given` are the answers on files that were given before the program, and those that
+-- are given after it: what is said of a run's report holds for all files that agree with those given in it.
+pub record ExitsWith {W : Type 0} (files : Option Files) (given : Given) (contents : W → Held) (args : Args) (before after : Done W) (status : ℕ) : Type 0 where
   pub words : Words
   pub end : Exit
   pub reads : AreWordsOf args words
-  pub ends : EndsFor files contents words before after end
+  pub ends : EndsFor files given contents words before after end
   pub exits : status ≡ status_at end

@@ -6,7 +6,7 @@ use Rattle.btx_aux.specs.language.Files.{Files}
 use Rattle.btx_machine.specs.language.KeepingStep.{Received, AtFault}
 use Rattle.btx_machine.specs.language.Product.{log_of}
 use Rattle.btx_machine.specs.declared.report.Report.{Report}
-use Rattle.btx_run.specs.language.Answered.{CompletesAsAnswered, FailsAsAnswered}
+use Rattle.btx_run.specs.language.Answered.{CompletesAsAnswered, FailsAsAnswered, Given}
 use Rattle.btx_core.specs.refinement.ComputedProduct.{product, product_with}
 use Rattle.btx_run.specs.declared.run_fault.RunFault.{RunFault}
 use Rattle.btx_run.specs.declared.run_fault.RunFault.TheVariants.{Memory}
@@ -20,16 +20,17 @@ use Rattle.btx_command.specs.declared.given.Settings.{Settings}
 use Rattle.btx_command.specs.declared.list_file.ListFile.{ListFile}
 
 -- The job that was asked for is run, with all that was asked of it, over a finder of this content, if that is known: its report, list and
--- log are the product's, and after a fault the two outputs are prefixes of them. Whatever the finder is, also one over the files of a disk,
--- there are files of whose product the same holds; and the run keeps to its budget.
-pub record RunsJob (content : Option Files) (settings : Settings) (before after : Received) (answer : Result Report RunFault) : Type 0 where
+-- log are the product's, and after a fault the two outputs are prefixes of them. Whatever the finder is, also one over the files of a disk, it was asked for
+-- no name twice, and the same holds of the product of all files that agree with each answer that it gave; and the run keeps to its budget. `given` are the
+-- answers that the finder had given before the run, and those that it has given after it.
+pub record RunsJob (content : Option Files) (given : Given) (settings : Settings) (before after : Received) (answer : Result Report RunFault) : Type 0 where
   pub report : IfOk answer (λ report. IfSome content (λ files. report ≡ (product files settings.job.now settings.options).report))
   pub list : OnOk answer (IfSome content (λ files. Appends before.0 after.0 (product files settings.job.now settings.options).bbl))
   pub log : OnOk answer (IfSome content (λ files. Appends before.1 after.1 (log_of (product files settings.job.now settings.options))))
   pub fault : OnErr answer (IfSome content (λ files.
       AtFault before after (product_with files settings.job.now settings.options) settings.options.budget))
-  pub answered : IfOk answer (CompletesAsAnswered settings.job.now settings.options before after)
-  pub begun : OnErr answer (FailsAsAnswered settings.job.now settings.options before after)
+  pub answered : IfOk answer (CompletesAsAnswered settings.job.now settings.options given before after)
+  pub begun : OnErr answer (FailsAsAnswered settings.job.now settings.options given before after)
   pub within : IfOk answer (λ report. report.steps ≤ settings.options.budget)
 
 -- There are files such that a report is that of their product, for the job that was asked for and with all that was asked of it.
@@ -52,24 +53,24 @@ pub record HandsLog {W : Type 0} (settings : Settings) (path log : List ℕ) (be
 
 -- A job's list is written, over this change of its file: the job is run, and then the list's file is ended, also after a fault. The first
 -- fault is answered. Where there is no top file, the list's file isn't touched.
-pub record ListsJob {W : Type 0} (content : Option Files) (contents : W → Held) (settings : Settings) (before after : ListFile W)
+pub record ListsJob {W : Type 0} (content : Option Files) (given : Given) (contents : W → Held) (settings : Settings) (before after : ListFile W)
     (log : Held × Held) (answer : Result Report RunFault) : Type 0 where
   pub ran : Result Report RunFault
   pub written : ListFile W
   pub finished : Result (Unit {0}) RunFault
-  pub runs : RunsJob content settings (received_by contents before, log.0) (received_by contents written, log.1) ran
+  pub runs : RunsJob content given settings (received_by contents before, log.0) (received_by contents written, log.1) ran
   pub finishes : FinishesList contents ran written after finished
   pub untouched : keeps_old ran ≡ true → after ≡ before
   pub first : answer ≡ first_fault ran finished
 
 -- A job is done with its list's file, which was opened: its list is written, over a finder of this content, and the file is closed; then the log that
 -- was kept is handed on to the file of this path, also after a fault. Nothing else is done. The first fault is answered.
-pub record DoesWith {W : Type 0} (content : Option Files) (contents : W → Held) (settings : Settings) (path : List ℕ) (file : W) (before after : Done W)
+pub record DoesWith {W : Type 0} (content : Option Files) (given : Given) (contents : W → Held) (settings : Settings) (path : List ℕ) (file : W) (before after : Done W)
     (answer : Result Report RunFault) : Type 0 where
   pub listed : Result Report RunFault
   pub list : ListFile W
   pub log : List ℕ
-  pub lists : ListsJob content contents settings (unwritten file) list (Some [], Some log) listed
+  pub lists : ListsJob content given contents settings (unwritten file) list (Some [], Some log) listed
   pub stored : Result (Unit {0}) RunFault
   pub printed : Result (Unit {0}) RunFault
   pub does : WereDone before after (ClosedList list.file ∷ StoredLog path log stored ∷ Printed (printed_log settings log) printed ∷ [])
@@ -78,11 +79,11 @@ pub record DoesWith {W : Type 0} (content : Option Files) (contents : W → Held
 -- A job is done, over a system of these files and lists' files of these contents. The file of its list is opened at the path of its list, an old log is
 -- emptied at the path of its log, and with that file and that path the job is done over the files of its folder. The answer may be want of
 -- memory before anything is done; and if the list's file can't be opened, nothing else is done.
-pub data DoesJob {W : Type 0} (files : Option Files) (contents : W → Held) (settings : Settings) (before after : Done W)
+pub data DoesJob {W : Type 0} (files : Option Files) (given : Given) (contents : W → Held) (settings : Settings) (before after : Done W)
     (answer : Result Report RunFault) : Type 0 where
-  HasNoMemory : after ≡ before → answer ≡ Err Memory → DoesJob files contents settings before after answer
-  HasNoList : (fault : RunFault) → WereDone before after (OpenedList (list_path settings) (Err fault) ∷ []) → answer ≡ Err fault
-      → DoesJob files contents settings before after answer
+  HasNoMemory : after ≡ before → given.1 ≡ given.0 → answer ≡ Err Memory → DoesJob files given contents settings before after answer
+  HasNoList : (fault : RunFault) → WereDone before after (OpenedList (list_path settings) (Err fault) ∷ []) → given.1 ≡ given.0 → answer ≡ Err fault
+      → DoesJob files given contents settings before after answer
   HasList : (file : W) (ready : Done W) → WereDone before ready (OpenedList (list_path settings) (Ok file) ∷ EmptiedLog (log_path settings) ∷ [])
-      → DoesWith (option_map (folder_files settings.directory.now) files) contents settings (log_path settings) file ready after answer
-      → DoesJob files contents settings before after answer
+      → DoesWith (option_map (folder_files settings.directory.now) files) given contents settings (log_path settings) file ready after answer
+      → DoesJob files given contents settings before after answer

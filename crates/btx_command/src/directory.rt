@@ -8,7 +8,7 @@ ghost use Rattle.btx_command.specs.FolderFiles.{folder_files, most_read};
 
 use crate::paths::path_in;
 use crate::system::System;
-use btx_run::{FetchFault, Finder};
+use btx_run::{FetchFault, Finder, History};
 use btx_text::GREATEST_FILE;
 use std::alloc::Global;
 use std::io;
@@ -18,6 +18,7 @@ use std::io::{ErrorKind, Read};
 pub struct DirectoryFinder<'a, S> {
     system: S,
     directory: &'a str,
+    history: History,
     failures: u64,
 }
 
@@ -26,21 +27,24 @@ impl<S: Drop> Drop for DirectoryFinder<'_, S> {
         let Self {
             system: _,
             directory: _,
+            history: _,
             failures: _,
         } = self;
     }
 }
 
 impl<'a, S: System> DirectoryFinder<'a, S> {
-    /// Makes a finder over the files of the folder `directory`.
-    pub fn new(system: S, directory: &'a str) -> Self
+    /// Makes a finder over the files of the folder `directory`, which has given the answers of a history.
+    pub fn new(system: S, directory: &'a str, history: History) -> Self
         ensures system { result.system ≡ system }
         ensures directory { result.directory ≡ directory.entry }
+        ensures history { result.history ≡ history }
         ensures failures { result.failures ≡ 0 }
     {
         DirectoryFinder {
             system,
             directory,
+            history,
             failures: 0,
         }
     }
@@ -50,6 +54,21 @@ impl<'a, S: System> DirectoryFinder<'a, S> {
         ensures { result ≡ self.now.failures }
     {
         self.failures
+    }
+
+    /// Answers the history.
+    pub fn into_history(self) -> History
+    where
+        S: Drop,
+        ensures { result ≡ self.entry.history }
+    {
+        let DirectoryFinder {
+            system: _,
+            directory: _,
+            history,
+            failures: _,
+        } = self;
+        history
     }
 
     // Appends the bytes of the file of this name, as far as a file is read. `Ok(false)`: it can't be opened, or its name isn't UTF-8, and
@@ -110,6 +129,8 @@ fn read_fault(error: &io::Error) -> FetchFault
 impl<S: System> Finder for DirectoryFinder<'_, S> {
     ghost content = { λ finder. option_map (folder_files finder.directory.now) (S.content finder.system) };
 
+    ghost answers = { λ finder. finder.history };
+
     ghost failures = { λ finder. finder.failures };
 
     fn fetch(
@@ -121,7 +142,12 @@ impl<S: System> Finder for DirectoryFinder<'_, S> {
         into.clear();
         let answer = self.read(alloc, name, into);
         match answer {
-            Ok(_) => {}
+            Ok(found) => {
+                if self.history.note(alloc, name, found, into).is_err() {
+                    into.clear();
+                    return Err(FetchFault::Memory);
+                }
+            }
             Err(FetchFault::Memory) => into.clear(),
             Err(FetchFault::Device) => {
                 into.clear();

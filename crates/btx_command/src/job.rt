@@ -12,8 +12,9 @@ use crate::list_file::{EmptiedFile, ListFile};
 use crate::outputs::Outputs;
 use crate::paths::path_of;
 use crate::system::System;
-use btx_run::{Finder, Over, Report, RunFault, Sink, run};
+use btx_run::{Finder, History, Over, Report, RunFault, Sink, run};
 use std::alloc::Global;
+use std::mem;
 
 // Runs the job that the settings ask for.
 fn run_over<F: Finder, W: Sink, L: Sink>(
@@ -23,7 +24,7 @@ fn run_over<F: Finder, W: Sink, L: Sink>(
     bbl: &mut W,
     log: &mut L,
 ) -> Result<Report, RunFault>
-    ensures runs { RunsJob (F.content finder.old) settings.now (W.received bbl.old, L.received log.old) (W.received bbl.new, L.received log.new) result }
+    ensures runs { RunsJob (F.content finder.old) (F.answers finder.old, F.answers finder.new) settings.now (W.received bbl.old, L.received log.old) (W.received bbl.new, L.received log.new) result }
     ensures counts { CountsOfRun result (F.failures finder.old, F.failures finder.new) (W.failures bbl.old, W.failures bbl.new) (L.failures log.old, L.failures log.new) }
     ensures untouched { keeps_old result ≡ true → bbl.new ≡ bbl.old }
 {
@@ -82,7 +83,7 @@ fn list_job<F: Finder, W: EmptiedFile, L: Sink>(
     list: &mut ListFile<W>,
     log: &mut L,
 ) -> Result<Report, RunFault>
-    ensures { ListsJob (F.content finder.old) W.contents settings.now list.old list.new (L.received log.old, L.received log.new) result }
+    ensures { ListsJob (F.content finder.old) (F.answers finder.old, F.answers finder.new) W.contents settings.now list.old list.new (L.received log.old, L.received log.new) result }
 {
     let ran = run_over(alloc, settings, finder, list, log);
     let finished = list.finish(&ran);
@@ -99,7 +100,7 @@ fn do_job<F: Finder, O: Outputs>(
     outputs: &mut O,
     log_path: &str,
 ) -> Result<Report, RunFault>
-    ensures { DoesWith (F.content finder.old) O.List.contents settings.now log_path.now file (O.acts outputs.old) (O.acts outputs.new) result }
+    ensures { DoesWith (F.content finder.old) (F.answers finder.old, F.answers finder.new) O.List.contents settings.now log_path.now file (O.acts outputs.old) (O.acts outputs.new) result }
 {
     let mut log = Over::new(Vec::new(alloc));
     let mut list = ListFile::new(file);
@@ -115,9 +116,10 @@ pub fn run_job<S: System + Drop, O: Outputs>(
     alloc: Global,
     settings: &Settings<'_>,
     system: S,
+    history: &mut History,
     outputs: &mut O,
 ) -> Result<Report, RunFault>
-    ensures does { DoesJob (S.content system) O.List.contents settings.now (O.acts outputs.old) (O.acts outputs.new) result }
+    ensures does { DoesJob (S.content system) (history.old, history.new) O.List.contents settings.now (O.acts outputs.old) (O.acts outputs.new) result }
     ensures bound { IfOk result (λ report. report.steps ≤ settings.now.options.budget) }
     ensures product { IfOk result (IsReportOfSome settings.now) }
 {
@@ -125,13 +127,16 @@ pub fn run_job<S: System + Drop, O: Outputs>(
     let log_path = path_of(alloc, settings, ".blg")?;
     let file = outputs.open_list(list_path.as_str())?;
     outputs.empty_log(log_path.as_str());
-    let mut finder = DirectoryFinder::new(system, settings.directory);
-    do_job(
+    let given = mem::replace(history, History::new(alloc));
+    let mut finder = DirectoryFinder::new(system, settings.directory, given);
+    let answer = do_job(
         alloc,
         settings,
         &mut finder,
         file,
         outputs,
         log_path.as_str(),
-    )
+    );
+    *history = finder.into_history();
+    answer
 }

@@ -14,6 +14,7 @@ pub mod program;
 mod spelling;
 pub mod system;
 
+pub use btx_run::History;
 pub use command_line::settings;
 pub use directory::DirectoryFinder;
 pub use given::{Refusal, Settings};

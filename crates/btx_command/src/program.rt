@@ -14,7 +14,7 @@ use crate::outcome::Exit;
 use crate::outputs::Outputs;
 use crate::spelling::hint;
 use crate::system::System;
-use btx_run::{Report, RunFault};
+use btx_run::{History, Report, RunFault};
 use std::alloc::Global;
 use std::env::Args;
 use std::io;
@@ -74,14 +74,15 @@ fn report_answer<O: Outputs>(outputs: &mut O, answer: Result<Report, RunFault>) 
 fn answer<S: System + Drop, O: Outputs>(
     alloc: Global,
     system: S,
+    history: &mut History,
     outputs: &mut O,
     words: &[String],
 ) -> Exit
-    ensures { ComesTo (S.content system) O.List.contents (map (λ word. string_bytes word) words.now) (hint_of words.now) (O.acts outputs.old) (O.acts outputs.new) result }
+    ensures { ComesTo (S.content system) (history.old, history.new) O.List.contents (map (λ word. string_bytes word) words.now) (hint_of words.now) (O.acts outputs.old) (O.acts outputs.new) result }
 {
     match settings(alloc, words) {
         Ok(settings) => {
-            let answer = run_job(alloc, &settings, system, outputs);
+            let answer = run_job(alloc, &settings, system, history, outputs);
             report_answer(outputs, answer)
         }
         Err(refusal) => report_refusal(outputs, &refusal, hint(words)),
@@ -105,13 +106,14 @@ fn report_unread<O: Outputs>(outputs: &mut O, error: &io::Error) -> Exit
 fn end_of<S: System + Drop, O: Outputs>(
     alloc: Global,
     system: S,
+    history: &mut History,
     outputs: &mut O,
     words: io::Result<Vec<String>>,
 ) -> Exit
-    ensures { EndsFor (S.content system) O.List.contents words (O.acts outputs.old) (O.acts outputs.new) result }
+    ensures { EndsFor (S.content system) (history.old, history.new) O.List.contents words (O.acts outputs.old) (O.acts outputs.new) result }
 {
     match words {
-        Ok(words) => answer(alloc, system, outputs, words.as_slice()),
+        Ok(words) => answer(alloc, system, history, outputs, words.as_slice()),
         Err(error) => report_unread(outputs, &error),
     }
 }
@@ -128,11 +130,12 @@ fn exit_code(exit: Exit) -> ExitCode
 pub fn run_command_line<S: System + Drop, O: Outputs>(
     alloc: Global,
     system: S,
+    history: &mut History,
     outputs: &mut O,
     args: io::Result<Args>,
 ) -> ExitCode
-    ensures { ExitsWith (S.content system) O.List.contents args (O.acts outputs.old) (O.acts outputs.new) (exit_status result) }
+    ensures { ExitsWith (S.content system) (history.old, history.new) O.List.contents args (O.acts outputs.old) (O.acts outputs.new) (exit_status result) }
 {
     let words = words(alloc, args);
-    exit_code(end_of(alloc, system, outputs, words))
+    exit_code(end_of(alloc, system, history, outputs, words))
 }

@@ -1,6 +1,6 @@
 //! Files of a real folder, as they are fetched for a run.
 use crate::scratch::{make_folder, write_file};
-use btx_command::{DirectoryFinder, RealSystem};
+use btx_command::{DirectoryFinder, History, RealSystem};
 use btx_run::{FetchFault, Finder};
 use std::alloc::{AllocError, Global};
 use std::fs;
@@ -18,7 +18,8 @@ struct Row<'a> {
 // Whether a new finder over a folder gives this for a name.
 fn gives(rt: &HostRuntime, directory: &str, row: &Row<'_>) -> Result<bool, AllocError> {
     let mut into = Vec::from_slice(rt.alloc(), b"what was there")?;
-    let mut finder = DirectoryFinder::new(RealSystem::new(rt), directory);
+    let history = History::new(rt.alloc());
+    let mut finder = DirectoryFinder::new(RealSystem::new(rt), directory, history);
     let answer = finder.fetch(rt.alloc(), row.name, &mut into);
     Ok(answer == row.answer && finder.failures() == row.failures && into.as_slice() == row.bytes)
 }

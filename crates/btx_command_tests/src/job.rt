@@ -1,6 +1,6 @@
 //! A job of a real folder, with the files that it writes, and what is printed of a log.
 use crate::scratch::{make_folder, write_file};
-use btx_command::{RealSystem, Settings, SystemOutputs, path_of, printed_log, run_job};
+use btx_command::{History, RealSystem, Settings, SystemOutputs, path_of, printed_log, run_job};
 use btx_run::{KeptBytes, LineLength, Options, Report, RunFault, TextMode};
 use std::test::Fail;
 use std::{fs, io};
@@ -45,8 +45,15 @@ fn status_of(answer: Result<Report, RunFault>) -> Result<u8, RunFault> {
 // Runs the job in a folder, and gives its status.
 fn status_in(rt: &HostRuntime, directory: &str) -> Result<u8, RunFault> {
     let settings = settings_in(directory);
+    let mut history = History::new(rt.alloc());
     let mut outputs = SystemOutputs::new(rt);
-    status_of(run_job(rt.alloc(), &settings, RealSystem::new(rt), &mut outputs))
+    status_of(run_job(
+        rt.alloc(),
+        &settings,
+        RealSystem::new(rt),
+        &mut history,
+        &mut outputs,
+    ))
 }
 
 // Whether an output of the job has this text.

@@ -1,5 +1,5 @@
 //! The whole program, with words that are read and words that are not.
-use btx_command::{RealSystem, SystemOutputs, run_command_line};
+use btx_command::{History, RealSystem, SystemOutputs, run_command_line};
 use std::alloc::{AllocError, Global};
 use std::env::Args;
 use std::io;
@@ -9,8 +9,10 @@ use std::test::Fail;
 
 // Whether the program exits so for the system's answer when it was asked for the words.
 fn exits_with(rt: &HostRuntime, args: io::Result<Args>, status: u8) -> bool {
+    let mut history = History::new(rt.alloc());
     let mut outputs = SystemOutputs::new(rt);
-    let code = run_command_line(rt.alloc(), RealSystem::new(rt), &mut outputs, args);
+    let system = RealSystem::new(rt);
+    let code = run_command_line(rt.alloc(), system, &mut history, &mut outputs, args);
     code == ExitCode::from(status)
 }
 

@@ -6,7 +6,8 @@ use Rattle.std.specs.Str.{bytes_eq}
 use Rattle.std.proofs.lemmas.List.{map-append, take-append-drop}
 use Rattle.std.proofs.lemmas.Map.Keys.{IsDistinct-cons, IsDistinct-head, IsDistinct-tail}
 use Rattle.std.proofs.lemmas.Slice.Eq.{bytes_eq-Decides}
-use Rattle.btx_aux.specs.refinement.Answers.{AsksTop, ByAnswers}
+use Rattle.btx_aux.specs.language.Answers.{FinderAnswer}
+use Rattle.btx_aux.specs.refinement.Answers.{AsksTop, AsksTopAtMost, ByAnswers}
 use Rattle.btx_aux.specs.refinement.Entries.{Bytes, texts_of}
 use Rattle.btx_aux.specs.language.Files.{Files}
 use Rattle.btx_aux.specs.language.Job.{AuxJob, job_of_files}
@@ -148,10 +149,15 @@ asked-once files name job is xs ys top among =
     (subst (λ (names : Names). AllByRecursion (λ name. has_ending (codes ".aux") name ≡ true) names) (sym top.is) (top-ends name, top.endings))
     (all-among _ ys (names_in job) among (none_aux files (top_name name) job is)) top.once (distinct-among ys (names_in job) among (names_once files (top_name name) job is))
 
--- what holds of all files that answer so, in the whole of a run, holds of some files
-pub some_of_run : {content later : Option Files} (name : List ℕ) (job : AuxJob) {Claim : Files → Type 0} {Whole : Files → Type 0} → later ≡ content
-    → ByAnswers content (AsksTop (top_name name)) (λ files. job ≡ job_named files name) → ByAnswers later (λ asked. AreAmong asked (names_in job)) Claim
-    → ((files : Files) → job ≡ job_named files name → Claim files → Whole files) → (files : Files) × Whole files
-some_of_run {content} name job {Claim} {Whole} same first second holds =
+-- what holds of all files that answer so, in the whole of a run; none is asked for twice
+pub of_run : {content later : Option Files} {given between after : List FinderAnswer} (name : List ℕ) (job : AuxJob) {Claim : Files → Type 0} {Whole : Files → Type 0} → later ≡ content
+    → ByAnswers content given between (AsksTop (top_name name)) (λ files. job ≡ job_named files name) → ByAnswers later between after (λ asked. AreAmong asked (names_in job)) Claim
+    → ((files : Files) → job ≡ job_named files name → Claim files → Whole files) → ByAnswers content given after (λ names. IsDistinct bytes_eq names) Whole
+of_run {content} name job {Claim} {Whole} same first second holds =
     let known = some_files (by_map first (λ names asks. asks.once) (λ files is. is)) in
-    some_files (by_both same first second (asked-once known.0 name job known.1) holds)
+    by_both same first second (asked-once known.0 name job known.1) holds
+
+-- as far as the `.aux` files were asked for none was asked for twice
+pub begun_once : (top : List ℕ) (names : Names) → AsksTopAtMost top names → IsDistinct bytes_eq names
+begun_once top names (inl none) = subst (λ (names : Names). IsDistinct bytes_eq names) (sym none) distinct-none
+begun_once top names (inr asks) = asks.once

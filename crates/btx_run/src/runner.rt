@@ -118,12 +118,12 @@ fn run_job<F: Finder, W: Sink, L: Sink>(
     bbl: &mut W,
     log: &mut L,
 ) -> Result<Report, Fault>
-    ensures ok { IfOk result (λ report. ByAnswers (F.content finder.old) (λ asked. AreAmong asked (names_in job.now)) (λ files.
+    ensures ok { IfOk result (λ report. ByAnswers (F.content finder.old) (F.answers finder.old) (F.answers finder.new) (λ asked. AreAmong asked (names_in job.now)) (λ files.
         Completes report (W.received bbl.old, L.received log.old) (W.received bbl.new, L.received log.new)
         (product_of_reading job.now (files_read files job.now) options.now options.now.budget))) }
     ensures bound { IfOk result (λ report. report.steps ≤ options.now.budget) }
     ensures deep { IfOk result (λ report. report.deepest ≤ 4096) }
-    ensures err { OnErr result (ByAnswers (F.content finder.old) (λ asked. AreAmong asked (names_in job.now)) (λ files.
+    ensures err { OnErr result (ByAnswers (F.content finder.old) (F.answers finder.old) (F.answers finder.new) (λ asked. AreAmong asked (names_in job.now)) (λ files.
         AtFault (W.received bbl.old, L.received log.old) (W.received bbl.new, L.received log.new)
         (product_of_reading job.now (files_read files job.now) options.now) options.now.budget)) }
     ensures untouched { IfOk result (λ report. report.end ≡ NoTopFile → bbl.new ≡ bbl.old) }
@@ -152,8 +152,8 @@ fn run_named<F: Finder, W: Sink, L: Sink>(
     ensures deep { IfOk result (λ report. report.deepest ≤ 4096) }
     ensures err { OnErr result (IfSome (F.content finder.old) (λ files.
         AtFault (W.received bbl.old, L.received log.old) (W.received bbl.new, L.received log.new) (product_with files name.now options.now) options.now.budget)) }
-    ensures answered { IfOk result (CompletesAsAnswered name.now options.now (W.received bbl.old, L.received log.old) (W.received bbl.new, L.received log.new)) }
-    ensures begun { OnErr result (FailsAsAnswered name.now options.now (W.received bbl.old, L.received log.old) (W.received bbl.new, L.received log.new)) }
+    ensures answered { IfOk result (CompletesAsAnswered name.now options.now (F.answers finder.old, F.answers finder.new) (W.received bbl.old, L.received log.old) (W.received bbl.new, L.received log.new)) }
+    ensures begun { OnErr result (FailsAsAnswered name.now options.now (F.answers finder.old, F.answers finder.new) (W.received bbl.old, L.received log.old) (W.received bbl.new, L.received log.new)) }
     ensures untouched { IfOk result (λ report. report.end ≡ NoTopFile → bbl.new ≡ bbl.old) }
     ensures counts { CountsOfThree result (F.failures finder.old, F.failures finder.new) (W.failures bbl.old, W.failures bbl.new) (L.failures log.old, L.failures log.new) }
     ensures stays { F.content finder.new ≡ F.content finder.old }
@@ -203,11 +203,11 @@ pub fn run<F: Finder, W: Sink, L: Sink>(
         AtFault (W.received bbl.old, L.received log.old) (W.received bbl.new, L.received log.new) (product_with files name.now options.now) options.now.budget)) }
     ensures counts { CountsOfRun result (F.failures finder.old, F.failures finder.new) (W.failures bbl.old, W.failures bbl.new) (L.failures log.old, L.failures log.new) }
 
-    // Of every finder, whether it shows its content or not, as one over the files of a disk: there are files such that the report is that of their
-    // product for this name, and both outputs received its bytes. After a fault there are files such that both outputs are prefixes of their
-    // product's, and keep step.
-    ensures answered { IfOk result (CompletesAsAnswered name.now options.now (W.received bbl.old, L.received log.old) (W.received bbl.new, L.received log.new)) }
-    ensures begun { OnErr result (FailsAsAnswered name.now options.now (W.received bbl.old, L.received log.old) (W.received bbl.new, L.received log.new)) }
+    // Of every finder, whether it shows its content or not, as one over the files of a disk: it was asked for no name twice, and for all files that
+    // agree with each answer that it gave in this run the report is that of their product for this name, and both outputs received its bytes. After a
+    // fault both outputs are prefixes of their product's, and keep step.
+    ensures answered { IfOk result (CompletesAsAnswered name.now options.now (F.answers finder.old, F.answers finder.new) (W.received bbl.old, L.received log.old) (W.received bbl.new, L.received log.new)) }
+    ensures begun { OnErr result (FailsAsAnswered name.now options.now (F.answers finder.old, F.answers finder.new) (W.received bbl.old, L.received log.old) (W.received bbl.new, L.received log.new)) }
 
     // Whatever the finder and the sinks are.
     ensures bound { IfOk result (λ report. report.steps ≤ options.now.budget) }

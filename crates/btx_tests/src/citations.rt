@@ -1,7 +1,7 @@
 //! What the `.aux` files of a job say, and files in memory. A helper answers whether a job says what it is to say, so no test holds a job or a finder.
 use crate::finders::{EveryFinder, FailingFinder, RefusedFinder};
 use crate::texts::joined;
-use btx_aux::{AuxJob, End, FetchFault, Finder, MemoryFinder, read_aux};
+use btx_aux::{AuxJob, End, FetchFault, Finder, History, MemoryFinder, read_aux};
 use btx_text::{Fault, LineKind, LogLine};
 use std::alloc::{AllocError, Global};
 use std::ops::Range;
@@ -515,6 +515,7 @@ fn inputs_say(alloc: Global, top: &[u8]) -> bool {
         name: b"job.aux",
         bytes: top,
         others: b"\\citation{k}",
+        history: History::new(alloc),
     };
     let wanted = Wanted::Keys(b"k;", (5_003, 2, 1, End::Whole));
     says_over(alloc, &mut finder, b"job.aux", wanted) == Ok(true)

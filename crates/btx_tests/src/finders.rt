@@ -1,7 +1,7 @@
 //! Finders that fail or are refused memory, and finders of as many files as are asked for.
 ghost use Rattle.std.specs.Prelude.{◌≡◌, IfErr, None, OnErr, OnOk, [], Ok, false};
 
-use btx_aux::{FetchFault, Finder};
+use btx_aux::{FetchFault, Finder, History};
 use std::alloc::Global;
 
 /// A finder whose device fails at one fetch.
@@ -15,6 +15,8 @@ pub struct FailingFinder<F> {
 
 impl<F: Finder> Finder for FailingFinder<F> {
     ghost content = { λ finder. F.content finder.inner };
+
+    ghost answers = { λ finder. F.answers finder.inner };
 
     ghost failures = { λ finder. finder.failures };
 
@@ -50,6 +52,8 @@ pub struct RefusedFinder<F> {
 impl<F: Finder> Finder for RefusedFinder<F> {
     ghost content = { λ finder. F.content finder.inner };
 
+    ghost answers = { λ finder. F.answers finder.inner };
+
     ghost failures = { λ finder. F.failures finder.inner };
 
     fn fetch(
@@ -74,6 +78,7 @@ pub struct EveryFinder<'a> {
     pub name: &'a [u8],
     pub bytes: &'a [u8],
     pub others: &'a [u8],
+    pub history: History,
 }
 
 // Puts these bytes in place of what was there.
@@ -89,11 +94,13 @@ fn fill(into: &mut Vec<u8>, bytes: &[u8]) -> Result<(), FetchFault>
 impl Finder for EveryFinder<'_> {
     ghost content = { λ _. None };
 
+    ghost answers = { λ finder. finder.history };
+
     ghost failures = { λ _. 0 };
 
     fn fetch(
         &mut self,
-        _alloc: Global,
+        alloc: Global,
         name: &[u8],
         into: &mut Vec<u8>,
     ) -> Result<bool, FetchFault> {
@@ -103,6 +110,10 @@ impl Finder for EveryFinder<'_> {
             self.others
         };
         fill(into, bytes)?;
+        if self.history.note(alloc, name, true, into).is_err() {
+            into.clear();
+            return Err(FetchFault::Memory);
+        }
         Ok(true)
     }
 }

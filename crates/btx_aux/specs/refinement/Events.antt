@@ -1,5 +1,5 @@
 -- Names of parts of the events' definitions.
-use Rattle.std.specs.Prelude.{ℕ, List, [], ◌∷◌, Option, None, Some, Bool, true, false, if◌then◌else◌}
+use Rattle.std.specs.Prelude.{ℕ, List, [], ◌∷◌, Option, Bool, if◌then◌else◌}
 use Rattle.std.specs.Option.{option_map_or}
 use Rattle.btx_aux.specs.language.Events.{AuxEvent, named_by, FileEvents, event_at, said, expanded, opened}
 use Rattle.btx_aux.specs.language.Grammar.{Absent, TooLong, NoTop}

@@ -1,5 +1,5 @@
 -- Names of parts of the grammar.
-use Rattle.std.specs.Prelude.{ℕ, false, List, ◌+◌, [], take, drop, Option, None, Some}
+use Rattle.std.specs.Prelude.{ℕ, false, List, ◌+◌, [], take, drop, Option}
 use Rattle.std.specs.Option.{option_map_or}
 use Rattle.btx_aux.specs.language.Grammar.{Piece, pieces_of, first_piece, aux_command_named, EventKind, words_of_command}
 

@@ -1,6 +1,6 @@
 -- The reading of files, as what is known after it: the events of `Events`, each used at once. These definitions serve the private
 -- functions; that they give what the events of a job come to is proved of the public call.
-use Rattle.std.specs.Prelude.{◌≡◌, ℕ, zero, suc, ◌-◌, Bool, true, false, List, [], ◌∷◌, ◌++◌, map, fold, Option, None, Some, if◌then◌else◌}
+use Rattle.std.specs.Prelude.{◌≡◌, ◌⊎◌, ℕ, zero, suc, ◌-◌, Bool, true, false, List, [], ◌∷◌, ◌++◌, map, fold, Option, None, Some, if◌then◌else◌}
 use Rattle.std.specs.List.{IsDistinct}
 use Rattle.std.specs.Str.{bytes_eq}
 use Rattle.btx_aux.specs.declared.draft.Draft.{Draft}
@@ -81,3 +81,18 @@ pub record AsksFirst (first : List ℕ) (before after names : List (List ℕ)) :
 -- the names that are known once a file is opened, where this number of further files may be opened: the top file's is new
 abbrev pub names_opened : List (List ℕ) → List ℕ → ℕ → List (List ℕ)
 names_opened before name room = fold with_name_once before (named_by name (Opens (MOST_OPEN - room)))
+
+-- names were asked for, each none of those that are known, and each ends in `.aux`
+pub record AsksNew (known names : List (List ℕ)) : Type 0 where
+  pub once : IsDistinct bytes_eq known → IsDistinct bytes_eq (known ++ names)
+  pub endings : EndInAux names
+
+-- a file was asked for whose name is known already, and then others
+pub record AsksOne (first : List ℕ) (known names : List (List ℕ)) : Type 0 where
+  pub later : List (List ℕ)
+  pub is : names ≡ first ∷ later
+  pub new : AsksNew known later
+
+-- no file was asked for, or one whose name is known already, and then others
+abbrev pub AsksOneAtMost : List ℕ → List (List ℕ) → List (List ℕ) → Type 0
+AsksOneAtMost first known names = (names ≡ []) ⊎ AsksOne first known names

@@ -39,7 +39,7 @@ fn find_database<'a, F: Finder, L: Sink>(
     name: &'a [u8],
     journal: &mut Journal<'_, L>,
 ) -> Result<Option<FoundFile<'a>>, Fault>
-    ensures reads { ByAnswers (F.content finder.old) (λ names. AreAmong names (name.entry.now ∷ [])) (λ files.
+    ensures reads { ByAnswers (F.content finder.old) (F.answers finder.old) (F.answers finder.new) (λ names. AreAmong names (name.entry.now ∷ [])) (λ files.
         ReadsAs result (counts_at journal.old, counts_at journal.new) (journal.old.sink.received, journal.new.sink.received) (database_read files number name.entry.now)) }
     ensures stays { F.content finder.new ≡ F.content finder.old }
     ensures counts { CountsOfReading result (F.failures finder.old, F.failures finder.new) journal.old journal.new }
@@ -58,7 +58,7 @@ fn add_database<'a, F: Finder, L: Sink>(
     found: &mut FoundFiles<'a>,
     journal: &mut Journal<'_, L>,
 ) -> Result<(), Fault>
-    ensures adds { ByAnswers (F.content finder.old) (λ names. AreAmong names (name.entry.now ∷ [])) (λ files.
+    ensures adds { ByAnswers (F.content finder.old) (F.answers finder.old) (F.answers finder.new) (λ names. AreAmong names (name.entry.now ∷ [])) (λ files.
         AddsAs result found.old found.new (counts_at journal.old, counts_at journal.new) (journal.old.sink.received, journal.new.sink.received) (database_read files (length found.old + 1) name.entry.now)) }
     ensures stays { F.content finder.new ≡ F.content finder.old }
     ensures counts { CountsOfReading result (F.failures finder.old, F.failures finder.new) journal.old journal.new }
@@ -77,7 +77,7 @@ pub fn find_databases<'a, F: Finder, L: Sink>(
     names: &'a [Vec<u8>],
     journal: &mut Journal<'_, L>,
 ) -> Result<FoundFiles<'a>, Fault>
-    ensures reads { ByAnswers (F.content finder.old) (λ asked. AreAmong asked (texts_of names.entry.now)) (λ files.
+    ensures reads { ByAnswers (F.content finder.old) (F.answers finder.old) (F.answers finder.new) (λ asked. AreAmong asked (texts_of names.entry.now)) (λ files.
         ReadsAs result (counts_at journal.old, counts_at journal.new) (journal.old.sink.received, journal.new.sink.received) (databases_read files (texts_of names.entry.now))) }
     ensures stays { F.content finder.new ≡ F.content finder.old }
     ensures counts { CountsOfReading result (F.failures finder.old, F.failures finder.new) journal.old journal.new }

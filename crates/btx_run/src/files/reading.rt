@@ -1,6 +1,6 @@
 //! The reading of a job's files.
-ghost use Rattle.std.specs.Prelude.{◌≡◌, ◌∷◌, IfOk, IfSome, None, Some};
-ghost use Rattle.btx_aux.specs.refinement.Answers.{AsksTop, ByAnswers};
+ghost use Rattle.std.specs.Prelude.{◌≡◌, ◌∷◌, IfOk, IfSome, None, OnErr, Some};
+ghost use Rattle.btx_aux.specs.refinement.Answers.{Answered, AsksTop, AsksTopAtMost, ByAnswers};
 ghost use Rattle.btx_aux.specs.refinement.Faults.{CountsOfOne};
 ghost use Rattle.btx_aux.specs.language.Files.{Files};
 ghost use Rattle.btx_aux.specs.language.Job.{AuxJob};
@@ -27,7 +27,8 @@ use std::alloc::Global;
 /// Reads the `.aux` files of the job `name`, which may end in `.aux`.
 pub fn read_job<F: Finder>(alloc: Global, finder: &mut F, name: &[u8]) -> Result<AuxJob, Fault>
     ensures job { IfOk result (λ job. IfSome (F.content finder.old) (λ files. job ≡ job_named files name.now)) }
-    ensures answered { IfOk result (λ job. ByAnswers (F.content finder.old) (AsksTop (top_name name.now)) (λ files. job ≡ job_named files name.now)) }
+    ensures answered { IfOk result (λ job. ByAnswers (F.content finder.old) (F.answers finder.old) (F.answers finder.new) (AsksTop (top_name name.now)) (λ files. job ≡ job_named files name.now)) }
+    ensures asked { OnErr result (Answered (F.content finder.old) (F.answers finder.old) (F.answers finder.new) (AsksTopAtMost (top_name name.now))) }
     ensures stays { F.content finder.new ≡ F.content finder.old }
     ensures counts { CountsOfOne result (F.failures finder.old, F.failures finder.new) }
 {
@@ -43,7 +44,7 @@ fn with_style<'a, F: Finder, L: Sink>(
     style: FoundFile<'a>,
     journal: &mut Journal<'_, L>,
 ) -> Result<FilesRead<'a>, Fault>
-    ensures reads { ByAnswers (F.content finder.old) (λ asked. AreAmong asked job.entry.now.databases) (λ files.
+    ensures reads { ByAnswers (F.content finder.old) (F.answers finder.old) (F.answers finder.new) (λ asked. AreAmong asked job.entry.now.databases) (λ files.
         ReadsAs result (counts_at journal.old, counts_at journal.new) (journal.old.sink.received, journal.new.sink.received) (after_style files job.entry.now style.entry)) }
     ensures fits { IfOk result (λ read. StyleFits read) }
     ensures stays { F.content finder.new ≡ F.content finder.old }
@@ -64,7 +65,7 @@ fn log_style<'a, F: Finder, L: Sink>(
     style: FoundFile<'a>,
     journal: &mut Journal<'_, L>,
 ) -> Result<FilesRead<'a>, Fault>
-    ensures reads { ByAnswers (F.content finder.old) (λ asked. AreAmong asked job.entry.now.databases) (λ files.
+    ensures reads { ByAnswers (F.content finder.old) (F.answers finder.old) (F.answers finder.new) (λ asked. AreAmong asked job.entry.now.databases) (λ files.
         ReadsAs result (counts_at journal.old, counts_at journal.new) (journal.old.sink.received, journal.new.sink.received) (style_read files job.entry.now style.entry.name (Some style.entry))) }
     ensures fits { IfOk result (λ read. StyleFits read) }
     ensures stays { F.content finder.new ≡ F.content finder.old }
@@ -99,7 +100,7 @@ fn find_style<'a, F: Finder, L: Sink>(
     name: &'a [u8],
     journal: &mut Journal<'_, L>,
 ) -> Result<FilesRead<'a>, Fault>
-    ensures reads { ByAnswers (F.content finder.old) (λ asked. AreAmong asked (name.entry.now ∷ job.entry.now.databases)) (λ files.
+    ensures reads { ByAnswers (F.content finder.old) (F.answers finder.old) (F.answers finder.new) (λ asked. AreAmong asked (name.entry.now ∷ job.entry.now.databases)) (λ files.
         ReadsAs result (counts_at journal.old, counts_at journal.new) (journal.old.sink.received, journal.new.sink.received) (style_read files job.entry.now name.entry.now (file_at files name.entry.now))) }
     ensures fits { IfOk result (λ read. StyleFits read) }
     ensures stays { F.content finder.new ≡ F.content finder.old }
@@ -118,7 +119,7 @@ fn after_job<'a, F: Finder, L: Sink>(
     job: &'a AuxJob,
     journal: &mut Journal<'_, L>,
 ) -> Result<FilesRead<'a>, Fault>
-    ensures reads { ByAnswers (F.content finder.old) (λ asked. AreAmong asked (names_in job.entry.now)) (λ files.
+    ensures reads { ByAnswers (F.content finder.old) (F.answers finder.old) (F.answers finder.new) (λ asked. AreAmong asked (names_in job.entry.now)) (λ files.
         ReadsAs result (counts_at journal.old, counts_at journal.new) (journal.old.sink.received, journal.new.sink.received) (after_job files job.entry.now job.entry.now.ending)) }
     ensures fits { IfOk result (λ read. StyleFits read) }
     ensures stays { F.content finder.new ≡ F.content finder.old }
@@ -139,7 +140,7 @@ fn named_style<'a, F: Finder, L: Sink>(
     job: &'a AuxJob,
     journal: &mut Journal<'_, L>,
 ) -> Result<FilesRead<'a>, Fault>
-    ensures reads { ByAnswers (F.content finder.old) (λ asked. AreAmong asked (names_in job.entry.now)) (λ files.
+    ensures reads { ByAnswers (F.content finder.old) (F.answers finder.old) (F.answers finder.new) (λ asked. AreAmong asked (names_in job.entry.now)) (λ files.
         ReadsAs result (counts_at journal.old, counts_at journal.new) (journal.old.sink.received, journal.new.sink.received) (style_named files job.entry.now job.entry.now.style)) }
     ensures fits { IfOk result (λ read. StyleFits read) }
     ensures stays { F.content finder.new ≡ F.content finder.old }
@@ -161,7 +162,7 @@ pub fn read_files<'a, F: Finder, L: Sink>(
 ) -> Result<FilesRead<'a>, Fault>
     ensures reads { IfSome (F.content finder.old) (λ files. ReadsAs result (counts_at journal.old, counts_at journal.new) (journal.old.sink.received, journal.new.sink.received)
         (files_read files job.entry.now)) }
-    ensures answered { ByAnswers (F.content finder.old) (λ asked. AreAmong asked (names_in job.entry.now)) (λ files.
+    ensures answered { ByAnswers (F.content finder.old) (F.answers finder.old) (F.answers finder.new) (λ asked. AreAmong asked (names_in job.entry.now)) (λ files.
         ReadsAs result (counts_at journal.old, counts_at journal.new) (journal.old.sink.received, journal.new.sink.received) (files_read files job.entry.now)) }
     ensures fits { IfOk result (λ read. StyleFits read) }
     ensures stays { F.content finder.new ≡ F.content finder.old }

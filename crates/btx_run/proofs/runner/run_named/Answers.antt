@@ -1,9 +1,10 @@
-use Rattle.std.proofs.Common.{None}
+use Rattle.btx_aux.specs.language.Answers.{names_asked}
+use Rattle.btx_run.specs.refinement.Files.Names.{top_name}
 use Rattle.btx_aux.proofs.AnswerLemmas.{shown_by}
 use Rattle.btx_machine.proofs.ComesLemmas.{err_map, ok_map, on_err}
 use Rattle.btx_machine.proofs.RunLemmas.{nothing_written}
 use Rattle.btx_core.specs.refinement.ComputedProduct.{product_with}
-use Rattle.btx_run.proofs.AskedLemmas.{some_of_run}
+use Rattle.btx_run.proofs.AskedLemmas.{begun_once, of_run}
 use Rattle.btx_run.proofs.ReadingLemmas.{of_any, of_both}
 use Rattle.btx_run.proofs.ProductLemmas.{completes_named, fails_named}
 use Rattle.btx_run.proofs.runner.run_named.Goals as goal
@@ -25,19 +26,22 @@ returns-clause-err g c =
 
 pub returns-in_err-job-clause-begun : goal.returns-in_err-job-clause-begun
 returns-in_err-job-clause-begun g c =
+    let asked = c.in_err-job.ensures.asked in
     on_err c.from_residual.result (record {
-      files = λ name. None;
-      fails = nothing_written (g.W.Sink.received c.args.bbl.now, g.L.Sink.received c.args.log.now) (product_with (λ name. None) c.args.name.now c.args.options.now) c.args.options.now.budget;
+      answers = asked.answers;
+      are_given = asked.given;
+      once = begun_once (top_name c.args.name.now) (names_asked asked.answers) asked.asks;
+      fails = λ files agree. nothing_written (g.W.Sink.received c.args.bbl.now, g.L.Sink.received c.args.log.now) (product_with files c.args.name.now c.args.options.now) c.args.options.now.budget;
     })
 
 pub returns-clause-answered : goal.returns-clause-answered
 returns-clause-answered g c =
     ok_map (λ report by.
-    let some = some_of_run c.args.name.now c.in_ok-job.job c.read_job.ensures.stays c.in_ok-job.ensures.answered by (completes_named c.args.name.now c.args.options.now _ _ c.in_ok-job.job report) in
-    record { files = some.0; completes = some.1 }) c.run_job.result c.run_job.ensures.ok
+    let whole = of_run c.args.name.now c.in_ok-job.job c.read_job.ensures.stays c.in_ok-job.ensures.answered by (completes_named c.args.name.now c.args.options.now _ _ c.in_ok-job.job report) in
+    record { answers = whole.answers; are_given = whole.given; once = whole.asks; completes = whole.holds }) c.run_job.result c.run_job.ensures.ok
 
 pub returns-clause-begun : goal.returns-clause-begun
 returns-clause-begun g c =
     err_map (λ by.
-    let some = some_of_run c.args.name.now c.in_ok-job.job c.read_job.ensures.stays c.in_ok-job.ensures.answered by (fails_named c.args.name.now c.args.options.now _ _ c.in_ok-job.job) in
-    record { files = some.0; fails = some.1 }) c.run_job.result c.run_job.ensures.err
+    let whole = of_run c.args.name.now c.in_ok-job.job c.read_job.ensures.stays c.in_ok-job.ensures.answered by (fails_named c.args.name.now c.args.options.now _ _ c.in_ok-job.job) in
+    record { answers = whole.answers; are_given = whole.given; once = whole.asks; fails = whole.holds }) c.run_job.result c.run_job.ensures.err

@@ -1,4 +1,4 @@
-use Rattle.std.proofs.Common.{rules, ◌∷◌, []}
+use Rattle.std.proofs.Common.{refl, rules, ◌∷◌, []}
 use Rattle.btx_aux.proofs.AnswerLemmas.{by_map, by_none}
 use Rattle.btx_run.proofs.AskedLemmas.{among-none, among-one}
 use Rattle.btx_run.proofs.ReadingLemmas.{database_is_begun, database_is_read, reads_nothing}
@@ -7,11 +7,11 @@ use Rattle.btx_run.proofs.files.databases.find_database.Goals as goal
 
 pub returns-in_err-found-clause-reads : goal.returns-in_err-found-clause-reads
 returns-in_err-found-clause-reads g c =
-    by_none (among-none (c.args.name.now ∷ [])) (λ files. reads_nothing c.from_residual.result _ _ _ _ (search rules))
+    by_none c.in_err-found.ensures.refused (among-none (c.args.name.now ∷ [])) (λ files. reads_nothing c.from_residual.result _ _ _ _ (search rules))
 
 pub returns-in_err-line-clause-reads : goal.returns-in_err-line-clause-reads
 returns-in_err-line-clause-reads g c =
-    by_none (among-none (c.args.name.now ∷ [])) (λ files. reads_nothing c.from_residual-in_err-line.result _ _ _ _ (search rules))
+    by_map c.in_ok-found.ensures.answered (among-one c.args.name.now) (λ files is. reads_nothing c.from_residual-in_err-line.result _ _ _ _ (search rules))
 
 pub returns-in_err-log_one-clause-reads : goal.returns-in_err-log_one-clause-reads
 returns-in_err-log_one-clause-reads g c =

@@ -20,13 +20,13 @@ returns-in_err-add_database-clause-reads g c =
 pub returns-clause-reads : goal.returns-clause-reads
 returns-clause-reads g c =
     let finder = g.F.Finder in
-    subst (λ (names : List Bytes). ByAnswers (finder.content c.args.finder.now) (λ asked. AreAmong asked (texts_of names)) (λ files.
+    subst (λ (names : List Bytes). ByAnswers (finder.content c.args.finder.now) (finder.answers c.args.finder.now) (finder.answers c.loop-name.finder) (λ asked. AreAmong asked (texts_of names)) (λ files.
     IsRead c.loop-name.found (counts_at c.args.journal.now, counts_at c.loop-name.journal) (c.args.journal.now.sink.received, c.loop-name.journal.sink.received) (databases_read files (texts_of names))))
     (take_all c.loop-name.name-index c.args.names.now c.loop-name-test.false) c.loop-name.invariant.read
 
 pub loop-name-init : goal.loop-name-init
 loop-name-init g c = record {
-  read = by_none (among-none []) (λ files. no_database files c.new-found.result _ _ c.new-found.ensures);
+  read = by_none refl (among-none []) (λ files. no_database files c.new-found.result _ _ c.new-found.ensures);
   stays = refl;
   fetches = refl;
   sink = refl;

@@ -1,4 +1,4 @@
-use Rattle.std.proofs.Common.{rules, ◌≡◌}
+use Rattle.std.proofs.Common.{refl, rules, ◌≡◌}
 use Rattle.btx_aux.specs.declared.end.End.TheVariants as aux
 use Rattle.btx_aux.proofs.AnswerLemmas.{by_map, by_none}
 use Rattle.btx_run.specs.refinement.Files.Counts.{counts_at}
@@ -17,14 +17,14 @@ returns-in-Whole-clause-reads g c =
 pub returns-in-TooManyOpen-clause-reads : goal.returns-in-TooManyOpen-clause-reads
 returns-in-TooManyOpen-clause-reads g c =
     let is : c.args.job.now.ending ≡ aux.TooManyOpen = search rules in
-    by_none (among-none (names_in c.args.job.now)) (λ files. after_many files c.args.job.now c.args.job.now.ending (counts_at c.args.journal.now) c.args.journal.now.sink.received is)
+    by_none refl (among-none (names_in c.args.job.now)) (λ files. after_many files c.args.job.now c.args.job.now.ending (counts_at c.args.journal.now) c.args.journal.now.sink.received is)
 
 pub returns-in-TopMissing-clause-reads : goal.returns-in-TopMissing-clause-reads
 returns-in-TopMissing-clause-reads g c =
     let is : c.args.job.now.ending ≡ aux.TopMissing = search rules in
-    by_none (among-none (names_in c.args.job.now)) (λ files. after_none files c.args.job.now c.args.job.now.ending (counts_at c.args.journal.now) c.args.journal.now.sink.received is)
+    by_none refl (among-none (names_in c.args.job.now)) (λ files. after_none files c.args.job.now c.args.job.now.ending (counts_at c.args.journal.now) c.args.journal.now.sink.received is)
 
 pub returns-in-FileLimit-clause-reads : goal.returns-in-FileLimit-clause-reads
 returns-in-FileLimit-clause-reads g c =
     let is : c.args.job.now.ending ≡ aux.FileLimit = search rules in
-    by_none (among-none (names_in c.args.job.now)) (λ files. after_long files c.args.job.now c.args.job.now.ending (counts_at c.args.journal.now) c.args.journal.now.sink.received is)
+    by_none refl (among-none (names_in c.args.job.now)) (λ files. after_long files c.args.job.now c.args.job.now.ending (counts_at c.args.journal.now) c.args.journal.now.sink.received is)

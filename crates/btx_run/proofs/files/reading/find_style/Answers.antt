@@ -1,11 +1,11 @@
-use Rattle.std.proofs.Common.{rules, ◌∷◌, []}
+use Rattle.std.proofs.Common.{refl, rules, ◌∷◌, []}
 use Rattle.btx_aux.proofs.AnswerLemmas.{by_both, by_map, by_none}
 use Rattle.btx_run.proofs.AskedLemmas.{among-first, among-front, among-none, among-one}
 use Rattle.btx_run.proofs.ReadingLemmas.{reads_nothing, style_is_found, style_is_missing}
 use Rattle.btx_run.proofs.files.reading.find_style.Goals as goal
 
 pub returns-in_err-style-clause-reads : goal.returns-in_err-style-clause-reads
-returns-in_err-style-clause-reads g c = by_none (among-none (c.args.name.now ∷ c.args.job.now.databases)) (λ files. reads_nothing c.from_residual.result _ _ _ _ (search rules))
+returns-in_err-style-clause-reads g c = by_none c.in_err-style.ensures.refused (among-none (c.args.name.now ∷ c.args.job.now.databases)) (λ files. reads_nothing c.from_residual.result _ _ _ _ (search rules))
 
 pub returns-in-Some-clause-reads : goal.returns-in-Some-clause-reads
 returns-in-Some-clause-reads g c =

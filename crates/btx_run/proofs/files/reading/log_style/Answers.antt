@@ -1,4 +1,4 @@
-use Rattle.std.proofs.Common.{rules, ◌≡◌, ◌∙◌, ◌∷◌, [], ap, subst}
+use Rattle.std.proofs.Common.{refl, rules, ◌≡◌, ◌∙◌, ◌∷◌, [], ap, subst}
 use Rattle.btx_aux.proofs.AnswerLemmas.{by_map, by_none}
 use Rattle.btx_out.specs.language.Pieces.{AppendsPrefix}
 use Rattle.btx_run.specs.refinement.Files.Counts.{counts_at}
@@ -10,14 +10,14 @@ use Rattle.btx_run.proofs.LoggingLemmas.{line_begun, logs_line}
 use Rattle.btx_run.proofs.files.reading.log_style.Goals as goal
 
 pub returns-in_err-line-clause-reads : goal.returns-in_err-line-clause-reads
-returns-in_err-line-clause-reads g c = by_none (among-none c.args.job.now.databases) (λ files. reads_nothing c.from_residual.result _ _ _ _ (search rules))
+returns-in_err-line-clause-reads g c = by_none refl (among-none c.args.job.now.databases) (λ files. reads_nothing c.from_residual.result _ _ _ _ (search rules))
 
 pub returns-in_err-log_one-clause-reads : goal.returns-in_err-log_one-clause-reads
 returns-in_err-log_one-clause-reads g c =
     let line : c.in_ok-line.line ≡ style_line c.args.style.name = c.in_ok-line.ensures ∙ ap style_line c.name.ensures in
     let part : AppendsPrefix c.args.journal.now.sink.received c.log_one.new.self.sink.received (bytes_of_lines (style_line c.args.style.name ∷ [])) =
     subst (λ line. AppendsPrefix c.args.journal.now.sink.received c.log_one.new.self.sink.received (bytes_of_lines (line ∷ []))) line (line_begun c.in_ok-line.line _ _ c.in_err-log_one.ensures.err) in
-    by_none (among-none c.args.job.now.databases)
+    by_none refl (among-none c.args.job.now.databases)
     (λ files. reads_is c.from_residual-in_err-log_one.result _ _ _ _ (style_is_read files c.args.job.now c.args.style.name c.args.style)
     (reads_part c.from_residual-in_err-log_one.result _ _ _ _ (style_line c.args.style.name ∷ []) _ (search rules) part))
 

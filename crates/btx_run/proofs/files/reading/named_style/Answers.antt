@@ -1,4 +1,4 @@
-use Rattle.std.proofs.Common.{rules, ◌≡◌, None, Some}
+use Rattle.std.proofs.Common.{refl, rules, ◌≡◌, None, Some}
 use Rattle.btx_aux.proofs.AnswerLemmas.{by_map, by_none}
 use Rattle.btx_run.specs.refinement.Files.Counts.{counts_at}
 use Rattle.btx_run.proofs.AskedLemmas.{among-named, among-none}
@@ -16,4 +16,4 @@ returns-in-Some-clause-reads g c =
 pub returns-in-None-clause-reads : goal.returns-in-None-clause-reads
 returns-in-None-clause-reads g c =
     let is : c.args.job.now.style ≡ None = search (rules, c.in-None.ensures) in
-    by_none (among-none (names_in c.args.job.now)) (λ files. style_unnamed files c.args.job.now c.args.job.now.style (counts_at c.args.journal.now) c.args.journal.now.sink.received is)
+    by_none refl (among-none (names_in c.args.job.now)) (λ files. style_unnamed files c.args.job.now c.args.job.now.style (counts_at c.args.journal.now) c.args.journal.now.sink.received is)

@@ -1,4 +1,4 @@
-use Rattle.std.proofs.Common.{rules, subst}
+use Rattle.std.proofs.Common.{refl, rules, subst}
 use Rattle.btx_aux.proofs.AnswerLemmas.{by_map, by_none, shown_by}
 use Rattle.btx_out.specs.language.Pieces.{AppendsPrefix}
 use Rattle.btx_run.specs.refinement.Files.Counts.{counts_at}
@@ -12,7 +12,7 @@ pub returns-in_err-log_all-clause-answered : goal.returns-in_err-log_all-clause-
 returns-in_err-log_all-clause-answered g c =
     let part : AppendsPrefix c.args.journal.now.sink.received c.log_all.new.journal.sink.received (bytes_of_lines c.args.job.now.log) =
     subst (λ lines. AppendsPrefix c.args.journal.now.sink.received c.log_all.new.journal.sink.received (bytes_of_lines lines)) c.log.ensures c.in_err-log_all.ensures.err in
-    by_none (among-none (names_in c.args.job.now)) (λ files. reads_part c.from_residual.result _ _ _ _ c.args.job.now.log _ (search rules) part)
+    by_none refl (among-none (names_in c.args.job.now)) (λ files. reads_part c.from_residual.result _ _ _ _ c.args.job.now.log _ (search rules) part)
 
 pub returns-in_err-log_all-clause-reads : goal.returns-in_err-log_all-clause-reads
 returns-in_err-log_all-clause-reads g c = shown_by (returns-in_err-log_all-clause-answered g c)

@@ -1,4 +1,4 @@
-use Rattle.std.proofs.Common.{rules, ◌≡◌, true, false, subst}
+use Rattle.std.proofs.Common.{refl, rules, ◌≡◌, true, false, subst}
 use Rattle.btx_aux.proofs.AnswerLemmas.{by_map, by_none}
 use Rattle.btx_run.specs.refinement.Files.Asked.{AreAmong}
 use Rattle.btx_run.proofs.AskedLemmas.{among-none}
@@ -9,7 +9,7 @@ use Rattle.btx_text.specs.language.Limits.{is_too_long}
 pub returns-then-is_too_long-clause-reads : goal.returns-then-is_too_long-clause-reads
 returns-then-is_too_long-clause-reads g c =
     let long : is_too_long c.args.style.bytes ≡ true = search rules in
-    by_none (among-none c.args.job.now.databases) (λ files. style_too_long files c.args.job.now c.args.style _ _ long)
+    by_none refl (among-none c.args.job.now.databases) (λ files. style_too_long files c.args.job.now c.args.style _ _ long)
 
 pub returns-in_err-databases-clause-reads : goal.returns-in_err-databases-clause-reads
 returns-in_err-databases-clause-reads g c =
