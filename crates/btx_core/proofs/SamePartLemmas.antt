@@ -1,5 +1,5 @@
 -- Each part of the relation is one thing alone, and the one that is computed.
-use Rattle.std.proofs.Common.{List, [], ℕ, ◌++◌, codes, subst, sym}
+use Rattle.std.proofs.Common.{[], ◌++◌, codes, subst, sym}
 use Rattle.btx_core.specs.language.AuxFiles.{AreJobEvents}
 use Rattle.btx_core.specs.language.Lines.{IsSure, IsWrapped}
 use Rattle.btx_core.specs.laws.SameParts.{OneDivision, SameEvents, SameLines, SameSure, SomeDivision}
