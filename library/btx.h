@@ -47,7 +47,7 @@ enum {
     BTX_REFUSED = 1, /* a number of the options is out of its range; nothing was written */
     BTX_MEMORY = 2,  /* memory was refused */
     BTX_ASKS = 3,    /* the run asked for a file of which nothing was said */
-    BTX_FULL = 4,    /* the list or the log would have been longer than its room */
+    BTX_FULL = 4,    /* the list or the log is longer than its room */
     BTX_ENDS = 5     /* btx_needs: the run ends with its .aux files, so it needs no other file */
 };
 
@@ -88,8 +88,9 @@ uint32_t btx_needs(const unsigned char *job, size_t job_len, const btx_file *fil
                    unsigned char *names, size_t names_room, size_t *names_len);
 
 /* Runs the job over these files, and writes its list, its log and its report. If it asks for a file of which nothing was said, it answers BTX_ASKS
-   (btx_needs tells which): so what a run gives is right whatever other files there are. If the list or the log would be longer than its room, it
-   answers BTX_FULL: hand in more room and run again; the same comes out. So the rooms also bound the memory that a run takes for what a style writes.
+   (btx_needs tells which): so what a run gives is right whatever other files there are. If the list or the log is longer than its room, it fills that
+   room and answers BTX_FULL: hand in more room and run again; the same comes out. So the rooms also bound the memory that a run takes for what a style
+   writes.
    After BTX_REFUSED nothing was written. After BTX_MEMORY, BTX_ASKS and BTX_FULL the list and the log begin what they would have been; of the report,
    status and end say so, the lengths are those of what was written, and the counts are 0. */
 uint32_t btx_run(const unsigned char *job, size_t job_len, const btx_file *files, size_t files_len, const btx_options *options,

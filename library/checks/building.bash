@@ -31,7 +31,7 @@ readelf -d "$room/out/libbtx.so.1" | grep -qF 'Library soname: [libbtx.so.1]' ||
 end
 
 begin tests_are_compiled
-for name in job rooms threads stack needs edges; do
+for name in job rooms threads stack needs edges many; do
     compile "$name"
 done
 compile refused -Wl,--wrap=malloc,--wrap=realloc

@@ -55,3 +55,11 @@ run "$tests/job" . job list log
 wants_error ''
 [ "$(grep -c auxiliary log)" -eq 41 ] || complaints+=("the log has $(grep -c auxiliary log) files")
 end
+
+# A table of the names: 100,000 files in another order than the one in which they are asked for.
+begin many_names
+run "$tests/many" 100000
+wants_error ''
+read -r seconds _ <"$folder/stdout"
+[ "${seconds%.*}" -lt 2 ] || complaints+=("100,000 names take $seconds s")
+end

@@ -22,6 +22,8 @@ static void check_rooms(const job *its, const btx_options *options, const outcom
         must(one.report.end == BTX_LIST_FULL || one.report.end == BTX_LOG_FULL, "rooms of %zu and %zu give the end %u", list_room, log_room, one.report.end);
         must(one.report.end != BTX_LIST_FULL || list_room < all->list_len, "a room of %zu is enough for the list", list_room);
         must(one.report.end != BTX_LOG_FULL || log_room < all->log_len, "a room of %zu is enough for the log", log_room);
+        must(one.report.end != BTX_LIST_FULL || one.report.list_len == list_room, "the list doesn't fill its room of %zu", list_room);
+        must(one.report.end != BTX_LOG_FULL || one.report.log_len == log_room, "the log doesn't fill its room of %zu", log_room);
     }
     check_room("list", one.list, list_room, one.report.list_len, whole->list, all->list_len);
     check_room("log", one.log, log_room, one.report.log_len, whole->log, all->log_len);
@@ -30,7 +32,7 @@ static void check_rooms(const job *its, const btx_options *options, const outcom
 
 /* Options out of their ranges are refused, and nothing is touched. */
 static void check_refused(const job *its) {
-    static const uint32_t wrong[][3] = {{19, 250, 20000}, {1001, 250, 20000}, {0, 250, 20000}, {79, 0, 20000}, {79, 1000001, 20000}, {79, 250, 0}, {79, 250, 1000001}, {79, 250, UINT32_MAX}};
+    static const uint32_t wrong[][3] = {{19, 250, 20000}, {1001, 250, 20000}, {0, 250, 20000}, {79, 0, 20000}, {79, 1000001, 20000}, {79, 250, 0}, {79, 250, 1000001}, {79, 250, UINT32_MAX}, {79, UINT32_MAX, 20000}, {UINT32_MAX, 250, 20000}, {0, 0, 0}};
     for (size_t i = 0; i < sizeof wrong / sizeof *wrong; i++) {
         btx_options options = BTX_OPTIONS;
         options.line = wrong[i][0];

@@ -1,4 +1,7 @@
+pub mod FullLemmas
 pub mod HandedLemmas
+pub mod IndexLemmas
 pub mod NeedsLemmas
 pub mod OutcomeLemmas
 pub mod SettledLemmas
+pub mod HandedRunLemmas

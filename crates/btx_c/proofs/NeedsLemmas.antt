@@ -1,10 +1,12 @@
 -- A job that needs no other file.
-use Rattle.std.proofs.Common.{◌≡◌, ◌⊎◌, inl, inr, ℕ, ◌+◌, nat_lt, Bool, true, false, List, [], ◌∷◌, ◌++◌, Option, None, Some, if◌then◌else◌, refl, sym, ap, ◌∙◌, subst}
+use Rattle.std.proofs.Common.{arith, not, ◌≡◌, ◌⊎◌, inl, inr, ℕ, ◌+◌, nat_lt, Bool, true, false, List, [], ◌∷◌, ◌++◌, Option, None, Some, if◌then◌else◌, refl, sym, ap, ◌∙◌, subst}
 use Rattle.std.specs.Prelude.{Result, Ok, Err, IfOk}
 use Rattle.std.proofs.Math.ListN.{replicate}
 use Rattle.std.proofs.lemmas.List.{length-replicate}
 use Rattle.std.specs.List.{AllByRecursion, flat_map}
 use Rattle.std.specs.Prelude.{codes}
+use Rattle.std.specs.Str.{bytes_eq}
+use Rattle.std.proofs.lemmas.Slice.Eq.{bytes_eq-Decides}
 use Rattle.btx_text.specs.declared.fault.Fault.{Fault}
 use Rattle.btx_text.specs.language.Limits.{greatest_file, is_too_long}
 use Rattle.btx_text.specs.language.LogLines.{Line}
@@ -13,7 +15,7 @@ use Rattle.btx_aux.specs.declared.end.End.TheVariants as end
 use Rattle.btx_aux.specs.language.Files.{Files}
 use Rattle.btx_aux.specs.language.Job.{AuxJob}
 use Rattle.btx_aux.specs.language.Names.{with_ending}
-use Rattle.btx_machine.specs.language.Product.{Product}
+use Rattle.btx_machine.specs.language.Product.{Product, log_of}
 use Rattle.btx_machine.specs.language.Saying.{ended_line}
 use Rattle.btx_core.specs.declared.found.FilesRead.{FilesRead}
 use Rattle.btx_core.specs.declared.options.Options.{Options}
@@ -21,11 +23,11 @@ use Rattle.btx_core.specs.language.Files.Counts.{counts_of}
 use Rattle.btx_core.specs.language.Files.Found.{NamedFile, file_at}
 use Rattle.btx_core.specs.language.Files.Databases.{databases_logged, files_found}
 use Rattle.btx_core.specs.refinement.Files.Readings.{Logged, after_job, behind, job_named, reading_of, style_named, style_read}
-use Rattle.btx_core.specs.refinement.ComputedProduct.{product_of_files, product_with}
+use Rattle.btx_core.specs.refinement.ComputedProduct.{product, product_of_files, product_with}
 use Rattle.btx_c.specs.declared.handed.BtxFile.{BtxFile}
 use Rattle.btx_c.specs.declared.needs.Needs.{Needs}
 use Rattle.btx_c.specs.Handed.{OtherFiles, beside, file_in, is_known, known}
-use Rattle.btx_c.specs.Needs.{AsksNothing, NeedsNoOther, is_absent, line_for, lines_for, lines_named, no_files}
+use Rattle.btx_c.specs.Needs.{AsksNothing, NeedsAnother, NeedsNoOther, empty_files, is_absent, line_for, lines_for, lines_named, no_files}
 use Rattle.btx_c.proofs.HandedLemmas.{beside_known, known_same, same_or_other}
 use Rattle.btx_c.proofs.SettledLemmas.{IsTooLong, SameOrTooLong, settled}
 
@@ -156,3 +158,19 @@ pub complete_of : (files : List BtxFile) (name : List ℕ) (job : AuxJob) (resul
     → IfOk result (λ needs. AsksNothing needs → NeedsNoOther files name)
 complete_of files name job (Ok needs) is whole named = λ none. needs_no_other files name job is (whole none) (named none)
 complete_of files name job (Err fault) is whole named = tt
+
+-- ---- a job that needs another file
+
+-- what two runs wrote, one without the other files and one where each is empty, differs
+pub another_of : (files : List BtxFile) (job : List ℕ) (options : Options) (absent empty : List ℕ) → absent ≡ log_of (product (beside files (empty_files false)) job options)
+    → empty ≡ log_of (product (beside files (empty_files true)) job options) → not (bytes_eq absent empty) ≡ true → NeedsAnother files job
+another_of files job options absent empty is_absent is_empty differ =
+    record {
+      some = empty_files false;
+      others = empty_files true;
+      options = options;
+      budget = options.budget;
+      differ = λ same. contradicts (is_absent ∙ ap log_of same ∙ sym is_empty);
+    } where
+      contradicts : absent ≡ empty → ⊥
+      contradicts same = let equal : bytes_eq absent empty ≡ true = (bytes_eq-Decides absent empty).1 same in grind (arith, differ, equal)

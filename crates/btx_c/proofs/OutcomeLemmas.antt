@@ -1,14 +1,21 @@
 -- What a call has left in the caller's memory.
-use Rattle.std.proofs.Common.{◌≡◌, ℕ, List, [], Some, length, subst}
+use Rattle.std.proofs.Common.{arith, ◌≡◌, ◌⊎◌, inl, inr, ℕ, ◌<◌, Bool, true, false, List, [], Some, length, min, refl, ap, ◌∙◌, subst}
+use Rattle.std.specs.Prelude.{Result, Ok, Err, IfOk, IfErr, OnOk, OnErr}
+use Rattle.btx_machine.specs.declared.report.Report.{Report}
 use Rattle.btx_machine.specs.language.KeepingStep.{AtFault}
+use Rattle.btx_machine.specs.language.Product.{log_of}
 use Rattle.btx_core.specs.declared.options.Options.{Options}
 use Rattle.btx_core.specs.refinement.ComputedProduct.{product_with}
+use Rattle.btx_c.specs.declared.cause.Cause.{Cause}
+use Rattle.btx_c.specs.declared.cause.Cause.TheVariants as cause
+use Rattle.btx_c.specs.declared.cause.TheConstants.{LIST_FULL, LOG_FULL}
 use Rattle.btx_c.specs.declared.handed.BtxFile.{BtxFile}
 use Rattle.btx_c.specs.declared.options.BtxOptions.{BtxOptions}
 use Rattle.btx_c.specs.declared.report.BtxReport.{BtxReport}
 use Rattle.btx_c.specs.Handed.{OtherFiles}
 use Rattle.btx_c.specs.Options.{asked}
-use Rattle.btx_c.specs.Outcomes.{Broke, Wrote, all_files, filled}
+use Rattle.btx_c.specs.Outcomes.{Broke, Overflows, Wrote, all_files, filled, outcome}
+use Rattle.btx_c.proofs.FullLemmas.{list_length, log_length}
 
 -- some text was put into memory
 pub wrote_of : (len : ℕ) (memory : List ℕ × List ℕ) (text : List ℕ) → len ≡ length text → memory.1 ≡ filled memory.0 text → Wrote len memory
@@ -18,7 +25,7 @@ wrote_of len memory text len_is memory_is = record { text = text; len_is = len_i
 pub broke_of : (files : List BtxFile) (others : OtherFiles) (job : List ℕ) (given : BtxOptions) (options : Options) (report : BtxReport)
     (list log : List ℕ × List ℕ) (wrote_list wrote_log : List ℕ) → options ≡ asked given
     → AtFault (Some [], Some []) (Some wrote_list, Some wrote_log) (product_with (all_files files others) job options) options.budget
-    → report.list_len ≡ length wrote_list → report.log_len ≡ length wrote_log → list.1 ≡ filled list.0 wrote_list → log.1 ≡ filled log.0 wrote_log
+    → report.list_len ≡ min (length wrote_list) (length list.0) → report.log_len ≡ min (length wrote_log) (length log.0) → list.1 ≡ filled list.0 wrote_list → log.1 ≡ filled log.0 wrote_log
     → Broke files others job given report list log
 broke_of files others job given options report list log wrote_list wrote_log is begun list_len log_len list_is log_is =
     record {
@@ -30,3 +37,73 @@ broke_of files others job given options report list log wrote_list wrote_log is 
       list_is = list_is;
       log_is = log_is;
     }
+
+-- ---- how a run ended, once the rooms were looked at
+
+module _ (C : Report → Type 0) where
+  pub ok_of : (ended : Result Report Cause) (a b : Bool) → IfOk ended C → IfOk (outcome ended a b) C
+  ok_of ended true b is = tt
+  ok_of ended false true is = tt
+  ok_of ended false false is = is
+
+  -- a run that ended, but is too long for a room, is as one that broke off
+  pub err_of : (A : Type 0) (ended : Result Report Cause) (a b : Bool) → IfOk ended C → OnErr ended A → ((report : Report) → C report → A) → OnErr (outcome ended a b) A
+  err_of A (Ok report) true b is fails so = so report is
+  err_of A (Ok report) false true is fails so = so report is
+  err_of A (Ok report) false false is fails so = tt
+  err_of A (Err cause) true b is fails so = fails
+  err_of A (Err cause) false true is fails so = fails
+  err_of A (Err cause) false false is fails so = fails
+
+-- for want of memory, or of a file
+abbrev pub IsOtherCause : Result Report Cause → Type 0
+IsOtherCause ended = IfErr ended (λ (c : Cause). (c ≡ cause.Memory) ⊎ (c ≡ cause.UnknownFile))
+
+pub list_full_of : (ended : Result Report Cause) (a b : Bool) → IsOtherCause ended → outcome ended a b ≡ Err cause.ListFull → a ≡ true
+list_full_of ended true b other is = refl
+list_full_of ended false true other is = cc
+list_full_of (Ok report) false false other is = cc
+list_full_of (Err c) false false (inl memory) is = cc
+list_full_of (Err c) false false (inr unknown) is = cc
+
+pub log_full_of : (ended : Result Report Cause) (a b : Bool) → IsOtherCause ended → outcome ended a b ≡ Err cause.LogFull → b ≡ true
+log_full_of ended true b other is = cc
+log_full_of ended false true other is = refl
+log_full_of (Ok report) false false other is = cc
+log_full_of (Err c) false false (inl memory) is = cc
+log_full_of (Err c) false false (inr unknown) is = cc
+
+pub fits_of : (ended : Result Report Cause) (a b : Bool) (A B : Type 0) → (a ≡ false → A) → (b ≡ false → B) → OnOk (outcome ended a b) (A × B)
+fits_of ended true b A B left right = tt
+fits_of ended false true A B left right = tt
+fits_of (Ok report) false false A B left right = (left refl, right refl)
+fits_of (Err c) false false A B left right = tt
+
+pub asks_of : (ended : Result Report Cause) (a b : Bool) → outcome ended a b ≡ Err cause.UnknownFile → ended ≡ Err cause.UnknownFile
+asks_of ended true b is = cc
+asks_of ended false true is = cc
+asks_of ended false false is = is
+
+-- ---- a room that is too small
+
+pub overflows_of : (files : List BtxFile) (others : OtherFiles) (job : List ℕ) (given : BtxOptions) (options : Options) (report : BtxReport) (list log wrote_list wrote_log : List ℕ) → options ≡ asked given
+    → AtFault (Some [], Some []) (Some wrote_list, Some wrote_log) (product_with (all_files files others) job options) options.budget
+    → ((report.end ≡ LIST_FULL) × (length list < length wrote_list)) ⊎ ((report.end ≡ LOG_FULL) × (length log < length wrote_log))
+    → Overflows files others job given report list log
+overflows_of files others job given options report list log wrote_list wrote_log is fault full =
+    let Over : Options → Type 0 = λ o. ((report.end ≡ LIST_FULL) × (length list < length (product_with (all_files files others) job o o.budget).bbl))
+    ⊎ ((report.end ≡ LOG_FULL) × (length log < length (log_of (product_with (all_files files others) job o o.budget)))) in
+    subst Over is (by_room full) where
+      by_room : ((report.end ≡ LIST_FULL) × (length list < length wrote_list)) ⊎ ((report.end ≡ LOG_FULL) × (length log < length wrote_log))
+          → ((report.end ≡ LIST_FULL) × (length list < length (product_with (all_files files others) job options options.budget).bbl))
+          ⊎ ((report.end ≡ LOG_FULL) × (length log < length (log_of (product_with (all_files files others) job options options.budget))))
+      by_room (inl room) = inl (room.0, let long = list_length wrote_list wrote_log (product_with (all_files files others) job options) options.budget fault in omega (arith, room.1, long))
+      by_room (inr room) = inr (room.0, let long = log_length wrote_list wrote_log (product_with (all_files files others) job options) options.budget fault in omega (arith, room.1, long))
+
+-- the room that is too small, by the cause
+pub room_of : (c : Cause) (ended : Result Report Cause) (report : BtxReport) (list_room log_room : ℕ) (list log : List ℕ) → ended ≡ Err c → (c ≡ cause.ListFull) ⊎ (c ≡ cause.LogFull)
+    → (c ≡ cause.ListFull → report.end ≡ LIST_FULL) → (c ≡ cause.LogFull → report.end ≡ LOG_FULL)
+    → (ended ≡ Err cause.ListFull → list_room < length list) → (ended ≡ Err cause.LogFull → log_room < length log)
+    → ((report.end ≡ LIST_FULL) × (list_room < length list)) ⊎ ((report.end ≡ LOG_FULL) × (log_room < length log))
+room_of c ended report list_room log_room list log is (inl full) list_number log_number list_full log_full = inl (list_number full, list_full (is ∙ ap Err full))
+room_of c ended report list_room log_room list log is (inr full) list_number log_number list_full log_full = inr (log_number full, log_full (is ∙ ap Err full))

@@ -1,13 +1,15 @@
 -- What a job needs beyond the files that were handed in.
 use Rattle.std.specs.Prelude.{◌≡◌, ℕ, Bool, true, false, List, [], ◌∷◌, ◌++◌, Option, None, Some, if◌then◌else◌}
 use Rattle.std.specs.List.{flat_map}
-use Rattle.btx_aux.specs.language.Files.{Files}
+use Rattle.btx_aux.specs.declared.end.End.TheVariants.{Whole}
+use Rattle.btx_aux.specs.language.Files.{Files, file_of}
 use Rattle.btx_core.specs.declared.options.Options.{Options}
+use Rattle.btx_core.specs.refinement.Files.Readings.{job_named}
 use Rattle.btx_core.specs.refinement.ComputedProduct.{product_with}
 use Rattle.btx_c.specs.declared.handed.BtxFile.{BtxFile}
 use Rattle.btx_c.specs.declared.needs.Needs.{Needs}
 use Rattle.btx_c.specs.declared.needs.Needs.TheVariants.{Ends, Names}
-use Rattle.btx_c.specs.Handed.{beside, is_known, known}
+use Rattle.btx_c.specs.Handed.{OtherFiles, beside, file_in, is_known, known}
 
 -- no files
 abbrev pub no_files : Files
@@ -17,6 +19,26 @@ no_files name = None
 -- and every budget
 abbrev pub NeedsNoOther : List BtxFile → List ℕ → Type 0
 NeedsNoOther files job = (others : Files) (options : Options) (budget : ℕ) → product_with (beside files others) job options budget ≡ product_with (beside files no_files) job options budget
+
+-- each file is there, and empty; or none is there
+abbrev pub empty_files : Bool → Files
+empty_files are_there name = file_of are_there []
+
+-- the job needs a file beside those that were handed in: what it writes, or the report, isn't the same with each choice of the other files
+pub record NeedsAnother (files : List BtxFile) (job : List ℕ) : Type 0 where
+  pub some : Files
+  pub others : Files
+  pub options : Options
+  pub budget : ℕ
+  pub differ : product_with (beside files some) job options budget ≡ product_with (beside files others) job options budget → ⊥
+
+-- no job needs another file that needs no other
+abbrev pub NeverAsks : Type 0
+NeverAsks = (files : List BtxFile) (job : List ℕ) → NeedsNoOther files job → NeedsAnother files job → ⊥
+
+-- the run ends with the job's `.aux` files, since their reading isn't whole: there is no top file, too many files are open, or one is too long
+abbrev pub EndsWithAuxFiles : List BtxFile → OtherFiles → List ℕ → Type 0
+EndsWithAuxFiles files others job = (job_named (beside files (file_in others)) job).ending ≡ Whole → ⊥
 
 -- no file is asked for
 abbrev pub AsksNothing : Needs → Type 0

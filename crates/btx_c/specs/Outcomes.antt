@@ -1,9 +1,13 @@
 -- What a call has left in the caller's memory.
-use Rattle.std.specs.Prelude.{◌≡◌, ℕ, List, [], ◌++◌, Some, length, take, drop}
+use Rattle.std.specs.Prelude.{◌≡◌, ◌⊎◌, ◌<◌, ℕ, Bool, List, [], ◌++◌, Some, Result, Err, length, min, take, drop, if◌then◌else◌}
 use Rattle.btx_aux.specs.language.Files.{Files}
+use Rattle.btx_machine.specs.declared.report.Report.{Report}
 use Rattle.btx_machine.specs.language.KeepingStep.{AtFault}
 use Rattle.btx_machine.specs.language.Product.{Product, log_of}
 use Rattle.btx_core.specs.refinement.ComputedProduct.{product, product_with}
+use Rattle.btx_c.specs.declared.cause.Cause.{Cause}
+use Rattle.btx_c.specs.declared.cause.Cause.TheVariants.{ListFull, LogFull}
+use Rattle.btx_c.specs.declared.cause.TheConstants.{LIST_FULL, LOG_FULL}
 use Rattle.btx_c.specs.declared.handed.BtxFile.{BtxFile}
 use Rattle.btx_c.specs.declared.options.BtxOptions.{BtxOptions}
 use Rattle.btx_c.specs.declared.report.BtxReport.{BtxReport}
@@ -35,12 +39,22 @@ pub record IsOf (product : Product) (report : BtxReport) (list log : List ℕ ×
 abbrev pub Ran : List BtxFile → OtherFiles → List ℕ → BtxOptions → BtxReport → List ℕ × List ℕ → List ℕ × List ℕ → Type 0
 Ran files others job options = IsOf (product (all_files files others) job (asked options))
 
--- the list and the log are prefixes of the product's and keep step
+-- how a run ended: for want of room, if the list or the log is longer than its room, and else as `ended` has it
+abbrev pub outcome : Result Report Cause → Bool → Bool → Result Report Cause
+outcome ended is_list_full is_log_full = if is_list_full then Err ListFull else if is_log_full then Err LogFull else ended
+
+-- a room is too small for the product of all files, and the report says which one
+abbrev pub Overflows : List BtxFile → OtherFiles → List ℕ → BtxOptions → BtxReport → List ℕ → List ℕ → Type 0
+Overflows files others job options report list log =
+    let whole = product (all_files files others) job (asked options) in
+    ((report.end ≡ LIST_FULL) × (length list < length whole.bbl)) ⊎ ((report.end ≡ LOG_FULL) × (length log < length (log_of whole)))
+
+-- what was written of the list and of the log are prefixes of the product's and keep step; the report says how many bytes of them stand in the memory
 pub record Broke (files : List BtxFile) (others : OtherFiles) (job : List ℕ) (options : BtxOptions) (report : BtxReport) (list log : List ℕ × List ℕ) : Type 0 where
   pub wrote_list : List ℕ
   pub wrote_log : List ℕ
   pub begun : AtFault (Some [], Some []) (Some wrote_list, Some wrote_log) (product_with (all_files files others) job (asked options)) options.budget
-  pub list_len : report.list_len ≡ length wrote_list
-  pub log_len : report.log_len ≡ length wrote_log
+  pub list_len : report.list_len ≡ min (length wrote_list) (length list.0)
+  pub log_len : report.log_len ≡ min (length wrote_log) (length log.0)
   pub list_is : list.1 ≡ filled list.0 wrote_list
   pub log_is : log.1 ≡ filled log.0 wrote_log

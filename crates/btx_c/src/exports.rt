@@ -1,9 +1,9 @@
 //! The calls for C.
 ghost use Rattle.std.specs.Prelude.{◌≡◌, ◌<◌, ◌≤◌, ◌⊎◌, length};
 ghost use Rattle.btx_c.specs.Handed.{OtherFiles};
-ghost use Rattle.btx_c.specs.Needs.{NeedsNoOther};
+ghost use Rattle.btx_c.specs.Needs.{EndsWithAuxFiles, NeedsAnother, NeedsNoOther};
 ghost use Rattle.btx_c.specs.Options.{IsInRange};
-ghost use Rattle.btx_c.specs.Outcomes.{Broke, Ran, Wrote, filled};
+ghost use Rattle.btx_c.specs.Outcomes.{Broke, Overflows, Ran, Wrote, filled};
 
 use crate::handed::BtxFile;
 use crate::needs::{Needs, needed};
@@ -24,7 +24,7 @@ pub const MEMORY: u32 = 2;
 /// The run asked for a file of which nothing was said.
 pub const ASKS: u32 = 3;
 
-/// The list or the log would have been longer than its room.
+/// The list or the log is longer than its room.
 pub const FULL: u32 = 4;
 
 /// The run ends with its `.aux` files, so it needs no other file.
@@ -49,13 +49,17 @@ pub extern "C" fn btx_needs(
     names: &mut [u8],
     names_len: &mut usize,
 ) -> u32
+    ghost others: { OtherFiles }
     ensures answers { (result ≡ DONE) ⊎ ((result ≡ MEMORY) ⊎ (result ≡ ENDS)) }
     ensures names { result ≡ DONE → Wrote names_len.new (names.old, names.new) }
-    ensures ends { result ≡ ENDS → (names.new ≡ names.old) × (names_len.new ≡ 0) }
+    ensures none { result ≡ ENDS → (names.new ≡ names.old) × (names_len.new ≡ 0) }
     ensures memory { result ≡ MEMORY → (names.new ≡ names.old) × (names_len.new ≡ names_len.old) }
 
     // If no name is written, the job needs no other file, whatever others there are.
     ensures complete { result ≡ DONE → names_len.new ≡ 0 → NeedsNoOther files.now job.now }
+
+    // The run ends with its `.aux` files only if their reading does, whatever other files there are.
+    ensures ends { result ≡ ENDS → EndsWithAuxFiles files.now others job.now }
 {
     match needed(alloc, job, files) {
         Ok(Needs::Names(asked)) => {
@@ -88,7 +92,12 @@ pub extern "C" fn btx_run(
     // Whatever other files there are: the report, the list and the log are those of the product.
     ensures done { result ≡ DONE → Ran files.now others job.now options.now report.new (list.old, list.new) (log.old, log.new) }
     ensures bound { result ≡ DONE → report.new.steps ≤ options.now.budget }
+    ensures fits { result ≡ DONE → (report.new.list_len ≤ length list.old) × (report.new.log_len ≤ length log.old) }
     ensures deep { result ≡ DONE → report.new.deepest ≤ 4096 }
+
+    // A file is asked for only if the job needs one of which nothing was said, and a room is too small only for what the product has.
+    ensures asks { result ≡ ASKS → NeedsAnother files.now job.now }
+    ensures full { result ≡ FULL → Overflows files.now others job.now options.now report.new list.old log.old }
 
     // If memory was refused, a file was asked for of which nothing was said, or the room was too small, list and log are prefixes of the product's
     // and keep step.
@@ -97,17 +106,19 @@ pub extern "C" fn btx_run(
     let Some(options) = read_options(options) else {
         return REFUSED;
     };
-    let ran = run_handed(alloc, job, files, &options, list.len(), log.len());
+    let list_room = list.len();
+    let log_room = log.len();
+    let ran = run_handed(alloc, job, files, &options, list_room, log_room);
     let list_len = copy_out(ran.list.as_slice(), list);
     let log_len = copy_out(ran.log.as_slice(), log);
-    match ran.answer {
+    match ran.outcome {
         Ok(answer) => {
             *report = in_numbers(answer, list_len, log_len);
             DONE
         }
-        Err(_) => {
-            *report = broken_off(ran.cause, list_len, log_len);
-            ran.cause.answer()
+        Err(cause) => {
+            *report = broken_off(cause, list_len.min(list_room), log_len.min(log_room));
+            cause.answer()
         }
     }
 }

@@ -4,6 +4,7 @@ ghost use Rattle.btx_aux.specs.language.Files.{file_of};
 ghost use Rattle.btx_c.specs.Handed.{OtherFiles, beside, bytes_in, file_in, known};
 ghost use Rattle.btx_c.specs.Known.{known_of};
 
+use crate::index::Index;
 use crate::others::Others;
 use btx_aux::{FetchFault, Finder, History};
 use std::alloc::Global;
@@ -30,50 +31,40 @@ pub enum Known<'a> {
     Unknown,
 }
 
-// Answers what a file says of its own name.
-fn known_bytes<'a>(file: &BtxFile<'a>) -> Known<'a>
-    ensures { known_of result ≡ Some (bytes_in file.now) }
-{
-    if file.is_there {
-        Known::Bytes(file.bytes)
-    } else {
-        Known::Absent
-    }
-}
-
-/// Answers what was said of the file `name`: the first of `files` with this name counts.
-pub fn look<'a>(files: &[BtxFile<'a>], name: &[u8]) -> Known<'a>
-    ensures { known_of result ≡ known files.now name.now }
-{
-    for file in files {
-        if file.name == name {
-            return known_bytes(file);
+impl<'a> BtxFile<'a> {
+    /// Answers what the file says of its own name.
+    pub fn known(&self) -> Known<'a>
+        ensures { known_of result ≡ Some (bytes_in self.now) }
+    {
+        if self.is_there {
+            Known::Bytes(self.bytes)
+        } else {
+            Known::Absent
         }
     }
-    Known::Unknown
 }
 
 /// Files that a caller handed in, as a finder. It fails where it is asked for a file of which nothing was said. So what it gives is right
 /// whatever other files there are.
 #[derive(Drop)]
-pub struct Handed<'a> {
-    files: &'a [BtxFile<'a>],
+pub struct Handed<'i, 'f> {
+    index: &'i Index<'f>,
     others: Others,
     history: History,
     /// How often it was asked for a file of which nothing was said.
     pub unknown: u64,
 }
 
-impl<'a> Handed<'a> {
+impl<'i, 'f> Handed<'i, 'f> {
     /// A finder over these files, whatever others there are.
-    pub fn new(alloc: Global, files: &'a [BtxFile<'a>]) -> Self
+    pub fn new(alloc: Global, index: &'i Index<'f>) -> Self
         ghost others: { OtherFiles }
-        ensures files { result.files.now ≡ files.now }
+        ensures files { result.index.now ≡ index.now }
         ensures others { result.others.files ≡ others }
         ensures unknown { result.unknown ≡ 0 }
     {
         Handed {
-            files,
+            index,
             others: Others::any(),
             history: History::new(alloc),
             unknown: 0,
@@ -93,12 +84,12 @@ pub fn fill(into: &mut Vec<u8>, bytes: &[u8]) -> Result<(), FetchFault>
 }
 
 // Copies the file of this name, if something was said of it. If nothing was, that is the device's fault.
-fn copy(files: &[BtxFile<'_>], name: &[u8], into: &mut Vec<u8>) -> Result<bool, FetchFault>
-    ensures bytes { IfOk result (λ found. known files.now name.now ≡ Some (file_of found into.new.items)) }
+fn copy(index: &Index<'_>, name: &[u8], into: &mut Vec<u8>) -> Result<bool, FetchFault>
+    ensures bytes { IfOk result (λ found. known index.now name.now ≡ Some (file_of found into.new.items)) }
     ensures absent { result ≡ Ok false → into.new.items ≡ [] }
     ensures fault { OnErr result (into.new.items ≡ []) }
 {
-    match look(files, name) {
+    match index.look(name) {
         Known::Bytes(bytes) => {
             fill(into, bytes)?;
             Ok(true)
@@ -114,8 +105,8 @@ fn copy(files: &[BtxFile<'_>], name: &[u8], into: &mut Vec<u8>) -> Result<bool, 
     }
 }
 
-impl<'a> Finder for Handed<'a> {
-    ghost content = { λ finder. Some (beside finder.files.now (file_in finder.others.files)) };
+impl<'i, 'f> Finder for Handed<'i, 'f> {
+    ghost content = { λ finder. Some (beside finder.index.now (file_in finder.others.files)) };
 
     ghost answers = { λ finder. finder.history };
 
@@ -128,7 +119,7 @@ impl<'a> Finder for Handed<'a> {
         name: &[u8],
         into: &mut Vec<u8>,
     ) -> Result<bool, FetchFault> {
-        let answer = copy(self.files, name, into);
+        let answer = copy(self.index, name, into);
         match answer {
             Ok(found) => {
                 if self.history.note(alloc, name, found, into).is_err() {

@@ -5,9 +5,12 @@
 pub mod cause;
 pub mod exports;
 pub mod handed;
+pub mod index;
 pub mod kept;
+pub mod laws;
 pub mod needs;
 pub mod options;
 pub mod others;
 pub mod report;
 pub mod run;
+pub mod supposed;

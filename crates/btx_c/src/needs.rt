@@ -3,10 +3,11 @@ ghost use Rattle.std.specs.Prelude.{◌≡◌, ◌++◌, [], false, Ok, Some, If
 ghost use Rattle.btx_aux.specs.language.Files.{file_of};
 ghost use Rattle.btx_aux.specs.declared.end.End.TheVariants.{Whole};
 ghost use Rattle.btx_aux.specs.refinement.Entries.{texts_of};
-ghost use Rattle.btx_c.specs.Handed.{beside};
-ghost use Rattle.btx_c.specs.Needs.{AsksNothing, NeedsNoOther, line_for, lines_for, lines_named, no_files};
+ghost use Rattle.btx_c.specs.Handed.{OtherFiles, beside};
+ghost use Rattle.btx_c.specs.Needs.{AsksNothing, EndsWithAuxFiles, NeedsNoOther, line_for, lines_for, lines_named, no_files};
 
-use crate::handed::{BtxFile, Handed, Known, fill, look};
+use crate::handed::{BtxFile, Handed, Known, fill};
+use crate::index::Index;
 use btx_aux::{AuxJob, End, FetchFault, Finder, History};
 use btx_run::files::read_job;
 use btx_text::Fault;
@@ -22,10 +23,10 @@ pub enum Needs {
 }
 
 // Adds the line for `name` to `asked`: none if something was said of this file.
-fn ask(files: &[BtxFile<'_>], name: &[u8], asked: &mut Vec<u8>) -> Result<(), AllocError>
-    ensures { OnOk result (asked.new.items ≡ asked.old.items ++ line_for files.now name.now) }
+fn ask(index: &Index<'_>, name: &[u8], asked: &mut Vec<u8>) -> Result<(), AllocError>
+    ensures { OnOk result (asked.new.items ≡ asked.old.items ++ line_for index.now name.now) }
 {
-    if let Known::Unknown = look(files, name) {
+    if let Known::Unknown = index.look(name) {
         asked.extend_from_slice(name)?;
         asked.push(b'\n')?;
     }
@@ -33,78 +34,100 @@ fn ask(files: &[BtxFile<'_>], name: &[u8], asked: &mut Vec<u8>) -> Result<(), Al
 }
 
 // Adds the lines for `names` to `asked`.
-fn ask_each(files: &[BtxFile<'_>], names: &[Vec<u8>], asked: &mut Vec<u8>) -> Result<(), AllocError>
-    ensures { OnOk result (asked.new.items ≡ asked.old.items ++ lines_for files.now (texts_of names.now)) }
+fn ask_each(index: &Index<'_>, names: &[Vec<u8>], asked: &mut Vec<u8>) -> Result<(), AllocError>
+    ensures { OnOk result (asked.new.items ≡ asked.old.items ++ lines_for index.now (texts_of names.now)) }
 {
     for name in names {
-        ask(files, name.as_slice(), asked)?;
+        ask(index, name.as_slice(), asked)?;
     }
     Ok(())
 }
 
 // Answers the lines for the style and the databases of `job`: none if there is no style.
-fn unknown_named(alloc: Global, job: &AuxJob, files: &[BtxFile<'_>]) -> Result<Vec<u8>, AllocError>
-    ensures { IfOk result (λ asked. asked.items ≡ lines_named files.now job.now.style job.now.databases) }
+fn unknown_named(alloc: Global, job: &AuxJob, index: &Index<'_>) -> Result<Vec<u8>, AllocError>
+    ensures { IfOk result (λ asked. asked.items ≡ lines_named index.now job.now.style job.now.databases) }
 {
     let mut asked = Vec::new(alloc);
     let Some(style) = job.style() else {
         return Ok(asked);
     };
-    if let Known::Absent = look(files, style) {
+    if let Known::Absent = index.look(style) {
         return Ok(asked);
     }
-    ask(files, style, &mut asked)?;
-    ask_each(files, job.databases(), &mut asked)?;
+    ask(index, style, &mut asked)?;
+    ask_each(index, job.databases(), &mut asked)?;
     Ok(asked)
 }
 
-// Answers what `job` needs, whose `.aux` files are known.
-fn after_aux_files(alloc: Global, job: &AuxJob, files: &[BtxFile<'_>]) -> Result<Needs, Fault>
+// Answers what the job `name` needs, whose `.aux` files are known: `job` is what they say.
+fn after_aux_files(
+    alloc: Global,
+    name: &[u8],
+    job: &AuxJob,
+    index: &Index<'_>,
+) -> Result<Needs, Fault>
+    ghost others: { OtherFiles }
     ensures whole { IfOk result (λ needs. AsksNothing needs → job.now.ending ≡ Whole) }
-    ensures named { IfOk result (λ needs. AsksNothing needs → lines_named files.now job.now.style job.now.databases ≡ []) }
+    ensures named { IfOk result (λ needs. AsksNothing needs → lines_named index.now job.now.style job.now.databases ≡ []) }
+    ensures ends { result ≡ Ok Needs.Ends → EndsWithAuxFiles index.now others name.now }
 {
     match job.end() {
-        End::Whole => Ok(Needs::Names(unknown_named(alloc, job, files)?)),
+        End::Whole => Ok(Needs::Names(unknown_named(alloc, job, index)?)),
+        End::TooManyOpen | End::TopMissing | End::FileLimit => read_to_end(alloc, name, index),
+    }
+}
+
+// Answers that the job `name` ends with its `.aux` files, whatever others there are, where a reading of them has ended so. That a second reading is
+// whole is the device's fault, since both have the same files.
+fn read_to_end(alloc: Global, name: &[u8], index: &Index<'_>) -> Result<Needs, Fault>
+    ghost others: { OtherFiles }
+    ensures nothing { IfOk result (λ needs. needs ≡ Needs.Ends) }
+    ensures ends { OnOk result (EndsWithAuxFiles index.now others name.now) }
+{
+    let mut finder = Handed::new(alloc, &*index);
+    let job = read_job(alloc, &mut finder, name)?;
+    match job.end() {
+        End::Whole => Err(Fault::Device),
         End::TooManyOpen | End::TopMissing | End::FileLimit => Ok(Needs::Ends),
     }
 }
 
 // Files that were handed in, as a finder that goes on as if there were no others, and keeps the names of those that it was asked for.
 #[derive(Drop)]
-struct Asking<'a> {
-    files: &'a [BtxFile<'a>],
+struct Asking<'i, 'f> {
+    index: &'i Index<'f>,
     asked: Vec<u8>,
     history: History,
 }
 
 // Copies the file of this name. One of which nothing was said isn't there, and `asked` gets a line for its name.
 fn copy_or_ask(
-    files: &[BtxFile<'_>],
+    index: &Index<'_>,
     name: &[u8],
     asked: &mut Vec<u8>,
     into: &mut Vec<u8>,
 ) -> Result<bool, FetchFault>
-    ensures bytes { IfOk result (λ found. beside files.now no_files name.now ≡ file_of found into.new.items) }
+    ensures bytes { IfOk result (λ found. beside index.now no_files name.now ≡ file_of found into.new.items) }
     ensures absent { result ≡ Ok false → into.new.items ≡ [] }
     ensures fault { OnErr result (into.new.items ≡ []) }
     ensures memory { IfErr result (λ fault. fault ≡ FetchFault.Memory) }
 {
     into.clear();
-    match look(files, name) {
+    match index.look(name) {
         Known::Bytes(bytes) => {
             fill(into, bytes)?;
             Ok(true)
         }
         Known::Absent => Ok(false),
         Known::Unknown => {
-            ask(files, name, asked).map_err(|_| FetchFault::Memory)?;
+            ask(index, name, asked).map_err(|_| FetchFault::Memory)?;
             Ok(false)
         }
     }
 }
 
-impl<'a> Finder for Asking<'a> {
-    ghost content = { λ finder. Some (beside finder.files.now no_files) };
+impl<'i, 'f> Finder for Asking<'i, 'f> {
+    ghost content = { λ finder. Some (beside finder.index.now no_files) };
 
     ghost answers = { λ finder. finder.history };
 
@@ -116,7 +139,7 @@ impl<'a> Finder for Asking<'a> {
         name: &[u8],
         into: &mut Vec<u8>,
     ) -> Result<bool, FetchFault> {
-        let found = copy_or_ask(self.files, name, &mut self.asked, into)?;
+        let found = copy_or_ask(self.index, name, &mut self.asked, into)?;
         if self.history.note(alloc, name, found, into).is_err() {
             into.clear();
             return Err(FetchFault::Memory);
@@ -127,11 +150,12 @@ impl<'a> Finder for Asking<'a> {
 
 // Answers the names of the `.aux` files that the job `name` opens and of which nothing was said, where a reading of these files has asked for one.
 // That a second reading asks for none is the device's fault, since both have the same files.
-fn unknown_aux_files(alloc: Global, name: &[u8], files: &[BtxFile<'_>]) -> Result<Needs, Fault>
-    ensures { IfOk result (λ needs. AsksNothing needs → ⊥) }
+fn unknown_aux_files(alloc: Global, name: &[u8], index: &Index<'_>) -> Result<Needs, Fault>
+    ensures some { IfOk result (λ needs. AsksNothing needs → ⊥) }
+    ensures names { result ≡ Ok Needs.Ends → ⊥ }
 {
     let mut finder = Asking {
-        files,
+        index: &*index,
         asked: Vec::new(alloc),
         history: History::new(alloc),
     };
@@ -145,12 +169,15 @@ fn unknown_aux_files(alloc: Global, name: &[u8], files: &[BtxFile<'_>]) -> Resul
 /// Answers what the job `name` needs beyond `files`: the `.aux` files of which nothing was said, as long as there are such, and else the style and
 /// the databases.
 pub fn needed(alloc: Global, name: &[u8], files: &[BtxFile<'_>]) -> Result<Needs, Fault>
+    ghost others: { OtherFiles }
     ensures complete { IfOk result (λ needs. AsksNothing needs → NeedsNoOther files.now name.now) }
+    ensures ends { result ≡ Ok Needs.Ends → EndsWithAuxFiles files.now others name.now }
 {
-    let mut finder = Handed::new(alloc, files);
+    let index = Index::new(alloc, &*files)?;
+    let mut finder = Handed::new(alloc, &index);
     match read_job(alloc, &mut finder, name) {
-        Ok(job) => after_aux_files(alloc, &job, files),
-        Err(Fault::Device) => unknown_aux_files(alloc, name, files),
+        Ok(job) => after_aux_files(alloc, name, &job, &index),
+        Err(Fault::Device) => unknown_aux_files(alloc, name, &index),
         Err(fault) => Err(fault),
     }
 }

@@ -2,7 +2,7 @@
 ghost use Rattle.std.specs.Prelude.{◌≡◌};
 ghost use Rattle.btx_c.specs.Reports.{end_number, in_numbers};
 
-use crate::cause::Cause;
+use crate::cause::{Cause, LIST_FULL, LOG_FULL};
 use btx_run::{End, Limit, Report};
 
 /// What a run answered, in numbers as C has them.
@@ -22,9 +22,9 @@ pub struct BtxReport {
     pub warnings: u64,
     /// The error messages in the log.
     pub errors: u64,
-    /// How many bytes the whole list has.
+    /// How many bytes of the list were written.
     pub list_len: usize,
-    /// How many bytes the whole log has.
+    /// How many bytes of the log were written.
     pub log_len: usize,
 }
 
@@ -68,6 +68,8 @@ pub fn in_numbers(report: Report, list_len: usize, log_len: usize) -> BtxReport
 /// Answers the report of a run that broke off, with the lengths of what it wrote.
 pub fn broken_off(cause: Cause, list_len: usize, log_len: usize) -> BtxReport
     ensures status { result.status ≡ BROKEN_OFF }
+    ensures list_full { cause ≡ Cause.ListFull → result.end ≡ LIST_FULL }
+    ensures log_full { cause ≡ Cause.LogFull → result.end ≡ LOG_FULL }
     ensures list { result.list_len ≡ list_len }
     ensures log { result.log_len ≡ log_len }
 {

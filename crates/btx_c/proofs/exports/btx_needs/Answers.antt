@@ -3,5 +3,5 @@ use Rattle.std.proofs.lemmas.List.{nil_from_length}
 use Rattle.btx_c.proofs.exports.btx_needs.Goals as goal
 
 pub returns-in-Ok-Names-clause-complete : goal.returns-in-Ok-Names-clause-complete
-returns-in-Ok-Names-clause-complete c = λ done none.
+returns-in-Ok-Names-clause-complete g c = λ done none.
     c.in-Ok-Names.ensures.complete (rw c.in-Ok-Names.field-0-is (nil_from_length c.in-Ok-Names.asked.items (grind (arith, none, c.copy_out.ensures.len, c.as_slice.ensures.value))))

@@ -1,0 +1,64 @@
+//! The files that a caller hands in, found by name.
+ghost use Rattle.std.specs.Prelude.{◌≡◌, IfOk, OnOk};
+ghost use Rattle.btx_c.specs.Handed.{known};
+ghost use Rattle.btx_c.specs.Known.{AddsFile, known_of};
+
+use crate::handed::{BtxFile, Known};
+use indexmap::IndexMap;
+use std::alloc::{AllocError, Global};
+use std::marker::Model;
+
+/// The files that a caller handed in, and a table of them by name, in which of two files with one name the first counts.
+#[derive(Drop)]
+pub struct Index<'a> {
+    files: &'a [BtxFile<'a>],
+    by_name: IndexMap<&'a [u8], &'a BtxFile<'a>>,
+}
+
+impl<'a> Model for Index<'a> {
+    ghost use Rattle.std.specs.Prelude.{List};
+    ghost use Rattle.btx_c.specs.declared.handed.BtxFile.{BtxFile};
+    ghost use Rattle.btx_c.specs.Known.{IsTableOf};
+
+    ghost Value = { List BtxFile };
+
+    ghost view = { λ index. index.files.now };
+
+    ghost invariant = { λ index. IsTableOf index.by_name.entries index.files.now };
+}
+
+// Adds `file`, unless there is one of its name.
+fn add<'a>(
+    by_name: &mut IndexMap<&'a [u8], &'a BtxFile<'a>>,
+    file: &'a BtxFile<'a>,
+) -> Result<(), AllocError>
+    ensures { OnOk result (AddsFile by_name.old.entries by_name.new.entries file.entry.now) }
+{
+    if !by_name.contains_key(file.name) {
+        by_name.insert(file.name, file)?;
+    }
+    Ok(())
+}
+
+impl<'a> Index<'a> {
+    /// Makes the table of these files. The only fault is want of memory.
+    pub fn new(alloc: Global, files: &'a [BtxFile<'a>]) -> Result<Self, AllocError>
+        ensures { IfOk result (λ index. index ≡ files.now) }
+    {
+        let mut by_name = IndexMap::new(alloc);
+        for file in files {
+            add(&mut by_name, file)?;
+        }
+        Ok(Index { files, by_name })
+    }
+
+    /// Answers what was said of the file `name`.
+    pub fn look(&self, name: &[u8]) -> Known<'a>
+        ensures { known_of result ≡ known self.now name.now }
+    {
+        match self.by_name.get(name) {
+            Some(file) => file.known(),
+            None => Known::Unknown,
+        }
+    }
+}
