@@ -96,6 +96,37 @@ uint32_t btx_needs(const unsigned char *job, size_t job_len, const btx_file *fil
 uint32_t btx_run(const unsigned char *job, size_t job_len, const btx_file *files, size_t files_len, const btx_options *options,
                  unsigned char *list, size_t list_room, unsigned char *log, size_t log_room, btx_report *report);
 
+/* Runs the job once more, and notes where its style stands: at each of the first `most` events that log errors in its execution, and where the run is stopped or
+   meets a limit: the function and the line of the style, who called it, and the literals on the stack. The notes are lines, whose form the man page says; there is
+   none where no error was logged and the run finished. As many bytes are written as there is room for, and in `*notes_len` how many there are in all; if that is
+   more than the room, it answers BTX_FULL. After BTX_REFUSED nothing was written; after BTX_MEMORY and BTX_ASKS no note, and `*notes_len` is 0. A job takes two
+   runs, and for each event one that goes up to it. */
+uint32_t btx_where(const unsigned char *job, size_t job_len, const btx_file *files, size_t files_len, const btx_options *options,
+                   uint32_t most, unsigned char *notes, size_t notes_room, size_t *notes_len);
+
+/* What is said of a style. */
+enum {
+    BTX_CLEAN = 0,     /* no run of it logs a fault of its own */
+    BTX_WARNINGS = 1,  /* it isn't known to be clean */
+    BTX_INCOMPLETE = 2 /* the check took as many steps as it may */
+};
+
+typedef struct {
+    uint32_t verdict;  /* BTX_CLEAN .. BTX_INCOMPLETE */
+    uint64_t literals; /* of a clean style: the greatest number of literals on the stack that was met */
+    uint64_t bodies;   /* of a clean style: no more bodies of functions are ever open at once */
+    size_t types_len;  /* how many bytes the names of types have */
+    size_t notes_len;  /* how many bytes the notes have */
+} btx_verdict;
+
+/* Checks a style before any run, in at most `steps` steps of the check. `name` is that of its file. If it is clean, no run of it logs an empty stack, an operand of a wrong kind, an
+   assignment to no variable, a use without an entry or literals left over, or ends at the limit of literals, bodies or loops: for any document and databases in which each entry's type is
+   one that the style doesn't know or one that is named in `types`, each with a byte 10, and for up to 1,500,000,000 steps of the style. If it isn't known to be clean, `notes` say where
+   it may go wrong, in lines whose form the man page says. Answers BTX_FULL if one of the two is longer than its room; BTX_REFUSED if the style is longer than a file may be; after
+   that and BTX_MEMORY nothing was written. */
+uint32_t btx_check(const unsigned char *name, size_t name_len, const unsigned char *style, size_t style_len, uint64_t steps,
+                   unsigned char *types, size_t types_room, unsigned char *notes, size_t notes_room, btx_verdict *verdict);
+
 #ifdef __cplusplus
 }
 #endif

@@ -66,8 +66,61 @@ static void no_rooms(void) {
     must(report.end == BTX_LOG_FULL && report.list_len == 0 && report.log_len == 0, "a run writes into nothing");
 }
 
+/* What btx_where writes of three files in a room of this length, which must be as much of `text` as there is room for. */
+static void check_notes(const btx_file *files, uint32_t most, size_t room, uint32_t wanted, const char *text) {
+    unsigned char notes[4096];
+    size_t len = 9, whole = strlen(text);
+    memset(notes, 0xA5, sizeof notes);
+    uint32_t answer = btx_where((const unsigned char *)"j", 1, files, 3, &options, most, notes, room, &len);
+    must(answer == wanted && len == whole, "btx_where answers %u with %zu bytes, not %u with %zu", answer, len, wanted, whole);
+    must(!memcmp(notes, text, whole < room ? whole : room) && is_untouched(notes + room, sizeof notes - room), "the notes are others");
+}
+
+static void places(void) {
+    btx_file files[] = {file("j.aux", "\\citation{k}\n\\bibdata{d}\n\\bibstyle{s}\n"), file("d.bib", "@misc{k, title = 1}"),
+                        file("s.bst", "ENTRY{title}{}{}\nFUNCTION {f} {title\n#1 + pop$}\nREAD\nITERATE {f}")};
+    const char *text = "event step 4 0 1\nitem ITERATE 5 f\nentry k\nnext +\nat in 3 0 2 f\ndepth 2\nliteral 1 1\nliteral 3 \"1\"\n";
+    check_notes(files, 5, 4096, BTX_DONE, text);
+    check_notes(files, 5, strlen(text), BTX_DONE, text);
+    check_notes(files, 5, strlen(text) - 1, BTX_FULL, text);
+    check_notes(files, 5, 0, BTX_FULL, text);
+    check_notes(files, 0, 0, BTX_DONE, "");
+    size_t len = 9;
+    must(btx_where((const unsigned char *)"j", 1, files, 2, &options, 5, NULL, 0, &len) == BTX_ASKS && len == 0, "btx_where goes on without the style");
+    btx_options none = BTX_OPTIONS;
+    none.line = 0;
+    len = 9;
+    must(btx_where((const unsigned char *)"j", 1, files, 3, &none, 5, NULL, 0, &len) == BTX_REFUSED && len == 9, "btx_where takes a line of no length");
+    files[2] = file("s.bst", "ENTRY{title}{}{}\nFUNCTION {f} {title write$}\nREAD\nITERATE {f}");
+    check_notes(files, 5, 4096, BTX_DONE, "");
+}
+
+static void check_style(const char *style, uint64_t steps, size_t room, uint32_t answer, uint32_t verdict, const char *types, const char *notes) {
+    unsigned char types_room[256], notes_room[256];
+    btx_verdict one = {9, 9, 9, 9, 9};
+    must(btx_check((const unsigned char *)"s.bst", 5, (const unsigned char *)style, strlen(style), steps, types_room, room, notes_room, room, &one) == answer, "btx_check answers something else");
+    must(one.verdict == verdict && one.types_len == strlen(types) && one.notes_len == strlen(notes), "the verdict is %u, with %zu and %zu bytes", one.verdict, one.types_len, one.notes_len);
+    if (answer != BTX_DONE) return;
+    must(!memcmp(types_room, types, one.types_len) && !memcmp(notes_room, notes, one.notes_len), "types or notes are others");
+    must(verdict != BTX_CLEAN || (one.literals == 2 && one.bodies == 1), "the bounds are %u and %u", (unsigned)one.literals, (unsigned)one.bodies);
+}
+
+static void styles(void) {
+    const char *clean = "ENTRY{title}{}{} FUNCTION {misc} {title pop$ \"x\" cite$ * write$} READ ITERATE {call.type$}";
+    const char *faulty = "ENTRY{title}{}{}\nFUNCTION {misc} {title\nwrite$} READ ITERATE {call.type$}";
+    const char *notes = "next write$\nmissing title\nat in 3 0 1 misc\n";
+    check_style(clean, 1000, 256, BTX_DONE, BTX_CLEAN, "misc\n", "");
+    check_style(clean, 1000, 5, BTX_DONE, BTX_CLEAN, "misc\n", "");
+    check_style(clean, 1000, 4, BTX_FULL, BTX_CLEAN, "misc\n", "");
+    check_style(clean, 1, 256, BTX_DONE, BTX_INCOMPLETE, "", "");
+    check_style(faulty, 1000, 256, BTX_DONE, BTX_WARNINGS, "", notes);
+    check_style(faulty, 1000, 10, BTX_FULL, BTX_WARNINGS, "", notes);
+}
+
 int main(void) {
+    styles();
     no_file();
+    places();
     no_top_file();
     first_counts();
     absent_bytes();

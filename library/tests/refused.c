@@ -1,5 +1,5 @@
 /* refused FOLDER JOB STEP OPTION..: refuses each STEP-th request for memory of a run in turn, once each. The run answers BTX_MEMORY with a beginning of the
-   list and of the log; or, where the request could be spared, what it answers without a refusal. Then the same of btx_needs. Linked with
+   list and of the log; or, where the request could be spared, what it answers without a refusal. Then the same of btx_needs and of btx_where. Linked with
    --wrap=malloc and --wrap=realloc. */
 #include "jobs.h"
 
@@ -66,6 +66,20 @@ static int check_needs(const job *its, size_t known, long number) {
     return 1;
 }
 
+/* Whether btx_where, whose request for memory number `number` is refused, has made that request. */
+static int check_where(const job *its, const btx_options *options, long number) {
+    unsigned char notes[65536];
+    size_t len = 77;
+    requests = 0;
+    refused = number;
+    is_counting = 1;
+    uint32_t answer = btx_where((const unsigned char *)its->name, strlen(its->name), its->files, its->count, options, 5, notes, sizeof notes, &len);
+    is_counting = 0;
+    if (requests < number) return 0;
+    must(answer == BTX_DONE || (answer == BTX_MEMORY && len == 0), "without request %ld btx_where answers %u with %zu bytes", number, answer, len);
+    return 1;
+}
+
 int main(int count, char **words) {
     job its;
     must(count >= 4, "refused FOLDER JOB STEP OPTION..");
@@ -82,6 +96,7 @@ int main(int count, char **words) {
         long number = 1;
         while (check_needs(&its, known, number)) number += step;
     }
+    for (long number = 1; check_where(&its, &options, number);) number += step;
     free_outcome(&whole);
     free_outcome(&first);
     free_job(&its);

@@ -8,7 +8,7 @@
 reference lists that old jobs have with those that they get now.
 
 What is proved is the library below, libbtx.so.1: that list, log and report are those of the definition of BibTeX's language for the files
-that were handed in. This package is ordinary Python around its two calls."""
+that were handed in. This package is ordinary Python around two of its calls."""
 
 from .jobs import Content, Files, Finder, Name, in_folder, needs, run, run_in
 from .messages import Kind, Message, messages_of

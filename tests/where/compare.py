@@ -2,7 +2,7 @@
 
     python3 compare.py [--jobs N] [--programs N] [--entries N] [--seed N] [--styles FOLDER] LIBRARY.so
 
-LIBRARY.so is the library for C with the call `btx_where`, which isn't part of it yet. Runs the worked and corner jobs, random jobs and programs, and a database of errors with each style of the folder (that of TeX Live,
+LIBRARY.so is the library for C (library/out/libbtx.so.1). Runs the worked and corner jobs, random jobs and programs, and a database of errors with each style of the folder (that of TeX Live,
 if it is there), and compares all notes of all errors, line by line. The last line is 'N passed, M failed', of jobs; the line above it counts the events."""
 
 import argparse

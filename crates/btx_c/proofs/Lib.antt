@@ -1,3 +1,4 @@
+pub mod CheckLemmas
 pub mod FullLemmas
 pub mod HandedLemmas
 pub mod IndexLemmas

@@ -1,3 +1,4 @@
+pub mod Checks
 pub mod Handed
 pub mod Known
 pub mod Needs

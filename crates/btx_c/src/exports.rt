@@ -1,15 +1,21 @@
 //! The calls for C.
 ghost use Rattle.std.specs.Prelude.{◌≡◌, ◌<◌, ◌≤◌, ◌⊎◌, length};
+ghost use Rattle.btx_c.specs.Checks.{SaidClean};
 ghost use Rattle.btx_c.specs.Handed.{OtherFiles};
 ghost use Rattle.btx_c.specs.Needs.{EndsWithAuxFiles, NeedsAnother, NeedsNoOther};
 ghost use Rattle.btx_c.specs.Options.{IsInRange};
 ghost use Rattle.btx_c.specs.Outcomes.{Broke, Overflows, Ran, Wrote, filled};
 
+use crate::cause::Cause;
+use crate::checked::check_style;
 use crate::handed::BtxFile;
 use crate::needs::{Needs, needed};
 use crate::options::{BtxOptions, read_options};
+use crate::places::places;
 use crate::report::{BtxReport, broken_off, in_numbers};
 use crate::run::run_handed;
+use crate::verdict::{BtxVerdict, CLEAN, verdict_of};
+use btx_text::Fault;
 use std::alloc::Global;
 
 /// The call did what it says.
@@ -120,5 +126,86 @@ pub extern "C" fn btx_run(
             *report = broken_off(cause, list_len.min(list_room), log_len.min(log_room));
             cause.answer()
         }
+    }
+}
+
+/// Runs a job once more over files that are handed in, and writes notes of where its style stands: at each of the first `most` events that log errors in its execution, and
+/// where the run is stopped or meets a limit; and how many bytes these notes are.
+#[unsafe(no_mangle)]
+pub extern "C" fn btx_where(
+    alloc: Global,
+    job: &[u8],
+    files: &[BtxFile<'_>],
+    options: &BtxOptions,
+    most: u32,
+    notes: &mut [u8],
+    notes_len: &mut usize,
+) -> u32
+    ensures answers { result ≤ FULL }
+    ensures refused { result ≡ REFUSED → (¬ IsInRange options.now) × (notes.new ≡ notes.old) × (notes_len.new ≡ notes_len.old) }
+
+    // The notes are whole, or longer than their room.
+    ensures done { result ≡ DONE → Wrote notes_len.new (notes.old, notes.new) × (notes_len.new ≤ length notes.old) }
+    ensures full { result ≡ FULL → Wrote notes_len.new (notes.old, notes.new) × (length notes.old < notes_len.new) }
+    ensures none { (result ≡ MEMORY) ⊎ (result ≡ ASKS) → (notes.new ≡ notes.old) × (notes_len.new ≡ 0) }
+{
+    match read_options(options) {
+        None => REFUSED,
+        Some(options) => match places(alloc, job, files, &options, most as usize) {
+            Ok(noted) => {
+                *notes_len = copy_out(noted.as_slice(), notes);
+                if noted.len() > notes.len() {
+                    FULL
+                } else {
+                    DONE
+                }
+            }
+            Err(cause) => {
+                *notes_len = 0;
+                match cause {
+                    Cause::UnknownFile => ASKS,
+                    _ => MEMORY,
+                }
+            }
+        },
+    }
+}
+
+/// Checks a style before any run, in at most `steps` steps of the check. It is called clean only if no run of it logs a fault of its own, whatever the databases, as long as each
+/// entry's type is one that the style doesn't know or one of those that are written into `types`, each with byte 10. Where it may go wrong is written into `notes`.
+#[unsafe(no_mangle)]
+pub extern "C" fn btx_check(
+    alloc: Global,
+    name: &[u8],
+    text: &[u8],
+    steps: u64,
+    types: &mut [u8],
+    notes: &mut [u8],
+    verdict: &mut BtxVerdict,
+) -> u32
+    ensures answers { result ≤ FULL }
+    ensures clean { result ≡ DONE → verdict.new.verdict ≡ CLEAN → SaidClean name.now text.now verdict.new.bodies verdict.new.types_len (types.old, types.new) }
+    ensures done { result ≡ DONE → (verdict.new.types_len ≤ length types.old) × (verdict.new.notes_len ≤ length notes.old) }
+    ensures none { (result ≡ MEMORY) ⊎ (result ≡ REFUSED) → (types.new ≡ types.old) × ((notes.new ≡ notes.old) × (verdict.new ≡ verdict.old)) }
+{
+    match check_style(alloc, name, text, steps) {
+        Ok(said) => {
+            let types_len = copy_out(said.types.as_slice(), types);
+            let notes_len = copy_out(said.notes.as_slice(), notes);
+            *verdict = BtxVerdict {
+                verdict: verdict_of(said.is_clean, said.is_whole),
+                literals: said.literals as u64,
+                bodies: said.bodies as u64,
+                types_len,
+                notes_len,
+            };
+            if types_len > types.len() || notes_len > notes.len() {
+                FULL
+            } else {
+                DONE
+            }
+        }
+        Err(Fault::FileLimit) => REFUSED,
+        Err(_) => MEMORY,
     }
 }

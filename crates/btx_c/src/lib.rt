@@ -3,6 +3,7 @@
 #![tactic(auto)]
 
 pub mod cause;
+pub mod checked;
 pub mod exports;
 pub mod handed;
 pub mod index;
@@ -11,6 +12,9 @@ pub mod laws;
 pub mod needs;
 pub mod options;
 pub mod others;
+pub mod places;
 pub mod report;
 pub mod run;
 pub mod supposed;
+pub mod verdict;
+pub mod warned;

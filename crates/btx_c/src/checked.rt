@@ -1,0 +1,106 @@
+//! What the checker of styles says of a style's text.
+ghost use Rattle.std.specs.Prelude.{◌≡◌, ◌++◌, IfOk, OnOk, IsTrue, false};
+ghost use Rattle.btx_bst.specs.language.StyleText.{style_of};
+ghost use Rattle.btx_check.specs.Promise.{StyleIsClean};
+ghost use Rattle.btx_c.specs.Checks.{TextIsClean, type_name, type_names};
+
+use crate::warned::note_warning;
+use btx_bst::{Callee, Style, read_style};
+use btx_check::{Clean, Verdict, check};
+use btx_text::Fault;
+use std::alloc::{AllocError, Global};
+
+/// What the checker says of a style.
+#[derive(Drop)]
+pub struct Checked {
+    /// Whether it is clean.
+    pub is_clean: bool,
+    /// Whether the checker came to an end.
+    pub is_whole: bool,
+    /// Of a clean style the greatest number of bodies that are open at once, and of literals on the stack.
+    pub bodies: usize,
+    pub literals: usize,
+    /// Of a clean style the names of the functions that an entry's type may be, each with byte 10.
+    pub types: Vec<u8>,
+    /// Where a style may go wrong that isn't clean.
+    pub notes: Vec<u8>,
+}
+
+// Adds the name of the function `number` to `types`.
+fn push_type(style: &Style<'_>, number: u32, types: &mut Vec<u8>) -> Result<(), AllocError>
+    ensures { OnOk result (types.new.items ≡ types.old.items ++ type_name style.now.names number) }
+{
+    types.extend_from_slice(style.name(Callee::User(number)))?;
+    types.extend_from_slice(b"\n")
+}
+
+// Adds the names of these functions to `types`.
+fn push_types(style: &Style<'_>, numbers: &[u32], types: &mut Vec<u8>) -> Result<(), AllocError>
+    ensures { OnOk result (types.new.items ≡ types.old.items ++ type_names style.now.names numbers.now) }
+{
+    for number in numbers {
+        push_type(style, *number, types)?;
+    }
+    Ok(())
+}
+
+// Answers the names of these functions.
+fn names_of(alloc: Global, style: &Style<'_>, numbers: &[u32]) -> Result<Vec<u8>, AllocError>
+    ensures { IfOk result (λ types. types.items ≡ type_names style.now.names numbers.now) }
+{
+    let mut types = Vec::new(alloc);
+    push_types(style, numbers, &mut types)?;
+    Ok(types)
+}
+
+// Answers what is said of a style that is clean.
+#[tactic(auto, using(crate::proofs::CheckLemmas::text_is_clean))]
+fn said_clean(
+    alloc: Global,
+    name: &[u8],
+    text: &[u8],
+    style: &Style<'_>,
+    clean: &Clean,
+) -> Result<Checked, AllocError>
+    requires style { style.now ≡ style_of name.now text.now }
+    requires clean { StyleIsClean style.now clean.now.allowed.items clean.now.deepest }
+    ensures { IfOk result (λ said. TextIsClean name.now text.now said.bodies said.types.items) }
+{
+    Ok(Checked {
+        is_clean: true,
+        is_whole: true,
+        bodies: clean.deepest,
+        literals: clean.literals,
+        types: names_of(alloc, style, clean.allowed.as_slice())?,
+        notes: Vec::new(alloc),
+    })
+}
+
+// Answers what is said of a style that isn't known to be clean.
+fn said_unclean(is_whole: bool, notes: Vec<u8>, types: Vec<u8>) -> Checked
+    ensures { result.is_clean ≡ false }
+{
+    Checked {
+        is_clean: false,
+        is_whole,
+        bodies: 0,
+        literals: 0,
+        types,
+        notes,
+    }
+}
+
+/// Checks the style whose file has the name `name` and the bytes `text`, in at most `steps` steps.
+pub fn check_style(alloc: Global, name: &[u8], text: &[u8], steps: u64) -> Result<Checked, Fault>
+    ensures { IfOk result (λ said. IsTrue said.is_clean → TextIsClean name.now text.now said.bodies said.types.items) }
+{
+    let style = read_style(alloc, name, text)?;
+    match check(alloc, &style, steps)? {
+        Verdict::Clean(clean) => Ok(said_clean(alloc, name, text, &style, &clean)?),
+        Verdict::NotKnownClean(warning) => {
+            let notes = note_warning(alloc, &style, text, &warning)?;
+            Ok(said_unclean(true, notes, Vec::new(alloc)))
+        }
+        Verdict::Incomplete => Ok(said_unclean(false, Vec::new(alloc), Vec::new(alloc))),
+    }
+}

@@ -1,0 +1,40 @@
+//! A job, run again over files that were handed in to note where its style stands.
+
+use crate::cause::Cause;
+use crate::handed::{BtxFile, Handed};
+use crate::index::Index;
+use btx_run::Options;
+use btx_where::{Nowhere, locate};
+use std::alloc::Global;
+
+/// Answers the notes of the job `name` over `files`: of the first `most` events that log errors, and of its end; or why there are none.
+pub fn places(
+    alloc: Global,
+    name: &[u8],
+    files: &[BtxFile<'_>],
+    options: &Options,
+    most: usize,
+) -> Result<Vec<u8>, Cause> {
+    let Ok(index) = Index::new(alloc, &*files) else {
+        return Err(Cause::Memory);
+    };
+    let mut finder = Handed::new(alloc, &index);
+    let mut list = Nowhere {};
+    let mut log = Nowhere {};
+    let mut notes = Vec::new(alloc);
+    let answer = locate(
+        alloc,
+        &mut finder,
+        name,
+        options,
+        most,
+        &mut list,
+        &mut log,
+        &mut notes,
+    );
+    match answer {
+        Ok(_) => Ok(notes),
+        Err(_) if finder.unknown > 0 => Err(Cause::UnknownFile),
+        Err(_) => Err(Cause::Memory),
+    }
+}
