@@ -74,10 +74,58 @@ unsafe extern "C" {
         log_room: usize,
         report: *mut Report,
     ) -> u32;
+    fn btx_where(
+        job: *const u8,
+        job_len: usize,
+        files: *const CFile,
+        files_len: usize,
+        options: *const Options,
+        most: u32,
+        notes: *mut u8,
+        notes_room: usize,
+        notes_len: *mut usize,
+    ) -> u32;
+    fn btx_check(
+        name: *const u8,
+        name_len: usize,
+        text: *const u8,
+        text_len: usize,
+        steps: u64,
+        types: *mut u8,
+        types_room: usize,
+        notes: *mut u8,
+        notes_room: usize,
+        verdict: *mut CVerdict,
+    ) -> u32;
+}
+
+#[repr(C)]
+#[derive(Debug, Clone, Copy, Default)]
+struct CVerdict {
+    verdict: u32,
+    literals: u64,
+    bodies: u64,
+    types_len: usize,
+    notes_len: usize,
 }
 
 /// The status of a run whose budget was spent.
 pub const STOPPED: u32 = 4;
+
+// The end of a run that came to an end of its own.
+const FINISHED: u32 = 0;
+
+impl Report {
+    /// Whether all commands of the style were done.
+    pub fn has_finished(&self) -> bool {
+        self.end == FINISHED
+    }
+
+    /// Whether the budget was spent.
+    pub fn is_stopped(&self) -> bool {
+        self.status == STOPPED
+    }
+}
 
 // What the calls answer.
 const DONE: u32 = 0;
@@ -224,6 +272,96 @@ pub fn run(job: &[u8], files: &[File], options: &Options, rooms: &Rooms) -> Ran 
     Ran { list, log, answer }
 }
 
+/// The room for notes that is tried first.
+const ROOM_FOR_NOTES: usize = 1 << 17;
+
+/// Calls `btx_where`: the room is grown to what the notes take. None where there are no notes, since memory was refused.
+fn notes_of(job: &[u8], files: &[CFile], options: &Options, most: u32, room: usize) -> Option<Vec<u8>> {
+    let mut notes: Vec<u8> = Vec::new();
+    notes.try_reserve_exact(room).ok()?;
+    let mut len = 0;
+    // SAFETY: each pointer is that of a slice or a reference that outlives the call, with its length; the notes have that much room of their
+    // own, which is only written to; and at DONE as many of their bytes as the length says have been written.
+    let answer = unsafe {
+        let answer = btx_where(
+            job.as_ptr(),
+            job.len(),
+            files.as_ptr(),
+            files.len(),
+            options,
+            most,
+            notes.as_mut_ptr(),
+            room,
+            &mut len,
+        );
+        notes.set_len(if answer == DONE { len.min(room) } else { 0 });
+        answer
+    };
+    match answer {
+        DONE => Some(notes),
+        FULL if len > room => notes_of(job, files, options, most, len),
+        _ => None,
+    }
+}
+
+/// The notes of where a job's style stands: at each of the first `most` events that log errors, and where the run is stopped or meets a limit.
+pub fn notes(job: &[u8], files: &[File], options: &Options, most: u32) -> Option<Vec<u8>> {
+    notes_of(job, &for_c(files), options, most, ROOM_FOR_NOTES)
+}
+
+/// What the proved checker says of a style.
+#[derive(Debug, Clone, PartialEq, Eq)]
+pub enum Verdict {
+    /// No run of it logs a fault of its own, as long as each entry's type is one that the style doesn't know or one of `types`; no more than `bodies` bodies of functions are
+    /// ever open at once. The greatest number of literals isn't proved.
+    Clean { literals: u64, bodies: u64, types: Vec<Vec<u8>> },
+    /// It isn't known to be clean: notes say where it may go wrong.
+    Warnings(Vec<u8>),
+    /// The check didn't come to an end.
+    Incomplete,
+}
+
+/// The room for the names of types and for the notes that is tried first.
+const ROOM_FOR_CHECK: usize = 1 << 16;
+
+/// Checks a style, in at most so many steps of the check. None where memory was refused, or the text is longer than a style may be.
+pub fn check(name: &[u8], style: &[u8], steps: u64) -> Option<Verdict> {
+    check_in(name, style, steps, ROOM_FOR_CHECK)
+}
+
+fn check_in(name: &[u8], style: &[u8], steps: u64, room: usize) -> Option<Verdict> {
+    let (mut types, mut notes, mut verdict) = (vec![0; room], vec![0; room], CVerdict::default());
+    // SAFETY: each pointer is that of a slice or a reference that outlives the call, with its length; what is written is borrowed alone.
+    let answer = unsafe {
+        btx_check(
+            name.as_ptr(),
+            name.len(),
+            style.as_ptr(),
+            style.len(),
+            steps,
+            types.as_mut_ptr(),
+            room,
+            notes.as_mut_ptr(),
+            room,
+            &mut verdict,
+        )
+    };
+    let needed = verdict.types_len.max(verdict.notes_len);
+    match answer {
+        DONE => {}
+        FULL if needed > room => return check_in(name, style, steps, needed),
+        _ => return None,
+    }
+    types.truncate(verdict.types_len);
+    notes.truncate(verdict.notes_len);
+    let types = types.split_inclusive(|byte| *byte == b'\n').map(|name| name[..name.len() - 1].to_vec()).collect();
+    Some(match verdict.verdict {
+        0 => Verdict::Clean { literals: verdict.literals, bodies: verdict.bodies, types },
+        1 => Verdict::Warnings(notes),
+        _ => Verdict::Incomplete,
+    })
+}
+
 #[cfg(test)]
 mod tests {
     use super::*;
@@ -267,6 +405,30 @@ mod tests {
         files[2] = file("b.bib", None);
         let ran = run(b"a.aux", &files, &OPTIONS, &ROOMS);
         assert!(matches!(ran.answer, Answer::Done(Report { status: 2, .. })), "{:?}", ran.answer);
+    }
+
+    #[test]
+    fn notes_say_where_a_style_stands() {
+        let style = STYLE.replace("title write$", "#1 write$");
+        let noted = notes(b"a.aux", &small_job(&style), &OPTIONS, 5).unwrap();
+        let wanted = "event step 4 0 1\nitem ITERATE 4 call.type$\nentry k\nnext write$\nat in 2 0 1 misc\ndepth 1\nliteral 1 1\n";
+        assert_eq!(String::from_utf8(noted).unwrap(), wanted);
+        assert_eq!(notes(b"a.aux", &small_job(STYLE), &OPTIONS, 5).unwrap(), b"");
+        let given = for_c(&[]);
+        assert!(notes_of(b"a.aux", &given, &OPTIONS, 5, 10).is_none());
+        let small = small_job(&style);
+        assert_eq!(notes_of(b"a.aux", &for_c(&small), &OPTIONS, 5, 10).unwrap().len(), wanted.len());
+    }
+
+    #[test]
+    fn styles_are_checked() {
+        let verdict = check_in(b"s.bst", STYLE.as_bytes(), 1000, 1).unwrap();
+        let Verdict::Warnings(notes) = verdict else { panic!("{verdict:?}") };
+        assert_eq!(String::from_utf8(notes).unwrap(), "next write$\nmissing title\nat in 2 0 1 misc\n");
+        let clean = STYLE.replace("title write$", "title empty$ 'skip$ { title write$ } if$");
+        let types = vec![b"misc".to_vec()];
+        assert_eq!(check(b"s.bst", clean.as_bytes(), 1000), Some(Verdict::Clean { literals: 3, bodies: 2, types }));
+        assert_eq!(check(b"s.bst", clean.as_bytes(), 1), Some(Verdict::Incomplete));
     }
 
     #[test]

@@ -5,7 +5,7 @@ use crate::database::Item;
 use crate::entries::{Entries, Stored};
 use crate::job::{File, Files};
 use crate::log::{Content, Ended, Line, Log, Message, Place, Severity};
-use crate::scene::{Call, Scene};
+use crate::scene::{Call, End, Scene};
 use crate::shapes::{Part, counted, went_well};
 use crate::shown_line::{ShownLine, first_columns};
 use crate::sources::{Sources, Spot};
@@ -52,6 +52,10 @@ pub fn write(log: &Log<'_>, files: &Files, part: Part, terminal: &Terminal, out:
         }
     }
     explainer.end_lines()?;
+    // A log that has filled its room has no last line.
+    if let Some(end) = explainer.scene_of_end.take() {
+        explainer.scene_of_end(end, None)?;
+    }
     explainer.out.flush()
 }
 
@@ -76,7 +80,7 @@ struct Explainer<'a, W: Write> {
     sources: Sources<'a>,
     entries: Option<Entries<'a>>,
     terminal: &'a Terminal,
-    scene_of_end: Option<&'a Scene>,
+    scene_of_end: Option<&'a End>,
     /// The kinds of messages of which it was said what to do, and the functions of which it was said what they take.
     advised: HashSet<usize>,
     taught: HashSet<&'a [u8]>,
@@ -187,8 +191,8 @@ impl<'a, W: Write> Explainer<'a, W> {
         self.end_lines()?;
         self.put_line(if end.is_finished() { "" } else { ERROR_COLOUR }, line)?;
         if !end.is_finished() {
-            if let Some(scene) = self.scene_of_end {
-                self.scene(scene)?;
+            if let Some(scene) = self.scene_of_end.take() {
+                self.scene_of_end(scene, Some(end.steps))?;
             }
             let (text, _) = split_first(line, b", warnings ").unwrap_or((line, b""));
             self.advise(&[Section::Run], text)?;
@@ -392,8 +396,10 @@ impl<'a, W: Write> Explainer<'a, W> {
             calls.splice(MOST_OF_SCENE - 1..calls.len() - 1, ["..".to_string()]);
         }
         let called = if calls.is_empty() { String::new() } else { format!("; called from {}", calls.join("; ")) };
-        self.put_place(&format!("in {}{called}", self.call(&scene.at)))?;
-        if !scene.stack.is_empty() {
+        // What a command left is listed in the log itself.
+        let is_left = scene.stack.iter().any(|held| held.since.is_some());
+        self.put_place(&format!("{} {}{called}", if is_left { "left by" } else { "in" }, self.call(&scene.at)))?;
+        if !scene.stack.is_empty() && !is_left {
             let literals: Vec<String> =
                 scene.stack.iter().take(MOST_OF_SCENE).map(|held| plain(&held.literal)).collect();
             let more = if scene.stack.len() > MOST_OF_SCENE { ", .." } else { "" };
@@ -408,9 +414,23 @@ impl<'a, W: Write> Explainer<'a, W> {
         Ok(())
     }
 
+    /// Where the style stood at the end of a run of so many steps, where their number is known.
+    fn scene_of_end(&mut self, end: &End, steps: Option<u64>) -> io::Result<()> {
+        if steps != Some(end.steps) {
+            self.put_place(&format!("after the first {} steps it stood", end.steps))?;
+        }
+        self.scene(&end.scene)?;
+        let Some((innermost, others)) = end.loops.split_first() else { return Ok(()) };
+        let others: String = others.iter().map(|call| format!(", or in that of {}", self.call(call))).collect();
+        self.put_place(&format!("it stays in the loop of the `while$` in {}{others}", self.call(innermost)))
+    }
+
     fn call(&self, call: &Call) -> String {
-        let name = self.sources.file(&call.file).map_or(&call.file[..], shown_path);
-        format!("{}, {}:{}", plain(&call.function), plain(name), call.line)
+        let name = plain(self.sources.file(&call.file).map_or(&call.file[..], shown_path));
+        match call.line {
+            0 => format!("{}, {name}", plain(&call.function)),
+            line => format!("{}, {name}:{line}", plain(&call.function)),
+        }
     }
 
     // ---- messages without a place ----
@@ -610,8 +630,7 @@ Error--x is an unknown function--line 5 of file s.bst\n";
         let log = "Error--Integer overflow while executing +\n".repeat(2);
         let told = explained(&Log::new(log.as_bytes()).with_scenes(&scenes), &job("", ""), &Terminal::NONE);
         let end = "Error--Integer overflow while executing +
-    in FUNCTION {f}, s.bst:28; called from book, s.bst:73; ITERATE {call.type$}, s.bst:100
-    on the stack: \"a?\"
+    left by FUNCTION {f}, s.bst:28; called from book, s.bst:73; ITERATE {call.type$}, s.bst:100
     \"a?\" has been there since FUNCTION {g}, s.bst:7\n";
         assert!(told.ends_with(end), "{told}");
     }

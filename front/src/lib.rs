@@ -17,7 +17,7 @@
 //! | [`outputs`] | the list and the log: opened before a run, written behind it |
 //! | [`interrupt`], [`task`] | a run that a signal can end, and what becomes of what it gives |
 //! | [`log`] | the messages of a log |
-//! | [`scene`] | where in a style they were met, as far as that is known |
+//! | [`places`], [`notes`], [`scene`] | where in a style they were met: the library notes it in a run of its own |
 //! | [`text`], [`aux_text`], [`style_text`], [`database`] | the texts of files: their lines, and where an error stands in them |
 //! | [`sources`] | the files of a job as its messages speak of them |
 //! | [`shapes`] | a log in the original's shapes |
@@ -43,7 +43,9 @@ pub mod interrupt;
 pub mod job;
 pub mod kpathsea;
 pub mod log;
+pub mod notes;
 pub mod outputs;
+pub mod places;
 pub mod run_log;
 pub mod scene;
 pub mod search;

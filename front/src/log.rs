@@ -4,7 +4,7 @@
 //! text is one that has such a place, and a file is one that was found only where the log's beginning says so.
 
 use crate::advice::{self, Section};
-use crate::scene::{Scene, Scenes};
+use crate::scene::{End, Scene, Scenes};
 use crate::text::{split_first, split_last};
 
 /// How grave a message is.
@@ -116,7 +116,7 @@ impl<'a> Log<'a> {
     }
 
     /// Where the style stood when the run ended early, if somebody found that out.
-    pub fn scene_of_end(&self) -> Option<&'a Scene> {
+    pub fn scene_of_end(&self) -> Option<&'a End> {
         self.scenes?.end.as_ref()
     }
 

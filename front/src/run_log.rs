@@ -4,6 +4,8 @@ use crate::btx::{Answer, Ran};
 use crate::explain;
 use crate::job::Files;
 use crate::log::Log;
+use crate::places;
+use crate::scene::{End, Scenes};
 use crate::shapes::{self, Part};
 use crate::system::Signal;
 use crate::terminal::{Terminal, plain};
@@ -26,12 +28,20 @@ pub struct RunLog<'a> {
     ran: &'a Ran,
     /// The signal that ended a longer run.
     signal: Option<Signal>,
+    /// Where the style stood at its errors.
+    scenes: Scenes,
 }
 
 impl<'a> RunLog<'a> {
     /// The log of this run.
     pub fn new(words: &'a Words, files: &'a Files, name: &'a [u8], ran: &'a Ran, signal: Option<Signal>) -> Self {
-        RunLog { words, files, name, ran, signal }
+        let scenes = places::scenes(files, &words.options, ran);
+        RunLog { words, files, name, ran, signal, scenes }
+    }
+
+    /// The log as the library wrote it, with the places in the style.
+    fn log(&self) -> Log<'_> {
+        Log::new(&self.ran.log).with_scenes(&self.scenes)
     }
 
     /// The whole log, as it stands in the `.blg`.
@@ -45,14 +55,14 @@ impl<'a> RunLog<'a> {
     /// The log in the original's shapes.
     fn shape(&self, part: Part, into: &mut Vec<u8>) {
         // Memory takes all that is written.
-        let _ = shapes::write(&Log::new(&self.ran.log), self.files, part, into);
+        let _ = shapes::write(&self.log(), self.files, part, into);
     }
 
-    /// What is to be said of a run that was ended, before its messages.
+    /// What is to be said of a run that was ended, before its messages, and where its style stood.
     fn notes(&self) -> Vec<u8> {
         let megabytes = |room: usize| room as f64 / f64::from(1 << 20);
         let rooms = &self.words.rooms;
-        match (self.signal, self.ran.answer) {
+        let mut notes = match (self.signal, self.ran.answer) {
             (Some(signal), Answer::Done(report)) => format!(
                 "Interrupted by {}: list and log are those of the first {} steps, and begin what the run would have written.\n",
                 signal.name(),
@@ -66,7 +76,13 @@ impl<'a> RunLog<'a> {
             }
             _ => return Vec::new(),
         }
-        .into_bytes()
+        .into_bytes();
+        if matches!(self.ran.answer, Answer::LogFull | Answer::ListFull)
+            && let Some(at) = self.scenes.end.as_ref().and_then(End::placed)
+        {
+            let _ = shapes::write_place(at, &mut notes);
+        }
+        notes
     }
 
     /// Prints the log: explained, or as it stands in the `.blg`, which is handed in, or what went wrong alone.
@@ -93,7 +109,7 @@ impl<'a> RunLog<'a> {
 
     fn explain(&self, terminal: &Terminal, out: &mut impl Write) -> io::Result<()> {
         out.write_all(&shown(&self.notes(), terminal))?;
-        explain::write(&Log::new(&self.ran.log), self.files, self.part(), terminal, out)
+        explain::write(&self.log(), self.files, self.part(), terminal, out)
     }
 
     fn print_plainly(&self, whole: &[u8], terminal: &Terminal, out: &mut impl Write) -> io::Result<()> {

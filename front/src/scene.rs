@@ -36,6 +36,20 @@ pub struct Scene {
     pub stack: Vec<Held>,
 }
 
+impl Scene {
+    /// The innermost place whose line is known.
+    pub fn placed(&self) -> Option<&Call> {
+        std::iter::once(&self.at).chain(&self.callers).find(|call| call.line > 0)
+    }
+}
+
+impl End {
+    /// The place to look at: the loop in which the run stayed, or the innermost place whose line is known.
+    pub fn placed(&self) -> Option<&Call> {
+        self.loops.iter().find(|call| call.line > 0).or_else(|| self.scene.placed())
+    }
+}
+
 /// The scenes that are known, by the numbers of the errors and of the warnings in the log, counted from 0.
 #[derive(Debug, Clone, Default, PartialEq, Eq)]
 pub struct Scenes {
@@ -43,6 +57,17 @@ pub struct Scenes {
     pub errors: HashMap<usize, Scene>,
     /// Those of warnings.
     pub warnings: HashMap<usize, Scene>,
-    /// Where the style stood when the run ended before its last command, such as in an endless loop.
-    pub end: Option<Scene>,
+    /// Where the style stood when the run ended before its last command.
+    pub end: Option<End>,
+}
+
+/// Where a style stood when the run ended before its last command, such as in an endless loop.
+#[derive(Debug, Clone, PartialEq, Eq)]
+pub struct End {
+    /// What was executed.
+    pub scene: Scene,
+    /// Behind how many steps; a run that takes longer isn't looked at to its end.
+    pub steps: u64,
+    /// The `while$` of the loops that were open all the time, the innermost first: the run stays in one of them.
+    pub loops: Vec<Call>,
 }

@@ -3,6 +3,7 @@
 use crate::aux_text::without_white_at_end;
 use crate::job::Files;
 use crate::log::{Content, Ended, Line, Log, Message, Place, Severity};
+use crate::scene::{Call, End};
 use crate::sources::{Sources, Spot};
 use crate::style_text;
 use crate::text::{is_white, split_first};
@@ -24,9 +25,18 @@ const LONGEST_SHOWN: usize = 500;
 /// Writes a log in the original's shapes.
 pub fn write(log: &Log<'_>, files: &Files, part: Part, out: &mut impl Write) -> io::Result<()> {
     let out = BufWriter::with_capacity(1 << 16, out);
-    let mut shapes = Shapes { sources: Sources::new(files), top: &files.top, part, shown: 0, last_lines: None, out };
+    let scene_of_end = log.scene_of_end();
+    let (sources, top) = (Sources::new(files), &files.top[..]);
+    let mut shapes = Shapes { sources, top, part, shown: 0, last_lines: None, scene_of_end, out };
     log.lines().filter(|line| part == Part::Whole || !went_well(line)).try_for_each(|line| shapes.line(&line))?;
     shapes.out.flush()
+}
+
+/// Writes where a style stood.
+pub fn write_place(at: &Call, out: &mut impl Write) -> io::Result<()> {
+    write!(out, "while executing---line {} of file ", at.line)?;
+    out.write_all(&at.file)?;
+    out.write_all(b"\n")
 }
 
 /// Whether a line of a log says that all went well.
@@ -85,6 +95,7 @@ struct Shapes<'a, W: Write> {
     part: Part,
     shown: usize,
     last_lines: Option<LastLines>,
+    scene_of_end: Option<&'a End>,
     out: W,
 }
 
@@ -146,19 +157,14 @@ impl<'a, W: Write> Shapes<'a, W> {
     fn executed(&mut self, message: &Message<'a>, function: &[u8], entry: Option<&[u8]>) -> io::Result<()> {
         let for_entry = if entry.is_some() { &b" for entry "[..] } else { b"" };
         self.put(&[message.text, b" (", function, b")", for_entry, entry.unwrap_or(b"")])?;
-        if let Some(scene) = message.scene {
-            return self.put(&[
-                b"while executing---line ",
-                scene.at.line.to_string().as_bytes(),
-                b" of file ",
-                &scene.at.file,
-            ]);
+        if let Some(at) = message.scene.and_then(|scene| scene.placed()) {
+            return write_place(at, &mut self.out);
         }
         let style = self.sources.style().map_or(&b""[..], |file| &file.name);
         let sources = &mut self.sources;
         let last_lines = self.last_lines.get_or_insert_with(|| LastLines::new(sources, style));
-        let number = last_lines.line(function, entry.is_some()).to_string();
-        self.put(&[b"while executing---line ", number.as_bytes(), b" of file ", style])
+        let line = last_lines.line(function, entry.is_some());
+        write_place(&Call { function: Vec::new(), file: style.to_vec(), line }, &mut self.out)
     }
 
     /// An error in a line of a file.
@@ -220,6 +226,9 @@ impl<'a, W: Write> Shapes<'a, W> {
             writeln!(self.out, "Sorry---you've exceeded BibTeX's budget of {} steps", end.steps)?;
         } else if end.how.starts_with(b"limit ") {
             self.put(&[b"Sorry---you've exceeded BibTeX's ", end.how])?;
+        }
+        if let Some(at) = self.scene_of_end.and_then(End::placed) {
+            write_place(at, &mut self.out)?;
         }
         counted(end).map_or(Ok(()), |count| writeln!(self.out, "{count}"))
     }

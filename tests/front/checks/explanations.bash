@@ -42,10 +42,14 @@ Warning--I didn't find a database entry for \"nosuch\"
 Warning--I didn't find a database entry for \"p\"
     $2d.bib:5: @misc{two, title = {D}, crossref = {p}}
 Error--\"A\" is not an integer while executing + for entry k
+    in {..} of FUNCTION {misc}, $2s.bst:3; called from misc, $2s.bst:3; ITERATE {call.type\$}, $2s.bst:7
+    on the stack: 1, \"A\"
     for @misc{k}, which begins at $2d.bib:1
     \`+\` takes NUMBER NUMBER, pushed in this order
     what to do: push the operands in the order in which the function takes them; a field that may be missing goes through \`empty\$\` or \`missing\$\` first
 Error--\"D\" is not an integer while executing + for entry two
+    in {..} of FUNCTION {misc}, $2s.bst:3; called from misc, $2s.bst:3; ITERATE {call.type\$}, $2s.bst:7
+    on the stack: 1, \"D\"
     for @misc{two}, which begins at $2d.bib:5
 Warning--empty title in bare
     for @misc{bare}, which begins at $2d.bib:6

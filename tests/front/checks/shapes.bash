@@ -84,6 +84,7 @@ run_search -budget=0 job
 wants_status 4
 wants_log job.blg "${found_log}Ended: stopped, warnings 0, errors 0, steps 0
 Sorry---you've exceeded BibTeX's budget of 0 steps
+while executing---line 1 of file s.bst
 "
 end
 
@@ -91,7 +92,8 @@ begin shapes_at_a_limit
 write_limit
 run_search job
 wants_status 3
-[ "$(tail -n 1 job.blg)" = "Sorry---you've exceeded BibTeX's limit string" ] || complaints+=("the log ends $(tail -n 1 job.blg)")
+[ "$(tail -n 2 job.blg)" = "Sorry---you've exceeded BibTeX's limit string
+while executing---line 1 of file s.bst" ] || complaints+=("the log ends $(tail -n 2 job.blg)")
 end
 
 # No message stands twice, and printed is what the log has, but for the names of files with -terse.

@@ -1,0 +1,263 @@
+//! Where a style stood at each error of a run's execution, and where the run was stopped or met a limit. The library runs the job once more to find
+//! that out, so it is asked only where there is something to find.
+
+use crate::btx::{self, Answer, Options, Ran};
+use crate::job::Files;
+use crate::log::{Content, Log, Message, Place, Severity};
+use crate::notes::{self, Note, Spot, What};
+use crate::scene::{Call, End, Held, Scene, Scenes};
+use crate::style_text::Tokens;
+use std::collections::HashMap;
+
+/// Of how many events that log errors the place is found at most, and of how many in any run.
+const MOST_EVENTS: u64 = 100;
+const LEAST_EVENTS: u64 = 5;
+
+/// How many errors of an execution are kept: those of all events of which the place is found.
+const MOST_LOGGED: usize = 1000;
+
+/// How many steps of a run are looked at.
+const MOST_STEPS: u64 = 50_000_000;
+
+/// How many steps the runs may take together that find the places of events: each costs a run up to its event.
+const STEPS_OF_ALL: u64 = 400_000_000;
+
+/// How many steps of a run are looked at that doesn't end: where it stands then is found step by step, which takes longer.
+const STEPS_OF_ENDLESS: u64 = 1_000_000;
+
+/// How many steps before a limit the loop began at least that is named.
+const STEPS_OF_LOOP: u64 = 500;
+
+/// An error of the execution, in the log.
+struct Logged<'a> {
+    function: &'a [u8],
+    entry: Option<&'a [u8]>,
+    /// The lines that follow, up to the next message.
+    listing: Vec<&'a [u8]>,
+}
+
+/// The first errors of the execution in a log, by their numbers; and how many errors there are in all.
+fn errors_of(log: &[u8]) -> (HashMap<usize, Logged<'_>>, usize) {
+    let mut found: HashMap<usize, Logged<'_>> = HashMap::new();
+    let mut count: usize = 0;
+    for line in Log::new(log).lines() {
+        match line.content {
+            Content::Message(Message { severity: Severity::Error, place, .. }) => {
+                if let Place::Execution { function, entry } = place
+                    && found.len() < MOST_LOGGED
+                {
+                    found.insert(count, Logged { function, entry, listing: Vec::new() });
+                }
+                count += 1;
+            }
+            Content::Message(_) | Content::Ended(_) | Content::Found(_) => {}
+            Content::Other => {
+                if let Some(last) = count.checked_sub(1).and_then(|last| found.get_mut(&last)) {
+                    last.listing.push(line.bytes);
+                }
+            }
+        }
+    }
+    (found, count)
+}
+
+/// The job whose places are found.
+struct Search<'a> {
+    files: &'a Files,
+    options: &'a Options,
+    /// The style's name and its text.
+    style: &'a [u8],
+    text: &'a [u8],
+}
+
+/// Where the style stood at the errors of a run, and at its end where it didn't come to an end of its own.
+pub fn scenes(files: &Files, options: &Options, ran: &Ran) -> Scenes {
+    let Some(style) = files.with_ending(".bst").next() else { return Scenes::default() };
+    let search = Search { files, options, style: &style.name, text: style.bytes.as_deref().unwrap_or(b"") };
+    match ran.answer {
+        Answer::Done(report) if report.has_finished() && report.errors == 0 => Scenes::default(),
+        Answer::Done(report) => {
+            let (errors, count) = errors_of(&ran.log);
+            // A style can log lines that look like errors; then no error's number is certain.
+            let errors = if count as u64 == report.errors { errors } else { HashMap::new() };
+            if report.has_finished() && errors.is_empty() {
+                return Scenes::default();
+            }
+            let longest = if report.has_finished() { MOST_STEPS } else { STEPS_OF_ENDLESS };
+            let steps = report.steps.min(longest);
+            // A run that was ended by a signal has another budget than the one that was asked for.
+            let is_cut = report.steps > longest || report.is_stopped();
+            search.scenes(&errors, if is_cut { steps } else { options.budget }, steps, !report.has_finished())
+        }
+        Answer::ListFull | Answer::LogFull => {
+            let steps = options.budget.min(STEPS_OF_ENDLESS);
+            search.scenes(&errors_of(&ran.log).0, steps, steps, true)
+        }
+        Answer::Memory => Scenes::default(),
+    }
+}
+
+impl Search<'_> {
+    /// The notes of the first `most` events, and of the end, of a run with this budget.
+    fn notes(&self, budget: u64, most: u64) -> Vec<Note> {
+        let options = Options { budget, ..*self.options };
+        let noted = btx::notes(&self.files.top, &self.files.all, &options, most as u32);
+        notes::read(&noted.unwrap_or_default(), self.style)
+    }
+
+    /// The scenes of a run that takes so many steps with this budget; `has_end` where the end is to be found too.
+    fn scenes(&self, errors: &HashMap<usize, Logged<'_>>, budget: u64, steps: u64, has_end: bool) -> Scenes {
+        let most = if errors.is_empty() { 0 } else { (STEPS_OF_ALL / steps.max(1)).clamp(LEAST_EVENTS, MOST_EVENTS) };
+        let notes = self.notes(budget, most);
+        let mut scenes = Scenes::default();
+        for note in &notes {
+            if matches!(note.what, What::Stop | What::Limit) {
+                scenes.end = if has_end { self.end(note) } else { None };
+                continue;
+            }
+            let placed = note.errors.clone().filter_map(|number| Some((number, scene_of(note, errors.get(&number)?)?)));
+            scenes.errors.extend(placed);
+        }
+        scenes
+    }
+
+    /// Where a run stood at its end, and which loops it was in.
+    fn end(&self, note: &Note) -> Option<End> {
+        let scene = scene(note, stack_of(note))?;
+        let span = if note.what == What::Stop { note.steps / 2 } else { STEPS_OF_LOOP.min(note.steps / 2) };
+        // (the turns of a loop are regular, and these moments aren't)
+        let moments = [span, span * 2 / 3, span * 3 / 11].map(|before| note.steps - before);
+        let mut opened = opened(note);
+        for moment in moments {
+            let common = self.notes(moment, 0).last().map_or(0, |before| common(before, note));
+            opened.drain(..opened.len() - common.min(opened.len()));
+        }
+        Some(End { scene, steps: note.steps, loops: self.loops(&opened) })
+    }
+
+    /// Those of these places that are a `while$`.
+    fn loops(&self, places: &[&Spot]) -> Vec<Call> {
+        let lines: Vec<&[u8]> = self.text.split(|byte| *byte == b'\n').collect();
+        let is_loop = |spot: &&&Spot| {
+            let line = spot.call.line.checked_sub(1).and_then(|index| lines.get(index)).map_or(&b""[..], |line| line);
+            Tokens::new(line).any(|token| line[token.start..token.end].eq_ignore_ascii_case(b"while$"))
+        };
+        places.iter().filter(is_loop).map(|spot| spot.call.clone()).collect()
+    }
+}
+
+/// How many places were open at both of these notes of one command and one entry, from the outermost on.
+fn common(before: &Note, note: &Note) -> usize {
+    if before.command != note.command || before.entry != note.entry {
+        return 0;
+    }
+    let (early, late) = (opened(before), opened(note));
+    let both = early.iter().rev().zip(late.iter().rev());
+    both.take_while(|(early, late)| early.token == late.token).count()
+}
+
+/// All that was open at a note, the innermost first.
+fn opened(note: &Note) -> Vec<&Spot> {
+    note.at.iter().chain(&note.callers).collect()
+}
+
+/// The scene of an error, if the log's error is the one that was noted.
+fn scene_of(note: &Note, logged: &Logged<'_>) -> Option<Scene> {
+    if note.what == What::Left {
+        return scene(note, left_of(note, logged));
+    }
+    let is_it = note.what == What::Test || note.next.as_deref() == Some(logged.function);
+    let is_of_it = note.entry.as_deref() == logged.entry;
+    if is_it && is_of_it { scene(note, stack_of(note)) } else { None }
+}
+
+/// What the stack held, with `..` where the note leaves some of it out.
+fn stack_of(note: &Note) -> Vec<Held> {
+    let dots = if note.depth > note.stack.len() { Some(Held { literal: b"..".to_vec(), since: None }) } else { None };
+    note.stack.iter().cloned().chain(dots).collect()
+}
+
+/// The scene of a note, with what the stack held.
+fn scene(note: &Note, stack: Vec<Held>) -> Option<Scene> {
+    let mut calls = opened(note).into_iter().chain(&note.command).map(|spot| spot.call.clone());
+    let at = calls.next()?;
+    Some(Scene { at, callers: calls.collect(), stack })
+}
+
+/// The literals that a command left, which the log lists, the uppermost first; none where the list isn't clear, as a literal may have several lines.
+fn left_of(note: &Note, logged: &Logged<'_>) -> Vec<Held> {
+    let shown = note.since.len();
+    if logged.listing.len() < shown || shown < MOST_LEFT && logged.listing.len() > shown {
+        return Vec::new();
+    }
+    let held = |(since, literal): (&Option<Call>, &&[u8])| Held { literal: literal.to_vec(), since: since.clone() };
+    note.since.iter().zip(&logged.listing).map(held).collect()
+}
+
+/// Of how many literals that were left it is noted since when they have been there.
+const MOST_LEFT: usize = 8;
+
+#[cfg(test)]
+mod tests {
+    use super::*;
+    use crate::btx::Rooms;
+    use crate::job::File;
+
+    const OPTIONS: Options =
+        Options { budget: 10_000, min_crossrefs: 2, line: 79, entry_max: 250, global_max: 20_000, utf8: false };
+
+    /// A job with this style.
+    fn files(style: &str) -> Files {
+        let file = |name: &str, bytes: &str| File { name: name.into(), bytes: Some(bytes.into()), path: name.into() };
+        let top = file("a.aux", "\\citation{k}\n\\bibdata{b}\n\\bibstyle{s}\n");
+        let style = format!("ENTRY {{title}} {{}} {{}} INTEGERS {{i}}\n{style}");
+        let all = vec![top, file("s.bst", &style), file("b.bib", "@misc{k, title = {T}}\n")];
+        Files { top: b"a.aux".to_vec(), all }
+    }
+
+    /// The scenes of a job with this style.
+    fn found(style: &str) -> Scenes {
+        let files = files(style);
+        let ran = btx::run(&files.top, &files.all, &OPTIONS, &Rooms { list: 1 << 16, log: 1 << 16 });
+        scenes(&files, &OPTIONS, &ran)
+    }
+
+    fn lines(scene: &Scene) -> Vec<usize> {
+        std::iter::once(&scene.at).chain(&scene.callers).map(|call| call.line).collect()
+    }
+
+    #[test]
+    fn errors_have_their_scenes() {
+        let found = found("FUNCTION {f}\n{ \"x\" #1 + pop$\n }\nREAD nosuch\n\nITERATE {f}\n");
+        let [(number, scene)] = found.errors.iter().collect::<Vec<_>>()[..] else { panic!("{found:?}") };
+        assert_eq!((*number, lines(scene)), (1, vec![3, 7]));
+        assert_eq!(scene.stack.iter().map(|held| &held.literal[..]).collect::<Vec<_>>(), [&b"1"[..], b"\"x\""]);
+        assert_eq!(found.end, None);
+    }
+
+    #[test]
+    fn a_run_without_an_error_of_its_execution_has_none() {
+        assert_eq!(found("READ FUNCTION {f} {title write$} ITERATE {f}"), Scenes::default());
+        assert_eq!(found("READ nosuch\n"), Scenes::default());
+    }
+
+    #[test]
+    fn what_was_left_is_known_where_the_list_is_clear() {
+        let of = |style: &str| found(style).errors.remove(&0).map(|scene| (scene.at.line, scene.stack.len()));
+        assert_eq!(of("READ FUNCTION {f} {\"a\" \"b\"}\nITERATE {f}"), Some((3, 2)));
+        assert_eq!(of("READ FUNCTION {f} {\"a\" #10 int.to.chr$ * \"b\" *}\nITERATE {f}"), Some((3, 0)));
+    }
+
+    #[test]
+    fn the_loop_of_an_endless_run_is_named() {
+        let end = found("FUNCTION {f}\n{ { #1 } { #1 'i := }\n while$ }\nREAD ITERATE {f}\n").end.unwrap();
+        assert_eq!((end.steps, end.loops.iter().map(|call| call.line).collect::<Vec<_>>()), (10_000, vec![4]));
+        assert_eq!(found("READ FUNCTION {f} {skip$}").end, None);
+    }
+
+    #[test]
+    fn errors_of_a_style_s_own_making_make_all_uncertain() {
+        let style = "READ FUNCTION {f} {\"x\" #10 int.to.chr$ * \"Error--y\" * warning$ #1 write$} ITERATE {f}";
+        assert_eq!(found(style), Scenes::default());
+    }
+}

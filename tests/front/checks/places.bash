@@ -1,0 +1,140 @@
+# Where a style stood at each error of its execution: function, line, callers and stack, printed with -explain, and the line in the .blg. tests/where/compare.py compares the
+# library's notes with a tracer in Python.
+
+# write_names: a style that hands the number and the names of `format.name$` over in the wrong order.
+write_names() {
+    cat >s.bst <<'END'
+ENTRY { author title year } {} { label }
+INTEGERS { numnames nameptr }
+STRINGS { s t }
+
+FUNCTION {names.text}
+{ 's :=
+  #1 'nameptr :=
+  s num.names$ 'numnames :=
+  { numnames #0 > }
+    { nameptr s "{ff}" format.name$ write$
+      nameptr #1 + 'nameptr :=
+      numnames #1 - 'numnames :=
+    }
+  while$
+}
+
+FUNCTION {author.part}
+{ author names.text
+  cite$ write$ newline$
+}
+
+FUNCTION {book}
+{ author.part }
+
+READ
+
+ITERATE {call.type$}
+END
+    cite kay
+    printf '@book{kay, author = {Cy Kay}, year = 1999}\n' >d.bib
+}
+
+# wants_line_of_style N: the log's lines that say where the style stood have this number, and no other.
+wants_line_of_style() {
+    local found
+    found=$(grep -F 'while executing---line ' job.blg | sort -u)
+    [ "$found" = "while executing---line $1 of file s.bst" ] || complaints+=("the log has $found, not line $1")
+}
+
+begin place_of_an_error
+write_names
+run_search -explain job
+wants_status 2
+grep -qxF '    in {..} of FUNCTION {names.text}, s.bst:10; called from names.text, s.bst:14; author.part, s.bst:18; book, s.bst:23; ITERATE {call.type$}, s.bst:27' \
+    "$folder/stdout" || complaints+=("printed is $(cat "$folder/stdout")")
+grep -qxF '    on the stack: "{ff}", "Cy Kay", 1' "$folder/stdout" || complaints+=('the stack is another')
+wants_line_of_style 10
+end
+
+begin place_along_the_search_path
+write_names
+mkdir there
+mv s.bst there
+BSTINPUTS=there run_plainly -explain job
+grep -qF 'names.text}, there/s.bst:10; called from' "$folder/stdout" || complaints+=('the path is another')
+wants_line_of_style 10
+end
+
+begin place_of_literals_left
+use_style ''
+cat >>s.bst <<'END'
+FUNCTION {leaves} { title
+  "left" }
+ITERATE {leaves}
+ITERATE {call.type$}
+END
+run_search -explain job
+wants_status 2
+grep '^    [l"]' "$folder/stdout" >left
+wants_text left '    left by ITERATE {leaves}, s.bst:4
+    "left" has been there since FUNCTION {leaves}, s.bst:3
+    "T" has been there since FUNCTION {leaves}, s.bst:2
+'
+wants_line_of_style 4
+end
+
+# An endless loop is named, whatever it fills: the budget, the log's room, the list's room, the stack.
+for name in budget log list stack; do
+    begin "endless_$name"
+    declare -A turn=([budget]="#9 'i :=" [log]='"text" warning$' [list]='"text" write$ newline$' [stack]='"text"')
+    declare -A status_of=([budget]=4 [log]=3 [list]=3 [stack]=3)
+    cat >s.bst <<END
+ENTRY {title}{}{}
+INTEGERS { i }
+FUNCTION {count}
+{ #1 'i :=
+  { #1 }
+    { ${turn[$name]} ${turn[$name]} ${turn[$name]}
+      { i #3 < } { i #1 + 'i := } while$
+    }
+  while$
+}
+FUNCTION {misc} { count }
+READ
+ITERATE {call.type$}
+END
+    run_search -explain -budget=3000000 -log-room=1M -list-room=1M job
+    wants_status "${status_of[$name]}"
+    grep -qE '^    it stays in the loop of the `while\$` in (FUNCTION \{count\}|count), s\.bst:9$' "$folder/stdout" || complaints+=("printed is $(tail -n 8 "$folder/stdout")")
+    wants_line_of_style 9
+    end
+done
+
+begin place_at_a_small_budget
+write_names
+sed -i 's/"{ff}"/#1 "{ff}" pop$ pop$ "{ff}"/' s.bst
+run_search -explain -budget=12 job
+wants_status 4
+grep -qE '^    in (\{\.\.\} of )?FUNCTION \{names\.text\}, s\.bst:[0-9]+; called from ' "$folder/stdout" || complaints+=("printed is $(cat "$folder/stdout")")
+end
+
+# The first hundred errors have their places, also where a style logs lines that look like errors.
+begin places_of_many_errors
+use_style 'FUNCTION {f} { { #1 } { title #1 + pop$ } while$ } ITERATE {f}'
+run_search -explain -budget=2000 job
+wants_status 4
+[ "$(grep -c '^    in {\.\.} of FUNCTION {f}, s.bst:1; called from f, s.bst:1; ITERATE {f}, s.bst:1$' "$folder/stdout")" -ge 100 ] || complaints+=('fewer than 100 places are shown')
+end
+
+begin errors_that_a_style_invents
+use_style 'FUNCTION {f} { "x" #10 int.to.chr$ * "Error--1 is not a string while executing write$ for entry k" * warning$
+#1 write$ } ITERATE {f}'
+run_search -explain job
+wants_status 2
+! grep -q 'FUNCTION {f}' "$folder/stdout" || complaints+=('a place is shown of which nothing is certain')
+end
+
+# The library's second run is made only where there is an error of the execution.
+begin no_place_without_an_error
+use_style 'FUNCTION {f} { title write$ "w" warning$ } ITERATE {f}'
+run_search -explain job
+wants_status 0
+! grep -q '^    in ' "$folder/stdout" || complaints+=('a place is shown')
+end
