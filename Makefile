@@ -24,7 +24,7 @@ front = front/out
 page = $(subst -,\\-,$(NAME))
 title = $(shell printf '%s' '$(page)' | tr a-z A-Z)
 # The commands whose options are completed, beside bibtex-search.
-completed = bibtex-confined bibtex-proved
+completed = bibtex-confined bibtex-lint bibtex-proved
 
 .PHONY: all check library wheel front book install install-program install-front install-completion install-documents install-library uninstall
 
@@ -61,7 +61,8 @@ install-front:
 	install -d '$(bin)' '$(man)'
 	install -m 755 '$(front)/bibtex-search' '$(front)/bibtex-confined' '$(bin)'
 	ln -sf bibtex-search '$(bin)/bibtex-explain'
-	install -m 644 docs/bibtex-search.1 docs/bibtex-confined.1 docs/bibtex-explain.1 '$(man)'
+	ln -sf bibtex-search '$(bin)/bibtex-lint'
+	install -m 644 docs/bibtex-search.1 docs/bibtex-confined.1 docs/bibtex-explain.1 docs/bibtex-lint.1 '$(man)'
 
 install-completion:
 	install -d '$(bash)' '$(zsh)' '$(fish)'
@@ -82,8 +83,8 @@ install-library:
 	$(MAKE) --no-print-directory -C library install PREFIX='$(PREFIX)' DESTDIR='$(DESTDIR)'
 
 uninstall:
-	rm -f '$(bin)/$(NAME)' '$(bin)/bibtex-search' '$(bin)/bibtex-confined' '$(bin)/bibtex-explain'
-	rm -f '$(man)/$(NAME).1' '$(man)/bibtex-search.1' '$(man)/bibtex-confined.1' '$(man)/bibtex-explain.1'
+	rm -f '$(bin)/$(NAME)' '$(bin)/bibtex-search' '$(bin)/bibtex-confined' '$(bin)/bibtex-explain' '$(bin)/bibtex-lint'
+	rm -f '$(man)/$(NAME).1' '$(man)/bibtex-search.1' '$(man)/bibtex-confined.1' '$(man)/bibtex-explain.1' '$(man)/bibtex-lint.1'
 	rm -f '$(bash)/bibtex-search' '$(zsh)/_bibtex-search' '$(fish)/bibtex-search.fish'
 	for name in $(completed); do rm -f '$(bash)'/$$name '$(fish)'/$$name.fish; done
 	rm -rf '$(doc)'

@@ -1,4 +1,4 @@
-# Completion in bash for bibtex-search, bibtex-confined and bibtex-proved: options, their values, and jobs.
+# Completion in bash for bibtex-search, bibtex-confined, bibtex-lint and bibtex-proved: options, their values, jobs and styles.
 
 # _bibtex_options COMMAND: the names of its options, those with a value with a `=` behind them.
 _bibtex_options() {
@@ -8,6 +8,7 @@ _bibtex_options() {
     bibtex-confined)
         echo "$kept limit-memory= limit-aux= limit-input= limit-output= limit-processor= limit-clock= limit-steps= limit-names="
         ;;
+    bibtex-lint) echo 'line json job steps= help version' ;;
     *) echo "$kept budget= dir= terse" ;;
     esac
 }
@@ -29,6 +30,10 @@ _bibtex_complete() {
     jobs)
         compopt -o filenames
         mapfile -t COMPREPLY < <(compgen -f -X '!*.aux' -- "$2"; compgen -d -- "$2")
+        ;;
+    styles)
+        compopt -o filenames
+        mapfile -t COMPREPLY < <(compgen -f -X '!*.bst' -- "$2"; compgen -d -- "$2")
         ;;
     folders)
         compopt -o filenames
@@ -54,8 +59,14 @@ _bibtex() {
     dir:*) _bibtex_complete folders "$word" ;;
     ?*:*) ;;
     :-*) _bibtex_complete words "$word" "$hyphens${options// / $hyphens}" ;;
-    *) _bibtex_complete jobs "$word" ;;
+    *)
+        if [ "$command" = bibtex-lint ] && [ "${COMP_WORDS[COMP_CWORD - 1]}" != --job ]; then
+            _bibtex_complete styles "$word"
+        else
+            _bibtex_complete jobs "$word"
+        fi
+        ;;
     esac
 }
 
-complete -F _bibtex bibtex-search bibtex-confined bibtex-proved
+complete -F _bibtex bibtex-search bibtex-confined bibtex-lint bibtex-proved

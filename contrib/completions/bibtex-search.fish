@@ -1,4 +1,4 @@
-# Completion in fish for bibtex-search, bibtex-confined and bibtex-proved: options, their values, and jobs.
+# Completion in fish for bibtex-search, bibtex-confined, bibtex-lint and bibtex-proved: options, their values, jobs and styles.
 
 # __bibtex_option COMMAND FORM NAME WHAT [WORDS..]: an option of this name; FORM is o for one hyphen and l for two. With more words it has a value.
 function __bibtex_option
@@ -44,3 +44,11 @@ __bibtex_option bibtex-confined l limit-names 'Files that the .aux files name' 1
 __bibtex_option bibtex-proved l budget 'Steps that the style may take' 1000000000
 __bibtex_option bibtex-proved l terse 'Print no log'
 complete -c bibtex-proved -l dir -x -a '(__fish_complete_directories)' -d 'The folder of all files of the job'
+
+complete -c bibtex-lint -f -a '(__fish_complete_suffix .bst)'
+__bibtex_option bibtex-lint l line 'Print a line for each style'
+__bibtex_option bibtex-lint l json 'Print all that is found as JSON'
+complete -c bibtex-lint -l job -x -a '(__fish_complete_suffix .aux)' -d 'Explain where the style of a job stands at each error'
+__bibtex_option bibtex-lint l steps 'Steps that a check may take' 1000000
+__bibtex_option bibtex-lint l help 'Print the options'
+__bibtex_option bibtex-lint l version 'Print the version'

@@ -127,6 +127,14 @@ fn read_ordinary(path: &[u8]) -> io::Result<Place> {
     Ok(Place::File(bytes, number))
 }
 
+/// What stands in the ordinary file at this path, where it can be read.
+pub fn read_file(path: &[u8]) -> Option<Vec<u8>> {
+    match read(path) {
+        Ok(Place::File(bytes, _)) => Some(bytes),
+        _ => None,
+    }
+}
+
 /// Finds the files of a job.
 pub struct Finder<'a> {
     search: &'a Search,

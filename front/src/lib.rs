@@ -25,7 +25,8 @@
 //! | [`run_log`] | the log of a run as it is written and printed |
 //! | [`terminal`] | what is safe to print on a terminal, and how wide it is |
 //! | [`exit`] | the exit statuses |
-//! | [`search_program`], [`confined_program`] | the two programs |
+//! | [`style_check`], [`hints`] | what can be said of a style before any document uses it |
+//! | [`search_program`], [`lint_program`], [`confined_program`] | the programs; `bibtex-lint` is another name of `bibtex-search` |
 //!
 //! `unsafe` stands in [`btx`] and [`system`] alone.
 
@@ -39,9 +40,11 @@ pub mod databases;
 pub mod entries;
 pub mod exit;
 pub mod explain;
+pub mod hints;
 pub mod interrupt;
 pub mod job;
 pub mod kpathsea;
+pub mod lint_program;
 pub mod log;
 pub mod notes;
 pub mod outputs;
@@ -53,6 +56,7 @@ pub mod search_program;
 pub mod shapes;
 pub mod shown_line;
 pub mod sources;
+pub mod style_check;
 pub mod style_text;
 #[allow(unsafe_code)]
 pub mod system;

@@ -1,8 +1,9 @@
 //! `bibtex-search`: the original's command line and search paths over the proved library. Called as `bibtex-explain` it explains the log of
-//! a job, and writes nothing.
+//! a job, and writes nothing; called as `bibtex-lint` it checks styles.
 
 use crate::exit::{Failure, Name, Status};
 use crate::job::Finder;
+use crate::lint_program;
 use crate::outputs::Outputs;
 use crate::search::Search;
 use crate::system::{Signal, end_aborts_as_memory, survive_long_files};
@@ -55,6 +56,13 @@ pub fn main() -> ExitCode {
     panic::set_hook(Box::new(end_by_panic));
     let mut words = env::args_os();
     let name = Name::of(words.next());
+    if name.is("bibtex-lint") {
+        return lint_program::main(&name, words, |job| {
+            let words = words::read([b"-terse".to_vec(), b"--".to_vec(), job].into_iter(), Explain::Only, false);
+            let Asked::Run(words) = words else { return Ok(Status::Refused) };
+            prepare(&name, *words).and_then(Task::run)
+        });
+    }
     let explain = if name.is("bibtex-explain") { Explain::Only } else { Explain::OnTerminal };
     let jobs_last = env::var_os("POSIXLY_CORRECT").is_some();
     let printed = |text: String| {

@@ -20,9 +20,10 @@ wants_completed() {
     [ "$found" = "${1:+$1 }" ] || complaints+=("for ${*:2} bash offers '$found', not '$1'")
 }
 
-for name in search confined proved; do
+for name in search confined lint proved; do
     case $name in
     proved) path=$program ;;
+    lint) path=$room/bibtex-lint && ln -sf "$search" "$path" ;;
     *) path=$programs/bibtex-$name ;;
     esac
     wanted=$(options_of "$path")
@@ -66,4 +67,6 @@ wants_completed '--limit-clock=' bibtex-confined job --limit-c
 wants_completed 'job.aux other.aux sub' bibtex-search ''
 wants_completed other.aux bibtex-search -terse o
 wants_completed sub bibtex-proved --dir = s
+wants_completed 's.bst sub' bibtex-lint s
+wants_completed 'job.aux' bibtex-lint --job j
 end

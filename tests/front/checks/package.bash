@@ -37,7 +37,7 @@ if command -v dpkg-deb >/dev/null && command -v make >/dev/null; then
     [ "$(dpkg-deb -f "$package" Version)" = "$version" ] || complaints+=("the package is of version $(dpkg-deb -f "$package" Version), and the program of $version")
     newest=$(sed -n 's/^## \([0-9][0-9.]*\).*/\1/p' "$sources/CHANGELOG.md" | head -n 1)
     [ "$newest" = "$version" ] || complaints+=("the newest release of CHANGELOG.md is $newest, and the program is of $version")
-    for file in bin/bibtex-{proved,search,explain,confined} share/man/man1/bibtex-{proved,search,explain,confined}.1.gz \
+    for file in bin/bibtex-{proved,search,explain,lint,confined} share/man/man1/bibtex-{proved,search,explain,lint,confined}.1.gz \
         share/bash-completion/completions/bibtex-{search,confined,proved} share/zsh/vendor-completions/_bibtex-search \
         share/fish/vendor_completions.d/bibtex-{search,confined,proved}.fish \
         share/doc/bibtex-proved/{README.md,CHANGELOG.md,changelog.gz,copyright,contrib/README.md,examples/README.md} \

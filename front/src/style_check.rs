@@ -1,0 +1,75 @@
+//! What can be said of a style before any document uses it: what is wrong in its text, whether the proved checker calls it clean, and hints.
+
+use crate::btx::{self, Answer, Options, Rooms, Verdict};
+use crate::hints::{Hint, hints};
+use crate::job::{File, Files};
+use crate::log::{Content, Log, Place};
+use crate::notes::{Warned, read_warning};
+
+/// How many steps the commands of a style may take that is read for its messages: no entry is there.
+const STEPS_OF_READING: u64 = 100_000;
+
+/// The room for the log of a style's own messages.
+const ROOM: usize = 1 << 24;
+
+/// What was found of a style.
+pub struct StyleCheck {
+    /// The style and what is read beside it, for the explanations of its messages.
+    pub files: Files,
+    /// The lines of a log with what is wrong in the style's text.
+    pub log: Vec<u8>,
+    /// How many messages these are.
+    pub messages: usize,
+    /// None where memory was refused, or the style is too long.
+    pub verdict: Option<Verdict>,
+    /// Where it may go wrong, if it isn't clean.
+    pub warned: Option<Warned>,
+    pub hints: Vec<Hint>,
+}
+
+impl StyleCheck {
+    /// Checks a style, in at most so many steps of the check.
+    pub fn new(style: File, steps: u64) -> StyleCheck {
+        let bytes = style.bytes.clone().unwrap_or_default();
+        let verdict = btx::check(&style.name, &bytes, steps);
+        let warned = match &verdict {
+            Some(Verdict::Warnings(notes)) => Some(read_warning(notes, &style.name)),
+            _ => None,
+        };
+        let files = job_of(style);
+        let (log, messages) = messages_of(&files);
+        StyleCheck { files, log, messages, verdict, warned, hints: hints(&bytes) }
+    }
+
+    /// Whether nothing is to be said but hints.
+    pub fn is_clean(&self) -> bool {
+        self.messages == 0 && matches!(self.verdict, Some(Verdict::Clean { .. }))
+    }
+}
+
+/// A job of a style, without entries.
+fn job_of(style: File) -> Files {
+    let stem = style.name.strip_suffix(b".bst").unwrap_or(&style.name);
+    let top = [b"\\citation{*}\n\\bibdata{none}\n\\bibstyle{", stem, b"}\n"].concat();
+    let file = |name: &[u8], bytes: Vec<u8>| File { name: name.to_vec(), bytes: Some(bytes), path: name.to_vec() };
+    let database = file(b"none.bib", Vec::new());
+    Files { top: b"job.aux".to_vec(), all: vec![file(b"job.aux", top), style, database] }
+}
+
+/// The messages on a style's text, as lines of a log, and how many there are.
+fn messages_of(files: &Files) -> (Vec<u8>, usize) {
+    let options = Options {
+        budget: STEPS_OF_READING,
+        min_crossrefs: 2,
+        line: 79,
+        entry_max: 250,
+        global_max: 20_000,
+        utf8: false,
+    };
+    let ran = btx::run(&files.top, &files.all, &options, &Rooms { list: ROOM, log: ROOM });
+    let is_of_text = |content: &Content<'_>| matches!(content, Content::Message(message) if matches!(message.place, Place::Line { file, .. } if file.ends_with(b".bst")));
+    let log = Log::new(&ran.log);
+    let lines: Vec<&[u8]> = log.lines().filter(|line| is_of_text(&line.content)).map(|line| line.bytes).collect();
+    debug_assert!(ran.answer != Answer::Memory || lines.is_empty());
+    (lines.iter().flat_map(|line| [line, &b"\n"[..]]).collect::<Vec<_>>().concat(), lines.len())
+}

@@ -1,0 +1,191 @@
+# bibtex-lint, another name of bibtex-search: what is said of a style before any document uses it.
+
+ln -sf "$search" "$room/bibtex-lint"
+
+# run_lint WORD..: runs bibtex-lint as run_search runs bibtex-search.
+run_lint() {
+    status=0
+    (ulimit -v 4000000; LD_LIBRARY_PATH=$libraries exec timeout -k 5 "$seconds" "$room/bibtex-lint" "$@") </dev/null >"$folder/stdout" 2>"$folder/stderr" || status=$?
+}
+
+# wants_line_of_output LINE: standard output has this line.
+wants_line_of_output() {
+    grep -qxF -- "$1" "$folder/stdout" || complaints+=("there is no line '$1' in $(printf '%q' "$(cat "$folder/stdout")")")
+}
+
+# write_clean: a style without a fault.
+write_clean() {
+    cat >clean.bst <<'END'
+ENTRY { author title } {} {}
+
+FUNCTION {output.title}
+{ title empty$ 'skip$ { title write$ newline$ } if$ }
+
+FUNCTION {article}
+{ output.title }
+
+FUNCTION {default.type} { article }
+
+READ
+
+ITERATE {call.type$}
+END
+}
+
+begin lint_of_a_clean_style
+write_clean
+run_lint clean.bst
+wants_status 0
+wants_error ''
+wants_output 'clean.bst: clean: no run of it logs a fault of its own (at most 3 literals, 4 bodies)
+    for entries of the types article, and of all that it doesn'"'"'t know
+'
+run_lint --line clean
+wants_status 0
+wants_output 'clean.bst: clean, literals 3, bodies 4, messages 0, hints 0
+'
+end
+
+begin lint_of_a_field_that_may_be_missing
+write_clean
+sed -i "s/{ title empty.*/{ author empty\$ 'skip\$\n   { title write\$ newline\$ }\n  if\$ }/" clean.bst
+run_lint clean.bst
+wants_status 2
+wants_output 'clean.bst:5: in {..} of output.title: `write$` takes TEXT, and the field `title` may be missing here
+    run by: article (line 9) > output.title (line 6) > {..} of output.title (line 5)
+    do: choose by `title empty$` before it, or `title missing$`
+clean.bst: warnings: one place is shown; there may be more behind it
+'
+run_lint --line clean.bst
+wants_status 2
+wants_output 'clean.bst: warnings, messages 0, hints 0
+'
+end
+
+begin lint_of_operands_and_entries
+write_clean
+sed -i 's/title write\$/title #1 + write$/' clean.bst
+run_lint clean.bst
+wants_line_of_output 'clean.bst:4: in {..} of output.title: `+` takes NUMBER NUMBER: one of these may be missing on the stack, or be of another kind'
+write_clean
+echo 'EXECUTE {article}' >>clean.bst
+run_lint clean.bst
+wants_status 2
+grep -q 'needs a current entry, and there may be none here$' "$folder/stdout" || complaints+=("printed is $(cat "$folder/stdout")")
+end
+
+begin lint_of_literals_left
+write_clean
+sed -i 's/^{ output.title }/{ output.title "left" }/' clean.bst
+run_lint clean.bst
+wants_status 2
+wants_line_of_output 'clean.bst: literals may be left on the stack where `call.type$` is run by a command'
+end
+
+begin lint_of_a_missing_brace
+write_clean
+sed -i 's/newline\$ } if\$ }/newline$ } if$/' clean.bst
+run_lint clean.bst
+wants_status 2
+head -n 4 "$folder/stdout" >first
+grep -qF 'a `}` is missing in FUNCTION {output.title}, which begins at clean.bst:3' first || complaints+=("the first lines are $(cat first)")
+[ "$(grep -c 'is missing in' "$folder/stdout")" -eq 1 ] || complaints+=('it is said more than once')
+end
+
+begin lint_of_a_misspelt_command
+write_clean
+sed -i 's/^FUNCTION {output.title}/INTEGER { count }\n\nFUNCTION {output.title}\n{ #1 '"'"'count := }\n\nFUNCTION {output.two}/' clean.bst
+run_lint clean.bst
+wants_status 2
+head -n 4 "$folder/stdout" >first
+grep -qF 'is it INTEGERS?' first || complaints+=("the first lines are $(cat first)")
+end
+
+begin lint_of_what_has_no_use
+write_clean
+sed -i 's/^READ/INTEGERS { zero } STRINGS { s }\n\nFUNCTION {not.used} { "x" '"'"'s := zero pop$ }\n\nREAD/' clean.bst
+run_lint clean.bst
+wants_status 0
+wants_line_of_output 'clean.bst:11: hint: the integer zero is always 0'
+wants_line_of_output 'clean.bst:11: hint: the variable s is assigned, and its value never used'
+wants_line_of_output 'clean.bst:13: hint: the function not.used is never used'
+end
+
+begin lint_as_json
+write_clean
+cp clean.bst faulty.bst
+sed -i 's/title empty.*/title write$ nosuch }/' faulty.bst
+run_lint --json clean.bst faulty.bst
+wants_status 2
+python3 - "$folder/stdout" <<'END' || complaints+=('the JSON is another')
+import json, sys
+clean, faulty = json.load(open(sys.argv[1]))
+assert clean == {"style": "clean.bst", "verdict": "clean", "literals": 3, "bodies": 4, "types": ["article"], "messages": [], "warnings": [], "hints": []}, clean
+assert faulty["verdict"] == "warnings" and faulty["messages"] == ["Error--nosuch is an unknown function--line 4 of file faulty.bst"], faulty
+assert [place["line"] for place in faulty["warnings"][0]["places"]] == [4, 7], faulty
+END
+end
+
+begin lint_along_the_search_path
+write_clean
+mkdir there
+mv clean.bst there
+BSTINPUTS=there libraries=$room/no_tex run_lint --line clean
+wants_status 0
+wants_output 'there/clean.bst: clean, literals 3, bodies 4, messages 0, hints 0
+'
+end
+
+begin lint_is_incomplete
+write_clean
+run_lint --line --steps=1 clean.bst
+wants_status 3
+wants_output 'clean.bst: incomplete, messages 0, hints 0
+'
+end
+
+begin lint_refuses
+run_lint
+wants_status 1
+run_lint --nosuch x
+wants_status 1
+wants_error_with "I don't know the option --nosuch"
+run_lint nosuch.bst
+wants_status 1
+wants_error_with 'there is no style nosuch.bst that can be read'
+run_lint --help
+wants_status 0
+run_lint --version
+wants_status 0
+end
+
+begin lint_of_a_job
+use_style 'FUNCTION {f} { title #1 + pop$ } ITERATE {f}'
+run_lint --job job
+wants_status 2
+grep -q '^    in FUNCTION {f}, s.bst:1; called from ITERATE {f}, s.bst:1$' "$folder/stdout" || complaints+=("printed is $(cat "$folder/stdout")")
+[ ! -e job.blg ] || complaints+=('a log is written')
+end
+
+# Anything is a style: an answer comes in any case.
+begin lint_of_odd_styles
+write_clean
+head -c 200000 /dev/urandom >random.bst
+: >empty.bst
+{ printf 'FUNCTION {f} '; letters 20000 '{'; letters 20000 '}'; } >deep.bst
+{ for n in $(seq 3000); do echo "FUNCTION {f$n} { f$((n - 1)) f$((n - 1)) }"; done; echo 'EXECUTE {f3000}'; } >many.bst
+for style in random empty deep many; do
+    run_lint --line $style.bst
+    [[ $status == [023] ]] || complaints+=("of $style.bst the status is $status")
+done
+end
+
+if has kpsewhich; then
+    begin lint_of_tex_s_styles
+    for style in plain unsrt abbrv alpha apalike ieeetr; do
+        run_lint --line $style
+        wants_status 0
+        grep -q "$style.bst: clean, " "$folder/stdout" || complaints+=("$style isn't clean")
+    done
+    end
+fi
