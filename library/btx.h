@@ -99,8 +99,8 @@ uint32_t btx_run(const unsigned char *job, size_t job_len, const btx_file *files
 /* Runs the job once more, and notes where its style stands: at each of the first `most` events that log errors in its execution, and where the run is stopped or
    meets a limit: the function and the line of the style, who called it, and the literals on the stack. The notes are lines, whose form the man page says; there is
    none where no error was logged and the run finished. As many bytes are written as there is room for, and in `*notes_len` how many there are in all; if that is
-   more than the room, it answers BTX_FULL. After BTX_REFUSED nothing was written; after BTX_MEMORY and BTX_ASKS no note, and `*notes_len` is 0. A job takes two
-   runs, and for each event one that goes up to it. */
+   more than the room, it answers BTX_FULL. After BTX_REFUSED nothing was written; after BTX_MEMORY and BTX_ASKS no note, and `*notes_len` is 0; a run
+   that writes more than 128,000,000 bytes counts as refused memory. A job takes two runs, and for each event one that goes up to it. */
 uint32_t btx_where(const unsigned char *job, size_t job_len, const btx_file *files, size_t files_len, const btx_options *options,
                    uint32_t most, unsigned char *notes, size_t notes_room, size_t *notes_len);
 

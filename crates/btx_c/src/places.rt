@@ -3,9 +3,14 @@
 use crate::cause::Cause;
 use crate::handed::{BtxFile, Handed};
 use crate::index::Index;
+use crate::kept::Kept;
 use btx_run::Options;
-use btx_where::{Nowhere, locate};
+use btx_where::locate;
 use std::alloc::Global;
+
+// How many bytes of the list and of the log a run may write that nobody reads. (Outputs of another type would bring the machine's loop into the library once more, and make
+// that of `btx_run` slower.)
+const MOST_WRITTEN: usize = 128_000_000;
 
 /// Answers the notes of the job `name` over `files`: of the first `most` events that log errors, and of its end; or why there are none.
 pub fn places(
@@ -19,8 +24,8 @@ pub fn places(
         return Err(Cause::Memory);
     };
     let mut finder = Handed::new(alloc, &index);
-    let mut list = Nowhere {};
-    let mut log = Nowhere {};
+    let mut list = Kept::new(alloc, MOST_WRITTEN);
+    let mut log = Kept::new(alloc, MOST_WRITTEN);
     let mut notes = Vec::new(alloc);
     let answer = locate(
         alloc,
