@@ -5,4 +5,3 @@ pub mod IndexLemmas
 pub mod NeedsLemmas
 pub mod OutcomeLemmas
 pub mod SettledLemmas
-pub mod HandedRunLemmas
