@@ -110,7 +110,8 @@ entry_begun wanted database known kind key rest =
     if not (is_asked wanted known.stored key) then known
     else saying (only_if (is_none (wanted.types (folded kind))) (UnknownKind key (spot_at database rest))) (record known { current = Some entry })
 
--- what is known behind an event of a database; `rest` is the text behind it
+-- what is known behind an event of a database; `rest` is the text behind it. A comment ends with its word, so the next item may stand in it. A second
+-- `@string` of a name takes the place of the first, and nothing is logged
 abbrev pub known_behind : Request → Database → Known → Event → List ℕ → Known
 known_behind wanted database known Comment rest = known
 known_behind wanted database known (Preamble value) rest =

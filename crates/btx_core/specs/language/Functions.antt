@@ -112,7 +112,8 @@ abbrev pub Does : List Operand → Type 0
 Does [] = State → Effect
 Does (operand ∷ more) = Value operand → Does more
 
--- the function on the literals on top; or the error about the first that isn't what is asked for. (Fewer literals than operands are no concern here)
+-- the function on the literals on top; or the error about the first that isn't what is asked for. (Where there are fewer literals than operands, `by_rule` has
+-- the error)
 abbrev pub on_literals : (operands : List Operand) → Does operands → List Literal → Result (State → Effect) (List ℕ)
 on_literals [] does xs = Ok does
 on_literals (operand ∷ more) does [] = Err []
@@ -260,7 +261,8 @@ module _ (the : Divisions) (job : Job) where
   row built_in.Width = takes (AString ∷ []) zero_instead (λ text. push (Integer (pos (width the text))))
   row built_in.Write = takes (AString ∷ []) None (λ text s. Leaves (record s { pending = s.pending ++ text }))
 
-  -- `missing$` without an entry: its operand is taken, whatever it is, and there is the error that no entry is current
+  -- `missing$` without an entry: its operand is taken, whatever it is, and nothing is pushed; where there is no operand, that is an error, and then comes the
+  -- error that no entry is current
   abbrev pub missing_without_entry : State → Effect
   missing_without_entry s =
       let taken = record s { literals = drop 1 s.literals } in

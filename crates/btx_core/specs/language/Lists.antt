@@ -84,7 +84,8 @@ module _ (slots : List Slot) where
   abbrev pub keeps_parent : ℕ → Bool
   keeps_parent i = option_map_or stays_at (parent i) false
 
-  -- what is wrong with the parent of the entry at a place: it has no entry; or it has a parent itself, where one that stands before has lost a bad one
+  -- what is wrong with the parent of the entry at a place: it has no entry; or it has a parent itself. A parent that stands before the entry counts as having
+  -- one only if it keeps it: if that has an entry and stays
   abbrev pub parent_messages : ℕ → List Message
   parent_messages i = option_map_or (λ key. option_map_or (λ j.
       if not (has_entry j) then BadReference (key_at i) key ∷ []

@@ -124,7 +124,8 @@ module _ (the : Divisions) (mode : TextMode) where
   abbrev pub is_short : List ℕ → Bool
   is_short text = nat_lt (text_length the mode text) 3
 
-  -- the byte between two tokens: the `~` or `-` of the name; else a `~` before the last token and while the piece is short; else a space
+  -- the byte between two tokens: the `~` or `-` of the name; else a `~` before the last token and while the piece is short, with the token and its period;
+  -- else a space
   abbrev pub tie : List ℕ → Joint → Bool → ℕ
   tie so_far Tie is_last = byte "~"
   tie so_far Hyphen is_last = byte "-"

@@ -37,7 +37,7 @@ cleared command s =
     if length s.literals == 0 then record s { executed = command }
     else record (shows s.literals (error (codes "The literal stack isn't empty") (record s { executed = command }))) { literals = [] }
 
--- executes the function of a command, with this entry as the current one, or with none
+-- executes the function of a command, with this entry as the current one, or with none. That takes a step, as the function does where it stands in a body
 abbrev pub visits : Meaning → List ℕ → Function → Option Entry → ℕ → State → Outcome
 visits means command f entry left s =
     then_do (means.word (Run f) 0 0 left (record s { entry = entry })) (λ left t. Done (cleared command t) left)
