@@ -13,6 +13,8 @@ PLACE = re.compile(rb"--line (\d+) of file (.*)", re.S)
 EXECUTED = re.compile(rb"(?s)(.*) \(([^() ]+)\)( for entry .*)?")
 COUNTS = re.compile(rb"\(There (was|were) \d+ (warning|error message)s?\)")
 SKIPPED = re.compile(rb"I'm skipping whatever remains of this (command|entry)")
+# A run's end: at a limit, and how it ended.
+ENDS = (b"Sorry---you've exceeded", b"Ended: ")
 # Messages of files that aren't there: the program's log doesn't say where they were named.
 UNPLACED = (b"I couldn't open style file ", b"I couldn't open database file ")
 
@@ -96,7 +98,11 @@ class Reader:
     def messages(self):
         while self.at < len(self.lines):
             line = self.take()
-            if FOUND.match(line) or COUNTS.fullmatch(line) or line.startswith((b"Sorry---you've exceeded", b"Ended: ")):
+            if FOUND.match(line) or COUNTS.fullmatch(line):
+                continue
+            if line.startswith(ENDS):
+                # Behind a run's end stands where its style was, if it didn't come to its end.
+                self.second(b"while executing---line ")
                 continue
             yield self.message(line) or b"?" + line
 
