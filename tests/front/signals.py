@@ -23,6 +23,8 @@ ENDLESS = STYLE.replace("i #60000 <", "i i =")
 OLD_LIST, OLD_LOG = b"old list\n", b"old log\n"
 KEEPING = [signal.SIGINT, signal.SIGTERM, signal.SIGHUP]
 SIGNALS = [signal.SIGINT, signal.SIGTERM, signal.SIGHUP, signal.SIGQUIT, signal.SIGKILL]
+# The status of a run whose list or log has filled its room.
+ROOM_IS_FULL = 3
 LONGEST_END = 10
 FILES = {"d.bib", "job.aux", "job.bbl", "job.blg", "s.bst"}
 
@@ -69,6 +71,9 @@ def of_endless(front, folder, number, seconds):
     sent = time.monotonic()
     running.send_signal(number)
     status, took = running.wait(60), time.monotonic() - sent
+    # On a machine that is too busy the list may fill its room before the signal is seen. Then the run has ended by itself.
+    if status == ROOM_IS_FULL:
+        return [], False
     references = (folder / "job.bbl").read_bytes()
     is_old = references == OLD_LIST
     wanted = b"".join(b"line %d\n" % line for line in range(1, references.count(b"\n") + 2))

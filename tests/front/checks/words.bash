@@ -59,7 +59,8 @@ begin terse_stopped
 run_search -terse -budget=3 job
 wants_status 4
 wants_words "$folder/stdout" 'budget of 3 steps'
-[ "$(wc -l <"$folder/stdout")" -eq 1 ] || complaints+=("printed was $(cat "$folder/stdout")")
+wants_words "$folder/stdout" 'while executing---line 1 of file s.bst'
+[ "$(wc -l <"$folder/stdout")" -eq 2 ] || complaints+=("printed was $(cat "$folder/stdout")")
 end
 
 begin terse_and_a_full_output
