@@ -22,12 +22,12 @@ if command -v make >/dev/null; then
     make_there install
     wants_status 0
     wants_error ''
-    wants_installed ./usr/bin/bibtex-confined ./usr/bin/bibtex-explain ./usr/bin/bibtex-proved ./usr/bin/bibtex-search \
-        ./usr/share/bash-completion/completions/bibtex-confined ./usr/share/bash-completion/completions/bibtex-proved \
+    wants_installed ./usr/bin/bibtex-confined ./usr/bin/bibtex-explain ./usr/bin/bibtex-lint ./usr/bin/bibtex-proved ./usr/bin/bibtex-search \
+        ./usr/share/bash-completion/completions/bibtex-confined ./usr/share/bash-completion/completions/bibtex-lint ./usr/share/bash-completion/completions/bibtex-proved \
         ./usr/share/bash-completion/completions/bibtex-search \
-        ./usr/share/fish/vendor_completions.d/bibtex-confined.fish ./usr/share/fish/vendor_completions.d/bibtex-proved.fish \
+        ./usr/share/fish/vendor_completions.d/bibtex-confined.fish ./usr/share/fish/vendor_completions.d/bibtex-lint.fish ./usr/share/fish/vendor_completions.d/bibtex-proved.fish \
         ./usr/share/fish/vendor_completions.d/bibtex-search.fish \
-        ./usr/share/man/man1/bibtex-confined.1 ./usr/share/man/man1/bibtex-explain.1 ./usr/share/man/man1/bibtex-proved.1 \
+        ./usr/share/man/man1/bibtex-confined.1 ./usr/share/man/man1/bibtex-explain.1 ./usr/share/man/man1/bibtex-lint.1 ./usr/share/man/man1/bibtex-proved.1 \
         ./usr/share/man/man1/bibtex-search.1 ./usr/share/zsh/site-functions/_bibtex-search
     cmp -s "$folder/root/usr/bin/bibtex-proved" "$program" || complaints+=('the installed program is another')
     for name in proved search explain confined; do
