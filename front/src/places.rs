@@ -25,6 +25,9 @@ const STEPS_OF_ALL: u64 = 400_000_000;
 /// How many steps of a run are looked at that doesn't end: where it stands then is found step by step, which takes longer.
 const STEPS_OF_ENDLESS: u64 = 1_000_000;
 
+/// Which part of the steps of a run that a signal ended is looked at.
+const PART_OF_INTERRUPTED: u64 = 4;
+
 /// How many steps before a limit the loop began at least that is named.
 const STEPS_OF_LOOP: u64 = 500;
 
@@ -84,8 +87,10 @@ pub fn scenes(files: &Files, options: &Options, ran: &Ran) -> Scenes {
                 return Scenes::default();
             }
             let longest = if report.has_finished() { MOST_STEPS } else { STEPS_OF_ENDLESS };
-            let steps = report.steps.min(longest);
-            // A run that was ended by a signal has another budget than the one that was asked for.
+            // A run that was ended by a signal has another budget than the one that was asked for. It is to end soon, so only the first part of it is run again.
+            let is_interrupted = report.is_stopped() && report.steps < options.budget;
+            let shown = if is_interrupted { report.steps.div_ceil(PART_OF_INTERRUPTED) } else { report.steps };
+            let steps = shown.min(longest);
             let is_cut = report.steps > longest || report.is_stopped();
             search.scenes(&errors, if is_cut { steps } else { options.budget }, steps, !report.has_finished())
         }

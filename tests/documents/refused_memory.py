@@ -38,6 +38,7 @@ LISTED = {
     ("btx_c", "Handed::fetch"): (1, "the answer couldn't be noted"),
     ("btx_c", "copy_or_ask"): (1, "the name couldn't be kept"),
     ("btx_c", "Asking::fetch"): (1, "the answer couldn't be noted"),
+    ("btx_c", "Supposed::fetch"): (1, "the answer couldn't be noted"),
     ("btx_command", "refusal_of"): (2, "the words couldn't be kept, or the text of the refusal couldn't be made"),
     ("btx_command", "DirectoryFinder::read"): (1, "the path couldn't be made"),
     ("btx_command", "DirectoryFinder::fetch"): (1, "the answer couldn't be noted"),
