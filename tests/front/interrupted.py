@@ -31,6 +31,8 @@ def main():
     seconds, words = float(sys.argv[1]), sys.argv[2:]
     process, terminal = pty.fork()
     if process == 0:
+        # The command has the signal's default, whatever this program's caller ignores.
+        signal.signal(signal.SIGINT, signal.SIG_DFL)
         os.execvp(words[0], words)
     before, is_closed = read_until(terminal, time.monotonic() + seconds)
     os.write(terminal, b"\x03")

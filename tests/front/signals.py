@@ -90,6 +90,9 @@ def main():
     parser.add_argument("times", type=int)
     parser.add_argument("front")
     arguments = parser.parse_args()
+    # The jobs have each signal's default, whatever this program's caller ignores.
+    for number in SIGNALS[:-1]:
+        signal.signal(number, signal.SIG_DFL)
     chance, met, begun, wrong = random.Random(arguments.seed), 0, 0, 0
     with tempfile.TemporaryDirectory() as folder:
         folder = pathlib.Path(folder)
