@@ -324,7 +324,7 @@ pub enum Verdict {
 /// The room for the names of types and for the notes that is tried first.
 const ROOM_FOR_CHECK: usize = 1 << 16;
 
-/// Checks a style, in at most so many steps of the check. None where memory was refused, or the text is longer than a style may be.
+/// Checks a style in at most `steps` steps of the check. None where memory was refused, or the text is longer than a style may be.
 pub fn check(name: &[u8], style: &[u8], steps: u64) -> Option<Verdict> {
     check_in(name, style, steps, ROOM_FOR_CHECK)
 }

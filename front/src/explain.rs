@@ -414,7 +414,7 @@ impl<'a, W: Write> Explainer<'a, W> {
         Ok(())
     }
 
-    /// Where the style stood at the end of a run of so many steps, where their number is known.
+    /// Where the style stood at the end of a run of `steps` steps, where their number is known.
     fn scene_of_end(&mut self, end: &End, steps: Option<u64>) -> io::Result<()> {
         if steps != Some(end.steps) {
             self.put_place(&format!("after the first {} steps it stood", end.steps))?;

@@ -110,7 +110,7 @@ impl Search<'_> {
         notes::read(&noted.unwrap_or_default(), self.style)
     }
 
-    /// The scenes of a run that takes so many steps with this budget; `has_end` where the end is to be found too.
+    /// The scenes of a run that takes `steps` steps with this budget; `has_end` where the end is to be found too.
     fn scenes(&self, errors: &HashMap<usize, Logged<'_>>, budget: u64, steps: u64, has_end: bool) -> Scenes {
         let most = if errors.is_empty() { 0 } else { (STEPS_OF_ALL / steps.max(1)).clamp(LEAST_EVENTS, MOST_EVENTS) };
         let notes = self.notes(budget, most);

@@ -28,7 +28,7 @@ pub struct StyleCheck {
 }
 
 impl StyleCheck {
-    /// Checks a style, in at most so many steps of the check.
+    /// Checks a style in at most `steps` steps of the check.
     pub fn new(style: File, steps: u64) -> StyleCheck {
         let bytes = style.bytes.clone().unwrap_or_default();
         let verdict = btx::check(&style.name, &bytes, steps);

@@ -22,7 +22,7 @@ Done = TypeVar("Done")
 LOOKS_AFTER = 0.2
 # How long a process may take to start, in seconds.
 STARTS_WITHIN = 60.0
-# What a process of Python's is told to do: the number of its pipe is its only word, and what comes first through it is where modules are found.
+# The program of a process of Python's: the number of its pipe is its only word, and what comes first through it is where modules are found.
 BEGIN = """import sys
 from multiprocessing.connection import Connection
 pipe = Connection(int(sys.argv[1]))

@@ -101,7 +101,7 @@ def in_rounds(bodies, alone):
 
 
 def may_share(one, other):
-    """Whether two bodies are told apart in one round: by their functions; slips in definitions, also by the files that the law of each reaches."""
+    """Whether two bodies can be distinguished in one round: by their functions; slips in definitions, also by the files that the law of each reaches."""
     if one.function == other.function or one.changes_definitions != other.changes_definitions:
         return False
     if not one.changes_definitions:

@@ -10,7 +10,7 @@ use Rattle.btx_check.specs.declared.description.Upper.TheVariants as upper
 use Rattle.btx_check.specs.declared.description.Value.{Value}
 use Rattle.btx_check.specs.declared.description.Value.TheVariants as value
 
--- the classes of strings that are told apart: the empty one, those of whitespace alone, and all others
+-- the classes of strings that are distinguished: the empty one, those of whitespace alone, and all others
 pub data Class : Type 0 where
   Empty : Class
   White : Class

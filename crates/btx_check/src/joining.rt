@@ -6,7 +6,7 @@ use btx_bst::Callee;
 use std::alloc::{AllocError, Global};
 
 impl State {
-    /// Whether this and another one are to be joined: they have the same on the stack, as far as that is told apart, and the flags don't differ.
+    /// Whether this and another one are to be joined: they have the same on the stack, as far as that is distinguished, and the flags don't differ.
     pub fn is_like(&self, work: &Work, other: &State, is_coarse: bool) -> bool {
         if self.stack.len() != other.stack.len() || self.entry != other.entry {
             return false;
@@ -269,7 +269,7 @@ fn joined_high(old: Upper, new: Upper, is_wide: bool) -> Upper {
     }
 }
 
-// Whether two descriptions on the stack are told apart.
+// Whether two descriptions on the stack are distinguished.
 fn is_same_shape(a: Value, b: Value) -> bool {
     match (a, b) {
         (Value::Integer(low, high), Value::Integer(low2, high2)) => {
@@ -293,7 +293,7 @@ fn is_same_kind(a: Value, b: Value) -> bool {
     }
 }
 
-// What an integer is told apart by: certainly above 0, certainly not, or open.
+// By what integers are distinguished: certainly above 0, certainly not, or open.
 #[derive(Clone, Copy, PartialEq, Eq)]
 enum Sign {
     Positive,

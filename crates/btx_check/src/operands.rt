@@ -51,7 +51,7 @@ pub struct Pair {
     pub below: State,
 }
 
-/// What stands on top and below that, if there is so much.
+/// The two literals on top of the stack, if there are two.
 #[tactic(auto, using(crate::proofs::RunLemmas::two_are))]
 pub fn pair_of(a: &State) -> Result<Option<Pair>, AllocError>
     ensures { IfOk result (λ o. IfSome o (λ t. TwoAre a.now t.first t.second t.first_value t.second_value t.below)) }
@@ -83,7 +83,7 @@ pub struct Triple {
     pub below: State,
 }
 
-/// The three on top, if there are so many.
+/// The three literals on top of the stack, if there are three.
 #[tactic(auto, using(crate::proofs::RunLemmas::three_are))]
 pub fn triple_of(a: &State) -> Result<Option<Triple>, AllocError>
     ensures { IfOk result (λ o. IfSome o (λ t. ThreeAre a.now t.first t.second t.third t.first_value t.second_value t.third_value t.below)) }

@@ -124,7 +124,7 @@ pub fn is_clean(
 // How often a check begins again, with more to keep descriptions apart by.
 const MOST_ROUNDS: usize = 12;
 
-/// Checks a style, in at most so many steps. A style is called clean only if no run of it, whatever the databases and the options, logs a fault, ends at a
+/// Checks `style` in at most `steps` steps of the check. A style is called clean only if no run of it, whatever the databases and the options, logs a fault, ends at a
 /// limit of literals, bodies or loops, or has more bodies open at once than is said. With too few steps the check is incomplete.
 pub fn check(alloc: Global, style: &Style, steps: u64) -> Result<Verdict, AllocError>
     ensures { IfOk result (λ verdict. IsRight style.now verdict) }

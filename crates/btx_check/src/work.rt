@@ -45,11 +45,11 @@ pub struct Work {
     pub warning: Option<Warning>,
 }
 
-/// How many descriptions are kept for one place before they are told apart by what is on top alone.
+/// How many descriptions are kept for one place before they are distinguished by what is on top alone.
 pub const MANY: usize = 48;
 
 impl Work {
-    /// A search of so many steps at most.
+    /// A search of at most `steps` steps.
     pub fn new(alloc: Global, steps: u64) -> Work {
         Work {
             alloc,
@@ -81,7 +81,7 @@ impl Work {
         true
     }
 
-    /// Notes that a body was opened, after which so many more can be.
+    /// Notes that a body was opened, after which `spare` more can be.
     pub fn enter(&mut self, function: u32, spare: usize) -> Result<(), AllocError> {
         if spare < self.spare_bodies {
             self.spare_bodies = spare;
@@ -129,7 +129,7 @@ impl Work {
         Ok(())
     }
 
-    /// The greatest number of bodies that were open at once, of so many that could be.
+    /// The greatest number of bodies that were open at once, where at most `bodies` could be.
     pub fn deepest(&self, bodies: usize) -> usize {
         if self.spare_bodies < bodies {
             bodies - self.spare_bodies

@@ -141,7 +141,7 @@ module _ (the : Divisions) (job : Job) where
   act (suc n) x d w zero s = Stopped s
   act (suc n) x d w (suc b) s = follow (act n) n (word_effect the job x s) d w b
 
-  -- actions that agree where at most so many steps are left
+  -- actions that agree where at most `b` steps are left
   abbrev AgreeTo : ℕ → Action → Action → Type 0
   AgreeTo b go go' = (d w c : ℕ) (s : State) → c ≤ b → Agrees 1 c (go d w c s) (go' d w c s)
 

@@ -42,7 +42,7 @@ module _ (job : NumberedJob) (the : Divisions) (here : Job) (word : Token → Wo
   SameEffect (next.Loop f g) S (Loops u v t) = (of f ≡ u) × ((of g ≡ v) × (known (token.Run f) × (known (token.Run g) × same S t)))
   SameEffect nx S e = true ≡ false
 
-  -- what an execution comes to is the same, and so many steps are left
+  -- what an execution comes to is the same, and the same number of steps is left
   abbrev pub SameOutcome : Came → Outcome → Type 0
   SameOutcome (CameDone S b) (Done s c) = same S s × (b ≡ c)
   SameOutcome (CameStopped S) (Stopped s) = same S s

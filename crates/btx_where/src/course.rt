@@ -66,7 +66,7 @@ pub struct Course {
 }
 
 impl Course {
-    /// Follows these visits, which are in order, of a run with this budget, and notes at most so many events.
+    /// Follows these visits, which are in order, of a run with this budget, and notes at most `most` events.
     pub fn following(alloc: Global, budget: u64, followed: Vec<u64>, most: usize) -> Self {
         Course {
             alloc,
@@ -89,7 +89,7 @@ impl Course {
         Ok(Course::following(alloc, budget, followed, 0))
     }
 
-    /// The moment at which so many steps are left.
+    /// The moment at which `left` steps are left.
     pub fn moment(&self, left: u64, before: LogCounts, after: LogCounts) -> Moment {
         Moment {
             steps: self.budget.saturating_sub(left),
@@ -152,7 +152,7 @@ impl Course {
         Ok(())
     }
 
-    /// Notes that a command left so many literals, if that logged errors.
+    /// Notes that a command left `depth` literals, if that logged errors.
     pub fn note_left(&mut self, moment: &Moment, depth: usize) -> Result<(), AllocError> {
         if moment.after.errors > moment.before.errors && self.events.len() < self.most {
             let mut since = Vec::new(self.alloc);

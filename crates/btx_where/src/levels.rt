@@ -31,7 +31,7 @@ fn level_of(code: &Code, style: &Style<'_>, place: usize, mark: Mark) -> Option<
     }
 }
 
-/// What is open, innermost first, where what is on top goes on at `from`. Nothing is open then. If a place can't be told, there are no levels.
+/// What is open, innermost first, where what is on top goes on at `from`. Nothing is open then. If a place can't be found, there are no levels.
 pub fn levels_of(
     alloc: Global,
     code: &Code,

@@ -61,7 +61,7 @@ fn behind_white(line: &[u8]) -> &[u8] {
     &[]
 }
 
-// The front of a line, so many bytes or fewer, and what is left.
+// The first `len` bytes of a line, or all of a shorter one, and the rest.
 fn split(line: &[u8], len: usize) -> (&[u8], &[u8]) {
     line.split_at(len.min(line.len()))
 }

@@ -23,7 +23,7 @@ module _ (the : Divisions) where
   abbrev pub text_length : TextMode → List ℕ → ℕ
   text_length mode string = count_by (λ part. is_character part.kind) (the.elements mode string)
 
-  -- `text.prefix$`: the shortest prefix of whole elements with so many characters, and a `}` for each brace that it leaves open
+  -- `text.prefix$`: the shortest prefix of whole elements that has `count` characters, and a `}` for each brace that it leaves open
   abbrev pub text_prefix : TextMode → List ℕ → ℤ → List ℕ
   text_prefix mode string count =
       let front = text_of (take_characters (wanted_length count) (the.elements mode string)) in
