@@ -31,3 +31,4 @@ pub mod CutLemmas
 pub mod StoredLemmas
 pub mod DefinitionLemmas
 pub mod WorkedRows
+pub mod LimitLemmas

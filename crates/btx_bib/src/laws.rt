@@ -11,8 +11,8 @@ ghost use Rattle.btx_bib.specs.laws.Laws.{KeysDiffer, ListIsKept, StarredCitedOr
 ghost use Rattle.btx_bib.specs.laws.Parents.{InheritsFromParent, NoParentLeaves, NoReferenceDangles};
 ghost use Rattle.btx_bib.specs.laws.Grammar.WorkedTexts as texts;
 ghost use Rattle.btx_bib.specs.laws.WorkedLibraries as worked;
-ghost use Rattle.btx_bib.specs.laws.Storing.{LastDefinitionCounts, LastMacroCounts, OthersKeepTheirs, OthersStoreNone, WantedNewAreStored};
-ghost use Rattle.btx_bib.specs.laws.Databases.{database_events};
+ghost use Rattle.btx_bib.specs.laws.Storing.{LastDefinitionCounts, LastMacroCounts, MacrosGoOn, OthersKeepTheirs, OthersStoreNone, WantedNewAreStored};
+ghost use Rattle.btx_bib.specs.laws.Databases.{LongDatabaseEnds, MessagesStay, database_events};
 
 /// No two entries of a list have one key, whose case is ignored.
 pub fn keys_differ()
@@ -66,6 +66,14 @@ pub fn last_definition_counts()
     ensures last { LastDefinitionCounts }
     ensures others { OthersKeepTheirs }
     ensures macros { LastMacroCounts }
+{}
+
+/// A macro of the style ends the reading exactly where its text is too long once its whitespace is squeezed. Where the reading ends at a limit, the
+/// library has the messages until then: where a database is too long, those of the databases before it.
+pub fn limits_keep_messages()
+    ensures macros { MacrosGoOn }
+    ensures messages { MessagesStay }
+    ensures databases { LongDatabaseEnds }
 {}
 
 /// An entry that is read is stored exactly if it is wanted (all entries are, or it was cited, or a stored entry refers to it) and no

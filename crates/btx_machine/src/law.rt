@@ -1,4 +1,6 @@
 //! Laws over the meaning of styles, each the contract of a function that does nothing.
+ghost use Rattle.std.specs.Prelude.{◌≡◌, ◌<◌, ◌+◌, ℕ, true, false};
+ghost use Rattle.btx_machine.specs.language.Saying.{counted_if};
 ghost use Rattle.btx_machine.specs.laws.Budgets.{TokenBudgetLaw};
 ghost use Rattle.btx_machine.specs.laws.DirectDepth.{DirectDepthLaw};
 ghost use Rattle.btx_machine.specs.laws.MeaningLaws.{ExistsLaw, LimitsLaw, UniqueLaw};
@@ -55,4 +57,12 @@ pub fn worked_bodies_come_to_this()
 /// The last line of the log, and the status, of each way in which a run ends.
 pub fn worked_reports_are_written_so()
     ensures { AreWritten reports }
+{}
+
+/// The count of the warnings, or of the errors, of a log goes up by one with each line of its kind, and with no other, to the greatest number of 64 bits,
+/// where it stays.
+pub fn counts_go_up_and_stay()
+    ensures rises { (count : ℕ) → count < 18446744073709551615 → counted_if true count ≡ count + 1 }
+    ensures stays { counted_if true 18446744073709551615 ≡ 18446744073709551615 }
+    ensures others { (count : ℕ) → counted_if false count ≡ count }
 {}

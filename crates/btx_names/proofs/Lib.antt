@@ -28,3 +28,4 @@ pub mod ItemLemmas
 pub mod WrittenLemmas
 pub mod VonLawLemmas
 pub mod VonGlyphLemmas
+pub mod TokenRows

@@ -9,3 +9,4 @@ pub mod Gaps
 pub mod VonTokens
 pub mod Formats
 pub mod FormattedNames
+pub mod WorkedTokens

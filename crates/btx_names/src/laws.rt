@@ -1,6 +1,6 @@
 //! Laws over the definitions. Each function has an empty body, and its contract is the law.
 ghost use Rattle.std.specs.Prelude.{◌≡◌, ℕ, List, [], ◌∷◌, ◌++◌, ◌+◌, ◌==◌, None, Some, length, map, filter, min, nat_lt, false, not, true};
-ghost use Rattle.std.specs.List.{join_by, list_all};
+ghost use Rattle.std.specs.List.{join_by, list_all, list_any};
 ghost use Rattle.btx_names.specs.language.VonTokens.{is_von};
 ghost use Rattle.btx_names.specs.laws.VonGlyphs.{are_lower};
 ghost use Rattle.btx_strings.specs.language.Controls.{glyphs_of};
@@ -22,6 +22,7 @@ ghost use Rattle.btx_names.specs.language.Tokens.{NameToken, tokens_of};
 ghost use Rattle.btx_names.specs.laws.Tokens.{breaks_of, is_some_text};
 ghost use Rattle.btx_names.specs.laws.VonTokens.{casing};
 ghost use Rattle.btx_names.specs.laws.FormattedNames.{shown};
+ghost use Rattle.btx_names.specs.laws.WorkedTokens.{other_tokens, von_tokens};
 
 /// A string that isn't empty has one more name than separators.
 #[tactic(auto, using(crate::proofs::SeparatorLemmas::counted))]
@@ -128,4 +129,11 @@ pub fn items_joined_are_the_format()
 pub fn written_items_are_legal()
     ensures items { (items : List FormatItem) (format : List ℕ) → are_items items ≡ true → IsFormatOf items format → items_of format ≡ items }
     ensures legal { (items : List FormatItem) (format : List ℕ) → are_items items ≡ true → IsFormatOf items format → is_legal format ≡ true }
+{}
+
+/// Tokens that are von and tokens that aren't, as they are worked by hand: with each foreign letter, with other control sequences, letters in braces
+/// and bytes from 128 up.
+pub fn worked_tokens_are_von()
+    ensures von { list_all is_von von_tokens ≡ true }
+    ensures others { list_any is_von other_tokens ≡ false }
 {}

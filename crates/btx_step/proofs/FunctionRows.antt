@@ -34,7 +34,7 @@ comparisons-worked = (refl, (refl, (refl, (refl, (refl, (refl, (refl, (refl, (re
 
 pub integers-worked : AreSo (job Bytes) outside_entries one_below row.integers
 unfolding named_lower built_in_of built_ins function_run built_in_run form_of place_of note_text note_kind has_place note_line mark_of digits
-integers-worked = (refl, (refl, (refl, (refl, (refl, (refl, (refl, (refl, (refl, (refl, (refl, (refl, (refl, (refl, (refl, (refl, (refl, (refl, (refl, (refl, tt))))))))))))))))))))
+integers-worked = (refl, (refl, (refl, (refl, (refl, (refl, (refl, (refl, (refl, (refl, (refl, (refl, (refl, (refl, (refl, (refl, (refl, (refl, (refl, (refl, (refl, (refl, (refl, tt)))))))))))))))))))))))
 
 pub strings-worked : AreSo (job Bytes) outside_entries one_below row.strings
 unfolding named_lower built_in_of built_ins function_run built_in_run form_of place_of note_text note_kind has_place note_line mark_of digits elements_of elements_from kind_at group_len class_of control_name glyphs_from glyphs_of letters_of without_white cased_parts cased_control take_characters control_width

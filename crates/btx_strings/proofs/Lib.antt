@@ -10,3 +10,4 @@ pub mod WorkedStrings
 pub mod ShortestLemmas
 pub mod ReadingLemmas
 pub mod TitleLemmas
+pub mod SpecialRows

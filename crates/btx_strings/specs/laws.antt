@@ -1,3 +1,4 @@
 pub mod Controls
 pub mod Lengths
 pub mod Case
+pub mod WorkedSpecials

@@ -6,6 +6,7 @@ ghost use Rattle.btx_strings.specs.language.Controls.{Glyph, glyphs_of};
 ghost use Rattle.btx_strings.specs.laws.Controls.{AreGlyphs};
 ghost use Rattle.btx_strings.specs.language.Lengths.{take_characters};
 ghost use Rattle.btx_strings.specs.laws.Lengths.{IsShortest};
+ghost use Rattle.btx_strings.specs.laws.WorkedSpecials.{AreSpecials, specials};
 ghost use Rattle.btx_text.specs.language.Elements.{Element};
 
 /// Each special character is read as control sequences and other bytes in exactly one way.
@@ -24,4 +25,9 @@ pub fn shortest_prefix()
 pub fn title_beginnings()
     ensures { (before : List Element) →
         IsTrue (begins_title before) ↔ ((before ≡ []) ⊎ EndInColonAndWhite before) }
+{}
+
+/// What is left of each foreign control sequence, and of others, in a purified form, and their widths; whitespace behind a control sequence has none.
+pub fn worked_specials_come_to_this()
+    ensures { AreSpecials specials }
 {}

@@ -1,19 +1,33 @@
 //! Laws over the definitions, each the contract of a function that does nothing.
-ghost use Rattle.std.specs.Prelude.{◌≡◌, ◌<◌, ◌≤◌, ◌↔◌, ℕ, List, IsTrue, encode_utf8, false};
+ghost use Rattle.std.specs.Prelude.{◌≡◌, ◌<◌, ◌≤◌, ◌↔◌, ◌++◌, ◌&&◌, ℕ, List, IsTrue, not, codes, encode_utf8, false};
 ghost use Rattle.std.specs.Char.{IsScalar};
-ghost use Rattle.std.specs.List.{All, list_any};
+ghost use Rattle.std.specs.List.{All, filter, list_any, range_with_len};
 ghost use Rattle.btx_text.specs.declared.byte_class.Class.{Class};
 ghost use Rattle.btx_text.specs.declared.element_kind.TextMode.{TextMode};
 ghost use Rattle.btx_text.specs.declared.element_kind.TextMode.TheVariants.{Bytes, Utf8};
-ghost use Rattle.btx_text.specs.language.Class.{class_of};
+ghost use Rattle.btx_text.specs.language.Class.{begins_name, class_of, is_name_byte};
 ghost use Rattle.btx_text.specs.laws.Class.{is_of_class};
 ghost use Rattle.btx_text.specs.language.Elements.{Element, elements_of};
 ghost use Rattle.btx_text.specs.laws.Elements.{IsDivision, is_wide};
+ghost use Rattle.btx_text.specs.language.Limits.{greatest_file, greatest_string};
 ghost use Rattle.btx_text.specs.language.Sequences.{is_sequence};
 
 /// Each byte is of exactly one of the five classes.
 pub fn one_class()
     ensures { (b : ℕ) (class : Class) → IsTrue (is_of_class class b) ↔ (class ≡ class_of b) }
+{}
+
+/// Of the 256 bytes, those that can't stand in a name are the first 33, up to the space, and ten signs; so byte 127 can, and each from 128 up. Of those
+/// that can, a name doesn't begin with a digit, and begins with any other.
+pub fn name_bytes()
+    ensures none { filter (λ b. not (is_name_byte b)) (range_with_len 0 256) ≡ range_with_len 0 33 ++ codes "\"#%'(),={}" }
+    ensures inside { filter (λ b. is_name_byte b && not (begins_name b)) (range_with_len 0 256) ≡ codes "0123456789" }
+{}
+
+/// The greatest lengths in bytes, by their numbers: of a file, and of a string.
+pub fn greatest_lengths()
+    ensures file { greatest_file ≡ 2147483647 }
+    ensures string { greatest_string ≡ 1000000 }
 {}
 
 /// Each string has exactly one division into elements, in either mode.

@@ -1,12 +1,13 @@
 -- The events of a database, of which laws speak.
-use Rattle.std.specs.Prelude.{List, [], None, ℕ, fold}
+use Rattle.std.specs.Prelude.{◌≡◌, true, false, List, [], ◌∷◌, ◌++◌, None, ℕ, fold}
+use Rattle.btx_text.specs.language.Limits.{is_too_long}
 use Rattle.btx_bib.specs.declared.grammar.commands.Wanted.TheVariants.{Item}
 use Rattle.btx_bib.specs.language.Grammar.Items.{Placed, events_from}
 use Rattle.btx_bib.specs.language.Wanted.{Request}
-use Rattle.btx_bib.specs.language.Known.{Known, keeping}
+use Rattle.btx_bib.specs.language.Known.{Known, goes_on, keeping}
 use Rattle.btx_bib.specs.language.Messages.{Database, Reading}
 use Rattle.btx_bib.specs.declared.end.End.TheVariants as end
-use Rattle.btx_bib.specs.language.Databases.{with_macro, read_one}
+use Rattle.btx_bib.specs.language.Databases.{with_macro, read_one, library_of}
 
 -- what is known before any macro or database is read: no strings, no entries and no preamble
 abbrev pub nothing : Known
@@ -23,3 +24,14 @@ read_all wanted macros databases = fold (read_one wanted) (record { known = with
 -- what stands in a database and what is wrong in it, item by item; which entries are repeated depends on what is known before it
 abbrev pub database_events : Request → Known → Database → List Placed
 database_events wanted known database = events_from (keeping wanted) known Item database.text
+
+-- where the reading ends at a limit, the library has the messages until then
+abbrev pub MessagesStay : Type 0
+MessagesStay = (wanted : Request) (macros : List (List ℕ × List ℕ)) (databases : List Database) → goes_on (read_all wanted macros databases).known.ending ≡ false
+    → (library_of wanted macros databases).messages ≡ (read_all wanted macros databases).messages
+
+-- a database that is too long ends the reading: the messages are those of the databases before it, and none is read behind it
+abbrev pub LongDatabaseEnds : Type 0
+LongDatabaseEnds = (wanted : Request) (macros : List (List ℕ × List ℕ)) (before : List Database) (database : Database) (behind : List Database)
+    → goes_on (read_all wanted macros before).known.ending ≡ true → is_too_long database.text ≡ true
+    → (library_of wanted macros (before ++ database ∷ behind)).messages ≡ (read_all wanted macros before).messages

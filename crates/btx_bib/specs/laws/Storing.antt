@@ -1,6 +1,7 @@
 -- What databases define and store, in the words of their subject.
-use Rattle.std.specs.Prelude.{◌≡◌, ℕ, ◌||◌, ◌&&◌, not, Bool, true, false, List, [], ◌∷◌, ◌++◌, Some, is_some, if◌then◌else◌}
+use Rattle.std.specs.Prelude.{◌≡◌, ℕ, nat_lt, ◌||◌, ◌&&◌, not, Bool, true, false, List, [], ◌∷◌, ◌++◌, length, Some, is_some, if◌then◌else◌}
 use Rattle.std.specs.List.{list_any}
+use Rattle.btx_text.specs.language.Limits.{greatest_string}
 use Rattle.btx_aux.specs.language.Names.{is_same_key}
 use Rattle.btx_bib.specs.declared.grammar.commands.Wanted.{Wanted as Next}
 use Rattle.btx_bib.specs.declared.grammar.value_ends.Ends.TheVariants.{Kept}
@@ -13,6 +14,7 @@ use Rattle.btx_bib.specs.language.Entries.{Given}
 use Rattle.btx_bib.specs.language.Stored.{parents_in}
 use Rattle.btx_bib.specs.language.Known.{Known, goes_on, stored_in, known_after, keeping}
 use Rattle.btx_bib.specs.laws.Known.{after_all}
+use Rattle.btx_bib.specs.language.Databases.{with_macro}
 use Rattle.btx_bib.specs.laws.Databases.{with_macros}
 use Rattle.btx_bib.specs.laws.Stored.{is_any_key, keys_in}
 
@@ -48,6 +50,11 @@ is_macro_in name macros = list_any (λ (macro : List ℕ × List ℕ). is_same_k
 abbrev pub LastMacroCounts : Type 0
 LastMacroCounts = (before behind : List (List ℕ × List ℕ)) (name own text : List ℕ) → is_same_key name own ≡ true → is_macro_in name behind ≡ false
     → (let known = with_macros (before ++ (own, text) ∷ behind) in goes_on known.ending ≡ true → string_value known.strings name ≡ Some (squeezed text))
+
+-- a macro of the style ends the reading exactly where its text is too long for a string once its whitespace is squeezed, however long it is before
+abbrev pub MacrosGoOn : Type 0
+MacrosGoOn = (known : Known) (own text : List ℕ) → goes_on known.ending ≡ true
+    → goes_on (with_macro known (own, text)).ending ≡ not (nat_lt greatest_string (length (squeezed text)))
 
 -- ---- entries
 

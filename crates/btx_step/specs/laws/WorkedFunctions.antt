@@ -95,6 +95,10 @@ integers =
     ∷ errs "int.to.chr$" (number 128 ∷ []) (string "" ∷ []) "128 isn't an ASCII code"
     ∷ errs "int.to.chr$" (minus 1 ∷ []) (string "" ∷ []) "-1 isn't an ASCII code"
     ∷ gives "chr.to.int$" (string "A" ∷ []) (number 65 ∷ [])
+    -- a byte from 128 up has its own number
+    ∷ gives "chr.to.int$" (literal.Text (128 ∷ []) ∷ []) (number 128 ∷ [])
+    ∷ gives "chr.to.int$" (literal.Text (195 ∷ []) ∷ []) (number 195 ∷ [])
+    ∷ gives "chr.to.int$" (literal.Text (255 ∷ []) ∷ []) (number 255 ∷ [])
     ∷ errs "chr.to.int$" (string "" ∷ []) (number 0 ∷ []) "\"\" isn't a single character"
     ∷ errs "chr.to.int$" (string "AB" ∷ []) (number 0 ∷ []) "\"AB\" isn't a single character"
     ∷ []
