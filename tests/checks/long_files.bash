@@ -56,3 +56,30 @@ rm d.bib
 truncate -s 3G d.bib
 within 5000000 job
 is_too_long "$found_log"
+
+# What was wrong in the database before it is logged, and counted.
+begin long_second_database
+printf '\\citation{k}\n\\bibdata{d,e}\n\\bibstyle{s}\n' >job.aux
+printf '@misc{,,}\n@misc{k, title = zz}\n' >d.bib
+truncate -s 3G e.bib
+within 5000000 job
+wants_status 3
+wants_error ''
+wants_output "${found_log}Database file #2: e.bib
+Error--I was expecting a name--line 1 of file d.bib
+Warning--string name \"zz\" is undefined--line 2 of file d.bib
+Ended: limit file, warnings 1, errors 1, steps 0
+"
+wants_text job.bbl ''
+end
+
+# A database of the greatest length is read, and one that is a byte longer isn't.
+begin greatest_database
+rm d.bib
+truncate -s 2147483647 d.bib
+within 5000000 job
+wants_found 0 $'a\n' "Warning--I didn't find a database entry for \"k\"
+Ended: finished, warnings 1, errors 0, steps 4"
+truncate -s 2147483648 d.bib
+within 5000000 job
+is_too_long "$found_log"

@@ -80,6 +80,22 @@ refused_in_sorted() {
     end
 }
 
+# refused_in_worked NAME STATUS TEXT: a worked style behind the usual declarations, run for the usual entry, or for those that are cited.
+refused_in_worked() {
+    begin "refused_memory_in_$1"
+    use_style "$3"
+    [ -z "${4:-}" ] || cite "$4"
+    [ -z "${5:-}" ] || printf '%s' "$5" >d.bib
+    run_program job
+    whole_status=$status
+    wants_status "$2"
+    keep job.bbl whole_list
+    keep job.blg whole_log
+    refuses_each wants_fault_or_answer job
+    wants_status "$2"
+    end
+}
+
 # first_of_two_faults: the log's file can't be written either. The status is that of the fault that came first.
 first_of_two_faults() {
     begin first_of_two_faults
@@ -105,7 +121,39 @@ refused_in stopped 4 --budget 200
 refused_in utf8_names 0 --text utf8
 refused_in long_lines 0
 refused_in_sorted
+refused_in_worked broken_line 0 "FUNCTION {f} {\"$(letters 80 a)  b\" write\$ newline\$} EXECUTE {f}"
+refused_in_worked name 0 "FUNCTION {f} {\"Charles Louis Xavier Joseph de la Vall{\\'e}e Poussin\" #1 \"{vv~}{ll}{, jj}{, f}?\" format.name\$ write\$ newline\$} EXECUTE {f}"
+refused_in_worked other_case 2 '' k,K
+refused_in_worked white_in_argument 2 '' 'k, j'
+refused_in_worked sorted_keys 0 "FUNCTION {f} {cite\$ 'sort.key\$ :=} FUNCTION {g} {cite\$ write\$ newline\$} ITERATE {f} SORT ITERATE {g}" b,a,C '@misc{a}@misc{b}@misc{C}'
 first_of_two_faults
+
+# wants_example: what the example of the library prints where memory was refused once: its list, or nothing.
+wants_example() {
+    case $status in
+    0) wants_output "$whole_list" ;;
+    5) wants_output '' ;;
+    *) complaints+=("the exit status is $status, not 0 or 5") ;;
+    esac
+    [[ $(cat "$folder/stderr") == @(|'out of memory'|'device error') ]] || complaints+=("standard error is $(printf '%q' "$(cat "$folder/stderr")")")
+}
+
+# refused_in_library: a job over files in memory, by the example of the library. Where the finder itself gets no memory, nothing is run.
+refused_in_library() {
+    local program=$here/../crates/btx_example/out/btx_example
+    if [ ! -x "$program" ]; then
+        echo "        left out: there is no $program"
+        return
+    fi
+    begin refused_memory_in_the_library
+    keep "$here/../crates/btx_example/stdout" whole_list
+    refuses_each wants_example
+    wants_status 0
+    wants_output "$whole_list"
+    end
+}
+
+refused_in_library
 
 # A refusal for want of memory has no text of its own, and each other one has its whole text.
 # wants_memory_or_text: what stands after a run that was to print a text with a status, and in which memory was refused once.

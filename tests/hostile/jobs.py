@@ -163,6 +163,28 @@ def one_key_cited_again_and_again(size):
     return {"job.aux": b"\\citation{" + b"k," * (size - 1) + b"k}\n" + AUX}, Expected()
 
 
+@hostile(size=1_100_000, small=100)
+def citations_that_are_all_wrong(size):
+    line = b"Error--White space in argument--line %d of file job.aux" % size
+    return {"job.aux": b"\\citation{a b}\n" * size + AUX}, Expected(errors=size, log={line: 1})
+
+
+@hostile(size=1_500, small=1_500)
+def an_aux_file_of_a_long_name(size):
+    name = b"x" * (size - 4) + b".aux"
+    return ({"job.aux": AUX + b"\\@input{%s}\n" % name},
+            Expected(errors=1, log={b"Error--I couldn't open auxiliary file %s--line 4 of file job.aux" % name: 1}))
+
+
+@hostile(size=1_100, small=1_100)
+def databases_in_many_files(size):
+    files = {"d%d.bib" % number: b"@misc{k%d}\n" % number for number in range(size)}
+    names = b",".join(b"d%d" % number for number in range(size))
+    return ({"job.aux": AUX.replace(b"{k}", b"{*}").replace(b"{d}", b"{%s}" % names), "s.bst": iterates(b"cite$ write$ newline$"), **files},
+            Expected(steps=4 * size, references=b"".join(b"k%d\n" % number for number in range(size)),
+                     log={b"Database file #%d: d%d.bib" % (size, size - 1): 1}))
+
+
 # ---- databases ----
 
 
@@ -302,6 +324,36 @@ def a_field_of_names(size):
             Expected(steps=13, references=b"%d A. Lee\n" % size))
 
 
+NAME_BYTES = [byte for byte in range(33, 256) if byte not in b"\"#%'(),={}"]
+
+
+@hostile(size=len(NAME_BYTES), small=len(NAME_BYTES))
+def every_byte_in_names(size):
+    """Each byte that may stand in a name stands in those of a field, of a string, of a macro, of a variable and of a function, and in a key. Before it stand
+    a letter and a number, so that no two names are the same without case."""
+    numbered = list(enumerate(bytes([byte]) for byte in NAME_BYTES))
+    fields = b" ".join(b"f%d%s" % it for it in numbered)
+    macros = b"".join(b'MACRO {m%d%s} {"m"}\n' % it for it in numbered)
+    variables = b"STRINGS {" + b" ".join(b"v%d%s" % it for it in numbered) + b"}\n"
+    functions = b"".join(b"FUNCTION {g%d%s} {f%d%s 'v%d%s := v%d%s write$}\n" % (it * 4) for it in numbered)
+    values = b"".join(b",\n F%d%s = s%d%s # m%d%s" % (it * 3) for it in numbered)
+    strings = b"".join(b"@string{s%d%s = {s}}\n" % it for it in numbered)
+    key = b"k" + bytes(NAME_BYTES).replace(b"\\", b"")
+    files = {"job.aux": AUX.replace(b"{k}", b"{%s}" % key), "d.bib": strings + b"@misc{" + key + values + b"}\n",
+             "s.bst": b"ENTRY {" + fields + b"}{}{}\nFUNCTION {misc} {}\n" + macros + b"READ\n" + variables + functions
+                      + b"FUNCTION {h} {" + b" ".join(b"g%d%s" % it for it in numbered) + b" newline$}\nITERATE {h}\n"}
+    return files, Expected(steps=2 + 6 * size, references=b"sm" * size + b"\n")
+
+
+@hostile(size=20_000, small=100)
+def names_with_control_symbols(size):
+    """Names with accents by signs, and with whitespace behind the signs. Two tokens of each are von, since the letter behind the sign is a small one; and the
+    whitespace has no width: o 500, l 278, e 444, the tie 500, i 278, x 528."""
+    names = b" and ".join([b"A {\\^ o}le {\\' \\i}x B"] * size)
+    body = b'title #%d "{vv}/{ll}" format.name$ write$ newline$ title #1 "{vv}" format.name$ width$ int.to.str$ write$ newline$' % size
+    return ({"d.bib": database_with_title(names), "s.bst": iterates(body)}, Expected(steps=15, references=b"{\\^ o}le~{\\' \\i}x/B\n2528\n"))
+
+
 # ---- styles ----
 
 
@@ -392,6 +444,21 @@ def a_style_of_braces(size):
     return {"s.bst": executes(b"{" * size + b"}" * size + b" pop$")}, Expected(steps=3, references=b"")
 
 
+@hostile(size=70_000, small=500)
+def a_style_of_fields(size):
+    """As many fields as are declared have a value in the entry, and the last of them is written."""
+    fields = b" ".join(b"f%d" % number for number in range(size))
+    values = b"".join(b",\n f%d = {a}" % number for number in range(size))
+    return ({"d.bib": b"@misc{k" + values + b"}\n",
+             "s.bst": b"ENTRY {" + fields + b"}{}{} FUNCTION {misc}{} READ FUNCTION {f} {f%d write$ newline$} ITERATE {f}\n" % (size - 1)},
+            Expected())
+
+
+@hostile(size=70_000_000, small=1_000)
+def a_style_of_a_long_comment(size):
+    return {"s.bst": b"%" + b"x" * size + b"\n" + WRITES_A}, Expected()
+
+
 @hostile(size=100_000, small=500)
 def a_style_of_functions(size):
     functions = b"".join(b"FUNCTION {f%d} {f%d}\n" % (number + 1, number) if number % 1_000 else
@@ -405,7 +472,7 @@ def a_style_of_mistakes(size):
     return {"s.bst": WRITES_A + b"\nnonsense\n" * size}, Expected(errors=size, log={line: 1})
 
 
-@hostile(size=100_000, small=500)
+@hostile(size=600_000, small=500)
 def a_list_that_is_sorted_backwards(size):
     keys = [b"key%06d" % number for number in range(size)]
     style = (HEAD + b"FUNCTION {f} {cite$ 'sort.key$ :=} FUNCTION {g} {cite$ write$ newline$} ITERATE {f} SORT ITERATE {g}\n")

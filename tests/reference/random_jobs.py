@@ -6,28 +6,34 @@ import corner_jobs
 import worked_jobs as worked
 from styles import BUILT_IN
 
-KEYS = [b"a", b"b", b"c", b"a", b"b", b"c", b"p", b"A", b"P", b"", b"k)", b"\xe9"]
+# Wherever a name may stand, some have byte 127 or bytes from 128 up.
+KEYS = [b"a", b"b", b"c", b"a", b"b", b"c", b"p", b"A", b"P", b"", b"k)", b"\xe9", b"d\x7f", b"\xc3\xa9\x80"]
 VALUES = [b"{x  y}", b'"x \n y"', b's # " z"', b"{ v }", b"12", b"jan", b"t # t # {}", b"zz", b'""', b'"a{"}b"', b'"a}b"',
-          b"{Ann Lee and {B and C} and de la Tour, Jr, J.-P.}", b'{The {\\"O} of: A {\\ss}tory}']
-FIELDS = [b"title", b"TITLE", b"note", b"booktitle", b"crossref", b"Crossref", b"other"]
+          b"{Ann Lee and {B and C} and de la Tour, Jr, J.-P.}", b'{The {\\"O} of: A {\\ss}tory}',
+          b"{{\\'E}mile d{\\'e} {\\^ O}la and {\\.z}a {\\l}ic, {\\~N}i{\\= a}-{\\`a} and {\\\"{\\O}}z \xc3\x89li\x7f}", b"t\xe9 # s\x7f"]
+FIELDS = [b"title", b"TITLE", b"note", b"booktitle", b"crossref", b"Crossref", b"other", b"no\x7fte", b"NO\x7fTE", b"n\xf6te", b"\x80"]
 DATABASE_PIECES = [b"@misc{", b"@misc(", b"@late{", b"@string{", b"@preamble{", b"@comment{", b"@", b"{", b"}", b"(", b")",
                    b'"', b",", b"=", b"#", b" ", b"\n", b" \n ", b"title", b"crossref", b"a", b"p", b"s", b"12ab", b"{a{b}c}",
-                   b", crossref={p}", b", title = s # {x}", b"\x00", b"%"]
-DECLARED = (b"ENTRY {title booktitle note}{ei}{es} INTEGERS {i} STRINGS {s}\nMACRO {jan} {\"January  x\"}\n"
-            b"FUNCTION {misc} {title write$ newline$} FUNCTION {book} {cite$ write$} ")
+                   b", crossref={p}", b", title = s # {x}", b"\x00", b"%", b"\x7f", b"\x80", b"\xff", b"no\x7fte", b"t\xe9"]
+DECLARED = (b"ENTRY {title booktitle note no\x7fte n\xf6te}{ei}{es} INTEGERS {i i\x7f} STRINGS {s \xffs}\nMACRO {jan} {\"January  x\"}\n"
+            b"MACRO {s\x7f} {\"\x7f \xc3\xa9\"} FUNCTION {misc} {title write$ newline$} FUNCTION {book} {cite$ write$} FUNCTION {m\xefsc} {no\x7fte write$} ")
 TOKENS = [b'"a b"', b'"{\\ss}X"', b'"A, B, C, D,"', b'"{ff }{ll}"', b'"t"', b'"u"', b'""', b'" "', b'"' + b"w" * 30 + b'"',
           b"#0", b"#1", b"#2", b"#-1", b"#200", b"#2147483647", b"'i", b"'s", b"'ei", b"'es", b"'sort.key$", b"'title", b"'skip$",
           b"'misc", b"{}", b"{#0}", b"{#1}", b"{i #1 - 'i := i #0 >}", b'{"x" write$}', b"i", b"s", b"ei", b"es", b"title", b"note",
           b"crossref", b"sort.key$", b"entry.max$", b"misc", b"write$", b"newline$", b"duplicate$", b":=", b"if$", b"while$",
           b"#3 'i :=", b"cite$ 'sort.key$ :=", b"title 'sort.key$ :=", b"#1 {misc} {book} if$", b"nosuch", b"title write$",
-          b"title #1 \"{ff~}{vv~}{ll}{, jj}\" format.name$ write$", b"title \"t\" change.case$ write$ newline$", *BUILT_IN]
+          b"title #1 \"{ff~}{vv~}{ll}{, jj}\" format.name$ write$", b"title \"t\" change.case$ write$ newline$",
+          b"no\x7fte", b"NO\x7fTE write$", b"n\xf6te", b"'i\x7f", b"i\x7f", b"'\xffs", b"\xffs", b"m\xefsc", b"\x7f", b'"{\\^ o}{\\\' \\i}\x80"', b'"\xc3"',
+          b"title width$ int.to.str$ write$", b"title purify$ write$", b"title #2 \"{vv~}{f. }{ll}\" format.name$ write$", *BUILT_IN]
 STYLE_PIECES = [b"ENTRY", b"FUNCTION", b"READ", b"EXECUTE", b"ITERATE", b"SORT", b"INTEGERS", b"STRINGS", b"MACRO", b"{", b"}",
-                b"{}", b"\n\n", b"% x }\n", b'"', b'"a"b', b"#", b"#1x", b"'", b"f", b"title", b"{f}", b"{misc}", b"=", b"12"]
+                b"{}", b"\n\n", b"% x }\n", b'"', b'"a"b', b"#", b"#1x", b"'", b"f", b"title", b"{f}", b"{misc}", b"=", b"12",
+                b"\x7f", b"\x80", b"{\xff}", b"no\x7fte"]
 COMMANDS = [b"EXECUTE {f}", b"ITERATE {f}", b"REVERSE {g}", b"SORT", b"ITERATE {cite$}", b"ITERATE {call.type$}",
             b"ITERATE {misc}", b"EXECUTE {g}", b"bogus\n\n"]
 AUX_LINES = [b"\\citation{a}", b"\\citation{p,q}", b"\\citation{a,A}", b"\\citation{*}", b"\\citation{b, c}", b"\\citation{a",
              b"\\citation{a} x", b"\\citation{a} ", b"\\@input{one.aux}", b"\\@input{two.aux}", b"\\@input{none.aux}", b"\\@input{x}",
-             b"\\bibdata{d}", b"\\bibdata{e,d}", b"\\bibstyle{s}", b"\\relax", b"", b"\\citation"]
+             b"\\bibdata{d}", b"\\bibdata{e,d}", b"\\bibstyle{s}", b"\\relax", b"", b"\\citation", b"\\citation{d\x7f,\xc3\xa9\x80}",
+             b"\\@input{\xc3\xa9.aux}", b"\\@input{\xe9.aux}", b"\\@input{x\x7f.aux}", b"\\bibdata{\x7f}"]
 
 
 # What programs of 50 tokens are made of. Integers and strings stand there often, so that operands fit.
@@ -62,10 +68,10 @@ class Maker:
     def entry(self):
         opening, closing = self.pick([(b"{", b"}"), (b"{", b"}"), (b"(", b" )")])
         fields = b"".join(self.field() for _ in range(self.pick([0, 1, 2, 4])))
-        return b"@" + self.pick([b"misc", b"Book", b"late"]) + opening + self.pick(KEYS) + fields + self.pick([b"", b","]) + closing
+        return b"@" + self.pick([b"misc", b"Book", b"late", b"M\xefsc", b"l\x7fte"]) + opening + self.pick(KEYS) + fields + self.pick([b"", b","]) + closing
 
     def item(self):
-        return self.pick([self.entry(), self.entry(), self.entry(), b'@string{s = "S" # t}', b"@string{t={ T }}",
+        return self.pick([self.entry(), self.entry(), self.entry(), b'@string{s = "S" # t}', b"@string{t={ T }}", b"@string{T\xe9 = s # s\x7f}",
                           b"@string(S = s # x)", b'@preamble{"p" # s # {  q }}', b"@comment{@misc{c}}", b"text"])
 
     def database(self):
@@ -81,7 +87,7 @@ class Maker:
             return text[:self.random.randrange(len(text) + 1)]
         changed = bytearray(text)
         for _ in range(self.pick([1, 2, 3]) if text else 0):
-            changed[self.random.randrange(len(changed))] = self.pick(b"{}\"@,=#( )\n\x00a%'")
+            changed[self.random.randrange(len(changed))] = self.pick(b"{}\"@,=#( )\n\x00a%'\\\x7f\x80\xff")
         return bytes(changed)
 
     # ---- styles ----
@@ -110,7 +116,8 @@ class Maker:
 
     def job(self):
         files = {b"job.aux": self.aux(), b"d.bib": self.database(), b"s.bst": self.style(),
-                 b"one.aux": b"\\citation{c}\n\\@input{two.aux}\n", b"two.aux": b"\\@input{job.aux}\n\\citation{C}\n"}
+                 b"one.aux": b"\\citation{c}\n\\@input{two.aux}\n", b"two.aux": b"\\@input{job.aux}\n\\citation{C}\n",
+                 b"\xc3\xa9.aux": b"\\citation{\xe9}\n", b"x\x7f.aux": b"\\citation{d\x7f}\n", b"\x7f.bib": b"@misc{d\x7f, no\x7fte = {n}}"}
         if self.random.random() < 0.3:
             files[b"e.bib"] = self.database()
         options = {"budget": self.pick([0, 20, 100, 1000, 10_000, 10_000]), "min_crossrefs": self.pick([0, 1, 2, 2, 3]),
