@@ -106,7 +106,7 @@ push_owns true x old new n p e o =
 push_owns false x old new n p e o = subst (λ xs. Owns xs n) (sym e.0) o
 
 -- how many long strings
-few_owned : (xs : List Content) (n : ℕ) → Owns xs n → n ≤ length xs
+pub few_owned : (xs : List Content) (n : ℕ) → Owns xs n → n ≤ length xs
 few_owned [] n o = omega (arith, o)
 few_owned (content.Integer m ∷ xs) n o = omega (arith, few_owned xs n o)
 few_owned (content.Text t ∷ xs) n o = omega (arith, few_owned xs n o)

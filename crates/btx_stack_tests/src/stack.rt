@@ -7,7 +7,7 @@ use btx_text::Text;
 use std::alloc::{AllocError, Global};
 
 // Words of calls (`called`), and the literals that they leave (`popped`).
-const ROWS: [(&[u8], &[u8]); 17] = [
+const ROWS: [(&[u8], &[u8]); 18] = [
     (b"1f-lsmxyF", b"f5 3000y 2000x made short lent - f4 -7 "),
     (b"sm*", b"shortmade "),
     (b"ls*", b"lentshort "),
@@ -25,6 +25,7 @@ const ROWS: [(&[u8], &[u8]); 17] = [
     (b"2f2", b"f4 f4 "),
     (b"smxy...", b"short "),
     (b"ms8y=", b"made -8 made "),
+    (b"tyt", b"text 3000y text "),
 ];
 
 // Pushes a string of 2,000 bytes that was made, and one of 3,000 bytes that is moved.
@@ -35,7 +36,7 @@ fn push_made(alloc: Global, stack: &mut Literals<'_>) -> Result<bool, AllocError
 
 fn push_moved(alloc: Global, stack: &mut Literals<'_>) -> Result<bool, AllocError> {
     let bytes = vec![in alloc; b'y'; 3000]?;
-    stack.push_text(Text::owned(bytes))
+    Ok(stack.push_moved(Text::owned(bytes)))
 }
 
 // Pushes the literal that a letter stands for.
@@ -47,6 +48,7 @@ fn pushed<'a>(alloc: Global, stack: &mut Literals<'a>, letter: u8) -> Result<boo
         b'l' => Ok(stack.push_lent(b"lent")),
         b's' => stack.push_short(b"short"),
         b'm' => stack.push_made(alloc, b"made"),
+        b't' => stack.push_text(Text::borrowed(b"text")),
         b'x' => push_made(alloc, stack),
         b'y' => push_moved(alloc, stack),
         _ => stack.push(Literal::Function(Callee::User(5))),
@@ -247,7 +249,7 @@ fn first_wrong_row(alloc: Global, rows: &[(&[u8], &[u8])]) -> usize {
 #[test]
 fn words_of_calls(rt: HostRuntime) {
     let row = first_wrong_row(rt.alloc(), &ROWS);
-    assert!(rt; row == 17, "row {row}");
+    assert!(rt; row == 18, "row {row}");
 }
 
 #[test]
