@@ -7,7 +7,6 @@ use Rattle.btx_text.specs.language.Limits.{is_too_long}
 use Rattle.btx_text.specs.declared.limits.Limit.TheVariants as limit
 use Rattle.btx_aux.specs.declared.end.End.{End as AuxEnd}
 use Rattle.btx_aux.specs.declared.end.End.TheVariants as aux
-use Rattle.btx_aux.specs.language.Events.{job_events}
 use Rattle.btx_aux.specs.language.Files.{Files}
 use Rattle.btx_aux.specs.language.Job.{AuxJob, job_of_files}
 use Rattle.btx_aux.specs.language.Names.{with_ending}
@@ -25,15 +24,12 @@ use Rattle.btx_core.specs.language.Files.Found.{NamedFile}
 use Rattle.btx_core.specs.language.Files.Lines.{style_line}
 use Rattle.btx_core.specs.language.Files.Databases.{databases_logged, files_found}
 use Rattle.btx_core.specs.refinement.Files.Readings.{Logged, after_job, style_named, style_read}
-use Rattle.btx_core.specs.refinement.ComputedProduct.{product, product_of_files}
-use Rattle.btx_core.specs.language.AuxFiles.{job_of}
+use Rattle.btx_core.specs.refinement.ComputedProduct.{product_of_files}
+use Rattle.btx_core.specs.language.AuxFiles.{AuxSaid}
 use Rattle.btx_core.specs.language.Product.{ends_with, IsFound, IsNamed, IsAsked, IsBehind}
 use Rattle.btx_core.specs.laws.ProductLaws.{EarlyEnds}
-use Rattle.btx_core.proofs.AuxLemmas.{there_are_events}
-
-same_job : (files : Files) (top : List ℕ) → job_of (job_events files top) ≡ job_of_files files top
-unfolding job_of_files
-same_job files top = refl
+use Rattle.btx_core.specs.laws.SameParts.{job_said}
+use Rattle.btx_core.proofs.AuxLemmas.{is_said, said_by, same_job}
 
 -- the product of a reading that ended
 abbrev whole : End → List Line → Product
@@ -62,27 +58,27 @@ read_if t files job style =
     if t then record { lines = []; gives = Ends (ended.Limit limit.File) }
     else record { lines = databases_logged files [] job.databases; gives = Found (record { style = style; databases = files_found files job.databases }) }
 
-early_found : (t : Bool) (files : Files) (job : AuxJob) (name text : List ℕ) (options : Options) (ending : End)
-    → (read_if t files job (record { name = name; bytes = text })).gives ≡ Ends ending
-    → IsFound t files job name text (job.log ++ style_line name ∷ []) options (whole ending (job.log ++ style_line name ∷ (read_if t files job (record { name = name; bytes = text })).lines))
+early_found : (t : Bool) (files : Files) (job : AuxSaid) (name text : List ℕ) (options : Options) (ending : End)
+    → (read_if t files (job_said job) (record { name = name; bytes = text })).gives ≡ Ends ending
+    → IsFound t files job name text (job.log ++ style_line name ∷ []) options (whole ending (job.log ++ style_line name ∷ (read_if t files (job_said job) (record { name = name; bytes = text })).lines))
 early_found true files job name text options ending h = ended_is ending (ended.Limit limit.File) _ _ refl h
 early_found false files job name text options ending h = absurd (found_ends _ ending h)
 
-early_named : (f : Option (List ℕ)) (files : Files) (job : AuxJob) (name : List ℕ) (options : Options) (ending : End)
-    → (style_read files job name (option_map (λ (bytes : List ℕ). record { name = name; bytes = bytes }) f)).gives ≡ Ends ending
-    → IsNamed f files job name options (whole ending (job.log ++ (style_read files job name (option_map (λ (bytes : List ℕ). record { name = name; bytes = bytes }) f)).lines))
+early_named : (f : Option (List ℕ)) (files : Files) (job : AuxSaid) (name : List ℕ) (options : Options) (ending : End)
+    → (style_read files (job_said job) name (option_map (λ (bytes : List ℕ). record { name = name; bytes = bytes }) f)).gives ≡ Ends ending
+    → IsNamed f files job name options (whole ending (job.log ++ (style_read files (job_said job) name (option_map (λ (bytes : List ℕ). record { name = name; bytes = bytes }) f)).lines))
 unfolding style_read
 early_named None files job name options ending h = ended_is ending ended.Finished _ _ refl h
 early_named (Some text) files job name options ending h = early_found (is_too_long text) files job name text options ending h
 
-early_asked : (s : Option (List ℕ)) (files : Files) (job : AuxJob) (options : Options) (ending : End)
-    → (style_named files job s).gives ≡ Ends ending → IsAsked s files job options (whole ending (job.log ++ (style_named files job s).lines))
+early_asked : (s : Option (List ℕ)) (files : Files) (job : AuxSaid) (options : Options) (ending : End)
+    → (style_named files (job_said job) s).gives ≡ Ends ending → IsAsked s files job options (whole ending (job.log ++ (style_named files (job_said job) s).lines))
 unfolding style_named
 early_asked None files job options ending h = ended_is ending ended.Finished _ _ (append-nil job.log) h
 early_asked (Some name) files job options ending h = early_named (files name) files job name options ending h
 
-early_behind : (e : AuxEnd) (files : Files) (job : AuxJob) (options : Options) (ending : End)
-    → (after_job files job e).gives ≡ Ends ending → IsBehind e files job options (whole ending (job.log ++ (after_job files job e).lines))
+early_behind : (e : AuxEnd) (files : Files) (job : AuxSaid) (options : Options) (ending : End)
+    → (after_job files (job_said job) e).gives ≡ Ends ending → IsBehind e files job options (whole ending (job.log ++ (after_job files (job_said job) e).lines))
 unfolding after_job
 early_behind aux.Whole files job options ending h = early_asked job.style files job options ending h
 early_behind aux.TooManyOpen files job options ending h = ended_is ending (ended.Limit limit.Files) _ _ (append-nil job.log) h
@@ -95,13 +91,17 @@ lines_behind lines rest = record rest { log_so_far = flat_map (λ (line : Line).
 pub holds : EarlyEnds
 holds files name options ending h =
     let top = with_ending (codes ".aux") name in
-    let job = job_of_files files top in
+    let said = said_by files top in
+    let outcome : AuxJob → Product = λ job. lines_behind (job.log ++ (after_job files job job.ending).lines)
+    (product_of_files job (after_job files job job.ending).gives options (counts_of (job.log ++ (after_job files job job.ending).lines)) options.budget) in
+    let job = job_said said in
+    let same : job ≡ job_of_files files top = same_job files top in
     let read = after_job files job job.ending in
-    let is = early_behind job.ending files job options ending h in
-    let whole_ = ap (λ r. lines_behind (job.log ++ read.lines) (product_of_files job r options (counts_of (job.log ++ read.lines)) options.budget)) h in
+    let ends : read.gives ≡ Ends ending = ap (λ (j : AuxJob). (after_job files j j.ending).gives) same ∙ h in
+    let is = early_behind said.ending files said options ending ends in
+    let whole_ = ap (λ r. lines_behind (job.log ++ read.lines) (product_of_files job r options (counts_of (job.log ++ read.lines)) options.budget)) ends in
     record {
-      events = job_events files top;
-      read = there_are_events files top;
-      behind = subst (λ (j : AuxJob). IsBehind j.ending files j options (product files name options)) (sym (same_job files top))
-          (subst (IsBehind job.ending files job options) (sym whole_) is);
+      job = said;
+      said = is_said files top;
+      behind = subst (IsBehind said.ending files said options) (sym whole_ ∙ ap outcome same) is;
     }

@@ -16,6 +16,7 @@ pub mod FormatsThere
 pub mod ThereIsProduct
 pub mod TableLemmas
 pub mod WorkedCore
+pub mod CornerCore
 pub mod VariableLemmas
 pub mod MeaningSame
 pub mod SamePartLemmas

@@ -13,7 +13,7 @@ use Rattle.btx_text.specs.language.Limits.{is_too_long}
 use Rattle.std.specs.Prelude.{is_some}
 use Rattle.btx_core.specs.language.Styles.{Library}
 use Rattle.btx_core.specs.language.Databases.{Request, Known, keeping, known_after, closed, AreEvents, IsReadBy, AreRead, with_macros}
-use Rattle.btx_core.specs.language.Lists.{Slot, IsInherited, library_as, entry_at, places, parent_messages, slots_of, IsGathered, IsLibrary}
+use Rattle.btx_core.specs.language.Lists.{Slot, IsInherited, no_entry_line, entry_at, places, parent_messages, slots_of, IsGathered, IsLibrary}
 use Rattle.btx_core.proofs.StandsLemmas.{stands-step, nothing-step, step-stands, known-outcome, OptionStands}
 use Rattle.btx_bib.proofs.GrammarLemmas.LengthLemmas.{left, StepsTo, next-leaves}
 use Rattle.btx_bib.specs.refinement.Grammar.Items.{known_step}
@@ -23,7 +23,6 @@ use Rattle.std.specs.List.{flat_map}
 use Rattle.std.specs.Option.{option_map_or}
 use Rattle.std.specs.Prelude.{slice_get, is_none}
 use Rattle.btx_text.specs.language.Lists.{only_if}
-use Rattle.btx_bib.specs.declared.message.Message.TheVariants.{NoEntry}
 
 -- the event of a step, and what is wanted behind it, where the keys of stored entries are known
 abbrev known_pair : Known → Step → Event × Wanted
@@ -83,10 +82,12 @@ read_one asked (database ∷ databases) known last last' h k =
 
 -- the library of what is known, with what entries inherit
 abbrev gathered : Request → Known → List Slot → (ℕ → List ℕ → Option (List ℕ)) → Library
-gathered asked known slots value = library_as
-    (flat_map (λ i. option_map_or (entry_at slots asked.types value i) (slice_get slots i) []) (places slots)) known.preamble
-    (known.messages ++ flat_map (parent_messages slots) (places slots)
-    ++ flat_map (λ (slot : Slot). only_if (is_none slot.entry) (NoEntry slot.key)) slots) None
+gathered asked known slots value = record {
+  entries = flat_map (λ i. option_map_or (entry_at slots asked.types value i) (slice_get slots i) []) (places slots);
+  preamble = known.preamble;
+  log = known.log ++ flat_map (parent_messages slots) (places slots) ++ flat_map (λ (slot : Slot). only_if (is_none slot.entry) (no_entry_line slot.key)) slots;
+  limit = None;
+}
 
 gathered_one : (limit : Option Limit) (asked : Request) (known : Known) (a b : Library) → IsGathered limit asked known a → IsGathered limit asked known b → a ≡ b
 gathered_one (Some limit) asked known a b h k = h ∙ sym k
@@ -136,7 +137,7 @@ all_read asked (database ∷ databases) known =
     (more.0, (h.0, h.1, more.1))
 
 unfoldable pub gathering : (l : Option Limit) (asked : Request) (known : Known) → (library : Library) × IsGathered l asked known library
-gathering (Some l) asked known = (library_as [] [] known.messages (Some l), refl)
+gathering (Some l) asked known = (record { entries = []; preamble = []; log = known.log; limit = Some l }, refl)
 gathering None asked known =
     let slots = slots_of asked known.stored in
     let value : ℕ → List ℕ → Option (List ℕ) = λ i name. upto slots (suc i) i name in

@@ -5,7 +5,6 @@ use Rattle.btx_text.specs.language.Limits.{is_too_long}
 use Rattle.btx_aux.specs.declared.end.End.{End as AuxEnd}
 use Rattle.btx_aux.specs.declared.end.End.TheVariants as aux
 use Rattle.btx_aux.specs.language.Files.{Files}
-use Rattle.btx_aux.specs.language.Job.{AuxJob}
 use Rattle.btx_aux.specs.language.Names.{with_ending}
 use Rattle.std.specs.Prelude.{codes}
 use Rattle.btx_bib.specs.language.Messages.{Database}
@@ -17,7 +16,7 @@ use Rattle.btx_core.specs.language.Files.Databases.{databases_logged, files_foun
 use Rattle.btx_core.specs.language.Styles.{Command, Says, Read, Execute, Iterate, Reverse, Sort, Entry, Job, Library, State, Style, first_state}
 use Rattle.btx_core.specs.language.Meanings.{Outcome, Done, Stopped, Limited, Meaning, IsMeaning}
 use Rattle.btx_core.specs.language.Runs.{IsListBehind, sort_key, command_does, GoesOn, CommandsCome}
-use Rattle.btx_core.specs.language.AuxFiles.{job_of}
+use Rattle.btx_core.specs.language.AuxFiles.{AuxSaid}
 use Rattle.btx_core.specs.language.Product.{comes_to, IsExecuted, asked_by, IsStyled, IsFound, IsNamed, IsAsked, IsBehind}
 use Rattle.btx_core.specs.laws.ProductLaws.{OneProduct}
 use Rattle.btx_core.specs.language.Lists.{IsLibrary}
@@ -27,7 +26,7 @@ use Rattle.btx_core.proofs.PartLemmas.{one_breaking}
 use Rattle.btx_core.proofs.DivisionLemmas.{one_division}
 use Rattle.btx_core.proofs.StyleLemmas.{style_one}
 use Rattle.btx_core.proofs.LibraryLemmas.{library_one}
-use Rattle.btx_core.proofs.AuxLemmas.{job_events_are}
+use Rattle.btx_core.proofs.AuxLemmas.{only_said}
 
 -- ---- commands
 
@@ -68,7 +67,7 @@ executed_one job log options wide a b h k =
 
 -- ---- the files
 
-styled_one : (files : Files) (job : AuxJob) (name text : List ℕ) (log : List Line) (options : Options) → 3 ≤ options.line → (a b : Product) → IsStyled files job name text log options a → IsStyled files job name text log options b → a ≡ b
+styled_one : (files : Files) (job : AuxSaid) (name text : List ℕ) (log : List Line) (options : Options) → 3 ≤ options.line → (a b : Product) → IsStyled files job name text log options a → IsStyled files job name text log options b → a ≡ b
 styled_one files job name text log options wide a b h k =
     let databases : List Database = map (λ (file : NamedFile). record { file = file.name; text = file.bytes }) (files_found files job.databases) in
     let style = style_one name text h.style k.style h.styled k.styled in
@@ -79,19 +78,19 @@ styled_one files job name text log options wide a b h k =
     let two = subst (λ (l : Library). IsExecuted (record { style = k.style; library = l; mode = options.text; entry_max = options.entry_max; global_max = options.global_max }) lines options a) library one in
     executed_one (record { style = k.style; library = k.library; mode = options.text; entry_max = options.entry_max; global_max = options.global_max }) lines options wide a b two k.executed
 
-found_one : (t : Bool) (files : Files) (job : AuxJob) (name text : List ℕ) (log : List Line) (options : Options) → 3 ≤ options.line → (a b : Product) → IsFound t files job name text log options a → IsFound t files job name text log options b → a ≡ b
+found_one : (t : Bool) (files : Files) (job : AuxSaid) (name text : List ℕ) (log : List Line) (options : Options) → 3 ≤ options.line → (a b : Product) → IsFound t files job name text log options a → IsFound t files job name text log options b → a ≡ b
 found_one true files job name text log options wide a b h k = h ∙ sym k
 found_one false files job name text log options wide a b h k = styled_one files job name text log options wide a b h k
 
-named_one : (f : Option (List ℕ)) (files : Files) (job : AuxJob) (name : List ℕ) (options : Options) → 3 ≤ options.line → (a b : Product) → IsNamed f files job name options a → IsNamed f files job name options b → a ≡ b
+named_one : (f : Option (List ℕ)) (files : Files) (job : AuxSaid) (name : List ℕ) (options : Options) → 3 ≤ options.line → (a b : Product) → IsNamed f files job name options a → IsNamed f files job name options b → a ≡ b
 named_one None files job name options wide a b h k = h ∙ sym k
 named_one (Some text) files job name options wide a b h k = found_one (is_too_long text) files job name text (job.log ++ style_line name ∷ []) options wide a b h k
 
-asked_one : (n : Option (List ℕ)) (files : Files) (job : AuxJob) (options : Options) → 3 ≤ options.line → (a b : Product) → IsAsked n files job options a → IsAsked n files job options b → a ≡ b
+asked_one : (n : Option (List ℕ)) (files : Files) (job : AuxSaid) (options : Options) → 3 ≤ options.line → (a b : Product) → IsAsked n files job options a → IsAsked n files job options b → a ≡ b
 asked_one None files job options wide a b h k = h ∙ sym k
 asked_one (Some name) files job options wide a b h k = named_one (files name) files job name options wide a b h k
 
-behind_files_one : (e : AuxEnd) (files : Files) (job : AuxJob) (options : Options) → 3 ≤ options.line → (a b : Product) → IsBehind e files job options a → IsBehind e files job options b → a ≡ b
+behind_files_one : (e : AuxEnd) (files : Files) (job : AuxSaid) (options : Options) → 3 ≤ options.line → (a b : Product) → IsBehind e files job options a → IsBehind e files job options b → a ≡ b
 behind_files_one aux.Whole files job options wide a b h k = asked_one job.style files job options wide a b h k
 behind_files_one aux.TooManyOpen files job options wide a b h k = h ∙ sym k
 behind_files_one aux.TopMissing files job options wide a b h k = h ∙ sym k
@@ -100,6 +99,5 @@ behind_files_one aux.FileLimit files job options wide a b h k = h ∙ sym k
 pub holds : OneProduct
 holds files name options wide a b h k =
     let top = with_ending (codes ".aux") name in
-    let events = job_events_are files top h.events h.read ∙ sym (job_events_are files top k.events k.read) in
-    behind_files_one (job_of k.events).ending files (job_of k.events) options wide a b
-    (subst (λ es. IsBehind (job_of es).ending files (job_of es) options a) events h.behind) k.behind
+    let jobs = only_said files top h.job h.said ∙ sym (only_said files top k.job k.said) in
+    behind_files_one k.job.ending files k.job options wide a b (subst (λ (j : AuxSaid). IsBehind j.ending files j options a) jobs h.behind) k.behind

@@ -3,7 +3,7 @@ use Rattle.std.proofs.Common.{◌≡◌, ℕ, zero, suc, ◌+◌, ◌<◌, Bool,
 use Rattle.std.specs.List.{find, flat_map, list_any, fold}
 use Rattle.std.specs.Map.{lookup}
 use Rattle.std.specs.Option.{option_map_or, option_or}
-use Rattle.std.specs.Prelude.{codes, nat_eq, ◌||◌, ◌&&◌}
+use Rattle.std.specs.Prelude.{codes, map, nat_eq, ◌||◌, ◌&&◌}
 use Rattle.std.specs.Str.{bytes_eq}
 use Rattle.std.proofs.lemmas.Slice.Eq.{bytes_eq-Decides}
 use Rattle.std.proofs.lemmas.Bool.{eqb-true, eq-eqb}
@@ -26,6 +26,9 @@ use Rattle.btx_bib.specs.language.Grammar.ValueTexts.{squeezed, value_text}
 use Rattle.btx_bib.specs.language.Grammar.Values.{Part, Named, Braced, Quoted, Digits}
 use Rattle.btx_bib.specs.language.Known as numbered
 use Rattle.btx_bib.specs.language.Known.{goes_on, stored_in, has_value}
+use Rattle.btx_bib.specs.language.MessageTexts.{message_line, message_text}
+use Rattle.btx_text.specs.declared.log_line.LineKind.TheVariants as line
+use Rattle.btx_text.specs.language.LogLines.{Line, mark_of}
 use Rattle.btx_bib.specs.language.Messages.{Database, Reading, event_messages, field_messages, value_messages, name_messages, read_next, spot_at, spot_before}
 use Rattle.btx_bib.specs.language.Stored.{entry_with_key, parents_in, is_wanted}
 use Rattle.btx_bib.specs.language.Strings.{string_value, other_value, defined}
@@ -36,7 +39,7 @@ use Rattle.btx_bib.specs.laws.Grammar.Reading.{IsOutcome, IsReading}
 use Rattle.btx_bib.proofs.DefinitionLemmas.{lookup-own, lookup-other}
 use Rattle.btx_bib.proofs.GrammarLemmas.ReadingLemmas.{is_reading}
 use Rattle.btx_bst.specs.declared.callee.Callee.TheVariants as callee
-use Rattle.btx_core.specs.language.Databases.{Request, Stored, Known, all_stored, closed, if_fits, stored_with, parents_named, is_asked, meaning_of, part_messages, saying, field_read, known_behind, known_after, keeping, AreEvents, IsReadBy, AreRead, with_macros}
+use Rattle.btx_core.specs.language.Databases.{Request, Stored, Known, all_stored, closed, if_fits, stored_with, parents_named, is_asked, meaning_of, part_messages, saying, field_read, known_behind, known_after, keeping, AreEvents, IsReadBy, AreRead, with_macros, at_spot}
 use Rattle.btx_core.specs.laws.SameLibraries.{limit_met, value_named}
 use Rattle.btx_core.specs.laws.SameStyles.{IsMeant, Numbers}
 use Rattle.btx_core.specs.language.Styles.{Function, set}
@@ -218,7 +221,7 @@ pub record SameReading (R : NumberedRequest) (reading : Reading) (known : Known)
   pub stored : AreSameGiven R reading.known.stored known.stored
   pub current : IsSameCurrent R reading.known.current known.current
   pub preamble : known.preamble ≡ reading.known.preamble
-  pub messages : known.messages ≡ reading.messages
+  pub messages : known.log ≡ map message_line reading.messages
   pub limit : known.limit ≡ limit_met reading.known.ending
 
 all_stored_same : (R : NumberedRequest) (reading : Reading) (known : Known) → SameReading R reading known → AreSameGiven R (stored_in reading.known) (all_stored known)
@@ -227,14 +230,19 @@ all_stored_same R reading known h = given_both R reading.known.stored (option_to
 closed_same : (R : NumberedRequest) (reading : Reading) (known : Known) → SameReading R reading known → SameReading R (record reading { known = numbered.with_current_stored reading.known }) (closed known)
 closed_same R reading known h = record { strings = h.strings; stored = all_stored_same R reading known h; current = tt; preamble = h.preamble; messages = h.messages; limit = h.limit }
 
+-- the lines of messages
+pub lines_more : (xs ys : List Message) → map message_line (xs ++ ys) ≡ map message_line xs ++ map message_line ys
+lines_more [] ys = refl
+lines_more (x ∷ xs) ys = ap (λ (lines : List Line). message_line x ∷ lines) (lines_more xs ys)
+
 -- messages are added to both
-says_same : (R : NumberedRequest) (reading : Reading) (known : Known) (said : List Message) → SameReading R reading known → SameReading R (record reading { messages = reading.messages ++ said }) (saying said known)
+says_same : (R : NumberedRequest) (reading : Reading) (known : Known) (said : List Message) → SameReading R reading known → SameReading R (record reading { messages = reading.messages ++ said }) (saying (map message_line said) known)
 says_same R reading known said h = record {
   strings = h.strings;
   stored = h.stored;
   current = h.current;
   preamble = h.preamble;
-  messages = ap (λ (ms : List Message). ms ++ said) h.messages;
+  messages = ap (λ (lines : List Line). lines ++ map message_line said) h.messages ∙ sym (lines_more reading.messages said);
   limit = h.limit;
 }
 
@@ -244,7 +252,7 @@ no_messages R reading known h = record {
   stored = h.stored;
   current = h.current;
   preamble = h.preamble;
-  messages = h.messages ∙ sym (append-nil reading.messages);
+  messages = h.messages ∙ ap (map message_line) (sym (append-nil reading.messages));
   limit = h.limit;
 }
 
@@ -270,19 +278,30 @@ other_same R reading known own h = λ i name. by (is_same_key own name) name i w
   by false name = h.strings (folded name)
 
 part_same : (R : NumberedRequest) (database : Database) (reading : Reading) (known : Known) (own : Option (List ℕ)) (part : Part) → SameReading R reading known
-    → part_messages database known own part ≡ name_messages database reading.known.strings own part
+    → part_messages database known own part ≡ map message_line (name_messages database reading.known.strings own part)
+unfolding message_text mark_of
 part_same R database reading known own (Braced text) h = refl
 part_same R database reading known own (Quoted text) h = refl
 part_same R database reading known own (Digits text) h = refl
 part_same R database reading known own (Named string) h =
-    ap (λ (o : Option (List ℕ)). if option_map_or (λ (defined : List ℕ). is_same_key defined string.name) own false then message.OwnString string.name (spot_at database string.rest) ∷ [] else if is_none o then message.UndefinedString string.name (spot_at database string.rest) ∷ [] else [])
-    (h.strings (folded string.name))
+    by (option_map_or (λ (defined : List ℕ). is_same_key defined string.name) own false) (is_none (known.strings (folded string.name)))
+    ∙ ap (λ (o : Option (List ℕ)). map message_line (if option_map_or (λ (defined : List ℕ). is_same_key defined string.name) own false then message.OwnString string.name (spot_at database string.rest) ∷ [] else if is_none o then message.UndefinedString string.name (spot_at database string.rest) ∷ [] else []))
+    (h.strings (folded string.name)) where
+      warned : List ℕ → List Line
+      warned text = at_spot line.Warning (codes "string name \"" ++ string.name ++ text) (spot_at database string.rest) ∷ []
+
+      by : (own none : Bool) → (if own then warned (codes "\" is used in its own definition") else if none then warned (codes "\" is undefined") else [])
+          ≡ map message_line (if own then message.OwnString string.name (spot_at database string.rest) ∷ [] else if none then message.UndefinedString string.name (spot_at database string.rest) ∷ [] else [])
+      by true none = refl
+      by false true = refl
+      by false false = refl
 
 parts_same : (R : NumberedRequest) (database : Database) (reading : Reading) (known : Known) (own : Option (List ℕ)) (value : List Part) → SameReading R reading known
-    → flat_map (part_messages database known own) value ≡ value_messages database reading.known.strings own value
+    → flat_map (part_messages database known own) value ≡ map message_line (value_messages database reading.known.strings own value)
 parts_same R database reading known own [] h = refl
 parts_same R database reading known own (part ∷ value) h =
-    ap₂ (λ (ms ns : List Message). ms ++ ns) (part_same R database reading known own part h) (parts_same R database reading known own value h)
+    ap₂ (λ (ms ns : List Line). ms ++ ns) (part_same R database reading known own part h) (parts_same R database reading known own value h)
+    ∙ sym (lines_more (name_messages database reading.known.strings own part) (value_messages database reading.known.strings own value))
 
 -- a string gets a value
 defined_same : (strings : List (List ℕ × List ℕ)) (known : List ℕ → Option (List ℕ)) (name text : List ℕ) → ((m : List ℕ) → known m ≡ lookup (bytes_eq m) strings)
@@ -311,45 +330,44 @@ module _ (numbers : Numbers) (R : NumberedRequest) (Q : Request) (h : SameReques
       → Same (next_reading database reading (Preamble value) rest) (known_behind Q database known (Preamble value) rest)
   preamble_same database reading known value rest k =
       let said = value_messages database reading.known.strings None value in
+      let lines = map message_line said in
       let whole = reading.known.preamble ++ value_text Kept (string_value reading.known.strings) value in
       let whole' = known.preamble ++ value_text Kept (meaning_of known None) value in
       let same : whole' ≡ whole =
       ap (λ (p : List ℕ). p ++ value_text Kept (meaning_of known None) value) k.preamble
       ∙ ap (λ (m : List ℕ → Option (List ℕ)). reading.known.preamble ++ value_text Kept m value) (value_same R reading known k) in
       let added = says_same R reading known said k in
-      let begun : SameReading R (record { known = record reading.known { preamble = whole }; messages = reading.messages ++ said }) (record (saying said known) { preamble = whole' }) = record { strings = added.strings; stored = added.stored; current = added.current; preamble = same; messages = added.messages; limit = added.limit } in
-      let of_text : SameReading R (next_reading database reading (Preamble value) rest) (if_fits whole' (saying said known) (record (saying said known) { preamble = whole' })) =
-      subst (λ (text : List ℕ). SameReading R (next_reading database reading (Preamble value) rest) (if_fits text (saying said known) (record (saying said known) { preamble = whole' }))) (sym same)
-      (fits_same R whole reading.known (record reading.known { preamble = whole }) (reading.messages ++ said) (saying said known) (record (saying said known) { preamble = whole' }) added begun) in
-      subst (λ (ms : List Message). SameReading R (next_reading database reading (Preamble value) rest) (if_fits whole' (saying ms known) (record (saying ms known) { preamble = whole' })))
+      let begun : SameReading R (record { known = record reading.known { preamble = whole }; messages = reading.messages ++ said }) (record (saying lines known) { preamble = whole' }) = record { strings = added.strings; stored = added.stored; current = added.current; preamble = same; messages = added.messages; limit = added.limit } in
+      let of_text : SameReading R (next_reading database reading (Preamble value) rest) (if_fits whole' (saying lines known) (record (saying lines known) { preamble = whole' })) =
+      subst (λ (text : List ℕ). SameReading R (next_reading database reading (Preamble value) rest) (if_fits text (saying lines known) (record (saying lines known) { preamble = whole' }))) (sym same)
+      (fits_same R whole reading.known (record reading.known { preamble = whole }) (reading.messages ++ said) (saying lines known) (record (saying lines known) { preamble = whole' }) added begun) in
+      subst (λ (ms : List Line). SameReading R (next_reading database reading (Preamble value) rest) (if_fits whole' (saying ms known) (record (saying ms known) { preamble = whole' })))
       (sym (parts_same R database reading known None value k)) of_text
 
   definition_same : (database : Database) (reading : Reading) (known : Known) (name : List ℕ) (value : List Part) (rest : List ℕ) → Same reading known
       → Same (next_reading database reading (Definition name value) rest) (known_behind Q database known (Definition name value) rest)
   definition_same database reading known name value rest k =
       let said = value_messages database reading.known.strings (Some name) value in
+      let lines = map message_line said in
       let text = value_text Kept (other_value reading.known.strings name) value in
       let text' = value_text Kept (meaning_of known (Some name)) value in
       let same : text ≡ text' = ap (λ (m : List ℕ → Option (List ℕ)). value_text Kept m value) (sym (other_same R reading known name k)) in
       let added = says_same R reading known said k in
-      let begun : SameReading R (record { known = record reading.known { strings = defined reading.known.strings name text }; messages = reading.messages ++ said }) (record (saying said known) { strings = set (folded name) (Some text) known.strings }) = record { strings = defined_same reading.known.strings known.strings name text k.strings; stored = added.stored; current = added.current; preamble = added.preamble; messages = added.messages; limit = added.limit } in
-      let of_text : SameReading R (next_reading database reading (Definition name value) rest) (if_fits text' (saying said known) (record (saying said known) { strings = set (folded name) (Some text') known.strings })) =
-      subst (λ (t : List ℕ). SameReading R (next_reading database reading (Definition name value) rest) (if_fits t (saying said known) (record (saying said known) { strings = set (folded name) (Some t) known.strings }))) same
-      (fits_same R text reading.known (record reading.known { strings = defined reading.known.strings name text }) (reading.messages ++ said) (saying said known)
-      (record (saying said known) { strings = set (folded name) (Some text) known.strings }) added begun) in
-      subst (λ (ms : List Message). SameReading R (next_reading database reading (Definition name value) rest) (if_fits text' (saying ms known) (record (saying ms known) { strings = set (folded name) (Some text') known.strings })))
+      let begun : SameReading R (record { known = record reading.known { strings = defined reading.known.strings name text }; messages = reading.messages ++ said }) (record (saying lines known) { strings = set (folded name) (Some text) known.strings }) = record { strings = defined_same reading.known.strings known.strings name text k.strings; stored = added.stored; current = added.current; preamble = added.preamble; messages = added.messages; limit = added.limit } in
+      let of_text : SameReading R (next_reading database reading (Definition name value) rest) (if_fits text' (saying lines known) (record (saying lines known) { strings = set (folded name) (Some text') known.strings })) =
+      subst (λ (t : List ℕ). SameReading R (next_reading database reading (Definition name value) rest) (if_fits t (saying lines known) (record (saying lines known) { strings = set (folded name) (Some t) known.strings }))) same
+      (fits_same R text reading.known (record reading.known { strings = defined reading.known.strings name text }) (reading.messages ++ said) (saying lines known)
+      (record (saying lines known) { strings = set (folded name) (Some text) known.strings }) added begun) in
+      subst (λ (ms : List Line). SameReading R (next_reading database reading (Definition name value) rest) (if_fits text' (saying ms known) (record (saying ms known) { strings = set (folded name) (Some text') known.strings })))
       (sym (parts_same R database reading known (Some name) value k)) of_text
 
   is_none_of : (n : Option ℕ) (f : Option Function) → IsMeant numbers (option_map callee.User n) f → is_none f ≡ is_none n
   is_none_of None f k = ap is_none k
   is_none_of (Some n) f k = ap is_none k.2
 
-  only_one : (b : Bool) (m : Message) → only_if b m ≡ (if b then m ∷ [] else [])
-  only_one true m = refl
-  only_one false m = refl
-
   entry_same : (database : Database) (reading : Reading) (known : Known) (kind key rest : List ℕ) → Same reading known
       → Same (next_reading database reading (EntryHead kind key) rest) (known_behind Q database known (EntryHead kind key) rest)
+  unfolding message_text mark_of
   entry_same database reading known kind key rest k =
       let shut = closed_same R reading known k in
       by (is_wanted R (stored_in reading.known) key) (asked_same numbers R Q h (stored_in reading.known) (all_stored known) shut.stored key) shut where
@@ -362,13 +380,19 @@ module _ (numbers : Numbers) (R : NumberedRequest) (Q : Request) (h : SameReques
         new : Stored
         new = record { kind = kind; key = key; value = λ name. None }
 
-        warned' : List Message
-        warned' = only_if (is_none (Q.types (folded kind))) (message.UnknownKind key (spot_at database rest))
+        unknown : Line
+        unknown = at_spot line.Warning (codes "entry type for \"" ++ key ++ codes "\" isn't style-file defined") (spot_at database rest)
 
-        same_warned : warned' ≡ warned
+        warned' : List Line
+        warned' = only_if (is_none (Q.types (folded kind))) unknown
+
+        as_line : (b : Bool) → only_if b unknown ≡ map message_line (if b then message.UnknownKind key (spot_at database rest) ∷ [] else [])
+        as_line true = refl
+        as_line false = refl
+
+        same_warned : warned' ≡ map message_line warned
         same_warned =
-            ap (λ (b : Bool). only_if b (message.UnknownKind key (spot_at database rest))) (is_none_of (R.kind (folded kind)) (Q.types (folded kind)) (h.types (folded kind)))
-            ∙ only_one (is_none (R.kind (folded kind))) (message.UnknownKind key (spot_at database rest))
+            ap (λ (b : Bool). only_if b unknown) (is_none_of (R.kind (folded kind)) (Q.types (folded kind)) (h.types (folded kind))) ∙ as_line (is_none (R.kind (folded kind)))
 
         no_value : (name : List ℕ) → None ≡ kept_value R [] name
         no_value name = empty (R.field name) where
@@ -390,7 +414,7 @@ module _ (numbers : Numbers) (R : NumberedRequest) (Q : Request) (h : SameReques
               stored = shut.stored;
               current = record { kind = refl; key = refl; value = no_value };
               preamble = shut.preamble;
-              messages = ap₂ (λ (ms ns : List Message). ms ++ ns) shut.messages same_warned;
+              messages = ap₂ (λ (ms ns : List Line). ms ++ ns) shut.messages same_warned ∙ sym (lines_more reading.messages warned);
               limit = shut.limit;
             })
 
@@ -401,6 +425,7 @@ module _ (numbers : Numbers) (R : NumberedRequest) (Q : Request) (h : SameReques
   -- a field of the entry that is being read
   field_same : (database : Database) (reading : Reading) (known : Known) (field : Field) (rest : List ℕ) → Same reading known
       → Same (next_reading database reading (FieldOf field) rest) (known_behind Q database known (FieldOf field) rest)
+  unfolding message_text mark_of
   field_same database reading known field rest k = of_current reading.known.current refl known.current refl k.current where
     strings : List ℕ → Option (List ℕ)
     strings = string_value reading.known.strings
@@ -424,11 +449,17 @@ module _ (numbers : Numbers) (R : NumberedRequest) (Q : Request) (h : SameReques
       said : List Message
       said = value_messages database reading.known.strings None field.value
 
-      said' : List Message
+      lines : List Line
+      lines = map message_line said
+
+      said' : List Line
       said' = flat_map (part_messages database known None) field.value
 
       extra : Message
       extra = message.ExtraField g.key field.name (spot_before database rest)
+
+      ignored : List ℕ → Line
+      ignored key = at_spot line.Warning (codes "I'm ignoring " ++ key ++ codes "'s extra \"" ++ field.name ++ codes "\" field") (spot_before database rest)
 
       more : Given
       more = record g { fields = g.fields ++ record { name = field.name; value = text } ∷ [] }
@@ -441,7 +472,7 @@ module _ (numbers : Numbers) (R : NumberedRequest) (Q : Request) (h : SameReques
 
       right : Bool → Bool → Known
       right declared has =
-          if not declared then known else if has then saying (message.ExtraField x.key field.name (spot_before database rest) ∷ []) known
+          if not declared then known else if has then saying (ignored x.key ∷ []) known
           else if_fits text' (saying said' known) (record (saying said' known) { current = Some (record x { value = set name (Some text') x.value }) })
 
       no_number : R.field name ≡ None → has_value R g field.name ≡ false
@@ -451,19 +482,19 @@ module _ (numbers : Numbers) (R : NumberedRequest) (Q : Request) (h : SameReques
       by None e true p = absurd (true≢false (sym p ∙ no_number e))
       by None e false p = no_messages R reading known k
       by (Some n) e true p =
-          subst (λ key. Same (left true true) (saying (message.ExtraField key field.name (spot_before database rest) ∷ []) known)) (sym c.key) (says_same R reading known (extra ∷ []) k)
+          subst (λ key. Same (left true true) (saying (ignored key ∷ []) known)) (sym c.key) (says_same R reading known (extra ∷ []) k)
       by (Some n) e false p =
           let same : text' ≡ text = ap (λ (m : List ℕ → Option (List ℕ)). value_text Trimmed m field.value) (value_same R reading known k) in
           let none : kept_value R g.fields name ≡ None = absent (kept_value R g.fields name) (sym (ap is_some (value_kept numbers R Q h g.fields name)) ∙ p) in
           let added = says_same R reading known said k in
           let values : (m : List ℕ) → set name (Some text) x.value m ≡ kept_value R more.fields m = λ m.
           ap (λ (v : List ℕ → Option (List ℕ)). set name (Some text) v m) (λ i m. c.value m i) ∙ sym (one_more_value numbers R Q h g.fields field.name text n e none m) in
-          let begun : SameReading R (record { known = record reading.known { current = Some more }; messages = reading.messages ++ said }) (record (saying said known) { current = Some (record x { value = set name (Some text) x.value }) }) =
+          let begun : SameReading R (record { known = record reading.known { current = Some more }; messages = reading.messages ++ said }) (record (saying lines known) { current = Some (record x { value = set name (Some text) x.value }) }) =
           record { strings = added.strings; stored = added.stored; current = record { kind = c.kind; key = c.key; value = values }; preamble = added.preamble; messages = added.messages; limit = added.limit } in
-          let of_text : Same (left true false) (if_fits text' (saying said known) (record (saying said known) { current = Some (record x { value = set name (Some text') x.value }) })) =
-          subst (λ (t : List ℕ). Same (left true false) (if_fits t (saying said known) (record (saying said known) { current = Some (record x { value = set name (Some t) x.value }) }))) (sym same)
-          (fits_same R text reading.known (record reading.known { current = Some more }) (reading.messages ++ said) (saying said known) (record (saying said known) { current = Some (record x { value = set name (Some text) x.value }) }) added begun) in
-          subst (λ (ms : List Message). Same (left true false) (if_fits text' (saying ms known) (record (saying ms known) { current = Some (record x { value = set name (Some text') x.value }) })))
+          let of_text : Same (left true false) (if_fits text' (saying lines known) (record (saying lines known) { current = Some (record x { value = set name (Some text') x.value }) })) =
+          subst (λ (t : List ℕ). Same (left true false) (if_fits t (saying lines known) (record (saying lines known) { current = Some (record x { value = set name (Some t) x.value }) }))) (sym same)
+          (fits_same R text reading.known (record reading.known { current = Some more }) (reading.messages ++ said) (saying lines known) (record (saying lines known) { current = Some (record x { value = set name (Some text) x.value }) }) added begun) in
+          subst (λ (ms : List Line). Same (left true false) (if_fits text' (saying ms known) (record (saying ms known) { current = Some (record x { value = set name (Some text') x.value }) })))
           (sym (parts_same R database reading known None field.value k)) of_text where
             absent : (o : Option (List ℕ)) → is_some o ≡ false → o ≡ None
             absent None f = refl
@@ -472,9 +503,9 @@ module _ (numbers : Numbers) (R : NumberedRequest) (Q : Request) (h : SameReques
       of_field : (o : Option ℕ) → R.field name ≡ o → (has : Bool) → has_value R g field.name ≡ has
           → Same (record { known = numbered.after_field R reading.known (Some g) field; messages = reading.messages ++ field_messages R database reading.known.strings (Some g) field rest }) (field_read Q database known x field rest)
       of_field o e has p =
-          subst (λ (b : Bool). Same (left b (has_value R g field.name)) (if not (Q.is_field name) then known else if is_some (x.value name) then saying (message.ExtraField x.key field.name (spot_before database rest) ∷ []) known
+          subst (λ (b : Bool). Same (left b (has_value R g field.name)) (if not (Q.is_field name) then known else if is_some (x.value name) then saying (ignored x.key ∷ []) known
           else if_fits text' (saying said' known) (record (saying said' known) { current = Some (record x { value = set name (Some text') x.value }) }))) (sym (ap is_some e))
-          (subst (λ (b : Bool). Same (left (is_some o) (has_value R g field.name)) (if not b then known else if is_some (x.value name) then saying (message.ExtraField x.key field.name (spot_before database rest) ∷ []) known
+          (subst (λ (b : Bool). Same (left (is_some o) (has_value R g field.name)) (if not b then known else if is_some (x.value name) then saying (ignored x.key ∷ []) known
           else if_fits text' (saying said' known) (record (saying said' known) { current = Some (record x { value = set name (Some text') x.value }) }))) (sym (h.fields name ∙ ap is_some e))
           (subst (λ (b : Bool). Same (left (is_some o) (has_value R g field.name)) (right (is_some o) b)) (sym (has_same g x c field.name ∙ p))
           (subst (λ (b : Bool). Same (left (is_some o) b) (right (is_some o) has)) (sym p) (by o e has p))))
@@ -482,6 +513,7 @@ module _ (numbers : Numbers) (R : NumberedRequest) (Q : Request) (h : SameReques
   -- a further event
   event_same : (database : Database) (reading : Reading) (known : Known) (event : Event) (rest : List ℕ) → Same reading known
       → Same (next_reading database reading event rest) (known_behind Q database known event rest)
+  unfolding message_text mark_of
   event_same database reading known Comment rest k = no_messages R reading known k
   event_same database reading known (Preamble value) rest k = preamble_same database reading known value rest k
   event_same database reading known (Definition name value) rest k = definition_same database reading known name value rest k

@@ -1,5 +1,5 @@
 -- The library of databases with numbers, and the one in names, are the same.
-use Rattle.std.proofs.Common.{◌≡◌, ◌⊎◌, inl, inr, ℕ, suc, ◌+◌, Bool, true, false, if◌then◌else◌, List, [], ◌∷◌, ◌++◌, length, map, drop, take, count_by, Option, None, Some, is_some, is_none, option_map, option_and_then, unwrap_or, nat_le, sym, ap, ap₂, subst, ◌∙◌, refl, arith, append_assoc, leb-false}
+use Rattle.std.proofs.Common.{◌≡◌, ◌⊎◌, inl, inr, ℕ, suc, ◌+◌, Bool, true, false, if◌then◌else◌, List, [], ◌∷◌, ◌++◌, length, map, drop, take, count_by, Option, None, Some, is_some, is_none, option_map, option_and_then, unwrap_or, nat_le, sym, ap, ap₂, subst, ◌∙◌, refl, arith, append-nil, append_assoc, leb-false}
 use Rattle.std.specs.List.{flat_map, fold, position, range_with_len}
 use Rattle.std.specs.Option.{option_map_or, option_or}
 use Rattle.std.specs.Prelude.{codes, slice_get, slice_index_or, ◌||◌}
@@ -14,6 +14,7 @@ use Rattle.btx_bib.specs.declared.end.End.{End}
 use Rattle.btx_bib.specs.declared.end.End.TheVariants as end
 use Rattle.btx_bib.specs.declared.entry.Entry.{Entry as NumberedEntry}
 use Rattle.btx_bib.specs.declared.message.Message.{Message}
+use Rattle.btx_text.specs.declared.log_line.LineKind.TheVariants as line
 use Rattle.btx_bib.specs.declared.message.Message.TheVariants.{NoEntry}
 use Rattle.btx_bib.specs.declared.slots.Body.{Body}
 use Rattle.btx_bib.specs.declared.slots.Slot.{Slot as NumberedSlot}
@@ -21,10 +22,11 @@ use Rattle.btx_bib.specs.language.Databases.{library_of, library_by, read_one}
 use Rattle.btx_bib.specs.language.Entries.{Given, body_of}
 use Rattle.btx_bib.specs.language.Listing as listing
 use Rattle.btx_bib.specs.language.Listing.{first_cited, last_cited, added, list_keys}
-use Rattle.btx_bib.specs.language.MessageTexts.{message_line}
+use Rattle.btx_bib.specs.language.MessageTexts.{message_line, message_text}
+use Rattle.btx_text.specs.language.LogLines.{Line, mark_of}
 use Rattle.btx_bib.specs.language.Messages.{Database, Reading}
 use Rattle.btx_bib.specs.language.Passes as passes
-use Rattle.btx_bib.specs.language.Passes.{body_values, parent_at, after_first, after_second, entries_of, reference_messages, passed, inherited, checked}
+use Rattle.btx_bib.specs.language.Passes.{body_values, parent_at, after_first, after_second, entries_of, reference_messages, inherited, checked, pass_messages, check_messages}
 use Rattle.btx_bib.specs.language.Requests.{asked}
 use Rattle.btx_bib.specs.language.Stored.{entry_with_key, parents_in, references}
 use Rattle.btx_bib.specs.language.Values.{field_value}
@@ -42,11 +44,11 @@ use Rattle.btx_bst.specs.language.StyleText.{style_of}
 use Rattle.btx_bst.specs.laws.FirstNames.{FirstNamesLaw}
 use Rattle.btx_bst.proofs.FirstNameLemmas.{first-names}
 use Rattle.btx_core.specs.language.Databases.{Request, Stored, Known, parents_named, stored_with, with_macros}
-use Rattle.btx_core.specs.language.Lists.{Slot, slot_of, slots_of, listed_keys, IsInherited, keeps_parent, parent_key, parent_messages, entry_at, places, library_as, IsGathered, IsLibrary}
+use Rattle.btx_core.specs.language.Lists.{Slot, slot_of, slots_of, listed_keys, IsInherited, keeps_parent, parent_key, parent_messages, entry_at, places, IsGathered, IsLibrary, no_entry_line}
 use Rattle.btx_core.specs.laws.SameLibraries.{value_named, IsSameEntry, AreSameEntries, limit_met, IsSameLibrary, asked_of, SameLibrary}
 use Rattle.btx_core.specs.laws.SameStyles.{IsMeant, IsSameStyle, Numbers, numbers_of}
 use Rattle.btx_core.specs.language.Styles.{Entry, Library, Style, set}
-use Rattle.btx_core.proofs.SameKnownLemmas.{SameRequest, AreSameGiven, IsSameCurrent, SameReading, values_length, value_kept, parent_named, found_same, parents_same, databases_same, macros_same}
+use Rattle.btx_core.proofs.SameKnownLemmas.{SameRequest, AreSameGiven, IsSameCurrent, SameReading, values_length, value_kept, parent_named, found_same, parents_same, databases_same, macros_same, lines_more}
 use Rattle.btx_core.proofs.SamePassLemmas.{AllFrom, IsSameBody, Own, Passed, Checked, Second, first_pass, second_pass}
 use Rattle.btx_core.proofs.LibraryLemmas.{library_one}
 use Rattle.btx_core.proofs.PartLemmas.{there_is_inheritance, upto}
@@ -213,7 +215,8 @@ module _ (numbers : Numbers) (R : NumberedRequest) (Q : Request) (h : SameReques
 
     -- the keys that have no entry
     missing_same : (L : List NumberedSlot) (D : List Slot) (i : ℕ) → AllFrom (Checked numbers R Q h C value inherits) i L → ((n : ℕ) → slice_get C (i + n) ≡ slice_get D n) → length L ≡ length D
-        → flat_map (λ (s : NumberedSlot). if is_some s.body then [] else NoEntry s.key ∷ []) L ≡ flat_map (λ (c : Slot). only_if (is_none c.entry) (NoEntry c.key)) D
+        → map message_line (flat_map (λ (s : NumberedSlot). if is_some s.body then [] else NoEntry s.key ∷ []) L) ≡ flat_map (λ (c : Slot). only_if (is_none c.entry) (no_entry_line c.key)) D
+    unfolding message_text mark_of
     missing_same [] [] i k there e = refl
     missing_same [] (c ∷ D) i k there e = absurd (omega (arith, e))
     missing_same (s ∷ L) [] i k there e = absurd (omega (arith, e))
@@ -221,11 +224,12 @@ module _ (numbers : Numbers) (R : NumberedRequest) (Q : Request) (h : SameReques
         let p = k.0 in
         let first : Some p.c ≡ Some c = sym p.there ∙ (let z : i ≡ i + 0 = omega arith in ap (slice_get C) z) ∙ there 0 in
         let one = same_Some p.c c first in
-        ap₂ (λ (ms ns : List Message). ms ++ ns)
-        (ap (λ key. if is_some s.body then [] else NoEntry key ∷ []) p.key ∙ said p.c.key s.body p.c.entry p.body ∙ ap (λ (c : Slot). only_if (is_none c.entry) (NoEntry c.key)) one)
+        lines_more (if is_some s.body then [] else NoEntry s.key ∷ []) (flat_map (λ (s : NumberedSlot). if is_some s.body then [] else NoEntry s.key ∷ []) L)
+        ∙ ap₂ (λ (ms ns : List Line). ms ++ ns)
+        (ap (λ key. map message_line (if is_some s.body then [] else NoEntry key ∷ [])) p.key ∙ said p.c.key s.body p.c.entry p.body ∙ ap (λ (c : Slot). only_if (is_none c.entry) (no_entry_line c.key)) one)
         (missing_same L D (i + 1) k.1 (λ n. let z : i + 1 + n ≡ i + suc n = omega arith in ap (slice_get C) z ∙ there (suc n)) (omega (arith, e))) where
-          said : (key : List ℕ) (b : Option Body) (e : Option Stored) → IsSameBody numbers R Q h C b e → (if is_some b then [] else NoEntry key ∷ []) ≡ only_if (is_none e) (NoEntry key)
-          said key None None same = refl
+          said : (key : List ℕ) (b : Option Body) (e : Option Stored) → IsSameBody numbers R Q h C b e → map message_line (if is_some b then [] else NoEntry key ∷ []) ≡ only_if (is_none e) (no_entry_line key)
+          said key None None same = ap (λ t. record { text = mark_of line.Warning ++ t; kind = line.Warning } ∷ []) (append-nil (message_text (NoEntry key)))
           said key (Some b) (Some e) same = refl
           said key None (Some e) same = absurd same
           said key (Some b) None same = absurd same
@@ -240,8 +244,8 @@ module _ (numbers : Numbers) (R : NumberedRequest) (Q : Request) (h : SameReques
     stopped : (e : End) (l : Limit) → limit_met e ≡ Some l → known.limit ≡ Some l → (library : Library) × IsGathered known.limit Q known library
         × IsSameLibrary numbers R.field (record { entries = []; preamble = []; messages = reading.messages; ending = e }) library
     stopped e l f g =
-        let library = library_as [] [] known.messages (Some l) in
-        (library, subst (λ o. IsGathered o Q known library) (sym g) refl, record { entries = refl; preamble = refl; log = ap (map message_line) k.messages; limit = sym f })
+        let library : Library = record { entries = []; preamble = []; log = known.log; limit = Some l } in
+        (library, subst (λ o. IsGathered o Q known library) (sym g) refl, record { entries = refl; preamble = refl; log = k.messages; limit = sym f })
 
     by : (e : End) → known.limit ≡ limit_met e → (library : Library) × IsGathered known.limit Q known library × IsSameLibrary numbers R.field (library_by e R reading.known reading.messages) library
     by end.FileLimit e = stopped end.FileLimit _ refl e
@@ -257,8 +261,12 @@ module _ (numbers : Numbers) (R : NumberedRequest) (Q : Request) (h : SameReques
       value i name = upto slots (suc i) i name
 
       library : Library
-      library = library_as (flat_map (λ i. option_map_or (entry_at slots Q.types value i) (slice_get slots i) []) (places slots)) known.preamble
-          (known.messages ++ flat_map (parent_messages slots) (places slots) ++ flat_map (λ (slot : Slot). only_if (is_none slot.entry) (NoEntry slot.key)) slots) None
+      library = record {
+        entries = flat_map (λ i. option_map_or (entry_at slots Q.types value i) (slice_get slots i) []) (places slots);
+        preamble = known.preamble;
+        log = known.log ++ flat_map (parent_messages slots) (places slots) ++ flat_map (λ (slot : Slot). only_if (is_none slot.entry) (no_entry_line slot.key)) slots;
+        limit = None;
+      }
 
       keys : map (λ (s : NumberedSlot). s.key) numbered_slots ≡ map (λ (c : Slot). c.key) slots
       keys = slot_keys reading.known.stored known.stored k.stored (list_keys R reading.known.stored)
@@ -281,6 +289,12 @@ module _ (numbers : Numbers) (R : NumberedRequest) (Q : Request) (h : SameReques
       last : List NumberedSlot
       last = after_second (after_first numbered_slots)
 
+      references : List Message
+      references = pass_messages checked check_messages [] (after_first numbered_slots)
+
+      lost : List Message
+      lost = flat_map (λ (s : NumberedSlot). if is_some s.body then [] else NoEntry s.key ∷ []) last
+
       long_as : {A B : Type 0} (f : A → List ℕ) (g : B → List ℕ) (xs : List A) (ys : List B) → map f xs ≡ map g ys → length xs ≡ length ys
       long_as f g xs ys e = sym (length-map xs f) ∙ ap length e ∙ length-map ys g
 
@@ -295,11 +309,12 @@ module _ (numbers : Numbers) (R : NumberedRequest) (Q : Request) (h : SameReques
         entries = subst (λ n. AreSameEntries numbers R.field (flat_map passes.entry_at last) (flat_map (λ i. option_map_or (entry_at slots Q.types value i) (slice_get slots i) []) (range_with_len 0 n))) size
             (entries_same slots value (there_is_inheritance slots) last 0 second.places);
         preamble = k.preamble;
-        log = ap (map message_line)
-            (append_assoc known.messages (flat_map (parent_messages slots) (places slots)) (flat_map (λ (slot : Slot). only_if (is_none slot.entry) (NoEntry slot.key)) slots)
-            ∙ ap₂ (λ (ms ns : List Message). ms ++ ns) k.messages
-            (ap₂ (λ (ms ns : List Message). ms ++ ns) (sym (second.logged ∙ ap (λ n. flat_map (parent_messages slots) (range_with_len 0 n)) size_first))
-            (sym (missing_same slots value (there_is_inheritance slots) last slots 0 second.places (λ n. let z : 0 + n ≡ n = omega arith in ap (slice_get slots) z) size))));
+        log = append_assoc known.log (flat_map (parent_messages slots) (places slots)) (flat_map (λ (slot : Slot). only_if (is_none slot.entry) (no_entry_line slot.key)) slots)
+            ∙ ap₂ (λ (ms ns : List Line). ms ++ ns) k.messages
+            (ap₂ (λ (ms ns : List Line). ms ++ ns) (sym (second.logged ∙ ap (λ n. flat_map (parent_messages slots) (range_with_len 0 n)) size_first))
+            (sym (missing_same slots value (there_is_inheritance slots) last slots 0 second.places (λ n. let z : 0 + n ≡ n = omega arith in ap (slice_get slots) z) size)))
+            ∙ ap (λ (lines : List Line). map message_line reading.messages ++ lines) (sym (lines_more references lost))
+            ∙ sym (lines_more reading.messages (references ++ lost));
         limit = refl;
       }
 

@@ -1,16 +1,15 @@
 -- Each part of the relation is one thing alone, and the one that is computed.
 use Rattle.std.proofs.Common.{[], ◌++◌, codes, subst, sym}
-use Rattle.btx_core.specs.language.AuxFiles.{AreJobEvents}
 use Rattle.btx_core.specs.language.Lines.{IsSure, IsWrapped}
-use Rattle.btx_core.specs.laws.SameParts.{OneDivision, SameEvents, SameLines, SameSure, SomeDivision}
-use Rattle.btx_core.proofs.AuxLemmas.{job_events_are, there_are_events}
+use Rattle.btx_core.specs.laws.SameParts.{OneDivision, SameAux, SameLines, SameSure, SomeDivision}
+use Rattle.btx_core.proofs.AuxLemmas.{is_said, only_said, said_by, same_job}
 use Rattle.btx_core.proofs.DivisionLemmas.{one_division}
 use Rattle.btx_core.proofs.FormatsThere.{divided}
 use Rattle.btx_core.proofs.PartLemmas.{one_breaking, sure_is, wrapped}
 use Rattle.btx_out.specs.language.Breaking.{sure, wrap, written_line}
 
-pub events : SameEvents
-events files top given = (job_events_are files top given, λ same. subst (AreJobEvents files top) (sym same) (there_are_events files top))
+pub aux_files : SameAux
+aux_files files top = (said_by files top, is_said files top, only_said files top, same_job files top)
 
 pub lines : SameLines
 lines most room written = (

@@ -1,5 +1,5 @@
 -- The two passes of cross-references with numbers leave what the equation of inheritance says by names.
-use Rattle.std.proofs.Common.{◌≡◌, ◌⊎◌, inl, inr, ℕ, zero, suc, ◌+◌, ◌<◌, ◌≤◌, Bool, true, false, cond, not, if◌then◌else◌, List, [], ◌∷◌, ◌++◌, length, map, Option, None, Some, is_some, option_map, option_and_then, nat_lt, nat_le, sym, ap, ap₂, subst, ◌∙◌, refl, arith, leb-true, leb-false, true≢false}
+use Rattle.std.proofs.Common.{◌≡◌, ◌⊎◌, inl, inr, ℕ, zero, suc, ◌+◌, ◌<◌, ◌≤◌, Bool, true, false, cond, not, if◌then◌else◌, List, [], ◌∷◌, ◌++◌, length, map, Option, None, Some, is_some, option_map, option_and_then, nat_lt, nat_le, sym, ap, ap₂, subst, ◌∙◌, refl, arith, append-nil, leb-true, leb-false, true≢false}
 use Rattle.std.specs.List.{flat_map, position, position_from, range_with_len}
 use Rattle.std.specs.Option.{option_map_or, option_or}
 use Rattle.std.specs.Prelude.{codes, slice_get, ◌&&◌, ◌||◌}
@@ -10,23 +10,25 @@ use Rattle.std.proofs.lemmas.List.{length-append}
 use Rattle.std.proofs.lemmas.Option.{slice_get-map}
 use Rattle.std.proofs.lemmas.Slice.Eq.{bytes_eq-Decides}
 use Rattle.btx_aux.specs.language.Names.{is_same_key}
-use Rattle.btx_bib.specs.declared.message.Message.{Message}
+use Rattle.btx_bib.specs.language.MessageTexts.{message_line, message_text}
+use Rattle.btx_text.specs.declared.log_line.LineKind.TheVariants as line
+use Rattle.btx_text.specs.language.LogLines.{Line, mark_of}
 use Rattle.btx_bib.specs.declared.message.Message.TheVariants.{BadReference, NestedReference}
 use Rattle.btx_bib.specs.declared.slots.Body.{Body}
 use Rattle.btx_bib.specs.declared.slots.Slot.{Slot as NumberedSlot}
 use Rattle.btx_bib.specs.language.Entries.{parent_in}
 use Rattle.btx_bib.specs.language.Passes as passes
-use Rattle.btx_bib.specs.language.Passes.{passed, pass_messages, body_values, parent_at, slot_at, or_values, inherited_values, inherited, inherited_from, without_parent, without_crossref, is_parent, checked, check_messages, after_first, after_second}
+use Rattle.btx_bib.specs.language.Passes.{passed, pass_messages, body_values, parent_at, slot_at, or_values, inherited_values, inherited, inherited_from, without_parent, without_crossref, is_parent, checked, check_messages}
 use Rattle.btx_bib.specs.language.Values.{field_value}
 use Rattle.btx_bib.specs.language.Wanted.{Request as NumberedRequest}
 use Rattle.btx_bib.proofs.ListedKeyLemmas.{folded-same}
 use Rattle.btx_bib.proofs.PassLemmas.{inherited-alone, inherited-by, key-inherited, checked-alone, checked-is, messages-alone, messages-is, key-checked}
 use Rattle.btx_bib.proofs.StayingLemmas.{view-next}
 use Rattle.btx_core.specs.language.Databases.{Request, Stored}
-use Rattle.btx_core.specs.language.Lists.{Slot, own, place_of, parent, key_at, parent_key, has_entry, stays_at, IsInherited, keeps_parent, parent_messages}
+use Rattle.btx_core.specs.language.Lists.{Slot, own, place_of, parent, key_at, parent_key, has_entry, stays_at, IsInherited, keeps_parent, parent_messages, bad_reference, nested_reference}
 use Rattle.btx_core.specs.laws.SameLibraries.{value_named}
 use Rattle.btx_core.specs.laws.SameStyles.{Numbers}
-use Rattle.btx_core.proofs.SameKnownLemmas.{SameRequest}
+use Rattle.btx_core.proofs.SameKnownLemmas.{SameRequest, lines_more}
 use Rattle.btx_text.specs.language.Keys.{folded}
 use Rattle.btx_text.specs.language.Lists.{only_if}
 
@@ -506,10 +508,19 @@ module _ (numbers : Numbers) (R : NumberedRequest) (Q : Request) (h : SameReques
             has_parent = ap is_some q.parent_is ∙ and_true (is_some (parent_key C j)) ∙ sym (ap (λ (t : Bool). is_some (parent_key C j) && (t || keeps_parent C j)) (is_most k j (omega (arith, le, size))));
           }
 
+    -- the lines of messages
+    bad_line : (child parent : List ℕ) → message_line (BadReference child parent) ∷ [] ≡ bad_reference child parent ∷ []
+    unfolding message_text mark_of
+    bad_line child parent = ap (λ t. record { text = mark_of line.Error ++ t; kind = line.Error } ∷ []) (append-nil (message_text (BadReference child parent)))
+
+    nested_line : (child parent : List ℕ) → message_line (NestedReference child parent) ∷ [] ≡ nested_reference child parent ∷ []
+    unfolding message_text mark_of
+    nested_line child parent = ap (λ t. record { text = mark_of line.Warning ++ t; kind = line.Warning } ∷ []) (append-nil (message_text (NestedReference child parent)))
+
     -- what the second pass makes of a place, and what it logs
     record Judged (k : ℕ) (L : List NumberedSlot) (s : NumberedSlot) : Type 0 where
       place : Checked k (checked L s)
-      logged : check_messages L s ≡ parent_messages C k
+      logged : map message_line (check_messages L s) ≡ parent_messages C k
 
     judged : (k : ℕ) (done left : List NumberedSlot) (s : NumberedSlot) → k ≡ length done → map key_of (done ++ s ∷ left) ≡ map named_key C
         → AllFrom Checked 0 done → AllFrom Passed k (s ∷ left) → Judged k (done ++ s ∷ left) s
@@ -524,10 +535,10 @@ module _ (numbers : Numbers) (R : NumberedRequest) (Q : Request) (h : SameReques
       key_same = ap (λ (o : Option Slot). option_map_or (λ (slot : Slot). slot.key) o []) mine.there ∙ sym mine.key
 
       -- what is said of a parent at a place, or of one that isn't listed
-      says : List ℕ → Option ℕ → List Message
+      says : List ℕ → Option ℕ → List Line
       says key o = option_map_or (λ j.
-          if not (has_entry C j) then BadReference (key_at C k) key ∷ []
-          else only_if (is_some (parent_key C j) && (nat_le k j || keeps_parent C j)) (NestedReference (key_at C k) key)) o (BadReference (key_at C k) key ∷ [])
+          if not (has_entry C j) then bad_reference (key_at C k) key ∷ []
+          else only_if (is_some (parent_key C j) && (nat_le k j || keeps_parent C j)) (nested_reference (key_at C k) key)) o (bad_reference (key_at C k) key ∷ [])
 
       of_key : (key : List ℕ) → parent_at s ≡ Some key → (o : Option ℕ) → place_of C key ≡ o → Judged k L s
       of_key key e None f =
@@ -537,7 +548,7 @@ module _ (numbers : Numbers) (R : NumberedRequest) (Q : Request) (h : SameReques
           let lost : keeps_parent C k ≡ false = ap (λ (o : Option ℕ). option_map_or (stays_at C) o false) no_parent in
           record {
             place = subst (Checked k) (sym (checked-is L s key None e none)) (lost_parent k s mine lost);
-            logged = messages-is L s key None e none ∙ sym (ap₂ (λ (o : Option (List ℕ)) (p : Option ℕ). option_map_or (λ key. says key p) o []) is no_parent ∙ ap (λ x. BadReference x key ∷ []) key_same);
+            logged = ap (map message_line) (messages-is L s key None e none) ∙ bad_line s.key key ∙ sym (ap₂ (λ (o : Option (List ℕ)) (p : Option ℕ). option_map_or (λ key. says key p) o []) is no_parent ∙ ap (λ x. bad_reference x key ∷ []) key_same);
           }
       of_key key e (Some j) f =
           let is : parent_key C k ≡ Some key = sym mine.parent_is ∙ e in
@@ -548,33 +559,33 @@ module _ (numbers : Numbers) (R : NumberedRequest) (Q : Request) (h : SameReques
           ap (λ (o : Option ℕ). option_map_or (stays_at C) o false) its_parent ∙ sym (stays_same j found.s known.c known.there known.stays known.body) in
           record {
             place = subst (Checked k) (sym (checked-is L s key (Some found.s) e found.found)) (either (is_parent (Some found.s)) keeps);
-            logged = messages-is L s key (Some found.s) e found.found ∙ said found.s known ∙ sym (ap₂ (λ (o : Option (List ℕ)) (p : Option ℕ). option_map_or (λ key. says key p) o []) is its_parent);
+            logged = ap (map message_line) (messages-is L s key (Some found.s) e found.found) ∙ said found.s known ∙ sym (ap₂ (λ (o : Option (List ℕ)) (p : Option ℕ). option_map_or (λ key. says key p) o []) is its_parent);
           } where
             either : (t : Bool) → keeps_parent C k ≡ t → Checked k (if t then s else without_crossref s)
             either true g = kept_parent k s mine (ap (λ (t : Bool). if t then parent_key C k else None) g)
             either false g = lost_parent k s mine g
 
-            only_one : (b : Bool) (m : Message) → (if b then m ∷ [] else []) ≡ only_if b m
-            only_one true m = refl
-            only_one false m = refl
+            nested_if : (b : Bool) → map message_line (if b then NestedReference (key_at C k) key ∷ [] else []) ≡ only_if b (nested_reference (key_at C k) key)
+            nested_if true = nested_line (key_at C k) key
+            nested_if false = refl
 
-            said : (p : NumberedSlot) → Seen k j p → passes.parent_messages s.key key (Some p) ≡ says key (Some j)
+            said : (p : NumberedSlot) → Seen k j p → map message_line (passes.parent_messages s.key key (Some p)) ≡ says key (Some j)
             said p known =
                 let there : has_entry C j ≡ is_some p.body = ap (λ (o : Option Slot). option_map_or (λ (slot : Slot). is_some slot.entry) o false) known.there ∙ has_body p.body known.c.entry known.body in
-                ap₂ (λ x (t : Bool). if is_some p.body then (if t then NestedReference x key ∷ [] else []) else BadReference x key ∷ []) (sym key_same) known.has_parent
+                ap (map message_line) (ap₂ (λ x (t : Bool). if is_some p.body then (if t then NestedReference x key ∷ [] else []) else BadReference x key ∷ []) (sym key_same) known.has_parent)
                 ∙ choose (is_some p.body)
-                ∙ ap (λ (t : Bool). if not t then BadReference (key_at C k) key ∷ [] else only_if (is_some (parent_key C j) && (nat_le k j || keeps_parent C j)) (NestedReference (key_at C k) key)) (sym there) where
-                  choose : (t : Bool) → (if t then (if is_some (parent_key C j) && (nat_le k j || keeps_parent C j) then NestedReference (key_at C k) key ∷ [] else []) else BadReference (key_at C k) key ∷ [])
-                      ≡ (if not t then BadReference (key_at C k) key ∷ [] else only_if (is_some (parent_key C j) && (nat_le k j || keeps_parent C j)) (NestedReference (key_at C k) key))
-                  choose true = only_one (is_some (parent_key C j) && (nat_le k j || keeps_parent C j)) (NestedReference (key_at C k) key)
-                  choose false = refl
+                ∙ ap (λ (t : Bool). if not t then bad_reference (key_at C k) key ∷ [] else only_if (is_some (parent_key C j) && (nat_le k j || keeps_parent C j)) (nested_reference (key_at C k) key)) (sym there) where
+                  choose : (t : Bool) → map message_line (if t then (if is_some (parent_key C j) && (nat_le k j || keeps_parent C j) then NestedReference (key_at C k) key ∷ [] else []) else BadReference (key_at C k) key ∷ [])
+                      ≡ (if not t then bad_reference (key_at C k) key ∷ [] else only_if (is_some (parent_key C j) && (nat_le k j || keeps_parent C j)) (nested_reference (key_at C k) key))
+                  choose true = nested_if (is_some (parent_key C j) && (nat_le k j || keeps_parent C j))
+                  choose false = bad_line (key_at C k) key
 
       by : (o : Option (List ℕ)) → parent_at s ≡ o → Judged k L s
       by None e =
           let is : parent_key C k ≡ None = sym mine.parent_is ∙ e in
           record {
             place = subst (Checked k) (sym (checked-alone L s e)) (kept_parent k s mine (either (keeps_parent C k) is));
-            logged = messages-alone L s e ∙ sym (ap (λ (o : Option (List ℕ)). option_map_or (λ key. says key (parent C k)) o []) is);
+            logged = ap (map message_line) (messages-alone L s e) ∙ sym (ap (λ (o : Option (List ℕ)). option_map_or (λ key. says key (parent C k)) o []) is);
           } where
             either : (t : Bool) → parent_key C k ≡ None → (if t then parent_key C k else None) ≡ parent_key C k
             either true f = refl
@@ -584,7 +595,7 @@ module _ (numbers : Numbers) (R : NumberedRequest) (Q : Request) (h : SameReques
     -- the list after the second pass, and its messages
     pub record Second (done left : List NumberedSlot) : Type 0 where
       pub places : AllFrom Checked 0 (passed checked done left)
-      pub logged : pass_messages checked check_messages done left ≡ flat_map (parent_messages C) (range_with_len (length done) (length left))
+      pub logged : map message_line (pass_messages checked check_messages done left) ≡ flat_map (parent_messages C) (range_with_len (length done) (length left))
 
     pub second_pass : (left done : List NumberedSlot) → map key_of (done ++ left) ≡ map named_key C → AllFrom Checked 0 done → AllFrom Passed (length done) left → Second done left
     second_pass [] done keys before after = record { places = before; logged = refl }
@@ -597,5 +608,5 @@ module _ (numbers : Numbers) (R : NumberedRequest) (Q : Request) (h : SameReques
         (subst (λ m. AllFrom Passed m left) longer after.1) in
         record {
           places = rest.places;
-          logged = ap₂ (λ (ms ns : List Message). ms ++ ns) step.logged (rest.logged ∙ ap (λ n. flat_map (parent_messages C) (range_with_len n (length left))) (sym longer));
+          logged = lines_more (check_messages L s) (pass_messages checked check_messages (done ++ new ∷ []) left) ∙ ap₂ (λ (ms ns : List Line). ms ++ ns) step.logged (rest.logged ∙ ap (λ n. flat_map (parent_messages C) (range_with_len n (length left))) (sym longer));
         }

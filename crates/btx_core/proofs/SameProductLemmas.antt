@@ -11,9 +11,8 @@ use Rattle.btx_text.specs.language.Limits.{is_too_long}
 use Rattle.btx_text.specs.language.LogLines.{Line}
 use Rattle.btx_aux.specs.declared.end.End.{End as AuxEnd}
 use Rattle.btx_aux.specs.declared.end.End.TheVariants as aux
-use Rattle.btx_aux.specs.language.Events.{job_events}
 use Rattle.btx_aux.specs.language.Files.{Files}
-use Rattle.btx_aux.specs.language.Job.{AuxJob, job_of_files}
+use Rattle.btx_aux.specs.language.Job.{AuxJob}
 use Rattle.btx_aux.specs.language.Names.{with_ending}
 use Rattle.btx_bib.specs.language.Databases.{library_of}
 use Rattle.btx_bib.specs.language.Messages.{Database}
@@ -47,14 +46,15 @@ use Rattle.btx_core.specs.language.Files.Lines.{no_style_line, style_line}
 use Rattle.btx_core.specs.language.Files.Databases.{databases_logged, files_found}
 use Rattle.btx_core.specs.refinement.Files.Readings.{Logged, after_job, style_named, style_read}
 use Rattle.btx_core.specs.refinement.ComputedProduct.{product, product_of_files}
-use Rattle.btx_core.specs.language.AuxFiles.{job_of}
+use Rattle.btx_core.specs.language.AuxFiles.{AuxSaid}
 use Rattle.btx_core.specs.language.Meanings.{Done, Limited, Outcome, Stopped}
 use Rattle.btx_core.specs.language.Product.{comes_to, ends_with, line_at_end, IsAsked, IsBehind, IsExecuted, IsFound, IsNamed, IsProduct, IsStyled, asked_by}
+use Rattle.btx_core.specs.laws.SameParts.{job_said}
 use Rattle.btx_core.specs.laws.ProductLaws.{SameProduct}
 use Rattle.btx_core.specs.laws.SameLibraries.{IsSameLibrary}
 use Rattle.btx_core.specs.laws.SameStyles.{IsSameStyle, numbers_of}
 use Rattle.btx_core.specs.language.Styles.{Job, Library, State, Style, first_state, set}
-use Rattle.btx_core.proofs.AuxLemmas.{there_are_events}
+use Rattle.btx_core.proofs.AuxLemmas.{is_said, said_by, same_job as same_aux_job}
 use Rattle.btx_core.proofs.ComputedLemmas.{computed}
 use Rattle.btx_core.proofs.FormatsThere.{divided}
 use Rattle.btx_core.proofs.LibraryLemmas.{there_is_library}
@@ -276,20 +276,20 @@ same_job file text style same job databases library options k = record {
   keys = keys-differ (asked (style_of file text) job options.min_crossrefs) (style_of file text).macros databases;
 }
 
-abbrev databases_of : Files → AuxJob → List Database
+abbrev databases_of : Files → AuxSaid → List Database
 databases_of files job = map (λ (file : NamedFile). record { file = file.name; text = file.bytes }) (files_found files job.databases)
 
-styled : (files : Files) (job : AuxJob) (name text : List ℕ) (options : Options) → 3 ≤ options.line
+styled : (files : Files) (job : AuxSaid) (name text : List ℕ) (options : Options) → 3 ≤ options.line
     → IsStyled files job name text (job.log ++ style_line name ∷ []) options
-    (out_of job options (record { lines = style_line name ∷ databases_logged files [] job.databases; gives = Found (record { style = record { name = name; bytes = text }; databases = files_found files job.databases }) }))
+    (out_of (job_said job) options (record { lines = style_line name ∷ databases_logged files [] job.databases; gives = Found (record { style = record { name = name; bytes = text }; databases = files_found files job.databases }) }))
 styled files job name text options wide =
     let databases = databases_of files job in
     let s = there_is_style name text in
     let l = there_is_library (asked_by job s.0 options) s.0.macros databases in
     let same = same_style name text s.0 s.1 in
-    let h = same_job name text s.0 same job databases l.0 options (same_library name text s.0 same job options.min_crossrefs databases l.0 l.1) in
+    let h = same_job name text s.0 same (job_said job) databases l.0 options (same_library name text s.0 same (job_said job) options.min_crossrefs databases l.0 l.1) in
     let before = (job.log ++ style_line name ∷ []) ++ databases_logged files [] job.databases in
-    let work = work_of name text job databases options in
+    let work = work_of name text (job_said job) databases options in
     let ran = executed_same work s.0 l.0 h before options wide in
     let lines : before ≡ job.log ++ style_line name ∷ databases_logged files [] job.databases = append_assoc job.log (style_line name ∷ []) (databases_logged files [] job.databases) in
     record {
@@ -307,14 +307,14 @@ read_if t files job style =
     if t then record { lines = []; gives = Ends (ended.Limit limit.File) }
     else record { lines = databases_logged files [] job.databases; gives = Found (record { style = style; databases = files_found files job.databases }) }
 
-found : (t : Bool) (files : Files) (job : AuxJob) (name text : List ℕ) (options : Options) → 3 ≤ options.line
+found : (t : Bool) (files : Files) (job : AuxSaid) (name text : List ℕ) (options : Options) → 3 ≤ options.line
     → IsFound t files job name text (job.log ++ style_line name ∷ []) options
-    (out_of job options (record { lines = style_line name ∷ (read_if t files job (record { name = name; bytes = text })).lines; gives = (read_if t files job (record { name = name; bytes = text })).gives }))
+    (out_of (job_said job) options (record { lines = style_line name ∷ (read_if t files (job_said job) (record { name = name; bytes = text })).lines; gives = (read_if t files (job_said job) (record { name = name; bytes = text })).gives }))
 found true files job name text options wide = early (ended.Limit limit.File) (job.log ++ style_line name ∷ [])
 found false files job name text options wide = styled files job name text options wide
 
-named : (f : Option (List ℕ)) (files : Files) (job : AuxJob) (name : List ℕ) (options : Options) → 3 ≤ options.line
-    → IsNamed f files job name options (out_of job options (style_read files job name (option_map (λ (bytes : List ℕ). record { name = name; bytes = bytes }) f)))
+named : (f : Option (List ℕ)) (files : Files) (job : AuxSaid) (name : List ℕ) (options : Options) → 3 ≤ options.line
+    → IsNamed f files job name options (out_of (job_said job) options (style_read files (job_said job) name (option_map (λ (bytes : List ℕ). record { name = name; bytes = bytes }) f)))
 unfolding style_read
 named None files job name options wide = early ended.Finished (job.log ++ no_style_line name ∷ [])
 named (Some text) files job name options wide = found (is_too_long text) files job name text options wide
@@ -322,31 +322,29 @@ named (Some text) files job name options wide = found (is_too_long text) files j
 ended_at : (ending : End) (lines : List Line) → lines_with (lines ++ []) (record { bbl = []; log_so_far = []; report = report_of ending 0 0 (counts_of (lines ++ [])) }) ≡ ends_with ending 0 0 [] lines
 ended_at ending lines = early ending (lines ++ []) ∙ ap (λ l. ends_with ending 0 0 [] l) (append-nil lines)
 
-asked_is : (s : Option (List ℕ)) (files : Files) (job : AuxJob) (options : Options) → 3 ≤ options.line → IsAsked s files job options (out_of job options (style_named files job s))
+asked_is : (s : Option (List ℕ)) (files : Files) (job : AuxSaid) (options : Options) → 3 ≤ options.line → IsAsked s files job options (out_of (job_said job) options (style_named files (job_said job) s))
 unfolding style_named
 asked_is None files job options wide = ended_at ended.Finished job.log
 asked_is (Some name) files job options wide = named (files name) files job name options wide
 
-behind_is : (e : AuxEnd) (files : Files) (job : AuxJob) (options : Options) → 3 ≤ options.line → IsBehind e files job options (out_of job options (after_job files job e))
+behind_is : (e : AuxEnd) (files : Files) (job : AuxSaid) (options : Options) → 3 ≤ options.line → IsBehind e files job options (out_of (job_said job) options (after_job files (job_said job) e))
 unfolding after_job
 behind_is aux.Whole files job options wide = asked_is job.style files job options wide
 behind_is aux.TooManyOpen files job options wide = ended_at (ended.Limit limit.Files) job.log
 behind_is aux.TopMissing files job options wide = ended_at ended.NoTopFile job.log
 behind_is aux.FileLimit files job options wide = ended_at (ended.Limit limit.File) job.log
 
-job_is : (files : Files) (top : List ℕ) → job_of (job_events files top) ≡ job_of_files files top
-unfolding job_of_files
-job_is files top = refl
-
 -- the product with numbers is a product in names
 pub is_product : (files : Files) (name : List ℕ) (options : Options) → 3 ≤ options.line → IsProduct files name options (product files name options)
 is_product files name options wide =
     let top = with_ending (codes ".aux") name in
-    let job = job_of_files files top in
+    let said = said_by files top in
     record {
-      events = job_events files top;
-      read = there_are_events files top;
-      behind = subst (λ (j : AuxJob). IsBehind j.ending files j options (product files name options)) (sym (job_is files top)) (behind_is job.ending files job options wide);
+      job = said;
+      said = is_said files top;
+      behind = subst (IsBehind said.ending files said options)
+          (ap (λ (j : AuxJob). out_of j options (after_job files j j.ending)) (same_aux_job files top))
+          (behind_is said.ending files said options wide);
     }
 
 -- and there is no other

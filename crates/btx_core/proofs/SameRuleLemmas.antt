@@ -43,7 +43,7 @@ use Rattle.btx_bst.proofs.FurtherLemmas.{further-function, further-field, furthe
 use Rattle.btx_bst.proofs.TableLemmas.{IsFurther}
 use Rattle.btx_core.specs.laws.SameStyles.{Numbers, numbers_of, stands_for, IsBodyOf, AreFunctionsOf, commands_of, AreCommandsOf, IsMeant}
 use Rattle.btx_core.specs.language.Styles.{Body, Built, Command, Declared, Defined, Execute, Function, Iterate, Read, Reverse, Sort, set}
-use Rattle.btx_core.specs.language.StyleTexts.{SoFar, meaning, and_name, and_command, and_says, CommandEnd, ended_at, Rule, Next, Opened, Closed, Where, Makes, is_list_byte, Names, Lists, body_of, wrong_in, wrong_till, HasBody, is_function, as_type, is_read, Executes, Behind}
+use Rattle.btx_core.specs.language.StyleTexts.{SoFar, meaning, and_name, and_command, and_says, CommandEnd, ended_at, Rule, Next, Opened, Closed, Where, Makes, Names, Lists, body_of, wrong_in, wrong_till, HasBody, is_function, as_type, is_read, Executes, Behind}
 use Rattle.btx_core.specs.language.StyleTexts as in_names
 use Rattle.btx_core.proofs.SameNumberLemmas.{kept_push, last_of, Extends, extends_both, extends_by, still_body, still_meant, still_functions, still_commands, SameNames, functions_length, one_more_function, more_commands, one_more_command, no_more_command}
 use Rattle.btx_core.proofs.SameBodyLemmas.{MeanSame, item_of, said_of, messages_said, parts_items, fragment_items, numbers_at, Comes, parts_come}

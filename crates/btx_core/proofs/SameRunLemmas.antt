@@ -52,7 +52,7 @@ use Rattle.btx_machine.specs.language.Saying.{logging}
 use Rattle.btx_machine.specs.language.States.{State as NumberedState, Outcome as Came, Done as CameDone, Stopped as CameStopped, Limit as CameLimit}
 use Rattle.btx_core.specs.language.Meanings.{Done, Limited, Meaning, Outcome, Stopped, then_do}
 use Rattle.btx_core.specs.language.Notes.{error, shows}
-use Rattle.btx_core.specs.language.Runs.{Ascends, CommandsCome, GoesOn, IsInOrder, IsListBehind, NoneBefore, cleared, command_does, reads, sort_key, visits, visits_all}
+use Rattle.btx_core.specs.language.Runs.{Ascends, CommandsCome, GoesOn, IsInOrder, IsListBehind, NoneBefore, cleared, command_does, sort_key, visits, visits_all}
 use Rattle.btx_core.specs.laws.SameLibraries.{limit_met}
 use Rattle.btx_core.specs.laws.SameStyles.{AreCommandsOf, commands_of, stands_for}
 use Rattle.btx_core.specs.language.Styles.{Body, Command, Entry, Execute, Function, Iterate, Job, Library, Literal, Read, Reverse, Says, Sort, State, Style, Word}
@@ -64,6 +64,12 @@ use Rattle.btx_core.proofs.SameJobLemmas.{SameJob}
 use Rattle.btx_core.proofs.SameStepLemmas as steps
 use Rattle.btx_core.proofs.TableLemmas as table
 use Rattle.btx_core.proofs.VariableLemmas.{by_name, item as item_at, value_at}
+
+-- what the databases gave is logged, and a limit that their reading met ends the run
+abbrev reads : Library → ℕ → State → Outcome
+reads library left s =
+    let read = record s { log = s.log ++ library.log } in
+    option_map_or (λ (limit : Limit). Limited limit read left) library.limit (Done read left)
 
 -- ---- the name of what a name names
 

@@ -11,7 +11,7 @@ use Rattle.btx_bst.specs.language.Reads.{Read, Took, Slip}
 use Rattle.btx_bst.specs.language.Complaints.{Complaint, NoOpen, NoClose, NoName, Unknown}
 use Rattle.btx_bst.specs.language.Complaints.{Defined as NameTaken}
 use Rattle.btx_bst.specs.language.Lists.{brace_in, name_in, quoted_in, letters_at}
-use Rattle.btx_bst.specs.language.Words.{BodyWord, Open, Close, Unended, Ended, met, met_at, Met}
+use Rattle.btx_bst.specs.language.Words.{BodyWord, Open, Close, Unended, Ended, met, Met}
 use Rattle.btx_bst.specs.language.CommandWords.{command_word_of}
 use Rattle.btx_bst.specs.language.Commands.{command_named}
 use Rattle.btx_bst.specs.laws.Spelling.{Parts, Nothing, Plain, Group, IsPlain, Fragment, Here, After, AfterGroup, Inner, breaks, complaint_in}
@@ -25,8 +25,12 @@ use Rattle.btx_bst.specs.laws.Places.{beginning}
 use Rattle.btx_bst.proofs.TokenSpellingLemmas.{gap_one, Agrees, spaced, sign_agrees, name_agrees, text_agrees, letters_agrees}
 use Rattle.btx_bst.proofs.WordSpellingLemmas.{token-met}
 use Rattle.btx_core.specs.language.Styles.{Function, Declared, Defined, Command, Execute, Iterate, Reverse, Style}
-use Rattle.btx_core.specs.language.StyleTexts.{SoFar, meaning, unread, and_name, and_command, and_says, CommandEnd, ended_at, Rule, Next, Opened, Closed, Where, Makes, is_list_byte, Names, Lists, body_of, wrong_in, wrong_till, HasBody, is_function, Executes, Behind, Named, FollowsOn, AreCommands, IsStyle, is_a_field}
+use Rattle.btx_core.specs.language.StyleTexts.{SoFar, meaning, unread, and_name, and_command, and_says, CommandEnd, ended_at, Rule, Next, Opened, Closed, Where, Makes, Names, Lists, body_of, wrong_in, wrong_till, HasBody, is_function, Executes, Behind, Named, FollowsOn, AreCommands, IsStyle, is_a_field}
 use Rattle.btx_text.specs.laws.Bytes.{open_brace, close_brace}
+
+-- a byte that may stand in a list of names: its `}`, or one with which a name begins
+abbrev pub is_list_byte : ℕ → Bool
+is_list_byte b = b == close_brace || begins_name b
 
 -- a rule determines what a command comes to
 abbrev One : Rule → Type 0

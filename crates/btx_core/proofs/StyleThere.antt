@@ -30,8 +30,8 @@ use Rattle.btx_bst.proofs.SizeLemmas.{ink-size, skipped-size}
 use Rattle.btx_bst.proofs.ListLemmas.{Sized, closing-size, opening-size, name_at-size, quoted_at-size, front_of-size}
 use Rattle.btx_bst.proofs.BodyTurnLemmas.{is_ended, met_at-size}
 use Rattle.btx_core.specs.language.Styles.{Function, Declared, Defined, Command, Execute, Iterate, Reverse, Style}
-use Rattle.btx_core.specs.language.StyleTexts.{SoFar, meaning, unread, and_name, and_command, and_says, CommandEnd, ended_at, Rule, Next, Opened, Closed, Where, Makes, is_list_byte, Names, Lists, body_of, wrong_in, wrong_till, HasBody, is_function, Executes, Behind, Named, FollowsOn, AreCommands, IsStyle, is_a_field}
-use Rattle.btx_core.proofs.StyleLemmas.{skips_one, word_named}
+use Rattle.btx_core.specs.language.StyleTexts.{SoFar, meaning, unread, and_name, and_command, and_says, CommandEnd, ended_at, Rule, Next, Opened, Closed, Where, Makes, Names, Lists, body_of, wrong_in, wrong_till, HasBody, is_function, Executes, Behind, Named, FollowsOn, AreCommands, IsStyle, is_a_field}
+use Rattle.btx_core.proofs.StyleLemmas.{skips_one, word_named, is_list_byte}
 use Rattle.btx_bst.proofs.WrittenLemmas.{ink_twice}
 
 -- a rule gives what a command comes to, from each place on, and ends no further from the end of the text

@@ -38,7 +38,7 @@ use Rattle.btx_step.specs.language.Operands as operands
 use Rattle.btx_step.specs.language.Operands.{Any, Of}
 use Rattle.btx_step.specs.language.Stores.{Store, EntryVariables}
 use Rattle.btx_core.specs.language.Styles.{set, Declared, Defined, Body, Entry, Function, Built, Integer, Text, Quoted, Missing, Job, Library, Literal, State, Style}
-use Rattle.btx_core.specs.language.Notes.{cut_to, not_assignable, name_of, shown, logs, place, error, errors, shows, empty_stack, no_entry, incomparable, overflow, not_ascii, not_one_character, no_conversion, illegal_format, no_such_name, final_comma, too_many_commas}
+use Rattle.btx_core.specs.language.Notes.{cut_to, name_of, shown, logs, place, error, errors, shows, empty_stack, no_entry, not_ascii}
 use Rattle.btx_core.specs.language.Functions.{Effect, Leaves, Meets, Runs, Opens, Loops, push, push_text_in, push_instead, zero_instead, empty_instead, Operand, AnyLiteral, AnInteger, AString, AFunction, AField, Value, not_what_was_asked, Does, on_literals, or_instead, by_rule, takes}
 use Rattle.std.specs.Fmt.{signed_decimal}
 use Rattle.btx_core.specs.language.Functions.{function_effect, push_truth, push_text, in_entry, equals, push_result, code_of, character_of, changes_case, is_empty_field, is_positive, calls_type, row, built_in_effect, missing_without_entry, swaps, formats_name, assigns, tested}
@@ -71,6 +71,44 @@ use Rattle.btx_strings.specs.declared.answers.Complaints.{Complaints}
 use Rattle.btx_bst.specs.declared.callee.Kind.TheVariants as kind
 use Rattle.btx_core.proofs.VariableLemmas.{Numbering, by_name, item, set_item, set_both, kept, value_at}
 use Rattle.btx_bst.specs.declared.callee.Kind.{Kind}
+
+-- ---- texts of errors
+
+-- `=` of an integer and a string, or of anything else
+abbrev incomparable : List ℕ
+incomparable = codes "= needs two integers or two strings"
+
+-- a sum or a difference is no integer of 32 bits
+abbrev overflow : List ℕ
+overflow = codes "Integer overflow"
+
+-- `chr.to.int$` of a string that isn't one character
+abbrev not_one_character : List ℕ → List ℕ
+not_one_character text = codes "\"" ++ text ++ codes "\" isn't a single character"
+
+-- `change.case$` to no case that there is
+abbrev no_conversion : List ℕ → List ℕ
+no_conversion text = codes "\"" ++ text ++ codes "\" is an illegal case-conversion string"
+
+-- `:=` to what is no variable
+abbrev not_assignable : Function → List ℕ
+not_assignable f = codes "You can't assign to " ++ name_of f
+
+-- `format.name$` by an illegal format
+abbrev illegal_format : List ℕ → List ℕ
+illegal_format format = codes "The format string \"" ++ format ++ codes "\" is illegal"
+
+-- `format.name$` of a name that isn't there
+abbrev no_such_name : ℤ → List ℕ → List ℕ
+no_such_name n names = codes "There is no name number " ++ signed_decimal n ++ codes " in \"" ++ names ++ codes "\""
+
+-- a name ends in a comma
+abbrev final_comma : ℤ → List ℕ → List ℕ
+final_comma n names = codes "Name " ++ signed_decimal n ++ codes " in \"" ++ names ++ codes "\" has a comma at the end"
+
+-- a name has more than two commas
+abbrev too_many_commas : ℤ → List ℕ → List ℕ
+too_many_commas n names = codes "Too many commas in name " ++ signed_decimal n ++ codes " of \"" ++ names ++ codes "\""
 
 module _ (job : NumberedJob) (style : Style) (library : Library) (of : Callee → Function) (body : ℕ → Body) (entry : ℕ → Entry)
     (named : (c : Callee) → name_of (of c) ≡ number_name job.style.names c) (keyed : (i : ℕ) → (entry i).key ≡ key_of (entry_of job i))

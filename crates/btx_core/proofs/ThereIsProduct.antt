@@ -6,9 +6,7 @@ use Rattle.btx_text.specs.language.Limits.{is_too_long}
 use Rattle.btx_text.specs.declared.limits.Limit.TheVariants as limit
 use Rattle.btx_aux.specs.declared.end.End.{End as AuxEnd}
 use Rattle.btx_aux.specs.declared.end.End.TheVariants as aux
-use Rattle.btx_aux.specs.language.Events.{job_events}
 use Rattle.btx_aux.specs.language.Files.{Files}
-use Rattle.btx_aux.specs.language.Job.{AuxJob}
 use Rattle.btx_aux.specs.language.Names.{with_ending}
 use Rattle.btx_bib.specs.language.Messages.{Database}
 use Rattle.btx_machine.specs.declared.report.End.TheVariants as ended
@@ -23,7 +21,7 @@ use Rattle.btx_core.specs.language.Divisions.{Divisions}
 use Rattle.btx_core.specs.language.Names.{AreDivisions}
 use Rattle.btx_core.specs.language.Meanings.{Outcome, Done, Stopped, Limited, Meaning}
 use Rattle.btx_core.specs.language.Runs.{IsListBehind, sort_key, command_does, GoesOn, CommandsCome}
-use Rattle.btx_core.specs.language.AuxFiles.{job_of}
+use Rattle.btx_core.specs.language.AuxFiles.{AuxSaid}
 use Rattle.btx_core.specs.language.Product.{comes_to, ends_with, IsExecuted, asked_by, IsStyled, IsFound, IsNamed, IsAsked, IsBehind}
 use Rattle.btx_core.specs.laws.ProductLaws.{SomeProduct}
 use Rattle.btx_core.proofs.SortLemmas.{there_is_order}
@@ -31,7 +29,7 @@ use Rattle.btx_core.proofs.MeaningLemmas.{by_steps, there_is_meaning}
 use Rattle.btx_core.proofs.PartLemmas.{wrapped, sure_is}
 use Rattle.btx_core.proofs.StyleThere.{there_is_style}
 use Rattle.btx_core.proofs.LibraryLemmas.{there_is_library}
-use Rattle.btx_core.proofs.AuxLemmas.{there_are_events}
+use Rattle.btx_core.proofs.AuxLemmas.{is_said, said_by}
 use Rattle.btx_core.proofs.ComputedLemmas.{computed}
 use Rattle.btx_core.proofs.FormatsThere.{divided}
 
@@ -75,7 +73,7 @@ module _ (the : Divisions) (are : AreDivisions the) (options : Options) (wide : 
         },
       )
 
-  unfoldable pub styled_there : (files : Files) (job : AuxJob) (name text : List ℕ) (log : List Line) → (p : Product) × IsStyled files job name text log options p
+  unfoldable pub styled_there : (files : Files) (job : AuxSaid) (name text : List ℕ) (log : List Line) → (p : Product) × IsStyled files job name text log options p
   styled_there files job name text log =
       let databases : List Database = map (λ (file : NamedFile). record { file = file.name; text = file.bytes }) (files_found files job.databases) in
       let s = there_is_style name text in
@@ -84,19 +82,19 @@ module _ (the : Divisions) (are : AreDivisions the) (options : Options) (wide : 
       let e = executed_there work (log ++ databases_logged files [] job.databases) in
       (e.0, record { style = s.0; styled = s.1; library = l.0; gathered = l.1; executed = e.1 })
 
-  unfoldable pub found_there : (t : Bool) (files : Files) (job : AuxJob) (name text : List ℕ) (log : List Line) → (p : Product) × IsFound t files job name text log options p
+  unfoldable pub found_there : (t : Bool) (files : Files) (job : AuxSaid) (name text : List ℕ) (log : List Line) → (p : Product) × IsFound t files job name text log options p
   found_there true files job name text log = (ends_with (ended.Limit limit.File) 0 0 [] log, refl)
   found_there false files job name text log = styled_there files job name text log
 
-  unfoldable pub named_there : (f : Option (List ℕ)) (files : Files) (job : AuxJob) (name : List ℕ) → (p : Product) × IsNamed f files job name options p
+  unfoldable pub named_there : (f : Option (List ℕ)) (files : Files) (job : AuxSaid) (name : List ℕ) → (p : Product) × IsNamed f files job name options p
   named_there None files job name = (ends_with ended.Finished 0 0 [] (job.log ++ no_style_line name ∷ []), refl)
   named_there (Some text) files job name = found_there (is_too_long text) files job name text (job.log ++ style_line name ∷ [])
 
-  unfoldable pub asked_there : (n : Option (List ℕ)) (files : Files) (job : AuxJob) → (p : Product) × IsAsked n files job options p
+  unfoldable pub asked_there : (n : Option (List ℕ)) (files : Files) (job : AuxSaid) → (p : Product) × IsAsked n files job options p
   asked_there None files job = (ends_with ended.Finished 0 0 [] job.log, refl)
   asked_there (Some name) files job = named_there (files name) files job name
 
-  unfoldable pub behind_files_there : (e : AuxEnd) (files : Files) (job : AuxJob) → (p : Product) × IsBehind e files job options p
+  unfoldable pub behind_files_there : (e : AuxEnd) (files : Files) (job : AuxSaid) → (p : Product) × IsBehind e files job options p
   behind_files_there aux.Whole files job = asked_there job.style files job
   behind_files_there aux.TooManyOpen files job = (ends_with (ended.Limit limit.Files) 0 0 [] job.log, refl)
   behind_files_there aux.TopMissing files job = (ends_with ended.NoTopFile 0 0 [] job.log, refl)
@@ -105,6 +103,6 @@ module _ (the : Divisions) (are : AreDivisions the) (options : Options) (wide : 
 unfoldable pub holds : SomeProduct
 holds files name options wide =
     let top = with_ending (codes ".aux") name in
-    let job = job_of (job_events files top) in
+    let job = said_by files top in
     let b = behind_files_there computed divided options wide job.ending files job in
-    (b.0, record { events = job_events files top; read = there_are_events files top; behind = b.1 })
+    (b.0, record { job = job; said = is_said files top; behind = b.1 })

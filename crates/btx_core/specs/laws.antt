@@ -1,4 +1,5 @@
 pub mod WorkedJobs
+pub mod CornerJobs
 pub mod ByNumbers
 pub mod ProductLaws
 pub mod SameParts

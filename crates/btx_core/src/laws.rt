@@ -1,8 +1,8 @@
 //! Laws of the product of a job as one relation, each the contract of a function that does nothing.
 ghost use Rattle.btx_core.specs.laws.ByNumbers.{IsTheProduct};
-ghost use Rattle.btx_core.specs.laws.ProductLaws.{EarlyEnds, OneProduct, SameProduct, SomeProduct, WorkedProducts};
+ghost use Rattle.btx_core.specs.laws.ProductLaws.{CornerProducts, EarlyEnds, OneProduct, SameProduct, SomeProduct, WorkedProducts};
 ghost use Rattle.btx_core.specs.laws.SameLibraries.{SameLibrary};
-ghost use Rattle.btx_core.specs.laws.SameParts.{OneDivision, SameEvents, SameLines, SameSure, SomeDivision};
+ghost use Rattle.btx_core.specs.laws.SameParts.{OneDivision, SameAux, SameLines, SameSure, SomeDivision};
 ghost use Rattle.btx_core.specs.laws.SameStyles.{OneStyle, SameStyle};
 
 /// The relation in which functions, strings, fields and entries still have numbers holds of the product of a job, and of nothing else: its styles and
@@ -38,9 +38,14 @@ pub fn worked_products()
     ensures { WorkedProducts }
 {}
 
-/// The `.aux` files of a job come to the events that the reader of `.aux` files gives, and to no others.
+/// The same of jobs for the corners of the rules.
+pub fn corner_products()
+    ensures { CornerProducts }
+{}
+
+/// The `.aux` files of a job say one thing, and that is the job that the reader of `.aux` files makes of them.
 pub fn aux_files_agree()
-    ensures { SameEvents }
+    ensures { SameAux }
 {}
 
 /// Lines of the list are written in one way alone, for lines of 3 bytes or more: as the breaker writes them that have ended, and those that are pending.

@@ -4,23 +4,25 @@ use Rattle.btx_bib.specs.declared.grammar.commands.Wanted.{Wanted}
 use Rattle.btx_bib.specs.declared.grammar.commands.Wanted.TheVariants.{Item}
 use Rattle.btx_bib.specs.declared.grammar.slip.Slip.{Slip}
 use Rattle.btx_bib.specs.declared.grammar.value_ends.Ends.TheVariants.{Kept, Trimmed}
-use Rattle.btx_bib.specs.declared.message.Message.{Message}
-use Rattle.btx_bib.specs.declared.message.Message.TheVariants.{ExtraField, OwnString, UndefinedString, UnknownKind}
+use Rattle.btx_bib.specs.declared.message.Spot.{Spot}
 use Rattle.btx_bib.specs.language.Grammar.Fields.{Field}
 use Rattle.btx_bib.specs.language.Grammar.Items.{Comment, Definition, End, Event, FieldOf, Keeping, Placed, Preamble, Wrong}
 use Rattle.btx_bib.specs.language.Grammar.ValueTexts.{squeezed, value_text}
 use Rattle.btx_bib.specs.language.Grammar.Values.{Named, Part}
+use Rattle.btx_bib.specs.language.MessageTexts.{slip_text}
 use Rattle.btx_bib.specs.language.Messages.{Database, spot_at, spot_before}
 use Rattle.btx_bib.specs.laws.Grammar.Reading.{HasNoAt, IsOutcome, Stands}
 use Rattle.btx_core.specs.language.Styles.{Function, set}
 use Rattle.btx_text.specs.declared.limits.Limit.{Limit}
+use Rattle.btx_text.specs.declared.log_line.LineKind.{LineKind}
+use Rattle.btx_text.specs.declared.log_line.LineKind.TheVariants.{Error, Warning}
 use Rattle.btx_text.specs.language.Keys.{folded}
 use Rattle.btx_text.specs.language.Limits.{greatest_string, is_too_long}
 use Rattle.btx_text.specs.language.Lists.{only_if}
+use Rattle.btx_text.specs.language.LogLines.{Line, message, place_text}
 use Rattle.std.specs.List.{find, flat_map, list_any}
 use Rattle.std.specs.Option.{option_map_or}
 use Rattle.std.specs.Prelude.{Bool, List, None, Option, Result, Some, [], codes, false, fold, if◌then◌else◌, is_none, is_some, length, nat_lt, not, option_to_list, true, ℕ, ◌++◌, ◌||◌, ◌∷◌, ◌≡◌}
-use Rattle.btx_bib.specs.declared.message.Message.TheVariants as message
 use Rattle.btx_text.specs.declared.limits.Limit.TheVariants as limit
 use Rattle.btx_bib.specs.language.Grammar.Items.{Entry as EntryHead}
 
@@ -40,13 +42,13 @@ pub record Stored : Type 0 where
   pub value : List ℕ → Option (List ℕ)
 
 -- what is known: the value of each string that is defined, the entries that are stored, the one of them that is being read, all `@preamble`s joined, the
--- messages, and the limit that ended the reading, if one did
+-- log, and the limit that ended the reading, if one did
 pub record Known : Type 0 where
   pub strings : List ℕ → Option (List ℕ)
   pub stored : List Stored
   pub current : Option Stored
   pub preamble : List ℕ
-  pub messages : List Message
+  pub log : List Line
   pub limit : Option Limit
 
 -- the stored entries, the one that is being read among them
@@ -77,28 +79,34 @@ is_asked wanted stored key = is_some wanted.all || list_any (is_same_key key) (w
 
 -- ---- item by item
 
+-- a line of the log about a database: what is wrong, and where
+abbrev pub at_spot : LineKind → List ℕ → Spot → Line
+at_spot kind text spot = message kind (text ++ place_text spot.line spot.file)
+
 -- the string that a name in a value stands for; `own` is the name that is being defined, which stands for none in its own value
 abbrev pub meaning_of : Known → Option (List ℕ) → List ℕ → Option (List ℕ)
 meaning_of known own name = if option_map_or (λ (defined : List ℕ). is_same_key defined name) own false then None else known.strings (folded name)
 
--- the message about a name in a value that stands for no string, or about one in its own value
-abbrev pub part_messages : Database → Known → Option (List ℕ) → Part → List Message
+-- a name in a value that stands for no string is a warning, and so is one in its own value
+abbrev pub part_messages : Database → Known → Option (List ℕ) → Part → List Line
 part_messages database known own (Named string) =
-    if option_map_or (λ (defined : List ℕ). is_same_key defined string.name) own false then OwnString string.name (spot_at database string.rest) ∷ []
-    else if is_none (known.strings (folded string.name)) then UndefinedString string.name (spot_at database string.rest) ∷ [] else []
+    let warned : List ℕ → List Line = λ text. at_spot Warning (codes "string name \"" ++ string.name ++ text) (spot_at database string.rest) ∷ [] in
+    if option_map_or (λ (defined : List ℕ). is_same_key defined string.name) own false then warned (codes "\" is used in its own definition")
+    else if is_none (known.strings (folded string.name)) then warned (codes "\" is undefined") else []
 part_messages database known own _ = []
 
--- messages are added
-abbrev pub saying : List Message → Known → Known
-saying messages known = record known { messages = known.messages ++ messages }
+-- lines are logged
+abbrev pub saying : List Line → Known → Known
+saying lines known = record known { log = known.log ++ lines }
 
 -- a field is read: the entry keeps its first value of each field that the style declares
 abbrev pub field_read : Request → Database → Known → Stored → Field → List ℕ → Known
 field_read wanted database known entry field rest =
     let name = folded field.name in
     let text = value_text Trimmed (meaning_of known None) field.value in
+    let ignored = at_spot Warning (codes "I'm ignoring " ++ entry.key ++ codes "'s extra \"" ++ field.name ++ codes "\" field") (spot_before database rest) in
     if not (wanted.is_field name) then known
-    else if is_some (entry.value name) then saying (ExtraField entry.key field.name (spot_before database rest) ∷ []) known
+    else if is_some (entry.value name) then saying (ignored ∷ []) known
     else
     (let said = saying (flat_map (part_messages database known None) field.value) known in
     if_fits text said (record said { current = Some (record entry { value = set name (Some text) entry.value }) }))
@@ -107,8 +115,9 @@ field_read wanted database known entry field rest =
 abbrev pub entry_begun : Request → Database → Known → List ℕ → List ℕ → List ℕ → Known
 entry_begun wanted database known kind key rest =
     let entry : Stored = record { kind = kind; key = key; value = λ name. None } in
+    let unknown = at_spot Warning (codes "entry type for \"" ++ key ++ codes "\" isn't style-file defined") (spot_at database rest) in
     if not (is_asked wanted known.stored key) then known
-    else saying (only_if (is_none (wanted.types (folded kind))) (UnknownKind key (spot_at database rest))) (record known { current = Some entry })
+    else saying (only_if (is_none (wanted.types (folded kind))) unknown) (record known { current = Some entry })
 
 -- what is known behind an event of a database; `rest` is the text behind it. A comment ends with its word, so the next item may stand in it. A second
 -- `@string` of a name takes the place of the first, and nothing is logged
@@ -126,7 +135,7 @@ known_behind wanted database known (EntryHead kind key) rest = entry_begun wante
 known_behind wanted database known (FieldOf field) rest =
     option_map_or (λ (entry : Stored). field_read wanted database known entry field rest) known.current known
 known_behind wanted database known End rest = known
-known_behind wanted database known (Wrong slip) rest = saying (message.Wrong slip (spot_at database rest) ∷ []) known
+known_behind wanted database known (Wrong slip) rest = saying (at_spot Error (slip_text slip) (spot_at database rest) ∷ []) known
 
 -- and once a limit was met nothing changes any more
 abbrev pub known_after : Request → Database → Known → Placed → Known
@@ -163,7 +172,7 @@ AreRead asked known (database ∷ databases) last =
 -- what is known before the first database: each macro of the style is a string
 abbrev pub with_macros : List (List ℕ × List ℕ) → Known
 with_macros macros =
-    let nothing : Known = record { strings = λ name. None; stored = []; current = None; preamble = []; messages = []; limit = None } in
+    let nothing : Known = record { strings = λ name. None; stored = []; current = None; preamble = []; log = []; limit = None } in
     fold (λ (known : Known) (macro : List ℕ × List ℕ).
     if is_some known.limit then known
     else if_fits (squeezed macro.1) known (record known { strings = set (folded macro.0) (Some (squeezed macro.1)) known.strings })) nothing macros

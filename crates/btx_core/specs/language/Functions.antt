@@ -4,7 +4,7 @@ use Rattle.btx_bst.specs.declared.callee.Kind.{Kind}
 use Rattle.btx_bst.specs.language.BuiltIns.{built_in_name}
 use Rattle.btx_core.specs.language.Divisions.{Divisions}
 use Rattle.btx_core.specs.language.Names.{formatted_name, name_errors}
-use Rattle.btx_core.specs.language.Notes.{cut_to, empty_stack, error, errors, incomparable, logs, name_of, no_conversion, no_entry, not_ascii, not_assignable, not_one_character, overflow, shown, shows}
+use Rattle.btx_core.specs.language.Notes.{cut_to, empty_stack, error, errors, logs, name_of, no_entry, not_ascii, shown, shows}
 use Rattle.btx_core.specs.language.Strings.{in_case, purified, text_length, text_prefix, width}
 use Rattle.btx_core.specs.language.Styles.{Body, Built, Declared, Defined, Entry, Function, Integer, Job, Literal, Missing, Push, Quoted, Run, State, Text, Word, set}
 use Rattle.btx_step.specs.language.Arithmetic.{fits}
@@ -136,7 +136,8 @@ or_instead (Ok does) instead s = does s
 or_instead (Err text) instead s = push_instead instead (error text s)
 
 -- The rule of operands: all are taken off the stack. Where some aren't there, that is an error for each of them; else, where one isn't what is asked for,
--- the first of these is an error. Then the function isn't done, and what the table says is pushed in place of a result.
+-- the first of these is an error. Then the function isn't done, and what the table says is pushed in place of a result. (The original leaves a marker in place
+-- of an operand that isn't there, which later functions take in silence.)
 abbrev pub by_rule : Row → State → Effect
 by_rule row s =
     let count = length row.operands in
@@ -161,7 +162,7 @@ assigns job (Declared kind.EntryString name) (Text text) s = in_entry (λ entry 
   entry_strings = set entry.key (set name (take job.entry_max text) (s.entry_strings entry.key)) s.entry_strings;
 }))) s
 assigns job (Declared kind.EntryString name) x s = in_entry (λ entry s. Leaves (error (not_what_was_asked AString x) s)) s
-assigns job f x s = Leaves (error (not_assignable f) s)
+assigns job f x s = Leaves (error (codes "You can't assign to " ++ name_of f) s)
 
 -- a field or a variable that is run pushes its value
 abbrev pub value_of : Kind → List ℕ → State → Effect
@@ -173,31 +174,31 @@ value_of kind.GlobalString name s = push (Text (s.strings name)) s
 
 -- ---- integers and strings, on operands that are there and fit
 
--- `=`: two integers or two strings are compared; anything else is an error
+-- `=`: two integers or two strings are compared; anything else is an error, two functions and two missing fields too
 abbrev pub equals : Literal → Literal → State → Effect
 equals (Integer b) (Integer a) s = push_truth (int_eq a b) s
 equals (Text b) (Text a) s = push_truth (bytes_eq a b) s
-equals x y s = push_instead zero_instead (error incomparable s)
+equals x y s = push_instead zero_instead (error (codes "= needs two integers or two strings") s)
 
 -- an integer above 0
 abbrev pub is_positive : ℤ → Bool
 is_positive n = int_lt (pos 0) n
 
--- a sum or a difference, which has to be an integer of 32 bits
+-- a sum or a difference, which has to be an integer of 32 bits: else 0, with an error (the original wraps)
 abbrev pub push_result : ℤ → State → Effect
-push_result n s = if fits n then push (Integer n) s else push_instead zero_instead (error overflow s)
+push_result n s = if fits n then push (Integer n) s else push_instead zero_instead (error (codes "Integer overflow") s)
 
 -- `chr.to.int$`: the code of a string of one character
 abbrev pub code_of : List ℕ → State → Effect
 code_of (b ∷ []) s = push (Integer (pos b)) s
-code_of text s = push_instead zero_instead (error (not_one_character text) s)
+code_of text s = push_instead zero_instead (error (codes "\"" ++ text ++ codes "\" isn't a single character") s)
 
 -- `int.to.chr$`: the character of an ASCII code
 abbrev pub character_of : ℤ → State → Effect
 character_of (pos n) s = if nat_lt n 128 then push (Text (n ∷ [])) s else push_instead empty_instead (error (not_ascii (pos n)) s)
 character_of (negsuc n) s = push_instead empty_instead (error (not_ascii (negsuc n)) s)
 
--- a missing field, or a string of whitespace alone
+-- a missing field, or a string of whitespace alone, as the empty one. Byte 10, which `int.to.chr$` can make, is no whitespace
 abbrev pub is_empty_field : Option (List ℕ) → Bool
 is_empty_field None = true
 is_empty_field (Some text) = list_all is_white text
@@ -213,7 +214,7 @@ module _ (the : Divisions) (job : Job) where
   abbrev pub changes_case : List ℕ → List ℕ → State → Effect
   changes_case letter text s =
       option_map_or (λ (to : Conversion). push_text (in_case the to text) s)
-      (conversion_of letter) (push_text_in (error (no_conversion letter) s) text s)
+      (conversion_of letter) (push_text_in (error (codes "\"" ++ letter ++ codes "\" is an illegal case-conversion string") s) text s)
 
   -- `call.type$`: the function of the entry's type; `default.type` for a type that the style doesn't know; and nothing where the style has none above READ
   abbrev pub calls_type : Entry → State → Effect

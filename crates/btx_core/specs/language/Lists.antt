@@ -1,14 +1,13 @@
 -- 10. The list, and cross-references (btxdoc, section 2, at `\nocite{*}`, and section 3.2 at `crossref`).
 use Rattle.btx_aux.specs.language.Names.{is_same_key, listed_as, with_key}
-use Rattle.btx_bib.specs.declared.message.Message.{Message}
-use Rattle.btx_bib.specs.declared.message.Message.TheVariants.{BadReference, NestedReference, NoEntry}
-use Rattle.btx_bib.specs.language.MessageTexts.{message_line}
 use Rattle.btx_bib.specs.language.Messages.{Database}
 use Rattle.btx_core.specs.language.Databases.{AreRead, Known, Request, Stored, parents_named, stored_with, with_macros}
 use Rattle.btx_core.specs.language.Styles.{Entry, Function, Library, set}
 use Rattle.btx_text.specs.declared.limits.Limit.{Limit}
+use Rattle.btx_text.specs.declared.log_line.LineKind.TheVariants.{Error, Warning}
 use Rattle.btx_text.specs.language.Keys.{folded}
 use Rattle.btx_text.specs.language.Lists.{only_if}
+use Rattle.btx_text.specs.language.LogLines.{Line, message}
 use Rattle.std.specs.List.{flat_map, range_with_len}
 use Rattle.std.specs.Option.{option_map, option_map_or, option_or}
 use Rattle.std.specs.Prelude.{Bool, List, None, Option, Some, [], codes, count_by, drop, false, fold, if◌then◌else◌, is_none, is_some, length, map, nat_le, nat_lt, not, option_and_then, position, slice_get, take, unwrap_or, ℕ, ◌&&◌, ◌++◌, ◌||◌, ◌∷◌, ◌≡◌}
@@ -44,6 +43,16 @@ abbrev pub slots_of : Request → List Stored → List Slot
 slots_of wanted stored = map (slot_of wanted stored) (listed_keys wanted stored)
 
 -- ---- who the parent is, and what it gives
+
+-- an entry refers to a parent that the databases don't have: an error
+abbrev pub bad_reference : List ℕ → List ℕ → Line
+bad_reference child parent =
+    message Error (codes "A bad cross reference--entry \"" ++ child ++ codes "\" refers to entry \"" ++ parent ++ codes "\", which doesn't exist")
+
+-- an entry refers to a parent that has a parent itself: a warning
+abbrev pub nested_reference : List ℕ → List ℕ → Line
+nested_reference child parent =
+    message Warning (codes "you've nested cross references--entry \"" ++ child ++ codes "\" refers to entry \"" ++ parent ++ codes "\"")
 
 module _ (slots : List Slot) where
   -- the value that the entry at a place has of its own
@@ -86,11 +95,11 @@ module _ (slots : List Slot) where
 
   -- what is wrong with the parent of the entry at a place: it has no entry; or it has a parent itself. A parent that stands before the entry counts as having
   -- one only if it keeps it: if that has an entry and stays
-  abbrev pub parent_messages : ℕ → List Message
-  parent_messages i = option_map_or (λ key. option_map_or (λ j.
-      if not (has_entry j) then BadReference (key_at i) key ∷ []
-      else only_if (is_some (parent_key j) && (nat_le i j || keeps_parent j)) (NestedReference (key_at i) key))
-      (parent i) (BadReference (key_at i) key ∷ [])) (parent_key i) []
+  abbrev pub parent_messages : ℕ → List Line
+  parent_messages i = option_map_or (λ key.
+      option_map_or (λ j. if not (has_entry j) then bad_reference (key_at i) key ∷ []
+      else only_if (is_some (parent_key j) && (nat_le i j || keeps_parent j)) (nested_reference (key_at i) key))
+      (parent i) (bad_reference (key_at i) key ∷ [])) (parent_key i) []
 
   -- the entry of the library at a place, if one is there and stays: its values with what it inherits, and its `crossref` as the list spells it, if it keeps it
   abbrev pub entry_at : (List ℕ → Option Function) → (ℕ → List ℕ → Option (List ℕ)) → ℕ → Slot → List Entry
@@ -108,19 +117,21 @@ module _ (slots : List Slot) where
 
 -- ---- the library
 
--- the library of these entries, preamble and messages
-abbrev pub library_as : List Entry → List ℕ → List Message → Option Limit → Library
-library_as entries preamble messages limit = record { entries = entries; preamble = preamble; log = map message_line messages; limit = limit }
+-- a key of the list that the databases don't have: a warning, in the original's words
+abbrev pub no_entry_line : List ℕ → Line
+no_entry_line key = message Warning (codes "I didn't find a database entry for \"" ++ key ++ codes "\"")
 
--- what the databases give, from what is known at their end; where a limit was met only the messages until then
+-- what the databases give, from what is known at their end; where a limit was met only the log until then
 abbrev pub IsGathered : Option Limit → Request → Known → Library → Type 0
-IsGathered (Some limit) asked known library = library ≡ library_as [] [] known.messages (Some limit)
+IsGathered (Some limit) asked known library = library ≡ record { entries = []; preamble = []; log = known.log; limit = Some limit }
 IsGathered None asked known library =
     (slots : List Slot) × (slots ≡ slots_of asked known.stored) × (value : ℕ → List ℕ → Option (List ℕ)) × IsInherited slots value
-    × (library ≡ library_as
-    (flat_map (λ i. option_map_or (entry_at slots asked.types value i) (slice_get slots i) []) (places slots)) known.preamble
-    (known.messages ++ flat_map (parent_messages slots) (places slots)
-    ++ flat_map (λ (slot : Slot). only_if (is_none slot.entry) (NoEntry slot.key)) slots) None)
+    × (library ≡ record {
+      entries = flat_map (λ i. option_map_or (entry_at slots asked.types value i) (slice_get slots i) []) (places slots);
+      preamble = known.preamble;
+      log = known.log ++ flat_map (parent_messages slots) (places slots) ++ flat_map (λ (slot : Slot). only_if (is_none slot.entry) (no_entry_line slot.key)) slots;
+      limit = None;
+    })
 
 -- the library that databases give to a job, whose style has these macros
 abbrev pub IsLibrary : Request → List (List ℕ × List ℕ) → List Database → Library → Type 0

@@ -1,7 +1,6 @@
 -- 7. Names and formats (btxhak, sections 5.3 and 5.4; btxdoc, section 4).
 use Rattle.btx_bib.specs.language.Grammar.ByteSets.{begins}
 use Rattle.btx_core.specs.language.Divisions.{Divisions}
-use Rattle.btx_core.specs.language.Notes.{final_comma, illegal_format, no_such_name, too_many_commas}
 use Rattle.btx_core.specs.language.Strings.{text_length}
 use Rattle.btx_names.specs.declared.name_tokens.Joint.{Joint}
 use Rattle.btx_names.specs.declared.name_tokens.Joint.TheVariants.{Hyphen, Space, Tie}
@@ -21,9 +20,10 @@ use Rattle.btx_text.specs.declared.element_kind.TextMode.TheVariants.{Bytes}
 use Rattle.btx_text.specs.language.Elements.{depth_of}
 use Rattle.btx_text.specs.language.Lists.{only_if}
 use Rattle.btx_text.specs.laws.Elements.{IsDivision}
+use Rattle.std.specs.Fmt.{signed_decimal}
 use Rattle.std.specs.List.{flat_map, list_all}
 use Rattle.std.specs.Option.{option_map_or}
-use Rattle.std.specs.Prelude.{Bool, List, None, Option, Some, [], false, if◌then◌else◌, is_none, is_some, length, map, nat_lt, not, option_and_then, slice_get, suc, true, unwrap_or, zero, ℕ, ℤ, ◌++◌, ◌<◌, ◌==◌, ◌||◌, ◌∷◌, ◌≡◌, ◌⊎◌}
+use Rattle.std.specs.Prelude.{Bool, List, None, Option, Some, [], codes, false, if◌then◌else◌, is_none, is_some, length, map, nat_lt, not, option_and_then, slice_get, suc, true, unwrap_or, zero, ℕ, ℤ, ◌++◌, ◌<◌, ◌==◌, ◌||◌, ◌∷◌, ◌≡◌, ◌⊎◌}
 use Rattle.std.specs.Str.{byte}
 
 -- ---- what stands up to a byte
@@ -181,8 +181,10 @@ has_third the _ = false
 abbrev pub name_errors : Divisions → List ℕ → ℤ → List ℕ → List (List ℕ)
 name_errors the format number names =
     option_map_or (λ name.
-    only_if (ends_in_comma name) (final_comma number names) ++ only_if (has_third the (sections the name)) (too_many_commas number names)
-    ++ only_if (is_none (the.items format)) (illegal_format format)) (numbered_name the number names) (no_such_name number names ∷ [])
+    only_if (ends_in_comma name) (codes "Name " ++ signed_decimal number ++ codes " in \"" ++ names ++ codes "\" has a comma at the end")
+    ++ only_if (has_third the (sections the name)) (codes "Too many commas in name " ++ signed_decimal number ++ codes " of \"" ++ names ++ codes "\"")
+    ++ only_if (is_none (the.items format)) (codes "The format string \"" ++ format ++ codes "\" is illegal"))
+    (numbered_name the number names) ((codes "There is no name number " ++ signed_decimal number ++ codes " in \"" ++ names ++ codes "\"") ∷ [])
 
 -- ---- what the divisions are
 

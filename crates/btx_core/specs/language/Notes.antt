@@ -49,45 +49,9 @@ empty_stack = codes "You can't pop an empty literal stack"
 abbrev pub no_entry : List ℕ
 no_entry = codes "You can't mess with entries here"
 
--- `=` of an integer and a string, or of anything else
-abbrev pub incomparable : List ℕ
-incomparable = codes "= needs two integers or two strings"
-
--- a sum or a difference is no integer of 32 bits
-abbrev pub overflow : List ℕ
-overflow = codes "Integer overflow"
-
--- `:=` to what is no variable
-abbrev pub not_assignable : Function → List ℕ
-not_assignable f = codes "You can't assign to " ++ name_of f
-
 -- `int.to.chr$` of no ASCII code
 abbrev pub not_ascii : ℤ → List ℕ
 not_ascii n = signed_decimal n ++ codes " isn't an ASCII code"
-
--- `chr.to.int$` of a string that isn't one character
-abbrev pub not_one_character : List ℕ → List ℕ
-not_one_character text = codes "\"" ++ text ++ codes "\" isn't a single character"
-
--- `change.case$` to no case that there is
-abbrev pub no_conversion : List ℕ → List ℕ
-no_conversion text = codes "\"" ++ text ++ codes "\" is an illegal case-conversion string"
-
--- `format.name$` by an illegal format
-abbrev pub illegal_format : List ℕ → List ℕ
-illegal_format format = codes "The format string \"" ++ format ++ codes "\" is illegal"
-
--- `format.name$` of a name that isn't there
-abbrev pub no_such_name : ℤ → List ℕ → List ℕ
-no_such_name n names = codes "There is no name number " ++ signed_decimal n ++ codes " in \"" ++ names ++ codes "\""
-
--- a name ends in a comma
-abbrev pub final_comma : ℤ → List ℕ → List ℕ
-final_comma n names = codes "Name " ++ signed_decimal n ++ codes " in \"" ++ names ++ codes "\" has a comma at the end"
-
--- a name has more than two commas
-abbrev pub too_many_commas : ℤ → List ℕ → List ℕ
-too_many_commas n names = codes "Too many commas in name " ++ signed_decimal n ++ codes " of \"" ++ names ++ codes "\""
 
 -- a string was cut when it was assigned, which is a warning
 abbrev pub cut_to : ℕ → List ℕ → State → State

@@ -1,9 +1,7 @@
 -- 0. The whole: what BibTeX writes for a job. Read this first, and then `Styles` (1) to `Lists` (10) downwards.
-use Rattle.btx_aux.specs.language.Events.{AuxEvent}
 use Rattle.btx_aux.specs.language.Files.{Files}
-use Rattle.btx_aux.specs.language.Job.{AuxJob}
 use Rattle.btx_aux.specs.language.Names.{with_ending}
-use Rattle.btx_core.specs.language.AuxFiles.{AreJobEvents, job_of}
+use Rattle.btx_core.specs.language.AuxFiles.{AuxSaid, IsSaid}
 use Rattle.btx_core.specs.language.Databases.{Request}
 use Rattle.btx_core.specs.language.Divisions.{Divisions}
 use Rattle.btx_core.specs.language.Lines.{IsSure, IsWrapped}
@@ -41,7 +39,7 @@ ends_with end steps deepest bbl log = record {
   report = report_of end steps deepest (counts_of log);
 }
 
--- a line that is pending at the end of a style is ended, unless it is empty
+-- a line that is pending at the end of a style is ended, unless it is empty (the original drops it)
 abbrev pub line_at_end : (List ℕ → List ℕ) → List ℕ → List ℕ
 line_at_end wrapped [] = []
 line_at_end wrapped (b ∷ bs) = wrapped (b ∷ bs)
@@ -74,7 +72,7 @@ pub record IsExecuted (job : Job) (log : List Line) (options : Options) (product
 -- ---- the files of a job
 
 -- what a job and its style ask of the databases
-abbrev pub asked_by : AuxJob → Style → Options → Request
+abbrev pub asked_by : AuxSaid → Style → Options → Request
 asked_by job style options = record {
   cited = job.keys;
   all = job.all;
@@ -84,7 +82,7 @@ asked_by job style options = record {
 }
 
 -- a style was found: its text is read, the databases that are there are read, and the style is executed. A style that is too long ends the run
-pub record IsStyled (files : Files) (job : AuxJob) (name text : List ℕ) (log : List Line) (options : Options) (product : Product) : Type 0 where
+pub record IsStyled (files : Files) (job : AuxSaid) (name text : List ℕ) (log : List Line) (options : Options) (product : Product) : Type 0 where
   pub style : Style
   pub styled : IsStyle name text style
   pub library : Library
@@ -95,32 +93,32 @@ pub record IsStyled (files : Files) (job : AuxJob) (name text : List ℕ) (log :
       (log ++ databases_logged files [] job.databases) options product
 
 -- what follows, by whether the style is too long
-abbrev pub IsFound : Bool → Files → AuxJob → List ℕ → List ℕ → List Line → Options → Product → Type 0
+abbrev pub IsFound : Bool → Files → AuxSaid → List ℕ → List ℕ → List Line → Options → Product → Type 0
 IsFound true files job name text log options product = product ≡ ends_with (ended.Limit limit.File) 0 0 [] log
 IsFound false files job name text log options product = IsStyled files job name text log options product
 
 -- what follows the name of a style, by whether its file is there
-abbrev pub IsNamed : Option (List ℕ) → Files → AuxJob → List ℕ → Options → Product → Type 0
+abbrev pub IsNamed : Option (List ℕ) → Files → AuxSaid → List ℕ → Options → Product → Type 0
 IsNamed None files job name options product = product ≡ ends_with ended.Finished 0 0 [] (job.log ++ no_style_line name ∷ [])
 IsNamed (Some text) files job name options product = IsFound (is_too_long text) files job name text (job.log ++ style_line name ∷ []) options product
 
 -- what follows the `.aux` files, where they were read to their ends, by whether they name a style
-abbrev pub IsAsked : Option (List ℕ) → Files → AuxJob → Options → Product → Type 0
+abbrev pub IsAsked : Option (List ℕ) → Files → AuxSaid → Options → Product → Type 0
 IsAsked None files job options product = product ≡ ends_with ended.Finished 0 0 [] job.log
 IsAsked (Some name) files job options product = IsNamed (files name) files job name options product
 
 -- what follows them, by how their reading ended
-abbrev pub IsBehind : AuxEnd → Files → AuxJob → Options → Product → Type 0
+abbrev pub IsBehind : AuxEnd → Files → AuxSaid → Options → Product → Type 0
 IsBehind aux.Whole files job options product = IsAsked job.style files job options product
 IsBehind aux.TooManyOpen files job options product = product ≡ ends_with (ended.Limit limit.Files) 0 0 [] job.log
 IsBehind aux.TopMissing files job options product = product ≡ ends_with ended.NoTopFile 0 0 [] job.log
 IsBehind aux.FileLimit files job options product = product ≡ ends_with (ended.Limit limit.File) 0 0 [] job.log
 
--- THE PRODUCT OF A JOB: its `.aux` files come to these events, and what follows them comes to the product
+-- THE PRODUCT OF A JOB: what its `.aux` files say, and what follows from that
 pub record IsProduct (files : Files) (name : List ℕ) (options : Options) (product : Product) : Type 0 where
-  pub events : List AuxEvent
-  pub read : AreJobEvents files (with_ending (codes ".aux") name) events
-  pub behind : IsBehind (job_of events).ending files (job_of events) options product
+  pub job : AuxSaid
+  pub said : IsSaid files (with_ending (codes ".aux") name) job
+  pub behind : IsBehind job.ending files job options product
 
 -- THE ONE PRODUCT OF A JOB: it stands in the relation, and nothing else does
 pub record IsTheOne (files : Files) (name : List ℕ) (options : Options) (product : Product) : Type 0 where

@@ -24,7 +24,7 @@ abbrev pub Ascends : (Entry → List ℕ) → List Entry → Type 0
 Ascends key [] = Unit {0}
 Ascends key (x ∷ xs) = NoneBefore key x xs × Ascends key xs
 
--- `sorted` is `entries` in the order of their keys, those of one key as they stood
+-- `sorted` is `entries` in the order of their keys, those of one key as they stood (the original puts these into the order before the first SORT)
 pub record IsInOrder (key : Entry → List ℕ) (entries sorted : List Entry) : Type 0 where
   pub ascends : Ascends key sorted
   pub ties_kept : (wanted : List ℕ) → filter (λ x. bytes_eq (key x) wanted) sorted ≡ filter (λ x. bytes_eq (key x) wanted) entries
@@ -47,16 +47,13 @@ abbrev pub visits_all : Meaning → List ℕ → Function → List Entry → ℕ
 visits_all means command f [] left s = Done s left
 visits_all means command f (entry ∷ entries) left s = then_do (visits means command f (Some entry) left s) (visits_all means command f entries)
 
--- what the databases gave is logged, and a limit that their reading met ends the run
-abbrev pub reads : Library → ℕ → State → Outcome
-reads library left s =
-    let read = record s { log = s.log ++ library.log } in
-    option_map_or (λ (limit : Limit). Limited limit read left) library.limit (Done read left)
-
--- what a command does, where the list of entries is `list`: ITERATE goes along it from first to last, REVERSE from last to first. READ and SORT take no step
+-- what a command does, where the list of entries is `list`: ITERATE goes along it from first to last, REVERSE from last to first. READ logs what the databases
+-- gave, and a limit that their reading met ends the run there. READ and SORT take no step
 abbrev pub command_does : Meaning → Library → List Entry → Command → ℕ → State → Outcome
 command_does means library list (Says line) left s = Done (record s { log = s.log ++ line ∷ [] }) left
-command_does means library list Read left s = reads library left s
+command_does means library list Read left s =
+    let read = record s { log = s.log ++ library.log } in
+    option_map_or (λ (limit : Limit). Limited limit read left) library.limit (Done read left)
 command_does means library list (Execute f) left s = visits means (codes "EXECUTE") f None left s
 command_does means library list (Iterate f) left s = visits_all means (codes "ITERATE") f list left s
 command_does means library list (Reverse f) left s = visits_all means (codes "REVERSE") f (reverse list) left s

@@ -29,8 +29,8 @@ module _ (the : Divisions) where
       let front = text_of (take_characters (wanted_length count) (the.elements mode string)) in
       front ++ replicate (depth_of front) (byte "}")
 
-  -- `purify$` of a part: of a byte by itself what its class says; of a special character its letters and digits, and of its control sequences the letters that they
-  -- stand for; of braces nothing
+  -- `purify$` of a part: of a byte by itself what its class says; of a special character its letters and digits, and of its control sequences the letters
+  -- that they stand for; of braces nothing
   abbrev pub purified_part : Kind → List ℕ → List ℕ
   purified_part Byte text = flat_map (λ (b : ℕ). purified_class (class_of b) b) text
   purified_part Special text = flat_map purified_glyph (the.glyphs text)

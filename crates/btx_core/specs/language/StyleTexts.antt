@@ -109,16 +109,13 @@ Makes change style from o = o ≡ ended_at None (change style) from
 
 -- ---- names and lists of names
 
--- a byte that may stand in a list: its `}`, or one with which a name begins
-abbrev pub is_list_byte : ℕ → Bool
-is_list_byte b = b == close_brace || begins_name b
-
 -- the inside of a list of names, up to its `}`: each name is new, and is declared as one of the kind. What is wrong is that something else stands there, or
 -- that a name has a meaning already; the names before it stay
 abbrev pub Names : Kind → List (List ℕ) → Rule → Rule
 Names kind [] rest style from o =
     ((to : Place) × BehindGap (StyleSignHere close_brace NoClose) from (Took tt to) × rest style to o)
-    ⊎ (((wrong : Complaint) × (to : Place) × Gap from to × IsMissing is_list_byte NoName wrong to.line × (o ≡ ended_at (Some wrong) style to))
+    ⊎ (((wrong : Complaint) × (to : Place) × Gap from to × IsMissing (λ b. b == close_brace || begins_name b) NoName wrong to.line
+    × (o ≡ ended_at (Some wrong) style to))
     ⊎ ((name : List ℕ) × (to : Place) × BehindGap StyleNameHere from (Took name to) × (is_some (meaning style name) ≡ true)
     × (o ≡ ended_at (Some (NameTaken name)) style to)))
 Names kind (name ∷ names) rest style from o =
@@ -165,7 +162,8 @@ wrong_till means (After line word more) = wrong_in_word means line word ++ wrong
 wrong_till means (AfterGroup inside more) = wrong_in means inside ++ wrong_till means more
 wrong_till means (Inner inside) = wrong_till means inside
 
--- a body up to its `}`, which defines the function of a name; or one that breaks off, of which the messages stay
+-- a body up to its `}`, which defines the function of a name; or one that breaks off, of which the messages stay. A string that isn't closed on its line
+-- breaks a body off, and there is no such function (the original leaves the string out)
 abbrev pub HasBody : List ℕ → Rule
 HasBody name style from o =
     ((parts : Parts) × (to : Place) × AreBodyParts parts from to
@@ -196,7 +194,8 @@ Executes command made =
     ((f : Function) × (meaning style name ≡ Some f) × (is_function f ≡ true) × Closed (Makes (and_command (made f))) style from o)
     ⊎ (((f : Function) → meaning style name ≡ Some f → is_function f ≡ true → ⊥) × (o ≡ ended_at (Some (Unknown name)) style from)))))
 
--- what stands behind the word of each command, and what the command makes of the style so far
+-- what stands behind the word of each command, and what the command makes of the style so far. A faulty ENTRY doesn't count as one (in the original it
+-- does), but the names that it declared stand
 abbrev pub Behind : CommandName → Rule
 Behind command.Entry = Where (λ style. not style.has_entry) (Another command.Entry) (Lists kind.Field (Lists kind.EntryInteger (Lists kind.EntryString
     (Makes (λ style. record style { has_entry = true })))))

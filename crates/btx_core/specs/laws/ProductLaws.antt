@@ -8,6 +8,7 @@ use Rattle.btx_core.specs.declared.found.FilesRead.TheVariants.{Ends}
 use Rattle.btx_core.specs.declared.options.Options.{Options}
 use Rattle.btx_core.specs.refinement.Files.Readings.{reading_of}
 use Rattle.btx_core.specs.refinement.ComputedProduct.{product}
+use Rattle.btx_core.specs.laws.CornerJobs.{aux_corners, database_corners, execution_corners, line_corners, name_corners, reference_corners, style_corners}
 use Rattle.btx_core.specs.laws.WorkedJobs.{WorkedJob, outputs_shown, worked_jobs}
 use Rattle.std.specs.Prelude.{List, [], codes, ℕ, ◌∷◌, ◌↔◌, ◌≡◌, ◌≤◌}
 
@@ -38,6 +39,12 @@ abbrev pub AreWorked : List WorkedJob → Type 0
 AreWorked [] = Unit {0}
 AreWorked (job ∷ jobs) = IsWorked job × AreWorked jobs
 
--- all 21 of them
+-- the 21 worked jobs
 abbrev pub WorkedProducts : Type 0
 WorkedProducts = AreWorked worked_jobs
+
+-- and those of the corners of the rules: of `.aux` files, of databases, of cross-references, of styles, of their execution, of names and of lines
+abbrev pub CornerProducts : Type 0
+CornerProducts =
+    AreWorked aux_corners × AreWorked database_corners × AreWorked reference_corners × AreWorked style_corners × AreWorked execution_corners
+    × AreWorked name_corners × AreWorked line_corners

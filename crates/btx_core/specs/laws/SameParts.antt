@@ -1,16 +1,21 @@
 -- What is proved of single parts of the relation: each is one thing alone, and it is the one that the code's definitions compute.
-use Rattle.btx_aux.specs.language.Events.{AuxEvent, job_events}
 use Rattle.btx_aux.specs.language.Files.{Files}
-use Rattle.btx_core.specs.language.AuxFiles.{AreJobEvents}
+use Rattle.btx_aux.specs.language.Job.{AuxJob, job_of_files}
+use Rattle.btx_core.specs.language.AuxFiles.{AuxSaid, IsSaid}
 use Rattle.btx_core.specs.language.Divisions.{Divisions}
 use Rattle.btx_core.specs.language.Lines.{IsSure, IsWrapped}
 use Rattle.btx_core.specs.language.Names.{AreDivisions}
 use Rattle.btx_out.specs.language.Breaking.{sure, wrap}
 use Rattle.std.specs.Prelude.{List, ℕ, ◌↔◌, ◌≡◌, ◌≤◌}
 
--- the `.aux` files of a job come to the events that the reader of them gives, and to no others
-abbrev pub SameEvents : Type 0
-SameEvents = (files : Files) (top : List ℕ) (events : List AuxEvent) → AreJobEvents files top events ↔ (events ≡ job_events files top)
+-- what the `.aux` files of a job say, as their reader has it
+abbrev pub job_said : AuxSaid → AuxJob
+job_said said = record { keys = said.keys; all = said.all; databases = said.databases; style = said.style; log = said.log; ending = said.ending }
+
+-- the `.aux` files of a job say one thing, and nothing else; and that is the job that their reader makes of them
+abbrev pub SameAux : Type 0
+SameAux = (files : Files) (top : List ℕ) → (said : AuxSaid)
+    × IsSaid files top said × ((other : AuxSaid) → IsSaid files top other → other ≡ said) × (job_said said ≡ job_of_files files top)
 
 -- lines that have ended are written as the breaker writes them, and in no other way
 abbrev pub SameLines : Type 0
