@@ -6,6 +6,15 @@ entries, counters of bytes that are still to be skipped."""
 
 import re
 
+import reach
+
+# How many lines the relation may have with all that it is made of, and how many of them its heart: what a run is, styles, the built-in functions, what a style
+# means, its commands; entries, the list and cross-references; the lines of the list. Neither counts comments, blank lines, `use` lines and types of the program.
+MOST_LINES = 2_000
+MOST_OF_THE_HEART = 700
+HEART = {"btx_core.Product", "btx_core.Styles", "btx_core.Functions", "btx_core.Meanings", "btx_core.Runs", "btx_core.Databases", "btx_core.Lists", "btx_core.Lines",
+         "btx_machine.Product", "btx_machine.Reports", "btx_machine.Saying", "btx_out.Breaking", "btx_out.Places", "btx_step.Arithmetic", "btx_step.Orders"}
+
 # Numbers of the subject, down which a definition may go: the definition, and what the number is of.
 NUMBERS = {
     "btx_bib.Grammar.Spelling.ValueOf": "the parts of a value that `#` joins",
@@ -48,6 +57,24 @@ def wrong_in(found, by_id):
     for name in list(NUMBERS) + list(REFUSED):
         if name not in by_id:
             yield None, f"believed.py: there is no definition `{name}`"
+
+
+def definitions_of(relation):
+    """Of all that the relation is made of, what `specs/` has; the rest are types of the program."""
+    return [it for it in relation if it.kind != "rust"]
+
+
+def heart_of(relation):
+    """What of the relation somebody who knows BibTeX reads first."""
+    return [it for it in definitions_of(relation) if it.module in HEART]
+
+
+def sizes_wrong(relation):
+    """What is larger than it may be."""
+    for what, found, most in (("the relation", definitions_of(relation), MOST_LINES), ("its heart", heart_of(relation), MOST_OF_THE_HEART)):
+        lines = reach.lines_in(found)
+        if lines > most:
+            yield f"{what} has {lines:,} lines, and {most:,} are allowed (believed.py)"
 
 
 def constructors(found):

@@ -96,10 +96,11 @@ class Book:
                 self.check(folder == wanted, f"{where(it)}: `{it.name}` belongs into specs/{wanted}")
 
     def check_believed(self):
-        """What has to be believed has no program in it."""
+        """What has to be believed has no program in it, and isn't longer than it may be."""
         wrong = list(believed.wrong_in(self.reach.believed, {it.id: it for module in definitions.all_modules() for it in module.definitions} | self.by_id))
         self.passed += len(self.reach.believed) - len(wrong)
         self.wrong += [f"{where(it)}: `{it.name}`: {said}" if it else said for it, said in wrong]
+        self.wrong += list(believed.sizes_wrong(self.reach.relation))
 
     def check_sections(self):
         for section in self.sections:
@@ -167,8 +168,13 @@ class Book:
     def print_reach(self):
         language, laws, others = self.reach.language, self.reach.laws, self.reach.refinement
         in_public = sum(bool(it.carriers) for it in others)
-        believed = self.reach.believed
-        print(f"believed: {len(believed):,} definitions, {reach.lines_in(believed):,} lines, which have to be believed")
+        print("Lines are counted without comments, blank lines and `use` lines.")
+        print(f"believed: {counted(self.reach.believed)}, which have to be believed; with their comments {with_comments(self.reach.believed):,} lines. Of these")
+        relation = believed.definitions_of(self.reach.relation)
+        types = [it for it in self.reach.relation if it not in relation]
+        print(f"  the relation: {counted(relation)} (at most {believed.MOST_LINES:,} lines), with their comments {with_comments(relation):,} lines, over {len(types):,} types of the program, "
+              f"{reach.lines_in(types):,} lines")
+        print(f"  its heart: {counted(believed.heart_of(relation))} (at most {believed.MOST_OF_THE_HEART:,} lines)")
         print(f"language: {len(language):,} definitions, {reach.lines_in(language):,} lines, which the other clauses of `run` reach")
         print(f"laws: {len(laws):,} more, {reach.lines_in(laws):,} lines")
         print(f"refinement: {len(others):,} others, {reach.lines_in(others):,} lines, of which {in_public:,} stand in a public contract")
@@ -178,6 +184,16 @@ class Book:
         for name, made in (("book.html", weave_html.book_html(self)), ("book.md", weave_markdown.book_markdown(self))):
             (OUT / name).write_text(made, encoding="utf-8")
             print(f"{(OUT / name).relative_to(chapters.ROOT)}: {len(made) / 1e6:.1f} MB")
+
+
+def counted(found):
+    """The number of some definitions and of their lines, in words."""
+    return f"{len(found):,} definitions, {reach.lines_in(found):,} lines"
+
+
+def with_comments(found):
+    """The number of lines of some definitions and their comments."""
+    return reach.lines_in(found) + reach.lines_of_comments(found)
 
 
 def where(it):

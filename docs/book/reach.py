@@ -8,6 +8,8 @@ import contracts
 
 # What has to be believed: the definitions that these clauses of `run` name. The other clauses say the same with the definitions that the code is proved by.
 CLAUSES = ("written", "broken_off")
+# The relation between a job and its product, and that a product is the only one in it.
+RELATION = ("btx_core.Product.IsProduct", "btx_core.Product.IsTheOne")
 # The crate whose specs/language has the relation between a job and its product: there, and in no other crate, it has only what has to be believed.
 CORE = "btx_core"
 
@@ -24,6 +26,7 @@ class Reach:
         self.walk(self.law_contracts + [used for it in self.promised for used in it.uses], "laws", self.laws)
         self.collect_others()
         self.believed = self.reached_by(self.promised + self.traits)
+        self.relation = self.reached_by([it for it in self.believed if it.id in RELATION])
         self.name_carriers()
 
     def walk(self, roots, reach, found):
@@ -128,5 +131,10 @@ def home_of(it):
 
 
 def lines_in(found):
-    """The number of lines of some definitions, comments aside."""
+    """The number of lines of some definitions, without comments, blank lines and `use` lines. The line that has a definition's name and type counts."""
     return sum(not line.lstrip().startswith(("--", "//")) for it in found for line in it.lines if line.strip())
+
+
+def lines_of_comments(found):
+    """The number of lines of the comments of some definitions."""
+    return sum(len(it.comment) + sum(line.lstrip().startswith("--") for line in it.lines) for it in found)
