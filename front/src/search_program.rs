@@ -6,7 +6,7 @@ use crate::job::Finder;
 use crate::lint_program;
 use crate::outputs::Outputs;
 use crate::search::Search;
-use crate::system::{Signal, end_aborts_as_memory, survive_long_files};
+use crate::system::{Signal, end_aborts_as_memory, keep_long_texts_apart, survive_long_files};
 use crate::task::Task;
 use crate::terminal::plain;
 use crate::words::{self, Asked, Explain, Words};
@@ -51,6 +51,7 @@ budget was spent; 5 out of memory; 6 a file couldn't be read or written.
 
 /// The program.
 pub fn main() -> ExitCode {
+    keep_long_texts_apart();
     survive_long_files();
     end_aborts_as_memory();
     panic::set_hook(Box::new(end_by_panic));

@@ -63,6 +63,8 @@ unsafe extern "C" {
     fn getppid() -> c_int;
     fn waitid(kind: c_int, process: c_uint, found: *mut c_int, how: c_int) -> c_int;
     fn access(path: *const c_char, mode: c_int) -> c_int;
+    #[cfg(target_env = "gnu")]
+    fn mallopt(parameter: c_int, value: c_int) -> c_int;
 }
 
 /// Where `what` stands first in `text`.
@@ -81,6 +83,24 @@ pub fn set_variable(name: &str, value: Option<&OsStr>) {
             None => std::env::remove_var(name),
         }
     }
+}
+
+// ---- memory ----
+
+// M_MMAP_THRESHOLD.
+#[cfg(target_env = "gnu")]
+const LEAST_APART: c_int = -3;
+#[cfg(target_env = "gnu")]
+const KB_128: c_int = 1 << 17;
+
+/// Lets each text of 128 KB or more have pages of its own: these grow without a copy, and go back to the system when the text is freed. That is how
+/// GNU's C library begins; but it raises the bound whenever such a text is freed, and then a long list that grows stands in memory twice.
+pub fn keep_long_texts_apart() {
+    // SAFETY: the call has no preconditions; it changes how memory is given from now on.
+    #[cfg(target_env = "gnu")]
+    unsafe {
+        mallopt(LEAST_APART, KB_128)
+    };
 }
 
 // ---- TeX's path search ----
