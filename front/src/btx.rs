@@ -1,7 +1,9 @@
 //! The calls of the proved library, made safe. `library/btx.h` says what each call does; `crates/btx_c` has their contracts.
 
 use crate::job::File;
+use crate::system::processor_time;
 use std::ffi::c_uchar;
+use std::time::Duration;
 
 #[repr(C)]
 struct Text {
@@ -162,6 +164,8 @@ pub struct Ran {
     pub list: Vec<u8>,
     pub log: Vec<u8>,
     pub answer: Answer,
+    /// How long the processor worked for it.
+    pub took: Duration,
 }
 
 /// Memory was refused.
@@ -237,8 +241,9 @@ fn room(len: usize) -> Result<Vec<u8>, MemoryRefused> {
 /// Runs a job over these files.
 pub fn run(job: &[u8], files: &[File], options: &Options, rooms: &Rooms) -> Ran {
     let (Ok(mut list), Ok(mut log)) = (room(rooms.list), room(rooms.log)) else {
-        return Ran { list: Vec::new(), log: Vec::new(), answer: Answer::Memory };
+        return Ran { list: Vec::new(), log: Vec::new(), answer: Answer::Memory, took: Duration::ZERO };
     };
+    let start = processor_time();
     let given = for_c(files);
     let (wanted, rooms) = (*rooms, Rooms { list: list.capacity().min(rooms.list), log: log.capacity().min(rooms.log) });
     let mut report = Report::default();
@@ -269,7 +274,7 @@ pub fn run(job: &[u8], files: &[File], options: &Options, rooms: &Rooms) -> Ran 
         FULL => Answer::LogFull,
         _ => Answer::Memory,
     };
-    Ran { list, log, answer }
+    Ran { list, log, answer, took: processor_time().saturating_sub(start) }
 }
 
 /// The room for notes that is tried first.

@@ -2,6 +2,7 @@
 
 use crate::database::Folded;
 use crate::style_text::{Kind, Token, Tokens, commands};
+use crate::terminal::plain;
 use crate::text::Text;
 use std::collections::{HashMap, HashSet};
 
@@ -56,7 +57,7 @@ pub fn hints(bytes: &[u8]) -> Vec<Hint> {
 
 /// What is to be said of a name that is used so.
 fn said_of(declared: &Declared<'_>, uses: &Uses) -> Option<String> {
-    let name = String::from_utf8_lossy(declared.name);
+    let name = plain(declared.name);
     let is_unused = uses.taken + uses.quoted == 0;
     match declared.sort {
         Sort::Function if is_unused && !declared.may_be_type => Some(format!("the function {name} is never used")),
@@ -171,6 +172,14 @@ mod tests {
             (9, "the function late is never used"),
         ];
         assert_eq!(said(style), wanted.map(|(line, text)| (line, text.to_string())));
+    }
+
+    #[test]
+    fn names_do_not_act_on_a_terminal() {
+        assert_eq!(
+            said("INTEGERS {v\u{1b}]0;P\u{7}\u{202e}}"),
+            [(1, "the variable v?]0;P?? is never used".to_string())]
+        );
     }
 
     #[test]

@@ -109,7 +109,7 @@ mod tests {
     fn stopped(budget: u64) -> Ran {
         let mut report = Report::default();
         (report.status, report.steps) = (btx::STOPPED, budget);
-        Ran { list: Vec::new(), log: Vec::new(), answer: Answer::Done(report) }
+        Ran { list: Vec::new(), log: Vec::new(), answer: Answer::Done(report), took: Duration::ZERO }
     }
 
     fn steps(ran: &Ran) -> u64 {

@@ -91,7 +91,7 @@ impl fmt::Display for Note {
 const LINKS_IN_A_CIRCLE: i32 = 40;
 
 /// Why nothing can be a file of the job there; None where it is the machine that keeps us from it.
-fn why_missing(fault: &io::Error) -> Option<&'static str> {
+pub fn why_missing(fault: &io::Error) -> Option<&'static str> {
     match fault.kind() {
         ErrorKind::NotFound | ErrorKind::NotADirectory => Some(NO_SUCH_FILE),
         ErrorKind::InvalidFilename => Some("File name too long"),

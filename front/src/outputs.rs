@@ -79,9 +79,31 @@ impl Output {
         close_file(file)
     }
 
+    /// Whether its name leads to the file that was opened: another run that made this file, and failed, has removed it.
+    fn is_in_place(&self) -> bool {
+        let is_it = |number| fs::metadata(path_of(&self.name)).is_ok_and(|data| number == (data.dev(), data.ino()));
+        self.number.is_none_or(is_it)
+    }
+
+    /// The output, opened once more where its name leads to that file no longer.
+    fn renewed(self) -> Result<Output, Failure> {
+        if self.is_in_place() {
+            return Ok(self);
+        }
+        Output::open(&self.name).map_err(|fault| Failure::unwritten(&self.name, &fault))
+    }
+
+    /// Whether this run made the file, and nothing stands in it.
+    fn is_made_and_empty(&self) -> bool {
+        let is_empty = |file: &fs::File| file.metadata().is_ok_and(|data| data.len() == 0);
+        self.made.is_some() && self.file.as_ref().is_some_and(is_empty) && self.is_in_place()
+    }
+
     /// Leaves all as it was.
     fn leave(self) {
-        if let Some(path) = self.made {
+        if self.is_made_and_empty()
+            && let Some(path) = self.made
+        {
             // Where it can't be removed, an empty file stays.
             let _ = fs::remove_file(path);
         }
@@ -129,10 +151,18 @@ impl Outputs {
         refuse(output, "it is the same file as one that the job reads")
     }
 
-    /// Leaves all as it was before.
+    /// Leaves all as it was before. What another run wrote meanwhile stays too, with an empty list beside its log.
     pub fn leave(self) {
-        self.list.leave();
-        self.log.leave();
+        self.wait_for_others();
+        if self.log.made.is_none() || self.log.is_made_and_empty() {
+            self.list.leave();
+            self.log.leave();
+        }
+    }
+
+    /// Both, opened once more where another run has removed them.
+    fn renewed(self) -> Result<Outputs, Failure> {
+        Ok(Outputs { log: self.log.renewed()?, list: self.list.renewed()? })
     }
 
     /// Makes sure that the disk has room for both.
@@ -154,13 +184,15 @@ impl Outputs {
     /// Replaces both by what a run wrote. Where there is no room for it, all stays as it was.
     pub fn replace(self, list: &[u8], log: &[u8]) -> Result<(), Failure> {
         self.wait_for_others();
-        if let Err(failure) = self.reserve(list.len(), log.len()) {
-            self.leave();
+        let outputs = self.renewed()?;
+        outputs.wait_for_others();
+        if let Err(failure) = outputs.reserve(list.len(), log.len()) {
+            outputs.leave();
             return Err(failure);
         }
-        let (list_name, log_name) = (self.list.name.clone(), self.log.name.clone());
-        self.log.write(log).map_err(|fault| Failure::unwritten(&log_name, &fault))?;
-        self.list.write(list).map_err(|fault| Failure::unwritten(&list_name, &fault))
+        let (list_name, log_name) = (outputs.list.name.clone(), outputs.log.name.clone());
+        outputs.log.write(log).map_err(|fault| Failure::unwritten(&log_name, &fault))?;
+        outputs.list.write(list).map_err(|fault| Failure::unwritten(&list_name, &fault))
     }
 }
 
@@ -219,6 +251,21 @@ mod tests {
         first.replace(b"first", b"first").unwrap();
         other.join().unwrap().unwrap();
         assert_eq!((room.text("a.bbl").as_deref(), room.text("a.blg").as_deref()), (Some("2"), Some("2")));
+    }
+
+    #[test]
+    fn a_run_that_fails_takes_nothing_from_another_one() {
+        let room = Room::new("fails");
+        let (first, second) = (room.open().unwrap(), room.open().unwrap());
+        first.leave();
+        second.replace(b"", b"log").unwrap();
+        assert_eq!((room.text("a.bbl").as_deref(), room.text("a.blg").as_deref()), (Some(""), Some("log")));
+        fs::remove_file(room.0.join("a.bbl")).unwrap();
+        fs::remove_file(room.0.join("a.blg")).unwrap();
+        let (first, second) = (room.open().unwrap(), room.open().unwrap());
+        second.replace(b"", b"log").unwrap();
+        first.leave();
+        assert_eq!((room.text("a.bbl").as_deref(), room.text("a.blg").as_deref()), (Some(""), Some("log")));
     }
 
     #[test]

@@ -8,6 +8,7 @@ use crate::notes::{self, Note, Spot, What};
 use crate::scene::{Call, End, Held, Scene, Scenes};
 use crate::style_text::Tokens;
 use std::collections::HashMap;
+use std::time::Duration;
 
 /// Of how many events that log errors the place is found at most, and of how many in any run.
 const MOST_EVENTS: u64 = 100;
@@ -24,6 +25,12 @@ const STEPS_OF_ALL: u64 = 400_000_000;
 
 /// How many steps of a run are looked at that doesn't end: where it stands then is found step by step, which takes longer.
 const STEPS_OF_ENDLESS: u64 = 1_000_000;
+
+/// The same as time of the processor, since a step may take very long: of a run that ends, and of one that doesn't, for each time that it is run again; and of all runs
+/// that find the places of events. One event is looked for in any case.
+const TIME: Duration = Duration::from_secs(5);
+const TIME_OF_ENDLESS: Duration = Duration::from_millis(500);
+const TIME_OF_ALL: Duration = Duration::from_secs(2);
 
 /// Which part of the steps of a run that a signal ended is looked at.
 const PART_OF_INTERRUPTED: u64 = 4;
@@ -73,6 +80,12 @@ struct Search<'a> {
     text: &'a [u8],
 }
 
+/// How many of `all` steps are done in this time, if all of them took `took`.
+fn steps_within(time: Duration, all: u64, took: Duration) -> u64 {
+    let steps = u128::from(all) * time.as_micros() / took.as_micros().max(1);
+    u64::try_from(steps).unwrap_or(u64::MAX).max(1)
+}
+
 /// Where the style stood at the errors of a run, and at its end where it didn't come to an end of its own.
 pub fn scenes(files: &Files, options: &Options, ran: &Ran) -> Scenes {
     let Some(style) = files.with_ending(".bst").next() else { return Scenes::default() };
@@ -86,19 +99,22 @@ pub fn scenes(files: &Files, options: &Options, ran: &Ran) -> Scenes {
             if report.has_finished() && errors.is_empty() {
                 return Scenes::default();
             }
-            let longest = if report.has_finished() { MOST_STEPS } else { STEPS_OF_ENDLESS };
+            let (most, time) =
+                if report.has_finished() { (MOST_STEPS, TIME) } else { (STEPS_OF_ENDLESS, TIME_OF_ENDLESS) };
+            let longest = most.min(steps_within(time, report.steps, ran.took));
             // A run that was ended by a signal has another budget than the one that was asked for. It is to end soon, so only the first part of it is run again.
             let is_interrupted = report.is_stopped() && report.steps < options.budget;
             let shown = if is_interrupted { report.steps.div_ceil(PART_OF_INTERRUPTED) } else { report.steps };
             let steps = shown.min(longest);
             let is_cut = report.steps > longest || report.is_stopped();
-            search.scenes(&errors, if is_cut { steps } else { options.budget }, steps, !report.has_finished())
+            let of_all = steps_within(TIME_OF_ALL, report.steps, ran.took);
+            search.scenes(&errors, if is_cut { steps } else { options.budget }, steps, of_all, !report.has_finished())
         }
-        Answer::ListFull | Answer::LogFull => {
+        Answer::ListFull | Answer::LogFull if ran.took <= TIME => {
             let steps = options.budget.min(STEPS_OF_ENDLESS);
-            search.scenes(&errors_of(&ran.log).0, steps, steps, true)
+            search.scenes(&errors_of(&ran.log).0, steps, steps, STEPS_OF_ALL, true)
         }
-        Answer::Memory => Scenes::default(),
+        Answer::ListFull | Answer::LogFull | Answer::Memory => Scenes::default(),
     }
 }
 
@@ -110,9 +126,18 @@ impl Search<'_> {
         notes::read(&noted.unwrap_or_default(), self.style)
     }
 
-    /// The scenes of a run that takes `steps` steps with this budget; `has_end` where the end is to be found too.
-    fn scenes(&self, errors: &HashMap<usize, Logged<'_>>, budget: u64, steps: u64, has_end: bool) -> Scenes {
-        let most = if errors.is_empty() { 0 } else { (STEPS_OF_ALL / steps.max(1)).clamp(LEAST_EVENTS, MOST_EVENTS) };
+    /// The scenes of a run that takes `steps` steps with this budget, where there is time for `of_all` steps; `has_end` where the end is to be found too.
+    fn scenes(
+        &self,
+        errors: &HashMap<usize, Logged<'_>>,
+        budget: u64,
+        steps: u64,
+        of_all: u64,
+        has_end: bool,
+    ) -> Scenes {
+        let by_steps = (STEPS_OF_ALL / steps.max(1)).clamp(LEAST_EVENTS, MOST_EVENTS);
+        let by_time = (of_all / steps.max(1)).max(1);
+        let most = if errors.is_empty() { 0 } else { by_steps.min(by_time) };
         let notes = self.notes(budget, most);
         let mut scenes = Scenes::default();
         for note in &notes {
@@ -218,6 +243,15 @@ mod tests {
         let style = format!("ENTRY {{title}} {{}} {{}} INTEGERS {{i}}\n{style}");
         let all = vec![top, file("s.bst", &style), file("b.bib", "@misc{k, title = {T}}\n")];
         Files { top: b"a.aux".to_vec(), all }
+    }
+
+    #[test]
+    fn steps_have_their_time() {
+        let second = Duration::from_secs(1);
+        assert_eq!(steps_within(second, 1000, 4 * second), 250);
+        assert_eq!(steps_within(second, 1000, Duration::ZERO), 1_000_000_000);
+        assert_eq!(steps_within(second, 1, 1000 * second), 1);
+        assert_eq!(steps_within(1000 * second, u64::MAX, Duration::ZERO), u64::MAX);
     }
 
     /// The scenes of a job with this style.

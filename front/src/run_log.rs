@@ -4,7 +4,6 @@ use crate::btx::{Answer, Ran};
 use crate::explain;
 use crate::job::Files;
 use crate::log::Log;
-use crate::places;
 use crate::scene::{End, Scenes};
 use crate::shapes::{self, Part};
 use crate::system::Signal;
@@ -34,8 +33,14 @@ pub struct RunLog<'a> {
 
 impl<'a> RunLog<'a> {
     /// The log of this run.
-    pub fn new(words: &'a Words, files: &'a Files, name: &'a [u8], ran: &'a Ran, signal: Option<Signal>) -> Self {
-        let scenes = places::scenes(files, &words.options, ran);
+    pub fn new(
+        words: &'a Words,
+        files: &'a Files,
+        name: &'a [u8],
+        ran: &'a Ran,
+        signal: Option<Signal>,
+        scenes: Scenes,
+    ) -> Self {
         RunLog { words, files, name, ran, signal, scenes }
     }
 

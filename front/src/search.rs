@@ -5,6 +5,7 @@
 //! the library in full. Where the library isn't installed, TeX's set-up is read by [`crate::texmf`], and the same search does the rest.
 
 use crate::databases::{Databases, first_in};
+use crate::job::why_missing;
 use crate::kpathsea::{Format, Kpathsea};
 use crate::system::{PathLibrary, position, set_variable};
 use crate::terminal::plain;
@@ -89,11 +90,23 @@ impl Search {
         }
     }
 
-    /// What stands in the user's own folders in the place of a file that wasn't found: the path of a file that may not be read, or of
-    /// something that is no ordinary file.
+    /// What stands in the place of a file that wasn't found: in the user's own folders, a file that may not be read, or something that is no
+    /// ordinary file; there, and where TeX's databases list the file, what the machine keeps us from seeing.
     pub fn in_its_place(&self, name: &[u8], format: Format) -> Option<Vec<u8>> {
         let is_other = |path: &[u8]| fs::metadata(path_of(path)).is_ok_and(|data| !data.is_file());
-        places(name, format).find(|path| stands_at(path) == Stands::Unreadable || is_other(path))
+        let is_there = |path: &Vec<u8>| !matches!(stands_at(path), Stands::File | Stands::Other) || is_other(path);
+        let is_hidden = |path: &Vec<u8>| stands_at(path) == Stands::Hidden;
+        places(name, format).find(is_there).or_else(|| self.listed(name).into_iter().find(is_hidden))
+    }
+
+    /// The files of this name that TeX's databases list.
+    fn listed(&self, name: &[u8]) -> Vec<Vec<u8>> {
+        let (_, last) = split_name(name);
+        match self {
+            Search::ByLibrary(search) => search.databases().files_named(last, search.looked_for.get()),
+            Search::BySetUp(search) => search.databases().files_named(last, search.looked_for.get()),
+            Search::Folders => Vec::new(),
+        }
     }
 
     /// TeX's set-up, where TeX is installed.
@@ -172,6 +185,8 @@ enum Stands {
     Unreadable,
     /// Nothing, or no ordinary file.
     Other,
+    /// Who knows: the machine fails.
+    Hidden,
 }
 
 fn stands_at(path: &[u8]) -> Stands {
@@ -181,7 +196,8 @@ fn stands_at(path: &[u8]) -> Stands {
     });
     opened.unwrap_or_else(|fault| match fault.kind() {
         ErrorKind::PermissionDenied => Stands::Unreadable,
-        _ => Stands::Other,
+        _ if why_missing(&fault).is_some() => Stands::Other,
+        _ => Stands::Hidden,
     })
 }
 
@@ -246,7 +262,7 @@ fn on_disk(element: &Element<'_>, name: &[u8], set_up: &dyn SetUp) -> Option<Vec
         match stands_at(&path) {
             Stands::File => return Some(path),
             Stands::Unreadable => return None,
-            Stands::Other => {}
+            Stands::Other | Stands::Hidden => {}
         }
     }
     set_up.find_in(element.folder, name)

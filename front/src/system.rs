@@ -61,6 +61,7 @@ unsafe extern "C" {
     fn kill(process: c_int, signal: c_int) -> c_int;
     fn prctl(option: c_int, first: c_ulong, ...) -> c_int;
     fn getppid() -> c_int;
+    fn clock_gettime(clock: c_int, time: *mut Timespec) -> c_int;
     fn waitid(kind: c_int, process: c_uint, found: *mut c_int, how: c_int) -> c_int;
     fn access(path: *const c_char, mode: c_int) -> c_int;
     #[cfg(target_env = "gnu")]
@@ -83,6 +84,17 @@ pub fn set_variable(name: &str, value: Option<&OsStr>) {
             None => std::env::remove_var(name),
         }
     }
+}
+
+// CLOCK_THREAD_CPUTIME_ID.
+const CLOCK_OF_THREAD: c_int = 3;
+
+/// For how long a processor has worked for this thread.
+pub fn processor_time() -> Duration {
+    let mut time = Timespec { seconds: 0, nanoseconds: 0 };
+    // SAFETY: the time is written to a valid place.
+    unsafe { clock_gettime(CLOCK_OF_THREAD, &mut time) };
+    Duration::new(time.seconds as u64, time.nanoseconds as u32)
 }
 
 // ---- memory ----

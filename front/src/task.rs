@@ -5,12 +5,15 @@ use crate::exit::{Failure, Name, Status};
 use crate::interrupt::{self, Tries};
 use crate::job::Files;
 use crate::outputs::Outputs;
+use crate::places;
 use crate::run_log::RunLog;
+use crate::scene::Scenes;
 use crate::system::{Held, Signal};
 use crate::words::Words;
+use std::cell::OnceCell;
 use std::io::{self, IsTerminal};
 use std::sync::atomic::{AtomicBool, Ordering};
-use std::sync::{Arc, Mutex};
+use std::sync::{Arc, Mutex, OnceLock};
 use std::thread;
 use std::time::Duration;
 
@@ -28,6 +31,8 @@ pub struct Task {
     held: Held,
     /// None where nothing is to be written.
     outputs: Mutex<Option<Outputs>>,
+    /// What the run gave, once it is done.
+    ran: OnceLock<Ran>,
     /// Whether one of the two threads has begun to write what its run gave.
     is_claimed: AtomicBool,
     /// Whether the outputs are written.
@@ -46,7 +51,7 @@ impl Task {
     ) -> Arc<Task> {
         let outputs = Mutex::new(outputs);
         let (is_claimed, is_written) = (AtomicBool::new(false), AtomicBool::new(false));
-        Arc::new(Task { name, words, files, log, held, outputs, is_claimed, is_written })
+        Arc::new(Task { name, words, files, log, held, outputs, ran: OnceLock::new(), is_claimed, is_written })
     }
 
     /// Runs the job, and writes and prints what it gives.
@@ -57,14 +62,15 @@ impl Task {
         if watched.is_err() {
             self.held.release();
         }
-        let ran = self.run_with(self.words.options.budget);
-        if !self.claim() {
+        let ran = self.ran.get_or_init(|| self.run_with(self.words.options.budget));
+        let run_log = self.run_log(ran, None, self.scenes(ran));
+        let log = run_log.whole();
+        self.finish(ran, &run_log, &log).unwrap_or_else(|| {
             // The other thread was quicker, and ends the program.
             loop {
                 thread::park();
             }
-        }
-        self.finish(&ran, None)
+        })
     }
 
     /// What the job gives with this budget.
@@ -73,9 +79,13 @@ impl Task {
         btx::run(&self.files.top, &self.files.all, &options, &self.words.rooms)
     }
 
-    /// Whether this thread is the first that has something to write.
-    fn claim(&self) -> bool {
-        !self.is_claimed.swap(true, Ordering::SeqCst)
+    /// Where the style stood at the errors of a run: the job is run again to find it.
+    fn scenes(&self, ran: &Ran) -> Scenes {
+        places::scenes(&self.files, &self.words.options, ran)
+    }
+
+    fn run_log<'a>(&'a self, ran: &'a Ran, signal: Option<Signal>, scenes: Scenes) -> RunLog<'a> {
+        RunLog::new(&self.words, &self.files, &self.log, ran, signal, scenes)
     }
 
     fn say_that_it_takes_long(&self) {
@@ -84,18 +94,29 @@ impl Task {
         }
     }
 
-    /// Ends the program by this signal. Where the run isn't done, the beginning of what it would have written is kept; a second signal ends
-    /// the program at once.
+    /// The beginning of a run that isn't done. From here on, a second signal ends the program at once.
+    fn beginning(self: &Arc<Self>) -> Ran {
+        let task = self.clone();
+        let tries = Tries::begin(self.words.options.budget, move |budget| task.run_with(budget));
+        self.held.release();
+        tries.longest()
+    }
+
+    /// Ends the program by this signal. Where the run isn't done, the beginning of what it would have written is kept; where it is done, all of that
+    /// is kept, without the places in the style, which are still looked for. A second signal ends the program at once.
     fn end_by(self: &Arc<Self>, signal: Signal) {
         if !self.is_claimed.load(Ordering::SeqCst) {
-            let task = self.clone();
-            let tries = Tries::begin(self.words.options.budget, move |budget| task.run_with(budget));
+            let begun = OnceCell::new();
+            let first = self.ran.get().unwrap_or_else(|| begun.get_or_init(|| self.beginning()));
             self.held.release();
-            let ran = tries.longest();
+            // The run may be done meanwhile.
+            let (ran, run_log) = match self.ran.get() {
+                Some(ran) => (ran, self.run_log(ran, None, Scenes::default())),
+                None => (first, self.run_log(first, Some(signal), self.scenes(first))),
+            };
+            let log = run_log.whole();
             self.held.hold_again();
-            if self.claim()
-                && let Err(failure) = self.finish(&ran, Some(signal))
-            {
+            if let Some(Err(failure)) = self.finish(ran, &run_log, &log) {
                 self.name.say(failure);
             }
         }
@@ -105,21 +126,26 @@ impl Task {
         signal.end_program()
     }
 
-    /// Writes and prints what a run gave. `signal` is the one that ended a longer run.
-    fn finish(&self, ran: &Ran, signal: Option<Signal>) -> Result<Status, Failure> {
-        let run_log = RunLog::new(&self.words, &self.files, &self.log, ran, signal);
-        let log = run_log.whole();
-        let replaced = self.write(ran, &log);
+    /// Writes and prints what a run gave, where this thread is the first that has something to write. `log` is the whole log.
+    fn finish(&self, ran: &Ran, run_log: &RunLog<'_>, log: &[u8]) -> Option<Result<Status, Failure>> {
+        if self.is_claimed.swap(true, Ordering::SeqCst) {
+            return None;
+        }
+        let replaced = self.write(ran, log);
         self.is_written.store(true, Ordering::SeqCst);
         self.held.release();
-        let printed = run_log.print(&log);
-        replaced?;
+        let printed = run_log.print(log);
+        Some(replaced.map(|()| self.status(ran, printed)))
+    }
+
+    /// The status of a run whose outputs are written.
+    fn status(&self, ran: &Ran, printed: io::Result<()>) -> Status {
         let status = match ran.answer {
             Answer::Done(report) => Status::of_report(report.status),
             Answer::ListFull | Answer::LogFull => Status::Limit,
             Answer::Memory => Status::Memory,
         };
-        Ok(printed.map_or_else(|fault| self.name.unprinted(&fault), |()| status))
+        printed.map_or_else(|fault| self.name.unprinted(&fault), |()| status)
     }
 
     /// Writes the list and the log. Where memory was refused, the old ones stay.

@@ -79,6 +79,40 @@ wants_status 143
 wants_whole_or_old "$(yes 'a line of the list' | head -n 200000)"
 end
 
+# write_slow_errors N: a style with few steps, of which N take a millisecond, since they format a name of 65,536 parts; and then come 100 errors.
+write_slow_errors() {
+    {
+        echo 'ENTRY {title}{}{} FUNCTION {misc}{} STRINGS {s} READ'
+        echo 'FUNCTION {f} {"a line of the list" write$ newline$ "a " '"$(printf 'duplicate$ * %.0s' {1..16})"' '"'"'s :='
+        printf 's #1 "{ff}" format.name$ pop$\n%.0s' $(seq "$1")
+        printf 'pop$\n%.0s' {1..100}
+        echo '} EXECUTE {f}'
+    } >s.bst
+}
+
+# The places of errors are looked for as long as that takes little time, however few steps there are.
+begin places_of_errors_behind_slow_steps
+write_slow_errors 200
+LD_LIBRARY_PATH=$libraries python3 "$here/measured.py" --processor "$folder/stdout" "$folder/stderr" timeout 60 "$search" -global-max=1000000 job >measured
+read -r status took memory <measured
+echo "        $took s"
+wants_status 2
+[ "$took" -le 6 ] || complaints+=("it took $took processor seconds")
+wants_text job.bbl $'a line of the list\n'
+wants_words job.blg 'line 203 of file s.bst'
+end
+
+# A signal ends that search too; the run is done, and what it gave is kept.
+begin interrupted_while_places_are_looked_for
+write_slow_errors 1000
+leave_old
+interrupt INT 3 -global-max=1000000 job
+wants_status 130
+[ "$took" -le 25 ] || complaints+=("it took $took tenths of a second to end")
+wants_text job.bbl $'a line of the list\n'
+[ "$(grep -c "can't pop" job.blg)" -gt 0 ] || grep -q Interrupted job.blg || complaints+=("the log has $(head -n 5 job.blg)")
+end
+
 # A signal that is ignored stays so: nohup, and jobs of a shell in the background.
 begin ignored_signal
 use_style 'FUNCTION {f} {#9000000 {duplicate$ #0 >} {#1 -} while$ pop$ "a" write$ newline$} EXECUTE {f}'
