@@ -34,24 +34,29 @@ static int is_lost(const char *path)
     return lost && strcmp(slash ? slash + 1 : path, lost) == 0;
 }
 
-int open(const char *path, int flags, ...)
-{
-    static int (*next)(const char *, int, ...);
-    va_list rest;
-    mode_t mode = 0;
-    if (!next)
-        next = (int (*)(const char *, int, ...))dlsym(RTLD_NEXT, "open");
-    if (is_lost(path)) {
-        errno = reason();
-        return -1;
+/* `open`, and the name by which other programs call it. */
+#define OPENS(name)                                                            \
+    int name(const char *path, int flags, ...)                                 \
+    {                                                                          \
+        static int (*next)(const char *, int, ...);                            \
+        va_list rest;                                                          \
+        mode_t mode = 0;                                                       \
+        if (!next)                                                             \
+            next = (int (*)(const char *, int, ...))dlsym(RTLD_NEXT, #name);   \
+        if (is_lost(path)) {                                                   \
+            errno = reason();                                                  \
+            return -1;                                                         \
+        }                                                                      \
+        if (flags & O_CREAT) {                                                 \
+            va_start(rest, flags);                                             \
+            mode = va_arg(rest, mode_t);                                       \
+            va_end(rest);                                                      \
+        }                                                                      \
+        return next(path, flags, mode);                                        \
     }
-    if (flags & O_CREAT) {
-        va_start(rest, flags);
-        mode = va_arg(rest, mode_t);
-        va_end(rest);
-    }
-    return next(path, flags, mode);
-}
+
+OPENS(open)
+OPENS(open64)
 
 int ftruncate(int file, off_t length)
 {

@@ -1,9 +1,11 @@
 //! TeX's file databases (`ls-R`): text files that list the folders of a tree and the files in them.
 
+use crate::job::why_missing;
 use crate::search::{path_of, stands_as_file, without_slashes};
 use crate::system::position;
 use std::cell::OnceCell;
 use std::fs;
+use std::io::ErrorKind;
 
 /// For how many names the text of a database is looked through; for more of them its lines are sorted.
 const MOST_LOOKED_THROUGH: usize = 16;
@@ -21,19 +23,25 @@ pub struct Databases {
     all: Vec<Database>,
     /// Whether a file beside one may give files other names, or a database has another name. Only TeX's library knows these.
     pub have_aliases: bool,
+    /// One that the machine couldn't read, and the number of its fault.
+    pub unread: Option<(Vec<u8>, i32)>,
 }
 
 impl Databases {
     /// Reads the databases in these folders, with `:` between them.
     pub fn read(folders: &[u8]) -> Databases {
-        let mut databases = Databases { all: Vec::new(), have_aliases: false };
+        let mut databases = Databases { all: Vec::new(), have_aliases: false, unread: None };
         for folder in folders.split(|byte| *byte == b':').filter(|folder| !folder.is_empty()) {
             let root = [folder.strip_suffix(b"/").unwrap_or(folder), b"/"].concat();
             let beside = |name: &[u8]| [&root, name].concat();
             databases.have_aliases |= [&b"aliases"[..], b"ls-r"].iter().any(|name| path_of(&beside(name)).exists());
             let database = beside(b"ls-R");
-            if let Some(Ok(text)) = path_of(&database).is_file().then(|| fs::read(path_of(&database))) {
-                databases.all.push(Database { root, text, sorted: OnceCell::new() });
+            match path_of(&database).is_file().then(|| fs::read(path_of(&database))) {
+                Some(Ok(text)) => databases.all.push(Database { root, text, sorted: OnceCell::new() }),
+                Some(Err(fault)) if fault.kind() != ErrorKind::PermissionDenied && why_missing(&fault).is_none() => {
+                    databases.unread = fault.raw_os_error().map(|number| (database, number));
+                }
+                _ => {}
             }
         }
         databases
@@ -186,7 +194,7 @@ mod tests {
     fn files_are_found_by_looking_and_by_sorting() {
         let text = b"% ls-R\n./:\na\n\n./b:\nx.bst\nx\n\n./c:\nx.bst\n".to_vec();
         let all = vec![Database { root: b"/t/".to_vec(), text, sorted: OnceCell::new() }];
-        let databases = Databases { all, have_aliases: false };
+        let databases = Databases { all, have_aliases: false, unread: None };
         for (name, wanted) in [("x.bst", vec!["/t/b/x.bst", "/t/c/x.bst"]), ("x", vec!["/t/b/x"]), ("none", vec![])] {
             for looked_for in [0, MOST_LOOKED_THROUGH] {
                 let found = databases.files_named(name.as_bytes(), looked_for);

@@ -204,6 +204,10 @@ impl<'a> Finder<'a> {
                 Place::Empty(reason) => self.note(&name, reason),
             }
         }
+        let is_searched = name.ends_with(b".bst") || name.ends_with(b".bib");
+        if let Some((path, fault)) = self.search.unread_database().filter(|_| is_searched) {
+            return Err(Failure::unread(path, fault));
+        }
         Ok(File { name, bytes: None, path: Vec::new() })
     }
 

@@ -30,7 +30,7 @@ const STEPS_OF_ENDLESS: u64 = 1_000_000;
 /// that find the places of events. One event is looked for in any case.
 const TIME: Duration = Duration::from_secs(5);
 const TIME_OF_ENDLESS: Duration = Duration::from_millis(500);
-const TIME_OF_ALL: Duration = Duration::from_secs(2);
+const TIME_OF_ALL: Duration = Duration::from_secs(1);
 
 /// Which part of the steps of a run that a signal ended is looked at.
 const PART_OF_INTERRUPTED: u64 = 4;

@@ -7,7 +7,7 @@ use crate::log::Log;
 use crate::scene::{End, Scenes};
 use crate::shapes::{self, Part};
 use crate::system::Signal;
-use crate::terminal::{Terminal, plain};
+use crate::terminal::{Patient, Terminal, plain};
 use crate::words::{Explain, Words};
 use std::borrow::Cow;
 use std::io::{self, Write};
@@ -99,7 +99,7 @@ impl<'a> RunLog<'a> {
             Explain::Never => false,
             Explain::Always | Explain::Only => true,
         };
-        let mut out = io::BufWriter::new(stdout.lock());
+        let mut out = io::BufWriter::new(Patient(stdout.lock()));
         if explains {
             self.explain(&terminal, &mut out)?;
         } else {

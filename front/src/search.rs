@@ -15,7 +15,7 @@ use std::cell::{Cell, OnceCell};
 use std::env;
 use std::ffi::{CStr, OsStr, OsString};
 use std::fs;
-use std::io::ErrorKind;
+use std::io::{self, ErrorKind};
 use std::os::unix::ffi::OsStrExt;
 use std::path::Path;
 
@@ -99,14 +99,25 @@ impl Search {
         places(name, format).find(is_there).or_else(|| self.listed(name).into_iter().find(is_hidden))
     }
 
+    /// TeX's databases, and how many names were looked for in them.
+    fn databases(&self) -> Option<(&Databases, usize)> {
+        match self {
+            Search::ByLibrary(search) => Some((search.databases(), search.looked_for.get())),
+            Search::BySetUp(search) => Some((search.databases(), search.looked_for.get())),
+            Search::Folders => None,
+        }
+    }
+
     /// The files of this name that TeX's databases list.
     fn listed(&self, name: &[u8]) -> Vec<Vec<u8>> {
         let (_, last) = split_name(name);
-        match self {
-            Search::ByLibrary(search) => search.databases().files_named(last, search.looked_for.get()),
-            Search::BySetUp(search) => search.databases().files_named(last, search.looked_for.get()),
-            Search::Folders => Vec::new(),
-        }
+        self.databases().map_or_else(Vec::new, |(databases, looked_for)| databases.files_named(last, looked_for))
+    }
+
+    /// A database that the machine couldn't read, and its fault: who knows then what isn't there?
+    pub fn unread_database(&self) -> Option<(&[u8], io::Error)> {
+        let (path, number) = self.databases()?.0.unread.as_ref()?;
+        Some((path, io::Error::from_raw_os_error(*number)))
     }
 
     /// TeX's set-up, where TeX is installed.

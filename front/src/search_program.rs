@@ -8,7 +8,7 @@ use crate::outputs::Outputs;
 use crate::search::Search;
 use crate::system::{Signal, end_aborts_as_memory, keep_long_texts_apart, survive_long_files};
 use crate::task::Task;
-use crate::terminal::plain;
+use crate::terminal::{Patient, plain};
 use crate::words::{self, Asked, Explain, Words};
 use std::env;
 use std::ffi::OsString;
@@ -67,7 +67,8 @@ pub fn main() -> ExitCode {
     let explain = if name.is("bibtex-explain") { Explain::Only } else { Explain::OnTerminal };
     let jobs_last = env::var_os("POSIXLY_CORRECT").is_some();
     let printed = |text: String| {
-        let printed = io::stdout().write_all(text.as_bytes()).and_then(|()| io::stdout().flush());
+        let mut out = Patient(io::stdout());
+        let printed = out.write_all(text.as_bytes()).and_then(|()| out.flush());
         printed.map_or_else(|fault| name.unprinted(&fault), |()| Status::Finished)
     };
     match words::read(words.map(OsString::into_vec), explain, jobs_last) {

@@ -3,6 +3,7 @@
 
 use crate::exit::Status;
 use std::alloc::{Layout, alloc_zeroed};
+use std::env;
 use std::ffi::{CStr, CString, OsStr, c_char, c_int, c_uint, c_ulong, c_void};
 use std::fs::OpenOptions;
 use std::io;
@@ -10,7 +11,7 @@ use std::os::fd::{AsRawFd, IntoRawFd, OwnedFd, RawFd};
 use std::os::unix::ffi::OsStrExt;
 use std::os::unix::fs::OpenOptionsExt;
 use std::os::unix::process::CommandExt;
-use std::path::Path;
+use std::path::{Path, PathBuf};
 use std::process::Command;
 use std::ptr::null_mut;
 use std::sync::atomic::{AtomicBool, Ordering};
@@ -582,9 +583,21 @@ fn may(path: &Path, what: c_int) -> io::Result<()> {
     if unsafe { access(path.as_ptr(), what) } == 0 { Ok(()) } else { Err(io::Error::last_os_error()) }
 }
 
-/// Whether a file may be run.
-pub fn may_run(path: &Path) -> bool {
-    may(path, MAY_RUN).is_ok()
+/// Whether this is a file that may be run.
+pub fn is_program(path: &Path) -> bool {
+    path.is_file() && may(path, MAY_RUN).is_ok()
+}
+
+/// Where programs stand if the environment has no search path.
+const USUAL_PATH: &str = "/usr/local/bin:/usr/bin:/bin";
+
+/// The first program of this name along the search path. Only folders that are named from the root count: the present folder is the document's.
+pub fn program_named(name: &OsStr) -> Option<PathBuf> {
+    let folders = env::var_os("PATH").unwrap_or_else(|| USUAL_PATH.into());
+    env::split_paths(&folders)
+        .filter(|folder| folder.is_absolute())
+        .map(|folder| folder.join(name))
+        .find(|path| is_program(path))
 }
 
 /// Whether files may be made in the present folder.

@@ -15,10 +15,11 @@ use std::io::{self, IsTerminal};
 use std::sync::atomic::{AtomicBool, Ordering};
 use std::sync::{Arc, Mutex, OnceLock};
 use std::thread;
-use std::time::Duration;
+use std::time::{Duration, Instant};
 
-/// After how much time one looks again whether the outputs are written.
+/// After how much time one looks again whether the outputs are written, and how long a signal waits for that: an output may be a pipe that nobody reads.
 const MOMENT: Duration = Duration::from_millis(5);
+const LONGEST_WRITE: Duration = Duration::from_secs(5);
 
 /// A job with all that its run needs.
 pub struct Task {
@@ -103,7 +104,7 @@ impl Task {
     }
 
     /// Ends the program by this signal. Where the run isn't done, the beginning of what it would have written is kept; where it is done, all of that
-    /// is kept, without the places in the style, which are still looked for. A second signal ends the program at once.
+    /// is kept, without the places in the style, which are still looked for. A second signal ends the program at once, also while the outputs are written.
     fn end_by(self: &Arc<Self>, signal: Signal) {
         if !self.is_claimed.load(Ordering::SeqCst) {
             let begun = OnceCell::new();
@@ -120,9 +121,8 @@ impl Task {
                 self.name.say(failure);
             }
         }
-        while !self.is_written.load(Ordering::SeqCst) {
-            thread::sleep(MOMENT);
-        }
+        let until = Instant::now() + LONGEST_WRITE;
+        while !self.is_written.load(Ordering::SeqCst) && Instant::now() < until && self.held.wait(MOMENT).is_none() {}
         signal.end_program()
     }
 

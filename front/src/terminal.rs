@@ -1,8 +1,10 @@
 //! What is safe to print on a terminal, and how wide it is.
 
 use std::ffi::OsStr;
-use std::io::IsTerminal;
+use std::io::{self, ErrorKind, IsTerminal, Write};
 use std::os::fd::AsRawFd;
+use std::thread;
+use std::time::Duration;
 
 /// Where explanations are printed.
 #[derive(Debug, Clone, Copy, PartialEq, Eq)]
@@ -31,6 +33,31 @@ impl Terminal {
         let has_colours = wants_colours(no_color.as_deref(), term.as_deref());
         let width = crate::system::columns(out).filter(|columns| *columns > 0).unwrap_or(USUAL_WIDTH);
         Terminal { is_terminal: true, has_colours, width }
+    }
+}
+
+/// A writer that waits as long as its reader takes no more: the program at the other end may have asked that nobody waits.
+pub struct Patient<W>(pub W);
+
+/// After how much time it tries again.
+const MOMENT: Duration = Duration::from_millis(5);
+
+fn patiently<T>(mut act: impl FnMut() -> io::Result<T>) -> io::Result<T> {
+    loop {
+        match act() {
+            Err(fault) if fault.kind() == ErrorKind::WouldBlock => thread::sleep(MOMENT),
+            done => return done,
+        }
+    }
+}
+
+impl<W: Write> Write for Patient<W> {
+    fn write(&mut self, bytes: &[u8]) -> io::Result<usize> {
+        patiently(|| self.0.write(bytes))
+    }
+
+    fn flush(&mut self) -> io::Result<()> {
+        patiently(|| self.0.flush())
     }
 }
 

@@ -255,7 +255,11 @@ impl<'a> OptionWord<'a> {
         let (name, value) = match rest.iter().position(|byte| *byte == b'=') {
             Some(at) => (&rest[..at], Some(&rest[at + 1..])),
             // bibtex8's `-M3`
-            None if hyphens.len() == 1 && rest.starts_with(b"M") && rest[1..].iter().any(u8::is_ascii_digit) => {
+            None if hyphens.len() == 1
+                && rest.starts_with(b"M")
+                && rest.len() > 1
+                && rest[1..].iter().all(u8::is_ascii_digit) =>
+            {
                 (&rest[..1], Some(&rest[1..]))
             }
             None => (rest, None),

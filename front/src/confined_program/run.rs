@@ -5,12 +5,12 @@ use super::stop::Stop;
 use super::watch::{Event, Watch};
 use super::words::Request;
 use crate::exit::words_of;
-use crate::system::{self, Signal};
+use crate::system::{self, Signal, is_program, program_named};
 use std::env;
-use std::ffi::{OsStr, OsString};
+use std::ffi::OsString;
 use std::io::{self, PipeReader, Read};
 use std::os::unix::process::{CommandExt, ExitStatusExt};
-use std::path::{Path, PathBuf};
+use std::path::PathBuf;
 use std::process::{Child, Command, Stdio};
 use std::sync::mpsc::{Receiver, channel};
 use std::thread;
@@ -37,7 +37,7 @@ impl Program {
             _ => OsString::from("bibtex-proved"),
         };
         let found =
-            if name.as_encoded_bytes().contains(&b'/') { Some(PathBuf::from(&name)) } else { on_search_path(&name) };
+            if name.as_encoded_bytes().contains(&b'/') { Some(PathBuf::from(&name)) } else { program_named(&name) };
         match found.filter(|path| is_program(path)) {
             Some(path) => Ok(Program(path)),
             None => {
@@ -46,20 +46,6 @@ impl Program {
             }
         }
     }
-}
-
-/// The first program of this name along the search path.
-fn on_search_path(name: &OsStr) -> Option<PathBuf> {
-    let folders = env::var_os("PATH")?;
-    env::split_paths(&folders)
-        .filter(|folder| folder.is_absolute())
-        .map(|folder| folder.join(name))
-        .find(|path| is_program(path))
-}
-
-/// Whether this is a file that may be run.
-fn is_program(path: &Path) -> bool {
-    path.is_file() && system::may_run(path)
 }
 
 /// How a run ended.

@@ -4,16 +4,16 @@ use super::paths;
 use super::settings::Settings;
 use super::variables::Variables;
 use crate::search::path_of;
+use crate::system::program_named;
 use std::env;
+use std::ffi::OsStr;
 use std::fs;
 use std::os::unix::ffi::{OsStrExt, OsStringExt};
-use std::path::{self, Path, PathBuf};
+use std::path::{Path, PathBuf};
 
 /// The program beside which TeX's folders are looked for: `kpsewhich` on the user's search path, or this one.
 pub fn tex_program() -> Option<PathBuf> {
-    let path = env::var_os("PATH").unwrap_or_default();
-    let found = env::split_paths(&path).map(|folder| folder.join("kpsewhich")).find(|program| program.is_file());
-    found.and_then(|program| path::absolute(program).ok()).or_else(|| env::current_exe().ok())
+    program_named(OsStr::new("kpsewhich")).or_else(|| env::current_exe().ok())
 }
 
 /// The folder of the programs that the system itself installs.

@@ -184,6 +184,12 @@ for words in '-M 3' '-M=3' '-M3'; do
     end
 done
 
+# Behind -M stands nothing but its number.
+begin bibtex8_minimum_with_another_letter
+run_search -Mx3 job
+wants_refusal -Mx3
+end
+
 for words in '-B' '-H' '-W' '--big' '--huge' '--wolfgang' '--mstrings 200000' '--mcites=5000' '--mpool 1000000'; do
     begin "bibtex8_size_$((passed + failed))"
     run_search $words job

@@ -410,3 +410,33 @@ for _ in 1 2 3 4 5; do
     [ "$(grep -c '^Ended: ' job.blg)" -eq 1 ] || complaints+=("the log is of two runs: $(cat job.blg)")
 done
 end
+
+# A run that made the list and the log, and then can't write them, takes nothing from one that began meanwhile.
+begin run_beside_one_that_fails
+use_style 'FUNCTION {f} {#3000000 {duplicate$ #0 >} {#1 -} while$ pop$ "a" write$ newline$} EXECUTE {f}'
+(
+    ulimit -f 0
+    start_search job </dev/null >/dev/null 2>"$folder/stderr"
+) &
+other=$!
+for _ in {1..200}; do
+    [ ! -e job.bbl ] || break
+    sleep 0.01
+done
+run_search job
+wait $other && complaints+=('the other run did not fail')
+wants_status 0
+wants_text job.bbl $'a\n'
+wants_words job.blg 'The style file: s.bst'
+end
+
+# An output that is a pipe which nobody reads: a signal ends the run.
+for output in bbl blg; do
+    begin "pipe_without_a_reader_$output"
+    mkfifo job.$output
+    status=0
+    LD_LIBRARY_PATH=$libraries timeout -s TERM -k 12 1 "$search" job </dev/null >"$folder/stdout" 2>"$folder/stderr" || status=$?
+    wants_status 124
+    rm job.$output
+    end
+done

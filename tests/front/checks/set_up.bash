@@ -208,3 +208,28 @@ if has kpsewhich; then
 else
     echo 'left out: the files of TeX Live by its set-up (without kpsewhich)'
 fi
+
+# What the machine can't read of the set-up is said, and is no missing style.
+gcc -O2 -Wall -Werror -shared -fPIC -o "$room/fail_front_open.so" "$sources/tests/fail_open.c" -ldl
+begin database_that_cannot_be_read
+live_tree
+leave_old
+FAIL_OPEN=ls-R FAIL_REASON=EIO LD_PRELOAD=$room/fail_front_open.so run_live job
+wants_status 6
+wants_error_like 'ls-R can.t be read: Input/output error'
+wants_old
+end
+
+# The present folder is the document's: what stands in it is no program of TeX's, and no set-up.
+if has kpsewhich; then
+    begin programs_of_the_present_folder
+    mkdir below
+    : >below/kpsewhich
+    echo 'openout_any = a' >below/texmf.cnf
+    cd below
+    status=0
+    env -i "$search" ../job </dev/null >"$folder/stdout" 2>"$folder/stderr" || status=$?
+    cd ..
+    wants_refusal 'Not writing to ../job.b'
+    end
+fi

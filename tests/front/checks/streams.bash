@@ -94,3 +94,22 @@ printf 'kept\n' >input
 } <input
 wants_text rest $'kept\n'
 end
+
+# The reader of standard output asked that nobody waits at its pipe, and is slow.
+begin output_to_a_pipe_that_never_waits
+use_style 'FUNCTION {f} {#20000 {duplicate$ #0 >} {"a warning of the style" warning$ #1 -} while$ pop$} EXECUTE {f}'
+status=0
+LD_LIBRARY_PATH=$libraries python3 -c '
+import os, subprocess, sys, time
+out, into = os.pipe()
+os.set_blocking(into, False)
+run = subprocess.Popen([sys.argv[1], "job"], stdin=subprocess.DEVNULL, stdout=into)
+os.close(into)
+time.sleep(1)
+with os.fdopen(out, "rb") as pipe:
+    sys.stdout.buffer.write(pipe.read())
+sys.exit(run.wait())' "$search" >"$folder/stdout" 2>"$folder/stderr" || status=$?
+wants_status 0
+wants_error ''
+cmp -s "$folder/stdout" job.blg || complaints+=("$(stat -c %s "$folder/stdout") bytes were printed of $(stat -c %s job.blg)")
+end
