@@ -1,10 +1,12 @@
-//! What a style's designer may want to look at although no run goes wrong by it: functions and variables without a use, and integers that always have one value.
+//! What a style's designer may want to look at although no run logs a fault by it: functions and variables without a use, integers that always have one value, and loops
+//! that don't change what their test reads.
 
 use crate::database::Folded;
 use crate::style_text::{Kind, Token, Tokens, commands};
 use crate::terminal::plain;
 use crate::text::Text;
 use std::collections::{HashMap, HashSet};
+use std::ops::Range;
 
 /// A hint: the line of the name, and what is to be said of it.
 #[derive(Debug, Clone, PartialEq, Eq)]
@@ -50,7 +52,7 @@ pub fn hints(bytes: &[u8]) -> Vec<Hint> {
         let said = said_of(&declared, uses.get(&Folded(declared.name)).unwrap_or(&none))?;
         Some(Hint { line: text.line_of(declared.start), text: said })
     });
-    let mut hints: Vec<Hint> = found.collect();
+    let mut hints: Vec<Hint> = found.chain(endless(bytes)).collect();
     hints.sort_by_key(|hint| hint.line);
     hints
 }
@@ -105,6 +107,52 @@ fn declared(bytes: &[u8]) -> Vec<Declared<'_>> {
     found
 }
 
+/// The types that styles usually know.
+const USUAL_TYPES: [&str; 24] = [
+    "article",
+    "book",
+    "booklet",
+    "conference",
+    "inbook",
+    "incollection",
+    "inproceedings",
+    "manual",
+    "mastersthesis",
+    "misc",
+    "phdthesis",
+    "proceedings",
+    "techreport",
+    "unpublished",
+    "collection",
+    "patent",
+    "electronic",
+    "online",
+    "www",
+    "webpage",
+    "periodical",
+    "thesis",
+    "report",
+    "standard",
+];
+
+/// The functions that are meant as types of entries, as far as can be seen: first those with the name of a usual type, then those above READ without a dot that nothing uses.
+pub fn types_meant(bytes: &[u8]) -> Vec<Vec<u8>> {
+    let (declared, uses) = (declared(bytes), uses(bytes));
+    let functions = declared.iter().filter(|declared| declared.may_be_type).map(|declared| declared.name);
+    let is_usual = |name: &&[u8]| USUAL_TYPES.iter().any(|usual| name.eq_ignore_ascii_case(usual.as_bytes()));
+    let (usual, others): (Vec<&[u8]>, Vec<&[u8]>) = functions.partition(is_usual);
+    let unused = others.into_iter().filter(|name| !uses.contains_key(&Folded(name)) && !name.contains(&b'.'));
+    usual.into_iter().chain(unused).map(<[u8]>::to_vec).collect()
+}
+
+/// The fields that a style declares.
+pub fn names_of_fields(bytes: &[u8]) -> Vec<Vec<u8>> {
+    let commands = commands(bytes);
+    let Some(entry) = commands.iter().find(|command| command.is("entry")) else { return Vec::new() };
+    let inside = &bytes[entry.start + entry.word.len()..];
+    names(inside, 0).iter().map(|token| of(inside, token).to_vec()).collect()
+}
+
 /// The names in the braces of this number, counted from 0.
 fn names(text: &[u8], number: usize) -> Vec<Token> {
     let mut closed = 0;
@@ -146,6 +194,135 @@ fn uses(bytes: &[u8]) -> HashMap<Folded<'_>, Uses> {
     uses
 }
 
+// ---- loops ----
+
+/// Built-in functions of a test that reads nothing but what stands in it.
+const PURE: [&str; 12] =
+    ["=", ">", "<", "+", "-", "*", "empty$", "text.length$", "num.names$", "substring$", "chr.to.int$", "text.prefix$"];
+
+/// How many tokens are looked at for all loops of a style.
+const MOST_TOKENS: usize = 2_000_000;
+
+/// The tokens of a style, as its loops need them.
+struct Loops<'a> {
+    bytes: &'a [u8],
+    tokens: Vec<Token>,
+    /// For each closing brace the opening one, by their numbers.
+    opened: HashMap<usize, usize>,
+    variables: HashSet<Folded<'a>>,
+    /// The tokens of each function of the style, its name included.
+    functions: HashMap<Folded<'a>, Range<usize>>,
+}
+
+/// The loops whose body changes nothing that their test reads: such a loop isn't entered, or doesn't end.
+fn endless(bytes: &[u8]) -> Vec<Hint> {
+    let (loops, text) = (Loops::new(bytes), Text::new(bytes));
+    let mut left = MOST_TOKENS;
+    let mut found = Vec::new();
+    for index in 0..loops.tokens.len() {
+        let said = loops.said_of(index, &mut left);
+        found.extend(said.map(|said| Hint { line: text.line_of(loops.tokens[index].start), text: said }));
+    }
+    found
+}
+
+/// For each closing brace the opening one.
+fn opened(tokens: &[Token]) -> HashMap<usize, usize> {
+    let (mut open, mut opened) = (Vec::new(), HashMap::new());
+    for (place, token) in tokens.iter().enumerate() {
+        match token.kind {
+            Kind::Open => open.push(place),
+            Kind::Close => opened.extend(open.pop().map(|begin| (place, begin))),
+            _ => {}
+        }
+    }
+    opened
+}
+
+impl<'a> Loops<'a> {
+    fn new(bytes: &'a [u8]) -> Loops<'a> {
+        let tokens: Vec<Token> = Tokens::new(bytes).collect();
+        let all = declared(bytes).into_iter().filter(|declared| declared.sort != Sort::Function);
+        let variables = all.map(|declared| Folded(declared.name)).collect();
+        let commands = commands(bytes);
+        let place = |start: usize| tokens.partition_point(|token| token.start < start);
+        let ends = commands.iter().skip(1).map(|next| next.start).chain([bytes.len()]);
+        let spans = commands.iter().zip(ends).filter(|(command, _)| command.is("function"));
+        let functions = spans.filter_map(|(command, end)| {
+            let span = place(command.start) + 1..place(end);
+            let name = tokens.get(span.clone())?.iter().find(|token| token.kind == Kind::Name)?;
+            Some((Folded(of(bytes, name)), span))
+        });
+        Loops { bytes, variables, functions: functions.collect(), opened: opened(&tokens), tokens }
+    }
+
+    /// The tokens in the braces that end directly before a token.
+    fn braces_before(&self, index: usize) -> Option<Range<usize>> {
+        let close = index.checked_sub(1)?;
+        Some(*self.opened.get(&close)? + 1..close)
+    }
+
+    /// What is said of the token, if it is the `while$` of a loop that changes nothing that its test reads.
+    fn said_of(&self, index: usize, left: &mut usize) -> Option<String> {
+        if !of(self.bytes, &self.tokens[index]).eq_ignore_ascii_case(b"while$") {
+            return None;
+        }
+        let body = self.braces_before(index)?;
+        let test = self.braces_before(body.start - 1)?;
+        let read = self.read_by(test)?;
+        if self.names_one_of(body, &read, left) {
+            return None;
+        }
+        let names: Vec<_> = read.iter().map(|name| String::from_utf8_lossy(name.0)).collect();
+        Some(if names.is_empty() {
+            "the test of this loop always leaves the same: does the loop end?".to_string()
+        } else {
+            format!(
+                "the body of this loop never changes {}, which its test reads: does the loop end?",
+                names.join(" or ")
+            )
+        })
+    }
+
+    /// The variables that a test reads; None where it also reads the stack, a field, or what a function of the style does.
+    fn read_by(&self, test: Range<usize>) -> Option<Vec<Folded<'a>>> {
+        let mut read: Vec<Folded<'a>> = Vec::new();
+        for token in &self.tokens[test.clone()] {
+            let name = of(self.bytes, token);
+            match token.kind {
+                Kind::Integer | Kind::Text => {}
+                Kind::Name if self.variables.contains(&Folded(name)) => read.push(Folded(name)),
+                Kind::Name if PURE.iter().any(|pure| pure.as_bytes() == name) => {}
+                _ => return None,
+            }
+        }
+        read.dedup();
+        (!test.is_empty()).then_some(read)
+    }
+
+    /// Whether one of these variables is named in these tokens, or in the functions that they name. It may be where `left` tokens don't suffice to see.
+    fn names_one_of(&self, body: Range<usize>, wanted: &[Folded<'a>], left: &mut usize) -> bool {
+        let (mut open, mut seen) = (vec![body], HashSet::new());
+        while let Some(span) = open.pop() {
+            if span.len() > *left {
+                return true;
+            }
+            *left -= span.len();
+            for token in self.tokens[span].iter().filter(|token| matches!(token.kind, Kind::Name | Kind::Quoted)) {
+                let text = of(self.bytes, token);
+                let name = Folded(if token.kind == Kind::Quoted { &text[1..] } else { text });
+                if wanted.contains(&name) {
+                    return true;
+                }
+                if let Some(function) = self.functions.get(&name).filter(|_| seen.insert(name)) {
+                    open.push(function.clone());
+                }
+            }
+        }
+        false
+    }
+}
+
 /// The number that `#N` is.
 fn integer(text: &[u8]) -> Option<i64> {
     std::str::from_utf8(text.get(1..)?).ok()?.parse().ok()
@@ -180,6 +357,30 @@ mod tests {
             said("INTEGERS {v\u{1b}]0;P\u{7}\u{202e}}"),
             [(1, "the variable v?]0;P?? is never used".to_string())]
         );
+    }
+
+    #[test]
+    fn loops_that_change_nothing_are_named() {
+        let of = |body: &str| {
+            said(&format!(
+                "INTEGERS {{i}} STRINGS {{s}}\nFUNCTION {{c.d}} {{#1 'i := i pop$ \"\" 's := s pop$}}\nFUNCTION {{a.b}} {{\n{body}\n}}\nEXECUTE {{a.b}} EXECUTE {{c.d}}"
+            ))
+        };
+        let changes = "the body of this loop never changes i, which its test reads: does the loop end?";
+        assert_eq!(of("{i #0 >} {\"x\" write$} while$"), [(4, changes.to_string())]);
+        assert_eq!(
+            of("{#1} {skip$} while$"),
+            [(4, "the test of this loop always leaves the same: does the loop end?".to_string())]
+        );
+        for body in [
+            "{i #0 >} {i #1 - 'i :=} while$",
+            "{i #0 >} {c.d} while$",
+            "{duplicate$ #0 >} {#1 -} while$",
+            "'i {skip$} while$",
+            "{i} 'c.d while$",
+        ] {
+            assert_eq!(of(body), []);
+        }
     }
 
     #[test]

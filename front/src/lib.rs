@@ -26,6 +26,8 @@
 //! | [`terminal`] | what is safe to print on a terminal, and how wide it is |
 //! | [`exit`] | the exit statuses |
 //! | [`style_check`], [`hints`] | what can be said of a style before any document uses it |
+//! | [`lint_warnings`], [`lint_entry`] | where a style may go wrong, and an entry that shows it |
+//! | [`lint_text`], [`lint_forms`] | what is printed of a style, for people and for other programs |
 //! | [`search_program`], [`lint_program`], [`confined_program`] | the programs; `bibtex-lint` is another name of `bibtex-search` |
 //!
 //! `unsafe` stands in [`btx`] and [`system`] alone.
@@ -44,7 +46,11 @@ pub mod hints;
 pub mod interrupt;
 pub mod job;
 pub mod kpathsea;
+pub mod lint_entry;
+pub mod lint_forms;
 pub mod lint_program;
+pub mod lint_text;
+pub mod lint_warnings;
 pub mod log;
 pub mod notes;
 pub mod outputs;

@@ -1,15 +1,11 @@
 //! `bibtex-lint`: what can be said of styles before any document uses them. `bibtex-search` is this program where it is called so.
 
-use crate::advice;
 use crate::btx::Verdict;
 use crate::exit::{Failure, Name, Status};
-use crate::explain;
 use crate::job::{File, read_file};
 use crate::kpathsea::Format;
-use crate::log::Log;
-use crate::notes::{Spot, Warned};
+use crate::lint_forms::{json_of, line_of, write_for_people};
 use crate::search::Search;
-use crate::shapes::Part;
 use crate::style_check::StyleCheck;
 use crate::terminal::{Terminal, plain};
 use std::ffi::OsString;
@@ -26,6 +22,8 @@ const HELP: &str = "\
 
 --line           print a line for each style, for other programs
 --json           print all that is found as JSON
+--entry          search for each warning an entry of a database that shows it,
+                 for up to two seconds a style; each is tried by a run
 --job JOB        explain instead where JOB's style stands at each error, as
                  bibtex-explain does
 --steps=N        how many steps a check may take (1000000)
@@ -50,10 +48,20 @@ enum Form {
     Json,
 }
 
+/// How styles are checked.
+#[derive(Debug, Clone, Copy, PartialEq, Eq)]
+struct How {
+    form: Form,
+    /// How many steps a check may take.
+    steps: u64,
+    /// Whether an entry is searched for that shows each warning.
+    has_entries: bool,
+}
+
 /// What the words of the command line ask for.
 #[derive(Debug, PartialEq, Eq)]
 enum Asked {
-    Check { form: Form, steps: u64, styles: Vec<Vec<u8>> },
+    Check { how: How, styles: Vec<Vec<u8>> },
     Job(Vec<u8>),
     Help,
     Version,
@@ -62,7 +70,8 @@ enum Asked {
 
 /// Reads the words of the command line.
 fn read_words(words: impl Iterator<Item = Vec<u8>>) -> Asked {
-    let (mut form, mut steps, mut styles) = (Form::People, STEPS, Vec::new());
+    let mut how = How { form: Form::People, steps: STEPS, has_entries: false };
+    let mut styles = Vec::new();
     let (mut words, mut are_names) = (words, false);
     while let Some(word) = words.next() {
         let option = word.strip_prefix(b"-").filter(|rest| !rest.is_empty() && !are_names);
@@ -72,18 +81,19 @@ fn read_words(words: impl Iterator<Item = Vec<u8>>) -> Asked {
         };
         match option {
             b"" => are_names = true,
-            b"line" => form = Form::Line,
-            b"json" => form = Form::Json,
+            b"line" => how.form = Form::Line,
+            b"json" => how.form = Form::Json,
+            b"entry" => how.has_entries = true,
             b"help" => return Asked::Help,
             b"version" => return Asked::Version,
             b"job" => return words.next().map_or_else(|| Asked::Refused("--job needs a job".into()), Asked::Job),
             _ => match steps_of(option) {
-                Some(number) => steps = number,
+                Some(number) => how.steps = number,
                 None => return Asked::Refused(format!("I don't know the option {}", plain(&word))),
             },
         }
     }
-    if styles.is_empty() { Asked::Refused("name a style".into()) } else { Asked::Check { form, steps, styles } }
+    if styles.is_empty() { Asked::Refused("name a style".into()) } else { Asked::Check { how, styles } }
 }
 
 /// The number of an option `steps=N`.
@@ -109,7 +119,7 @@ pub fn main(
             name.say(&failure);
             failure.status()
         }),
-        Asked::Check { form, steps, styles } => check_all(name, form, steps, &styles),
+        Asked::Check { how, styles } => check_all(name, how, &styles),
     }
     .into()
 }
@@ -120,7 +130,7 @@ fn printed(name: &Name, text: &str) -> Status {
 }
 
 /// Checks styles, one after the other.
-fn check_all(name: &Name, form: Form, steps: u64, styles: &[Vec<u8>]) -> Status {
+fn check_all(name: &Name, how: How, styles: &[Vec<u8>]) -> Status {
     let search = Search::begin();
     let stdout = io::stdout();
     let terminal = Terminal::of(&stdout);
@@ -133,12 +143,12 @@ fn check_all(name: &Name, form: Form, steps: u64, styles: &[Vec<u8>]) -> Status 
             statuses.push(Status::Refused);
             continue;
         };
-        let Some(check) = check_in_thread(file, steps) else {
+        let Some(check) = check_in_thread(file, how) else {
             name.say("out of memory");
             return Status::Memory;
         };
         statuses.push(status_of(&check));
-        let written = match form {
+        let written = match how.form {
             Form::People => write_for_people(&check, &terminal, &mut out),
             Form::Line => writeln!(out, "{}", line_of(&check)),
             Form::Json => {
@@ -150,7 +160,7 @@ fn check_all(name: &Name, form: Form, steps: u64, styles: &[Vec<u8>]) -> Status 
             return name.unprinted(&fault);
         }
     }
-    let written = if form == Form::Json { writeln!(out, "[{}]", shown.join(",\n ")) } else { Ok(()) };
+    let written = if how.form == Form::Json { writeln!(out, "[{}]", shown.join(",\n ")) } else { Ok(()) };
     if let Err(fault) = written.and_then(|()| out.flush()) {
         return name.unprinted(&fault);
     }
@@ -168,8 +178,10 @@ fn find(search: &Search, name: &[u8]) -> Option<File> {
 }
 
 /// Checks a style with a stack of its own.
-fn check_in_thread(style: File, steps: u64) -> Option<StyleCheck> {
-    let check = thread::Builder::new().stack_size(STACK).spawn(move || StyleCheck::new(style, steps)).ok()?;
+fn check_in_thread(style: File, how: How) -> Option<StyleCheck> {
+    let check =
+        thread::Builder::new().stack_size(STACK).spawn(move || StyleCheck::new(style, how.steps, how.has_entries));
+    let check = check.ok()?;
     check.join().ok()
 }
 
@@ -182,143 +194,6 @@ fn status_of(check: &StyleCheck) -> Status {
     }
 }
 
-/// The path of the style, as it is to be shown.
-fn path_of(check: &StyleCheck) -> String {
-    check.files.with_ending(".bst").next().map(|file| plain(explain::shown_path(file))).unwrap_or_default()
-}
-
-// ---- for people ----
-
-fn write_for_people(check: &StyleCheck, terminal: &Terminal, out: &mut impl Write) -> io::Result<()> {
-    let path = path_of(check);
-    if check.messages > 0 {
-        explain::write(&Log::new(&check.log), &check.files, Part::Messages, terminal, out)?;
-    }
-    if let Some(warned) = &check.warned {
-        write_warning(&path, warned, out)?;
-    }
-    for hint in &check.hints {
-        writeln!(out, "{path}:{}: hint: {}", hint.line, hint.text)?;
-    }
-    match &check.verdict {
-        Some(Verdict::Clean { literals, bodies, types }) => {
-            let of_text = if check.messages > 0 { "but for what is wrong in its text, " } else { "" };
-            writeln!(
-                out,
-                "{path}: {of_text}clean: no run of it logs a fault of its own (at most {literals} literals, {bodies} bodies)"
-            )?;
-            let types: String = types.iter().map(|name| format!("{}, ", plain(name))).collect();
-            writeln!(out, "    for entries of the types {types}and of all that it doesn't know")
-        }
-        Some(Verdict::Warnings(_)) => {
-            writeln!(out, "{path}: warnings: one place is shown; there may be more behind it")
-        }
-        _ => writeln!(
-            out,
-            "{path}: incomplete: the check didn't come to its end; nothing is said of the style (--steps=N)"
-        ),
-    }
-}
-
-/// What may go wrong, in words.
-fn what_of(warned: &Warned) -> String {
-    let next = plain(&warned.next);
-    if warned.places.is_empty() {
-        return format!("literals may be left on the stack where `{next}` is run by a command");
-    }
-    let takes = advice::operands(&warned.next);
-    match (&warned.missing, takes) {
-        (Some(field), Some(takes)) => {
-            format!("`{next}` takes {takes}, and the field `{}` may be missing here", plain(field))
-        }
-        (Some(field), None) => format!("the field `{}` may be missing for `{next}`", plain(field)),
-        (None, Some(takes)) => {
-            format!("`{next}` takes {takes}: one of these may be missing on the stack, or be of another kind")
-        }
-        (None, None) => format!("`{next}` needs a current entry, and there may be none here"),
-    }
-}
-
-/// What to do about it.
-fn advice_of(warned: &Warned) -> String {
-    let is_text = advice::operands(&warned.next).is_some_and(|takes| !takes.contains("NUMBER"));
-    match &warned.missing {
-        Some(field) if is_text => {
-            let field = plain(field);
-            format!("choose by `{field} empty$` before it, or `{field} missing$`")
-        }
-        None if !warned.places.is_empty() && advice::operands(&warned.next).is_none() => {
-            "run the function by ITERATE or REVERSE, not by EXECUTE".to_string()
-        }
-        _ => "push what it takes, in this order; let both branches of each `if$` on the way leave the same number of literals".to_string(),
-    }
-}
-
-fn write_warning(path: &str, warned: &Warned, out: &mut impl Write) -> io::Result<()> {
-    let Some(at) = warned.places.first() else {
-        writeln!(out, "{path}: {}", what_of(warned))?;
-        return writeln!(out, "    do: {}", advice_of(warned));
-    };
-    writeln!(out, "{path}:{}: in {}: {}", at.call.line, plain(&at.call.function), what_of(warned))?;
-    let call = |spot: &Spot| format!("{} (line {})", plain(&spot.call.function), spot.call.line);
-    let way: Vec<String> = warned.places.iter().rev().map(call).collect();
-    writeln!(out, "    run by: {}", way.join(" > "))?;
-    writeln!(out, "    do: {}", advice_of(warned))
-}
-
-// ---- for programs ----
-
-fn line_of(check: &StyleCheck) -> String {
-    let path = path_of(check);
-    let said = match &check.verdict {
-        Some(Verdict::Clean { literals, bodies, .. }) => format!("clean, literals {literals}, bodies {bodies}"),
-        Some(Verdict::Warnings(_)) => "warnings".to_string(),
-        _ => "incomplete".to_string(),
-    };
-    format!("{path}: {said}, messages {}, hints {}", check.messages, check.hints.len())
-}
-
-/// A text of JSON.
-fn json(text: &str) -> String {
-    let mut quoted = String::from("\"");
-    for character in text.chars() {
-        match character {
-            '"' | '\\' => quoted.extend(['\\', character]),
-            character if (character as u32) < 32 => quoted += &format!("\\u{:04x}", character as u32),
-            character => quoted.push(character),
-        }
-    }
-    quoted + "\""
-}
-
-fn json_of(check: &StyleCheck) -> String {
-    let mut parts = vec![format!("\"style\": {}", json(&path_of(check)))];
-    let verdict = match &check.verdict {
-        Some(Verdict::Clean { literals, bodies, types }) => {
-            let types: Vec<String> = types.iter().map(|name| json(&plain(name))).collect();
-            parts.push(format!("\"literals\": {literals}, \"bodies\": {bodies}, \"types\": [{}]", types.join(", ")));
-            "clean"
-        }
-        Some(Verdict::Warnings(_)) => "warnings",
-        _ => "incomplete",
-    };
-    parts.insert(1, format!("\"verdict\": \"{verdict}\""));
-    let lines = check.log.split(|byte| *byte == b'\n').filter(|line| !line.is_empty());
-    let messages: Vec<String> = lines.map(|line| json(&plain(line))).collect();
-    parts.push(format!("\"messages\": [{}]", messages.join(", ")));
-    parts.push(format!("\"warnings\": [{}]", check.warned.iter().map(json_of_warning).collect::<String>()));
-    let hint = |hint: &crate::hints::Hint| format!("{{\"line\": {}, \"text\": {}}}", hint.line, json(&hint.text));
-    parts.push(format!("\"hints\": [{}]", check.hints.iter().map(hint).collect::<Vec<_>>().join(", ")));
-    format!("{{{}}}", parts.join(", "))
-}
-
-fn json_of_warning(warned: &Warned) -> String {
-    let place =
-        |spot: &Spot| format!("{{\"function\": {}, \"line\": {}}}", json(&plain(&spot.call.function)), spot.call.line);
-    let places: Vec<String> = warned.places.iter().map(place).collect();
-    format!("{{\"text\": {}, \"places\": [{}]}}", json(&what_of(warned)), places.join(", "))
-}
-
 #[cfg(test)]
 mod tests {
     use super::*;
@@ -329,25 +204,18 @@ mod tests {
 
     #[test]
     fn words_are_read() {
-        let styles = vec![b"plain".to_vec()];
-        assert_eq!(asked(&["plain"]), Asked::Check { form: Form::People, steps: STEPS, styles: styles.clone() });
-        assert_eq!(
-            asked(&["-json", "--steps=7", "plain"]),
-            Asked::Check { form: Form::Json, steps: 7, styles: styles.clone() }
-        );
-        assert_eq!(
-            asked(&["--line", "--", "--x"]),
-            Asked::Check { form: Form::Line, steps: STEPS, styles: vec![b"--x".to_vec()] }
-        );
+        let check = |form, steps, has_entries, style: &str| Asked::Check {
+            how: How { form, steps, has_entries },
+            styles: vec![style.into()],
+        };
+        assert_eq!(asked(&["plain"]), check(Form::People, STEPS, false, "plain"));
+        assert_eq!(asked(&["-json", "--steps=7", "plain"]), check(Form::Json, 7, false, "plain"));
+        assert_eq!(asked(&["--line", "--", "--x"]), check(Form::Line, STEPS, false, "--x"));
+        assert_eq!(asked(&["--entry", "plain"]), check(Form::People, STEPS, true, "plain"));
         assert_eq!(asked(&["--job", "paper"]), Asked::Job(b"paper".to_vec()));
         assert_eq!(asked(&["--help", "x"]), Asked::Help);
         for refused in [&["--job"][..], &[], &["--nosuch", "plain"], &["--steps=x", "plain"]] {
             assert!(matches!(asked(refused), Asked::Refused(_)), "{refused:?}");
         }
-    }
-
-    #[test]
-    fn texts_of_json() {
-        assert_eq!(json("a\"b\\\u{1}é"), "\"a\\\"b\\\\\\u0001é\"");
     }
 }

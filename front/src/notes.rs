@@ -54,31 +54,6 @@ pub struct Note {
     pub since: Vec<Option<Call>>,
 }
 
-/// Where a style may go wrong, as the checker notes it.
-#[derive(Debug, Clone, Default, PartialEq, Eq)]
-pub struct Warned {
-    /// What is executed there.
-    pub next: Vec<u8>,
-    /// The field that may be missing where a string is wanted.
-    pub missing: Option<Vec<u8>>,
-    /// The token, and those that called, the innermost first.
-    pub places: Vec<Spot>,
-}
-
-/// The note of a check of the style of this name.
-pub fn read_warning(notes: &[u8], style: &[u8]) -> Warned {
-    let mut warned = Warned::default();
-    for line in notes.split(|byte| *byte == b'\n') {
-        match word(line) {
-            (b"next", name) => warned.next = name.to_vec(),
-            (b"missing", field) => warned.missing = Some(field.to_vec()),
-            (b"at" | b"from", rest) => warned.places.extend(spot(rest, style, false)),
-            _ => {}
-        }
-    }
-    warned
-}
-
 /// The notes of a run, whose style has this name.
 pub fn read(notes: &[u8], style: &[u8]) -> Vec<Note> {
     let mut read: Vec<Note> = Vec::new();
@@ -94,13 +69,13 @@ pub fn read(notes: &[u8], style: &[u8]) -> Vec<Note> {
 }
 
 /// The first word of a line, and what stands behind the space.
-fn word(line: &[u8]) -> (&[u8], &[u8]) {
+pub(crate) fn word(line: &[u8]) -> (&[u8], &[u8]) {
     let end = line.iter().position(|byte| *byte == b' ').unwrap_or(line.len());
     (&line[..end], line.get(end + 1..).unwrap_or(b""))
 }
 
 /// The number that the first word is, and what stands behind it.
-fn number(line: &[u8]) -> Option<(usize, &[u8])> {
+pub(crate) fn number(line: &[u8]) -> Option<(usize, &[u8])> {
     let (digits, rest) = word(line);
     Some((std::str::from_utf8(digits).ok()?.parse().ok()?, rest))
 }
@@ -152,7 +127,7 @@ impl Note {
 }
 
 /// A command: `ITERATE LINE NAME`.
-fn command(rest: &[u8], style: &[u8]) -> Option<Spot> {
+pub(crate) fn command(rest: &[u8], style: &[u8]) -> Option<Spot> {
     let (command, rest) = word(rest);
     let (line, name) = number(rest)?;
     let function = [command, b" {", name, b"}"].concat();
@@ -160,7 +135,7 @@ fn command(rest: &[u8], style: &[u8]) -> Option<Spot> {
 }
 
 /// A token: `in LINE FUNCTION TOKEN NAME`, or `of ..` where it stands in braces inside of that function.
-fn spot(rest: &[u8], style: &[u8], is_whole: bool) -> Option<Spot> {
+pub(crate) fn spot(rest: &[u8], style: &[u8], is_whole: bool) -> Option<Spot> {
     let (word, rest) = word(rest);
     let (line, rest) = number(rest)?;
     let (function, rest) = number(rest)?;

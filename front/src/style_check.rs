@@ -3,8 +3,9 @@
 use crate::btx::{self, Answer, Options, Rooms, Verdict};
 use crate::hints::{Hint, hints};
 use crate::job::{File, Files};
+use crate::lint_entry::{Shown, entries};
+use crate::lint_warnings::{Warnings, read};
 use crate::log::{Content, Log, Place};
-use crate::notes::{Warned, read_warning};
 
 /// How many steps the commands of a style may take that is read for its messages: no entry is there.
 const STEPS_OF_READING: u64 = 100_000;
@@ -23,22 +24,25 @@ pub struct StyleCheck {
     /// None where memory was refused, or the style is too long.
     pub verdict: Option<Verdict>,
     /// Where it may go wrong, if it isn't clean.
-    pub warned: Option<Warned>,
+    pub found: Warnings,
+    /// Whether an entry shows each of the warnings that are shown, where that was asked.
+    pub entries: Option<Vec<Shown>>,
     pub hints: Vec<Hint>,
 }
 
 impl StyleCheck {
-    /// Checks a style in at most `steps` steps of the check.
-    pub fn new(style: File, steps: u64) -> StyleCheck {
+    /// Checks a style in at most `steps` steps of the check. Where `has_entries`, an entry is searched for that shows each warning.
+    pub fn new(style: File, steps: u64, has_entries: bool) -> StyleCheck {
         let bytes = style.bytes.clone().unwrap_or_default();
         let verdict = btx::check(&style.name, &bytes, steps);
-        let warned = match &verdict {
-            Some(Verdict::Warnings(notes)) => Some(read_warning(notes, &style.name)),
-            _ => None,
+        let found = match &verdict {
+            Some(Verdict::Warnings(notes)) => read(notes, &style.name),
+            _ => Warnings::default(),
         };
+        let entries = has_entries.then(|| entries(&style, &found.shown()));
         let files = job_of(style);
         let (log, messages) = messages_of(&files);
-        StyleCheck { files, log, messages, verdict, warned, hints: hints(&bytes) }
+        StyleCheck { files, log, messages, verdict, found, entries, hints: hints(&bytes) }
     }
 
     /// Whether nothing is to be said but hints.

@@ -51,27 +51,26 @@ write_clean
 sed -i "s/{ title empty.*/{ author empty\$ 'skip\$\n   { title write\$ newline\$ }\n  if\$ }/" clean.bst
 run_lint clean.bst
 wants_status 2
-wants_output 'clean.bst:5: in {..} of output.title: `write$` takes TEXT, and the field `title` may be missing here
-    run by: article (line 9) > output.title (line 6) > {..} of output.title (line 5)
-    do: choose by `title empty$` before it, or `title missing$`
-clean.bst: warnings: one place is shown; there may be more behind it
-'
+wants_line_of_output 'clean.bst:5: in output.title: `write$` takes TEXT, and the field `title` may be missing here'
+grep -q '^    run by: .*article (line 9) > output.title (line 5)$' "$folder/stdout" || complaints+=("printed is $(cat "$folder/stdout")")
+wants_line_of_output '    do: choose by `title empty$` before it, or `title missing$`'
+grep -q '^clean.bst: warnings: 1 place' "$folder/stdout" || complaints+=("printed is $(cat "$folder/stdout")")
 run_lint --line clean.bst
 wants_status 2
-wants_output 'clean.bst: warnings, messages 0, hints 0
-'
+grep -qE '^clean.bst: warnings, first 5 write\$ (kind )?title, places 1, causes 1, messages 0, hints 0$' "$folder/stdout" || complaints+=("the line is $(cat "$folder/stdout")")
 end
 
 begin lint_of_operands_and_entries
 write_clean
 sed -i 's/title write\$/title #1 + write$/' clean.bst
 run_lint clean.bst
-wants_line_of_output 'clean.bst:4: in {..} of output.title: `+` takes NUMBER NUMBER: one of these may be missing on the stack, or be of another kind'
+grep -q '^clean.bst:4: in output.title: `+` takes NUMBER NUMBER' "$folder/stdout" || complaints+=("printed is $(cat "$folder/stdout")")
 write_clean
 echo 'EXECUTE {article}' >>clean.bst
 run_lint clean.bst
 wants_status 2
-grep -q 'needs a current entry, and there may be none here$' "$folder/stdout" || complaints+=("printed is $(cat "$folder/stdout")")
+grep -q 'needs a current entry, and ' "$folder/stdout" || complaints+=("printed is $(cat "$folder/stdout")")
+wants_line_of_output '    do: run the function by ITERATE or REVERSE, not by EXECUTE'
 end
 
 begin lint_of_literals_left
@@ -79,7 +78,7 @@ write_clean
 sed -i 's/^{ output.title }/{ output.title "left" }/' clean.bst
 run_lint clean.bst
 wants_status 2
-wants_line_of_output 'clean.bst: literals may be left on the stack where `call.type$` is run by a command'
+grep -qE '^clean.bst:.*(literals may be left|may leave )' "$folder/stdout" || complaints+=("printed is $(cat "$folder/stdout")")
 end
 
 begin lint_of_a_missing_brace
@@ -111,6 +110,55 @@ wants_line_of_output 'clean.bst:11: hint: the variable s is assigned, and its va
 wants_line_of_output 'clean.bst:13: hint: the function not.used is never used'
 end
 
+# Each warning is shown by an entry that was tried: the job is run once more here.
+begin lint_shows_an_entry
+write_clean
+sed -i "s/{ title empty.*/{ author empty\\$ 'skip\\$\n   { title write\\$ newline\\$ }\n  if\\$ }/" clean.bst
+run_lint --entry clean.bst
+wants_status 2
+wants_line_of_output '    logs: Error--missing field is not a string while executing write$ for entry key'
+sed -n '/shown by this database/,/logs:/p' "$folder/stdout" | grep '^        ' >d.bib
+grep -q 'author = ' d.bib && [ "$(wc -l <d.bib)" -eq 2 ] || complaints+=("the entry is $(cat d.bib)")
+cp clean.bst s.bst
+cite key
+run_search job
+wants_status 2
+grep -qxF 'missing field is not a string (write$) for entry key' job.blg || complaints+=("the log is $(cat job.blg)")
+end
+
+begin lint_shows_what_is_left
+write_clean
+sed -i 's/^{ output.title }/{ output.title title empty$ { "left" } '"'skip\$"' if$ }/' clean.bst
+run_lint --entry clean.bst
+wants_status 2
+wants_line_of_output "    logs: Error--The literal stack isn't empty while executing ITERATE for entry key"
+grep -q '^    left since: .*FUNCTION {article}, line 7$' "$folder/stdout" || complaints+=("printed is $(cat "$folder/stdout")")
+end
+
+# What the checker can't rule out and no entry shows: numbers that never come to what the test asks.
+begin lint_says_what_is_possible_only
+write_clean
+sed -i 's/^{ output.title }/{ output.title cite$ text.length$ duplicate$ + #100000 > { #1 write$ } '"'skip\$"' if$ }/' clean.bst
+run_lint --entry --json clean.bst
+wants_status 2
+python3 - "$folder/stdout" <<'END' || complaints+=('the JSON is another')
+import json, sys
+[style] = json.load(open(sys.argv[1]))
+assert [warning["entry"] for warning in style["warnings"]] == [None], style
+END
+run_lint --entry clean.bst
+wants_line_of_output '    possible only: no entry that was tried shows it'
+end
+
+begin lint_of_an_endless_loop
+write_clean
+sed -i 's/^READ/INTEGERS { left }\n\nFUNCTION {turns} { #1 '"'left"' := { left #0 > } { newline$ } while$ }\n\nREAD/' clean.bst
+echo 'EXECUTE {turns}' >>clean.bst
+run_lint clean.bst
+wants_status 0
+wants_line_of_output 'clean.bst:13: hint: the body of this loop never changes left, which its test reads: does the loop end?'
+end
+
 begin lint_as_json
 write_clean
 cp clean.bst faulty.bst
@@ -123,6 +171,7 @@ clean, faulty = json.load(open(sys.argv[1]))
 assert clean == {"style": "clean.bst", "verdict": "clean", "literals": 3, "bodies": 4, "types": ["article"], "messages": [], "warnings": [], "hints": []}, clean
 assert faulty["verdict"] == "warnings" and faulty["messages"] == ["Error--nosuch is an unknown function--line 4 of file faulty.bst"], faulty
 assert [place["line"] for place in faulty["warnings"][0]["places"]] == [4, 7], faulty
+assert faulty["warnings"][0]["executed"] == "write$" and faulty["warnings"][0]["missing"] == "title", faulty
 END
 end
 

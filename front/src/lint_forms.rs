@@ -1,0 +1,199 @@
+//! What is printed of a style: for people, as a line, as JSON.
+
+use crate::btx::Verdict;
+use crate::explain;
+use crate::hints::Hint;
+use crate::lint_entry::Shown;
+use crate::lint_text::{groups, verdict, what_of, write};
+use crate::lint_warnings::{Cause, Fault, Operand, Value, Warning};
+use crate::log::Log;
+use crate::notes::Spot;
+use crate::shapes::Part;
+use crate::style_check::StyleCheck;
+use crate::terminal::{Terminal, plain};
+use std::io::{self, Write};
+
+/// The path of the style, as it is to be shown.
+fn path_of(check: &StyleCheck) -> String {
+    check.files.with_ending(".bst").next().map(|file| plain(explain::shown_path(file))).unwrap_or_default()
+}
+
+// ---- for people ----
+
+/// Writes what is found of a style: what is wrong in its text, where a run may go wrong, hints, and the verdict.
+pub fn write_for_people(check: &StyleCheck, terminal: &Terminal, out: &mut impl Write) -> io::Result<()> {
+    let path = path_of(check);
+    if check.messages > 0 {
+        explain::write(&Log::new(&check.log), &check.files, Part::Messages, terminal, out)?;
+    }
+    write(&path, &check.found, check.entries.as_deref(), out)?;
+    for hint in &check.hints {
+        writeln!(out, "{path}:{}: hint: {}", hint.line, hint.text)?;
+    }
+    write_verdict(&path, check, out)
+}
+
+fn write_verdict(path: &str, check: &StyleCheck, out: &mut impl Write) -> io::Result<()> {
+    match &check.verdict {
+        Some(Verdict::Clean { literals, bodies, types }) => {
+            let of_text = if check.messages > 0 { "what could be read of it is " } else { "" };
+            writeln!(
+                out,
+                "{path}: {of_text}clean: no run of it logs a fault of its own (at most {literals} literals, {bodies} bodies)"
+            )?;
+            let types: String = types.iter().map(|name| format!("{}, ", plain(name))).collect();
+            writeln!(out, "    for entries of the types {types}and of all that it doesn't know")
+        }
+        Some(Verdict::Warnings(_)) => {
+            let of_text = if check.messages > 0 { "; they may follow from what is wrong in its text" } else { "" };
+            writeln!(out, "{path}: warnings: {}{of_text}", verdict(&check.found))
+        }
+        _ => writeln!(
+            out,
+            "{path}: incomplete: the check didn't come to its end; nothing is said of the style (--steps=N)"
+        ),
+    }
+}
+
+// ---- as a line ----
+
+/// The first warning: its line, what is executed, the fault, and the field that may be missing.
+fn first_of(warning: &Warning) -> String {
+    let fault = warning.fault.map_or(String::new(), |fault| format!(" {}", fault.word()));
+    let field = warning.missing.as_ref().map_or(String::new(), |field| format!(" {}", plain(field)));
+    format!("first {} {}{fault}{field}", warning.line(), plain(&warning.next))
+}
+
+/// What is found of a style, on one line.
+pub fn line_of(check: &StyleCheck) -> String {
+    let path = path_of(check);
+    let shown = check.found.shown();
+    let said = match &check.verdict {
+        Some(Verdict::Clean { literals, bodies, .. }) => format!("clean, literals {literals}, bodies {bodies}"),
+        Some(Verdict::Warnings(_)) => {
+            let first = shown.first().map_or(String::new(), |first| format!("{}, ", first_of(first)));
+            format!("warnings, {first}places {}, causes {}", shown.len(), groups(&shown).len())
+        }
+        _ => "incomplete".to_string(),
+    };
+    format!("{path}: {said}, messages {}, hints {}", check.messages, check.hints.len())
+}
+
+// ---- as JSON ----
+
+/// A text of JSON.
+fn json(text: &str) -> String {
+    let mut quoted = String::from("\"");
+    for character in text.chars() {
+        match character {
+            '"' | '\\' => quoted.extend(['\\', character]),
+            character if (character as u32) < 32 => quoted += &format!("\\u{:04x}", character as u32),
+            character => quoted.push(character),
+        }
+    }
+    quoted + "\""
+}
+
+fn json_list(parts: impl IntoIterator<Item = String>) -> String {
+    format!("[{}]", parts.into_iter().collect::<Vec<_>>().join(", "))
+}
+
+fn json_names(names: &[Vec<u8>]) -> String {
+    json_list(names.iter().map(|name| json(&plain(name))))
+}
+
+fn json_object(parts: &[(&str, String)]) -> String {
+    let parts: Vec<String> = parts.iter().map(|(name, value)| format!("\"{name}\": {value}")).collect();
+    format!("{{{}}}", parts.join(", "))
+}
+
+/// What is found of a style, as an object of JSON.
+pub fn json_of(check: &StyleCheck) -> String {
+    let mut parts = vec![("style", json(&path_of(check)))];
+    match &check.verdict {
+        Some(Verdict::Clean { literals, bodies, types }) => {
+            parts.push(("verdict", json("clean")));
+            parts.push(("literals", literals.to_string()));
+            parts.push(("bodies", bodies.to_string()));
+            parts.push(("types", json_names(types)));
+        }
+        Some(Verdict::Warnings(_)) => parts.push(("verdict", json("warnings"))),
+        _ => parts.push(("verdict", json("incomplete"))),
+    }
+    let lines = check.log.split(|byte| *byte == b'\n').filter(|line| !line.is_empty());
+    parts.push(("messages", json_list(lines.map(|line| json(&plain(line))))));
+    let shown = check.found.shown();
+    let entry = |number: usize| check.entries.as_ref().and_then(|entries| entries.get(number));
+    let warnings = shown.iter().enumerate().map(|(number, warning)| json_of_warning(warning, entry(number)));
+    parts.push(("warnings", json_list(warnings)));
+    if !check.found.causes.is_empty() {
+        parts.push(("causes", json_list(check.found.causes.iter().map(json_of_cause))));
+    }
+    let hint = |hint: &Hint| json_object(&[("line", hint.line.to_string()), ("text", json(&hint.text))]);
+    parts.push(("hints", json_list(check.hints.iter().map(hint))));
+    json_object(&parts)
+}
+
+fn json_of_spot(spot: &Spot) -> String {
+    json_object(&[("function", json(&plain(&spot.call.function))), ("line", spot.call.line.to_string())])
+}
+
+fn json_of_cause(cause: &Cause) -> String {
+    let grows = cause.grows.map(|(least, most)| json_list([least.to_string(), most.to_string()]));
+    json_object(&[("place", json_of_spot(&cause.spot)), ("grows", json_list(grows))])
+}
+
+/// What an operand may be.
+fn json_of_operand(operand: &Operand) -> String {
+    let mut parts = vec![("position", operand.position.to_string())];
+    let bound = |bound: Option<i64>| bound.map_or("null".to_string(), |bound| bound.to_string());
+    match &operand.value {
+        Value::Any => {}
+        Value::Integer(low, high) => parts.push(("integer", json_list([bound(*low), bound(*high)]))),
+        Value::Text(classes) => parts.push(("text", json(&plain(classes)))),
+        Value::Function(name) => parts.push(("function", json(&plain(name)))),
+    }
+    if let Some((is_field, name)) = &operand.owner {
+        parts.push((if *is_field { "field" } else { "variable" }, json(&plain(name))));
+    }
+    json_object(&parts)
+}
+
+fn json_of_warning(warning: &Warning, entry: Option<&Shown>) -> String {
+    let mut parts = vec![("text", json(&what_of(warning)))];
+    if let Some(fault) = warning.fault {
+        parts.push(("fault", json(Fault::word(fault))));
+    }
+    parts.push(("executed", json(&plain(&warning.next))));
+    parts.push(("places", json_list(warning.places.iter().map(json_of_spot))));
+    if let Some(item) = &warning.item {
+        parts.push(("command", json_of_spot(item)));
+    }
+    if let Some(operand) = &warning.operand {
+        parts.push(("operand", json_of_operand(operand)));
+    }
+    if let Some(field) = &warning.missing {
+        parts.push(("missing", json(&plain(field))));
+    }
+    let names = [("types", &warning.types), ("given", &warning.given), ("blank", &warning.blank)];
+    parts.extend(names.iter().filter(|(_, names)| !names.is_empty()).map(|(word, names)| (*word, json_names(names))));
+    match entry {
+        None => {}
+        Some(Shown::Nowhere) => parts.push(("entry", "null".to_string())),
+        Some(Shown::By { database, message, .. }) => {
+            parts.push(("entry", json(&String::from_utf8_lossy(database))));
+            parts.push(("logs", json(&plain(message))));
+        }
+    }
+    json_object(&parts)
+}
+
+#[cfg(test)]
+mod tests {
+    use super::*;
+
+    #[test]
+    fn texts_of_json() {
+        assert_eq!(json("a\"b\\\u{1}é"), "\"a\\\"b\\\\\\u0001é\"");
+    }
+}

@@ -1,0 +1,438 @@
+//! The warnings of a style in words for its designer.
+
+use crate::advice;
+use crate::lint_entry::Shown;
+use crate::lint_warnings::{Cause, Fault, Growth, Operand, Value, Wanted, Warning, Warnings};
+use crate::notes::Spot;
+use crate::terminal::plain;
+use std::io::{self, Write};
+
+/// How many types, and how many fields, are named at most.
+const MOST_TYPES: usize = 8;
+const MOST_FIELDS: usize = 6;
+
+/// Warnings with one cause, by their numbers among those that are shown: the first is the one that was met first.
+pub type Group = Vec<usize>;
+
+/// What two warnings of one cause have in common: the function, and the field or what else is wrong.
+fn cause_of(warning: &Warning) -> (String, String) {
+    let what = match (&warning.missing, warning.fault) {
+        (Some(field), _) => format!("field {}", plain(field)),
+        (None, Some(Fault::EmptyStack | Fault::LeftOver)) => "stack".to_string(),
+        (None, fault) => format!("{} {}", fault.map_or("", Fault::word), plain(&warning.next)),
+    };
+    (warning.spot().map_or_else(String::new, owner), what)
+}
+
+/// The warnings that are shown, those of one cause together.
+pub fn groups(shown: &[&Warning]) -> Vec<Group> {
+    let mut groups: Vec<((String, String), Group)> = Vec::new();
+    for (number, warning) in shown.iter().enumerate() {
+        let cause = cause_of(warning);
+        match groups.iter_mut().find(|(known, _)| *known == cause) {
+            Some((_, group)) => group.push(number),
+            None => groups.push((cause, vec![number])),
+        }
+    }
+    groups.into_iter().map(|(_, group)| group).collect()
+}
+
+/// The named function in which a place stands.
+fn owner(spot: &Spot) -> String {
+    let shown = plain(&spot.call.function);
+    shown.strip_prefix("{..} of ").map_or(shown.clone(), str::to_string)
+}
+
+// ---- what is wrong ----
+
+/// A word of what a function takes, with its number where there are several of it: `TEXT`, `first NUMBER`.
+fn operand_word(takes: &str, position: usize) -> Option<String> {
+    let words: Vec<&str> = takes.split(' ').collect();
+    let place = words.len().checked_sub(position + 1)?;
+    let word = words[place].trim_matches(['{', '}', '\'']);
+    let has_twin = words.iter().enumerate().any(|(other, twin)| other != place && *twin == words[place]);
+    let order = if !has_twin {
+        ""
+    } else if place == 0 {
+        "first "
+    } else {
+        "second "
+    };
+    Some(format!("{order}{word}"))
+}
+
+/// Whose value an operand is: `the field title`.
+fn owner_of_value(operand: &Operand) -> Option<String> {
+    let (is_field, name) = operand.owner.as_ref()?;
+    Some(format!("the {} `{}`", if *is_field { "field" } else { "variable" }, plain(name)))
+}
+
+/// What a value is, in words.
+fn value_text(value: &Value) -> String {
+    match value {
+        Value::Integer(Some(low), Some(high)) if low == high => format!("the integer {low}"),
+        Value::Integer(..) => "an integer".to_string(),
+        Value::Function(name) if name.is_empty() || name.starts_with(b"{") => "a function in braces".to_string(),
+        Value::Function(name) => format!("the function `{}`", plain(name)),
+        Value::Text(classes) if classes == b"m" => "a missing field".to_string(),
+        Value::Text(classes) if classes.contains(&b'm') => "a string or a missing field".to_string(),
+        Value::Text(_) => "a string".to_string(),
+        Value::Any => "of a kind that isn't known".to_string(),
+    }
+}
+
+/// Whether it may be missing, though a string or something to compare is wanted.
+fn may_be_missing(operand: &Operand) -> bool {
+    let is_wanted = matches!(operand.wanted, None | Some(Wanted::Text));
+    is_wanted && matches!(&operand.value, Value::Text(classes) if classes.contains(&b'm'))
+}
+
+/// What is said of an operand of a function that takes `takes`.
+fn operand_text(operand: &Operand, takes: &str) -> String {
+    let owner = owner_of_value(operand);
+    if may_be_missing(operand) {
+        let may = if operand.value == Value::Text(b"m".to_vec()) { "is" } else { "may be" };
+        return format!("{} {may} missing here", owner.unwrap_or_else(|| "what it gets".to_string()));
+    }
+    let word = operand_word(takes, operand.position).unwrap_or_else(|| "operand".to_string());
+    let of = owner.map_or_else(String::new, |owner| format!(", the value of {owner}"));
+    format!("its {word} is {} here{of}", value_text(&operand.value))
+}
+
+/// A number of literals, in words.
+fn literals(count: usize) -> String {
+    match count {
+        0 => "no literal".to_string(),
+        1 => "1 literal".to_string(),
+        more => format!("{more} literals"),
+    }
+}
+
+/// What may go wrong, in words.
+pub fn what_of(warning: &Warning) -> String {
+    let next = plain(&warning.next);
+    let takes = advice::operands(&warning.next);
+    let operand = warning.operand.as_ref().map(|operand| operand_text(operand, takes.unwrap_or("")));
+    match (warning.fault, takes, operand) {
+        (Some(Fault::LeftOver), _, _) => {
+            let command = warning.item.as_ref().map_or(format!("a command with `{next}`"), owner);
+            format!("{command} may leave {} on the stack", warning.depth.map_or("literals".to_string(), literals))
+        }
+        (Some(Fault::NoEntry), _, _) => format!("`{next}` needs a current entry, and EXECUTE has none"),
+        (Some(Fault::EmptyStack), Some(takes), _) => {
+            let depth = warning.depth.map_or("too few literals".to_string(), literals);
+            format!("`{next}` takes {takes}, and there may be {depth} on the stack here")
+        }
+        (Some(Fault::Incomparable), _, Some(operand)) => {
+            format!("`{next}` compares two strings or two numbers, and {operand}")
+        }
+        (Some(Fault::NotAssignable), _, _) => {
+            let what = warning.operand.as_ref().map_or("this".to_string(), |operand| value_text(&operand.value));
+            format!("`{next}` assigns to a variable, and {what} is none")
+        }
+        (_, Some(takes), Some(operand)) => format!("`{next}` takes {takes}, and {operand}"),
+        _ => what_of_place(warning, &next, takes),
+    }
+}
+
+/// What may go wrong where a place alone is known.
+fn what_of_place(warning: &Warning, next: &str, takes: Option<&str>) -> String {
+    if warning.places.is_empty() {
+        return format!("literals may be left on the stack where `{next}` is run by a command");
+    }
+    match (&warning.missing, takes) {
+        (Some(field), Some(takes)) => {
+            format!("`{next}` takes {takes}, and the field `{}` may be missing here", plain(field))
+        }
+        (Some(field), None) => format!("the field `{}` may be missing for `{next}`", plain(field)),
+        (None, Some(takes)) => {
+            format!("`{next}` takes {takes}: one of these may be missing on the stack, or be of another kind")
+        }
+        (None, None) => format!("`{next}` needs a current entry, and there may be none here"),
+    }
+}
+
+// ---- what to do ----
+
+const LEAVE_THE_SAME: &str =
+    "push what it takes, in this order; let both branches of each `if$` on the way leave the same number of literals";
+
+const TAKE_OFF: &str =
+    "take off what is pushed, by `write$` or `pop$`, in each function on the way and in both branches of each `if$`";
+
+/// What to do about it.
+pub fn advice_of(warning: &Warning) -> String {
+    let takes = advice::operands(&warning.next);
+    if let Some(field) = &warning.missing {
+        let field = plain(field);
+        return match (warning.fault, takes) {
+            (Some(Fault::Incomparable), _) => {
+                format!("compare only where `{field} empty$` leaves 0: a missing field can't be compared")
+            }
+            (_, Some(takes)) if takes.split(' ').all(|word| matches!(word, "NUMBER" | "VALUE")) => {
+                LEAVE_THE_SAME.to_string()
+            }
+            _ => format!("choose by `{field} empty$` before it, or `{field} missing$`"),
+        };
+    }
+    match warning.fault {
+        Some(Fault::NoEntry) => "run the function by ITERATE or REVERSE, not by EXECUTE".to_string(),
+        Some(Fault::NotAssignable) => "assign to a name that INTEGERS, STRINGS or ENTRY declares".to_string(),
+        Some(Fault::LeftOver) => TAKE_OFF.to_string(),
+        None if warning.places.is_empty() => TAKE_OFF.to_string(),
+        None if warning.next == b":=" => format!("{LEAVE_THE_SAME}; is there a ' before the variable?"),
+        Some(Fault::WrongKind) => advice_on_kind(warning, takes.unwrap_or("")),
+        None if takes.is_none() => "run the function by ITERATE or REVERSE, not by EXECUTE".to_string(),
+        _ => LEAVE_THE_SAME.to_string(),
+    }
+}
+
+/// What to do about an operand of another kind.
+fn advice_on_kind(warning: &Warning, takes: &str) -> String {
+    let Some(operand) = &warning.operand else { return LEAVE_THE_SAME.to_string() };
+    let is_function = matches!(operand.value, Value::Function(_));
+    match operand.wanted {
+        Some(Wanted::Function) if warning.next == b":=" => "write a ' before the variable".to_string(),
+        Some(Wanted::Function) => {
+            "put both functions in braces, or write a ' before the name of each; the number or test stands before them"
+                .to_string()
+        }
+        Some(Wanted::Integer | Wanted::Text) if is_function => {
+            format!("is a ' too many, or a function not run? push {takes} in this order")
+        }
+        Some(Wanted::Text) if matches!(operand.value, Value::Integer(..)) => {
+            format!("push {takes} in this order; `int.to.str$` makes a string of a number")
+        }
+        Some(Wanted::Text) if may_be_missing(operand) => "choose by `empty$` before it, or by `missing$`".to_string(),
+        _ => format!("push {takes} in this order"),
+    }
+}
+
+// ---- for whom, and how ----
+
+/// For entries of which types.
+fn types_of(group: &[&Warning]) -> Option<String> {
+    let by_type = |warning: &Warning| warning.item.as_ref().is_some_and(|item| owner(item).ends_with("{call.type$}"));
+    let mut names: Vec<String> = Vec::new();
+    let mut has_unknown = false;
+    for warning in group.iter().filter(|warning| by_type(warning)) {
+        for name in &warning.types {
+            let shown = plain(name);
+            has_unknown |= name.is_empty();
+            if !name.is_empty() && !names.contains(&shown) {
+                names.push(shown);
+            }
+        }
+    }
+    let more = names.len().saturating_sub(MOST_TYPES);
+    names.truncate(MOST_TYPES);
+    names.extend(if more > 0 { Some(format!("{more} more")) } else { None });
+    names.extend(if has_unknown { Some("types that the style doesn't know".to_string()) } else { None });
+    (!names.is_empty()).then(|| names.join(", "))
+}
+
+/// What is known of fields there.
+fn conditions_of(warning: &Warning) -> Option<String> {
+    let said = |fields: &[Vec<u8>], what: &str| -> Vec<String> {
+        fields.iter().take(MOST_FIELDS).map(|field| format!("{} {what}", plain(field))).collect()
+    };
+    let mut all = said(&warning.given, "is given");
+    all.extend(said(&warning.blank, "is missing or blank"));
+    let is_cut = warning.given.len() > MOST_FIELDS || warning.blank.len() > MOST_FIELDS;
+    all.extend(if is_cut { Some("..".to_string()) } else { None });
+    (!all.is_empty()).then(|| all.join(", "))
+}
+
+/// The way by which it is run: the functions, with the line in each.
+fn way_of(warning: &Warning) -> Option<String> {
+    let mut way: Vec<(String, usize)> = Vec::new();
+    for spot in warning.item.iter().chain(warning.places.iter().rev()) {
+        let (owner, line) = (owner(spot), spot.call.line);
+        match way.last_mut() {
+            Some(last) if last.0 == owner => last.1 = line,
+            _ => way.push((owner, line)),
+        }
+    }
+    let shown: Vec<String> = way.iter().map(|(name, line)| format!("{name} (line {line})")).collect();
+    (!warning.places.is_empty()).then(|| shown.join(" > "))
+}
+
+/// By how many literals the stack grows, in words.
+fn growth_text((least, most): Growth) -> String {
+    if least == most { least.to_string() } else { format!("{least} to {most}") }
+}
+
+/// Writes where the numbers of literals differ.
+fn write_cause(path: &str, cause: &Cause, out: &mut impl Write) -> io::Result<()> {
+    let [yes, no] = cause.grows.map(growth_text);
+    let Spot { call, .. } = &cause.spot;
+    writeln!(
+        out,
+        "{path}:{}: in {}: the branches of this `if$` leave different numbers of literals: the first {yes}, the second {no}",
+        call.line,
+        owner(&cause.spot)
+    )?;
+    writeln!(out, "    do: let both leave the same number; warnings below may follow from this")
+}
+
+/// Writes the warnings of one cause.
+fn write_group(path: &str, group: &[&Warning], entry: Option<&Shown>, out: &mut impl Write) -> io::Result<()> {
+    let first = group[0];
+    match (first.spot(), first.places.first()) {
+        (Some(_), Some(at)) => writeln!(out, "{path}:{}: in {}: {}", at.call.line, owner(at), what_of(first))?,
+        (Some(item), None) => writeln!(out, "{path}:{}: {}", item.call.line, what_of(first))?,
+        (None, _) => writeln!(out, "{path}: {}", what_of(first))?,
+    }
+    let mut lines: Vec<usize> = group[1..].iter().map(|warning| warning.line()).collect();
+    lines.sort_unstable();
+    lines.dedup();
+    lines.retain(|line| *line != first.line());
+    if !lines.is_empty() {
+        let plural = if lines.len() > 1 { "s" } else { "" };
+        let lines: Vec<String> = lines.iter().map(usize::to_string).collect();
+        writeln!(out, "    and in line{plural} {}", lines.join(", "))?;
+    }
+    let said = [
+        ("for entries of type", types_of(group)),
+        ("when", conditions_of(first)),
+        ("run by", way_of(first)),
+        ("do", Some(advice_of(first))),
+    ];
+    for (label, text) in said {
+        if let Some(text) = text {
+            writeln!(out, "    {label}: {text}")?;
+        }
+    }
+    entry.map_or(Ok(()), |entry| write_entry(entry, out))
+}
+
+/// Writes an entry that shows a warning.
+fn write_entry(entry: &Shown, out: &mut impl Write) -> io::Result<()> {
+    let Shown::By { database, message, since } = entry else {
+        return writeln!(out, "    possible only: no entry that was tried shows it");
+    };
+    let text = plain_lines(database);
+    if text.is_empty() {
+        writeln!(out, "    shown by any document, which logs:")?;
+    } else {
+        writeln!(out, "    shown by this database, which was tried:")?;
+    }
+    for line in text {
+        writeln!(out, "        {line}")?;
+    }
+    writeln!(out, "    logs: {}", plain(message))?;
+    for call in since {
+        writeln!(out, "    left since: {}, line {}", plain(&call.function), call.line)?;
+    }
+    Ok(())
+}
+
+/// The lines of a text, each safe to print.
+fn plain_lines(text: &[u8]) -> Vec<String> {
+    text.split(|byte| *byte == b'\n').filter(|line| !line.is_empty()).map(plain).collect()
+}
+
+/// Writes all warnings of a style; `entries` says of each that is shown whether an entry shows it, where that was asked.
+pub fn write(path: &str, found: &Warnings, entries: Option<&[Shown]>, out: &mut impl Write) -> io::Result<()> {
+    let shown = found.shown();
+    let is_of_stack =
+        |warning: &&&Warning| matches!(warning.fault, Some(Fault::EmptyStack | Fault::LeftOver | Fault::WrongKind));
+    if shown.iter().any(|warning| is_of_stack(&warning)) {
+        found.causes.iter().try_for_each(|cause| write_cause(path, cause, out))?;
+    }
+    for group in groups(&shown) {
+        let warnings: Vec<&Warning> = group.iter().map(|number| shown[*number]).collect();
+        let entry = entries.and_then(|entries| {
+            let mut of_group = group.iter().filter_map(|number| entries.get(*number));
+            of_group.clone().find(|entry| matches!(entry, Shown::By { .. })).or_else(|| of_group.next())
+        });
+        write_group(path, &warnings, entry, out)?;
+    }
+    Ok(())
+}
+
+/// The verdict on a style with warnings.
+pub fn verdict(found: &Warnings) -> String {
+    let shown = found.shown();
+    let (places, causes) = (shown.len(), groups(&shown).len());
+    let plural = |count: usize, word: &str| format!("{count} {word}{}", if count == 1 { "" } else { "s" });
+    let counted = if causes == places {
+        plural(places, "place")
+    } else {
+        format!("{}, {}", plural(places, "place"), plural(causes, "cause"))
+    };
+    let more = if found.is_partial { "; there may be more behind" } else { "" };
+    format!("{counted}{more}")
+}
+
+#[cfg(test)]
+mod tests {
+    use super::*;
+    use crate::lint_warnings::read;
+
+    fn said(notes: &str) -> String {
+        let read = read(notes.as_bytes(), b"s.bst");
+        what_of(&read.warnings[0])
+    }
+
+    #[test]
+    fn each_fault_has_its_words() {
+        let rows = [
+            (
+                "warning kind first\nnext write$\ndepth 1\noperand 0 text mewf\nwants text\nname field title\nmissing title\nat in 2 0 1 f\n",
+                "`write$` takes TEXT, and the field `title` may be missing here",
+            ),
+            (
+                "warning kind first\nnext +\noperand 1 text f\nwants integer\nname variable s\nat in 2 0 1 f\n",
+                "`+` takes NUMBER NUMBER, and its first NUMBER is a string here, the value of the variable `s`",
+            ),
+            (
+                "warning kind first\nnext :=\noperand 0 integer 0 0\nwants function\nat in 2 0 1 f\n",
+                "`:=` takes VALUE 'VARIABLE, and its VARIABLE is the integer 0 here",
+            ),
+            (
+                "warning kind first\nnext if$\noperand 2 text f\nwants integer\nat in 2 0 1 f\n",
+                "`if$` takes NUMBER {THEN} {ELSE}, and its NUMBER is a string here",
+            ),
+            (
+                "warning stack first\nnext *\ndepth 1\nat in 2 0 1 f\n",
+                "`*` takes TEXT TEXT, and there may be 1 literal on the stack here",
+            ),
+            (
+                "warning equal first\nnext =\noperand 0 text mf\nname field year\nmissing year\nat in 2 0 1 f\n",
+                "`=` compares two strings or two numbers, and the field `year` may be missing here",
+            ),
+            (
+                "warning variable first\nnext :=\noperand 0 function skip$\nat in 2 0 1 f\n",
+                "`:=` assigns to a variable, and the function `skip$` is none",
+            ),
+            ("warning entry first\nnext cite$\nat in 2 0 1 f\n", "`cite$` needs a current entry, and EXECUTE has none"),
+            (
+                "warning left first\nnext call.type$\ndepth 2\nitem ITERATE 9 call.type$\n",
+                "ITERATE {call.type$} may leave 2 literals on the stack",
+            ),
+        ];
+        for (notes, wanted) in rows {
+            assert_eq!(said(notes), wanted);
+        }
+    }
+
+    #[test]
+    fn warnings_of_one_cause_stand_together() {
+        let notes =
+            b"warning stack first\nnext write$\ndepth 0\nitem ITERATE 9 call.type$\nat of 4 3 0 f\nfrom in 6 3 1 f\n\
+            from in 8 4 1 book\ntype book\ntype\ngiven title\nwarning stack later\nnext *\nat in 5 3 2 f\n\
+            warning stack first\nnext add.period$\nat in 3 3 2 f\ncause in 7 3 9 f\ngrows 0 0 1 2\n";
+        let mut out = Vec::new();
+        let found = read(notes, b"s.bst");
+        write("s.bst", &found, None, &mut out).unwrap();
+        let wanted = "s.bst:7: in f: the branches of this `if$` leave different numbers of literals: the first 0, the second 1 to 2\n    \
+            do: let both leave the same number; warnings below may follow from this\n\
+            s.bst:4: in f: `write$` takes TEXT, and there may be no literal on the stack here\n    and in line 3\n    \
+            for entries of type: book, types that the style doesn't know\n    when: title is given\n    \
+            run by: ITERATE {call.type$} (line 9) > book (line 8) > f (line 4)\n    \
+            do: push what it takes, in this order; let both branches of each `if$` on the way leave the same number of literals\n";
+        assert_eq!(String::from_utf8(out).unwrap(), wanted);
+        assert_eq!(verdict(&found), "2 places, 1 cause");
+    }
+}
