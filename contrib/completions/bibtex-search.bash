@@ -8,7 +8,7 @@ _bibtex_options() {
     bibtex-confined)
         echo "$kept limit-memory= limit-aux= limit-input= limit-output= limit-processor= limit-clock= limit-steps= limit-names="
         ;;
-    bibtex-lint) echo 'line json job steps= help version' ;;
+    bibtex-lint) echo 'line json entry job steps= help version' ;;
     *) echo "$kept budget= dir= terse" ;;
     esac
 }

@@ -48,6 +48,7 @@ complete -c bibtex-proved -l dir -x -a '(__fish_complete_directories)' -d 'The f
 complete -c bibtex-lint -f -a '(__fish_complete_suffix .bst)'
 __bibtex_option bibtex-lint l line 'Print a line for each style'
 __bibtex_option bibtex-lint l json 'Print all that is found as JSON'
+__bibtex_option bibtex-lint l entry 'Search for an entry that shows each warning'
 complete -c bibtex-lint -l job -x -a '(__fish_complete_suffix .aux)' -d 'Explain where the style of a job stands at each error'
 __bibtex_option bibtex-lint l steps 'Steps that a check may take' 1000000
 __bibtex_option bibtex-lint l help 'Print the options'

@@ -322,8 +322,8 @@ pub enum Verdict {
     Clean { literals: u64, bodies: u64, types: Vec<Vec<u8>> },
     /// It isn't known to be clean: notes say where it may go wrong.
     Warnings(Vec<u8>),
-    /// The check didn't come to an end.
-    Incomplete,
+    /// The check didn't come to an end; notes say where the style may go wrong, as far as that was seen.
+    Incomplete(Vec<u8>),
 }
 
 /// The room for the names of types and for the notes that is tried first.
@@ -363,7 +363,7 @@ fn check_in(name: &[u8], style: &[u8], steps: u64, room: usize) -> Option<Verdic
     Some(match verdict.verdict {
         0 => Verdict::Clean { literals: verdict.literals, bodies: verdict.bodies, types },
         1 => Verdict::Warnings(notes),
-        _ => Verdict::Incomplete,
+        _ => Verdict::Incomplete(notes),
     })
 }
 
@@ -433,7 +433,7 @@ mod tests {
         let clean = STYLE.replace("title write$", "title empty$ 'skip$ { title write$ } if$");
         let types = vec![b"misc".to_vec()];
         assert_eq!(check(b"s.bst", clean.as_bytes(), 1000), Some(Verdict::Clean { literals: 3, bodies: 2, types }));
-        assert_eq!(check(b"s.bst", clean.as_bytes(), 1), Some(Verdict::Incomplete));
+        assert_eq!(check(b"s.bst", clean.as_bytes(), 1), Some(Verdict::Incomplete(Vec::new())));
     }
 
     #[test]

@@ -190,7 +190,7 @@ fn status_of(check: &StyleCheck) -> Status {
         _ if check.messages > 0 => Status::Errors,
         Some(Verdict::Clean { .. }) => Status::Finished,
         Some(Verdict::Warnings(_)) => Status::Errors,
-        Some(Verdict::Incomplete) | None => Status::Limit,
+        Some(Verdict::Incomplete(_)) | None => Status::Limit,
     }
 }
 

@@ -36,7 +36,7 @@ impl StyleCheck {
         let bytes = style.bytes.clone().unwrap_or_default();
         let verdict = btx::check(&style.name, &bytes, steps);
         let found = match &verdict {
-            Some(Verdict::Warnings(notes)) => read(notes, &style.name),
+            Some(Verdict::Warnings(notes) | Verdict::Incomplete(notes)) => read(notes, &style.name),
             _ => Warnings::default(),
         };
         let entries = has_entries.then(|| entries(&style, &found.shown()));

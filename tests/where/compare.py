@@ -3,7 +3,8 @@
     python3 compare.py [--jobs N] [--programs N] [--entries N] [--seed N] [--styles FOLDER] LIBRARY.so
 
 LIBRARY.so is the library for C (library/out/libbtx.so.1). Runs the worked and corner jobs, random jobs and programs, and a database of errors with each style of the folder (that of TeX Live,
-if it is there), and compares all notes of all errors, line by line. The last line is 'N passed, M failed', of jobs; the line above it counts the events."""
+if it is there), and compares all notes of all errors, line by line. The last line is 'N passed, M failed', of jobs; the lines above it count the jobs
+with errors, and the events."""
 
 import argparse
 import collections
@@ -112,6 +113,7 @@ def seed_of_commit():
 def compare(library, files, options, counts):
     """Whether both note the same."""
     there, (here, product) = library.notes(files, b"job", options), trace(files, b"job", options, MOST)
+    counts["jobs with errors"] += any(line.startswith((b"event step", b"event test", b"event left")) for line in here)
     for line in here:
         if line.startswith(b"event "):
             counts[line.split(b" ")[1].decode()] += 1
@@ -144,6 +146,7 @@ def main():
         made = itertools.chain(made, style_jobs(arguments.styles, arguments.entries))
     for files, given in made:
         results.append(compare(library, files, Options(**given), counts))
+    print("%d jobs have errors of their execution" % counts.pop("jobs with errors"))
     print("events:", ", ".join("%d %s" % (counts[word], word) for word in sorted(counts)))
     print(f"{results.count(True)} passed, {results.count(False)} failed")
     return results.count(False)
