@@ -12,7 +12,6 @@ use std::ffi::OsString;
 use std::io::{self, Write};
 use std::os::unix::ffi::OsStringExt;
 use std::process::ExitCode;
-use std::thread;
 
 const HELP: &str = "\
   Says of styles of BibTeX, before any document uses them, what is wrong in
@@ -36,9 +35,6 @@ Exit status: 0 all are clean; 1 the words are refused, or a style isn't found;
 
 /// How many steps a check may take.
 const STEPS: u64 = 1_000_000;
-
-/// The stack of a check: the checker follows literals as deep as they are nested.
-const STACK: usize = 1 << 28;
 
 /// How a style's check is printed.
 #[derive(Debug, Clone, Copy, PartialEq, Eq)]
@@ -143,10 +139,7 @@ fn check_all(name: &Name, how: How, styles: &[Vec<u8>]) -> Status {
             statuses.push(Status::Refused);
             continue;
         };
-        let Some(check) = check_in_thread(file, how) else {
-            name.say("out of memory");
-            return Status::Memory;
-        };
+        let check = StyleCheck::new(file, how.steps, how.has_entries);
         statuses.push(status_of(&check));
         let written = match how.form {
             Form::People => write_for_people(&check, &terminal, &mut out),
@@ -175,14 +168,6 @@ fn find(search: &Search, name: &[u8]) -> Option<File> {
     let bytes = read_file(&path)?;
     let last = whole.rsplit(|byte| *byte == b'/').next().unwrap_or_default().to_vec();
     Some(File { name: last, bytes: Some(bytes), path })
-}
-
-/// Checks a style with a stack of its own.
-fn check_in_thread(style: File, how: How) -> Option<StyleCheck> {
-    let check =
-        thread::Builder::new().stack_size(STACK).spawn(move || StyleCheck::new(style, how.steps, how.has_entries));
-    let check = check.ok()?;
-    check.join().ok()
 }
 
 fn status_of(check: &StyleCheck) -> Status {

@@ -6,9 +6,20 @@ use crate::job::{File, Files};
 use crate::lint_entry::{Shown, entries};
 use crate::lint_warnings::{Warnings, read};
 use crate::log::{Content, Log, Place};
+use std::fs;
+use std::sync::mpsc::{self, RecvTimeoutError};
+use std::thread;
+use std::time::Duration;
 
 /// How many steps the commands of a style may take that is read for its messages: no entry is there.
 const STEPS_OF_READING: u64 = 100_000;
+
+/// The stack of a check.
+const STACK: usize = 1 << 28;
+
+/// How many hundredths of a second of the processor a check may take, and how often that is looked at.
+const MOST_TIME: u64 = 800;
+const TURN: Duration = Duration::from_millis(50);
 
 /// The room for the log of a style's own messages.
 const ROOM: usize = 1 << 24;
@@ -34,7 +45,7 @@ impl StyleCheck {
     /// Checks a style in at most `steps` steps of the check. Where `has_entries`, an entry is searched for that shows each warning.
     pub fn new(style: File, steps: u64, has_entries: bool) -> StyleCheck {
         let bytes = style.bytes.clone().unwrap_or_default();
-        let verdict = btx::check(&style.name, &bytes, steps);
+        let verdict = check_within(&style, steps);
         let found = match &verdict {
             Some(Verdict::Warnings(notes) | Verdict::Incomplete(notes)) => read(notes, &style.name),
             _ => Warnings::default(),
@@ -49,6 +60,31 @@ impl StyleCheck {
     pub fn is_clean(&self) -> bool {
         self.messages == 0 && matches!(self.verdict, Some(Verdict::Clean { .. }))
     }
+}
+
+/// Checks a style in a thread with a stack of its own, as the checker follows literals as deep as they are nested. A check that takes too many seconds of the processor is given up: its thread
+/// goes on until the program ends.
+fn check_within(style: &File, steps: u64) -> Option<Verdict> {
+    let (sender, receiver) = mpsc::channel();
+    let (name, bytes) = (style.name.clone(), style.bytes.clone().unwrap_or_default());
+    let check = move || drop(sender.send(btx::check(&name, &bytes, steps)));
+    thread::Builder::new().stack_size(STACK).spawn(check).ok()?;
+    let began = processor_time();
+    loop {
+        match receiver.recv_timeout(TURN) {
+            Ok(verdict) => return verdict,
+            Err(RecvTimeoutError::Timeout) if processor_time().saturating_sub(began) < MOST_TIME => {}
+            Err(_) => return None,
+        }
+    }
+}
+
+/// How many hundredths of a second of the processor this program has taken; 0 where the system doesn't say.
+fn processor_time() -> u64 {
+    let stat = fs::read_to_string("/proc/self/stat").unwrap_or_default();
+    let fields = stat.rsplit(')').next().unwrap_or_default().split_whitespace();
+    // (behind the program's name: those of the program itself, and those of the system for it)
+    fields.skip(11).take(2).filter_map(|field| field.parse::<u64>().ok()).sum()
 }
 
 /// A job of a style, without entries.
