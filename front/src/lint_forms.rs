@@ -35,11 +35,13 @@ pub fn write_for_people(check: &StyleCheck, terminal: &Terminal, out: &mut impl 
 
 fn write_verdict(path: &str, check: &StyleCheck, out: &mut impl Write) -> io::Result<()> {
     match &check.verdict {
+        Some(Verdict::Clean { .. }) if check.messages > 0 => {
+            writeln!(out, "{path}: its text has mistakes: mend these first (what could be read of it is clean)")
+        }
         Some(Verdict::Clean { literals, bodies, types }) => {
-            let of_text = if check.messages > 0 { "what could be read of it is " } else { "" };
             writeln!(
                 out,
-                "{path}: {of_text}clean: no run of it logs a fault of its own (at most {literals} literals, {bodies} bodies)"
+                "{path}: clean: no run of it logs a fault of its own (at most {literals} literals, {bodies} bodies)"
             )?;
             let types: String = types.iter().map(|name| format!("{}, ", plain(name))).collect();
             writeln!(out, "    for entries of the types {types}and of all that it doesn't know")
