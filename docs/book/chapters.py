@@ -18,6 +18,7 @@ class Section:
 
     def __init__(self, title):
         self.title, self.modules, self.rules, self.examples, self.reason, self.parts = title, [], [], [], None, []
+        self.believed, self.table = set(), None
         self.captions, self.number = {}, None
 
     @property
@@ -27,7 +28,7 @@ class Section:
 
 class Chapter:
     def __init__(self, title):
-        self.title, self.opening, self.sections, self.number = title, [], [], None
+        self.title, self.opening, self.sections, self.number, self.is_from_the_top, self.part = title, [], [], None, False, None
 
     @property
     def definitions(self):
@@ -60,10 +61,19 @@ def read(text):
 def read_line(chapter, line):
     word, _, rest = line.partition(": ")
     section = chapter.sections[-1] if chapter.sections else None
-    if section is None:
+    if line == "order: from the top":
+        chapter.is_from_the_top = True
+    elif section is None and word == "part":
+        chapter.part = rest.strip()
+    elif section is None:
         chapter.opening.append(line.strip())
     elif word == "modules":
         section.modules += rest.split(", ")
+    elif word == "believed":
+        section.modules += rest.split(", ")
+        section.believed.update(rest.split(", "))
+    elif word == "table":
+        section.table = rest.strip()
     elif word == "rule":
         section.rules += rest.split("; ")
     elif word == "example":
@@ -91,7 +101,8 @@ def place(chapters, found):
         for section_number, section in enumerate(chapter.sections, 1):
             section.number = f"{chapter_number}.{section_number}"
             for module in section.modules:
-                own = sorted((it for it in by_module.get(module, []) if it.kind != "rust"), key=place_in_module)
+                own = sorted((it for it in by_module.get(module, []) if it.kind != "rust" and it not in placed and (it.is_believed or module not in section.believed)),
+                             key=place_in_module)
                 section.parts.append((module, with_types(own, placed)))
             for it in section.definitions:
                 count += 1
@@ -121,9 +132,10 @@ def with_types(own, placed):
     return found
 
 
-def forward_references(found):
-    """Definitions that use one of a later chapter."""
-    return [(it, used) for it in found for used in it.uses if it.place and used.place and used.place[0] > it.place[0]]
+def forward_references(found, chapters):
+    """Definitions that use one of a later chapter, where the chapter isn't read from the top downwards."""
+    downwards = {chapter.number for chapter in chapters if chapter.is_from_the_top}
+    return [(it, used) for it in found for used in it.uses if it.place and used.place and used.place[0] > it.place[0] and it.place[0] not in downwards]
 
 
 # ---- examples ----

@@ -9,6 +9,8 @@ LONG_TABLE = 12
 ELEMENTS = r" (?=∷ )"
 # Where a long line may be broken, outside parentheses, the loosest sign first; and whether what follows is indented.
 JOINTS = [(r"(?<= in) ", False), (r" (?=else )", True), (r" (?=→ )", True), (r" (?=\|\| |&& )", True), (ELEMENTS, True), (r" (?=\+\+ )", True)]
+# A line that its author broke behind such a sign.
+UNFINISHED = re.compile(r"(==|\|\||&&|\+\+|\()$")
 CODES = re.compile(r'\(codes ("(?:[^"\\]|\\.)*")\)|codes (?=")')
 
 
@@ -19,12 +21,23 @@ def shown(definition):
     if definition.kind == "job":
         return definition.lines
     lines, is_table = [], definition.kind == "equations" and len(definition.lines) > LONG_TABLE
-    for line in definition.lines:
+    for line in rejoined(definition.lines):
         line = re.sub(r"^(\s+)pub ", r"\1", line.replace(" : Type 0 where", " where").replace("Unit {0}", "Unit"))
         line = CODES.sub(lambda found: found[1] or "", line)
         # (the rows of a table stay one line each, and wrap where a page is narrow)
         lines += [line] if is_table and not line.startswith(" ") else broken(line, re.match(r"\s*", line)[0])
     return aligned(lines) if definition.kind == "equations" else lines
+
+
+def rejoined(lines):
+    """Lines of which each that ends within parentheses or behind a sign that joins has its rest again, so that it is broken at its own joints."""
+    found = []
+    for line in lines:
+        if found and UNFINISHED.search(found[-1]) and not found[-1].lstrip().startswith("--") and "record {" not in found[-1]:
+            found[-1] += " " + line.strip()
+        else:
+            found.append(line)
+    return found
 
 
 def rust_lines(lines):

@@ -18,9 +18,11 @@ import re
 import sys
 
 import believed
+import bibtex_names
 import chapters
 import definitions
 import examples
+import functions
 import glossary
 import links
 import reach
@@ -77,7 +79,7 @@ class Book:
             self.check(it not in self.lost, f"{where(it)}: `{it.module}` stands in no chapter, and `{it.name}` belongs into the book")
         silent = [f"{where(it)}: `{it.name}` has no comment" for it in self.found if not it.comment]
         self.check_few("definitions without a comment", silent, len(self.found))
-        forward = [f"{where(it)}: `{it.name}` uses `{used.name}` of a later chapter" for it, used in chapters.forward_references(self.found)]
+        forward = [f"{where(it)}: `{it.name}` uses `{used.name}` of a later chapter" for it, used in chapters.forward_references(self.found, self.chapters)]
         self.check_few("forward references between chapters", forward, len(self.found))
         self.check_folders()
         self.check_believed()
@@ -86,6 +88,12 @@ class Book:
         self.check_notation()
         self.check_links()
         self.check_sizes()
+        self.check_tables()
+
+    def check_tables(self):
+        """The tables of docs/RULES.md from which the index and the table of functions are made."""
+        lacking = bibtex_names.lacking() + functions.lacking(self.by_id)
+        self.check(not lacking, "; ".join(lacking))
 
     def check_folders(self):
         """Each folder of specs/ has what it is named after, definition by definition (`folder_wanted` of reach.py)."""
@@ -181,7 +189,8 @@ class Book:
 
     def write(self):
         OUT.mkdir(exist_ok=True)
-        for name, made in (("book.html", weave_html.book_html(self)), ("book.md", weave_markdown.book_markdown(self))):
+        pages = weave_html.book_html(self)
+        for name, made in (pages | {"book.md": weave_markdown.book_markdown(self)}).items():
             (OUT / name).write_text(made, encoding="utf-8")
             print(f"{(OUT / name).relative_to(chapters.ROOT)}: {len(made) / 1e6:.1f} MB")
 

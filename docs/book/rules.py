@@ -1,15 +1,24 @@
-"""The rules in words, docs/RULES.md, as the last part of the book: each section of definitions links to its rule there."""
+"""The rules in words, docs/RULES.md, as the first part of the book: each rule links to its definitions, and each section of definitions to its rule."""
 
 import html
 import pathlib
 import re
 
+# The first column of the tables of functions and of commands.
+NAMED = ("function", "command")
+# Code in a line, in its marks.
+CODE = r"(`[^`]+`)"
 FILE = pathlib.Path(__file__).resolve().parents[2] / "docs/RULES.md"
 
 
 def anchor(heading):
     """The anchor of a heading in the book."""
     return "rule-" + re.sub(r"[^\w\- ]", "", heading.strip().lower()).replace(" ", "-")
+
+
+def row_anchor(name):
+    """The anchor of a function's or a command's row."""
+    return "name-" + "-".join(re.findall(r"\w+", name)) if re.search(r"\w", name) else "name-" + "-".join(f"{ord(sign):x}" for sign in name)
 
 
 def source():
@@ -33,37 +42,53 @@ def as_markdown():
 # ---- HTML ----
 
 
+def joined(text):
+    """The lines of a paragraph as one, with the spaces that stand in its code."""
+    return "".join(re.sub(r"\s*\n\s*", " ", part) if number % 2 else re.sub(r"\s+", " ", part) for number, part in enumerate(re.split(CODE, text.strip())))
+
+
 def inline(text):
-    """`code`, **bold**, *italic* and [links](..) of a line."""
-    out = []
-    for part in re.split(r"(`[^`]+`)", text):
-        if part.startswith("`") and len(part) > 2:
-            out.append(f"<code>{html.escape(part[1:-1].replace(chr(92) + '|', '|'), quote=False)}</code>")
-        else:
-            part = re.sub(r"\*\*([^*]+)\*\*", r"<b>\1</b>", html.escape(part, quote=False))
-            out.append(re.sub(r"(?<!\w)\*([^*]+)\*(?!\w)", r"<i>\1</i>", part))
-    return re.sub(r"\[((?:[^\]<]|<[^>]*>)+)\]\((#[\w.'-]+)\)", r'<a href="\2">\1</a>', "".join(out))
+    """`code`, **bold**, *italic* and [links](..) of a line. Code is put aside while the signs round it are read."""
+    codes = []
+
+    def aside(found):
+        codes.append(html.escape(found[0][1:-1].replace("\\|", "|"), quote=False))
+        return f"\0{len(codes) - 1}\0"
+    text = html.escape(re.sub(CODE, aside, text), quote=False)
+    text = re.sub(r"\*\*([^*]+)\*\*", r"<b>\1</b>", text)
+    text = re.sub(r"(?<!\w)\*([^*]+)\*(?!\w)", r"<i>\1</i>", text)
+    text = re.sub(r"\[((?:[^\]<]|<[^>]*>)+)\]\((#[\w.'-]+)\)", r'<a href="\2">\1</a>', text)
+    return re.sub("\0(\\d+)\0", lambda found: f"<code>{codes[int(found[1])]}</code>", text)
 
 
 def table(lines):
-    rows = [[inline(cell.strip()) for cell in re.split(r"(?<!\\)\|", line.strip().strip("|"))] for line in lines if not re.match(r"\|[-| ]+$", line)]
-    head, *body = ["<tr>" + "".join(f"<{mark}>{cell}</{mark}>" for cell in row) + "</tr>" for mark, row in zip(["th"] + ["td"] * len(rows), rows)]
-    return f"<table>{head}{''.join(body)}</table>"
+    """A table, in a box of its own that scrolls where the page is narrow; a function and a command can be linked to."""
+    rows = [[cell.strip() for cell in re.split(r"(?<!\\)\|", line.strip().strip("|"))] for line in lines if not re.match(r"\|[-| ]+$", line)]
+    head, *body = rows
+    marks = "".join(f"<th>{inline(cell)}</th>" for cell in head)
+    found = "".join(f"<tr>{''.join(f'<td>{anchors(cell) if head[0] in NAMED and not at else inline(cell)}</td>' for at, cell in enumerate(row))}</tr>" for row in body)
+    return f'<div class="wide"><table><tr>{marks}</tr>{found}</table></div>'
+
+
+def anchors(cell):
+    """The names of a row's first cell, each with its anchor."""
+    return re.sub(CODE, lambda found: f'<span id="{row_anchor(found[0][1:-1])}">{inline(found[0])}</span>', cell)
 
 
 def items(block, mark, tag):
-    found = [inline(" ".join(item.split())) for item in re.split(rf"(?m)^{mark} ", block)[1:]]
+    found = [inline(joined(item)) for item in re.split(rf"(?m)^{mark} ", block)[1:]]
     return f"<{tag}>" + "".join(f"<li>{item}</li>" for item in found) + f"</{tag}>"
 
 
-def block_html(block):
-    """A heading, a table, code, a list or a paragraph."""
+def block_html(block, definitions):
+    """A heading, with a link to the definitions of its rule; a table, code, a list or a paragraph."""
     lines = block.split("\n")
     heading = re.match(r"(##+) (.+)", block)
     if heading:
         level = len(heading[1]) + 1
-        rest = block_html("\n".join(lines[1:])) if lines[1:] else ""
-        return f'<h{level} id="{anchor(heading[2])}">{inline(heading[2])}</h{level}>{rest}'
+        rest = block_html("\n".join(lines[1:]), definitions) if lines[1:] else ""
+        defined = definitions.get(anchor(heading[2]))
+        return f'<h{level} id="{anchor(heading[2])}">{inline(heading[2])}</h{level}>' + (f'<p class="rule">Defined in {defined}.</p>' if defined else "") + rest
     if block.startswith("|"):
         return table(lines)
     if all(line.startswith("    ") for line in lines):
@@ -72,10 +97,10 @@ def block_html(block):
         return items(block, "-", "ul")
     if block.startswith("1. "):
         return items(block, r"\d+\.", "ol")
-    return f"<p>{inline(' '.join(block.split()))}</p>"
+    return f"<p>{inline(joined(block))}</p>"
 
 
-def as_html():
-    """The rules as a chapter of the book."""
+def as_html(definitions):
+    """The rules as a chapter of the book; `definitions` has, for a rule's anchor, links to the sections that define it."""
     blocks = [block.strip("\n") for block in re.split(r"\n\n+", source())]
-    return '<h2 id="rules">The rules in words</h2>\n<div class="rules">' + "\n".join(block_html(block) for block in blocks if block.strip()) + "</div>"
+    return '<h2 id="rules">The rules in words</h2>\n<div class="rules">' + "\n".join(block_html(block, definitions) for block in blocks if block.strip()) + "</div>"

@@ -1,10 +1,13 @@
 """Weaves the book as one HTML file, which needs nothing else."""
 
+import functools
 import html
 import pathlib
 import re
 
+import bibtex_names
 import chapters
+import functions
 import glossary
 import layout
 import links
@@ -13,6 +16,10 @@ import rules
 from definitions import KEYWORDS, TOKEN, Word
 
 STYLE = pathlib.Path(__file__).with_name("book.css")
+SCRIPT = pathlib.Path(__file__).with_name("book.js")
+# The pages, and the chapter that is a page of its own.
+BOOK, WORKED_EXAMPLES = "book.html", "worked.html"
+WORKED = "Worked examples"
 # The signs of the library that a stranger looks up.
 LINKED_SIGN = re.compile(r"\+\+|&&|\|\||[≡≢×⊎∷⊥ℕℤ↔≤]")
 
@@ -22,8 +29,10 @@ def text(source):
     return rules.inline(source)
 
 
+@functools.lru_cache(maxsize=None)
 def word_id(word):
-    return "word-" + "-".join(f"{ord(sign):x}" for sign in word)
+    """The anchor of a word of the library, short since each use of the word has it."""
+    return f"w{list(glossary.meanings()).index(word)}" if word in glossary.meanings() else "words"
 
 
 # ---- code ----
@@ -32,7 +41,7 @@ def word_id(word):
 def linked(word, definition, is_head):
     """A word of a definition's text, as a link to what it means."""
     if word.startswith('"'):
-        return f"<q>{html.escape(word[1:-1], quote=False)}</q>"
+        return f'<span class="q">{html.escape(word, quote=False)}</span>'
     first, _, rest = word.partition(".")
     if first in KEYWORDS and not rest:
         return f"<b>{word}</b>"
@@ -61,14 +70,14 @@ def code_line(line, definition):
     body = line.lstrip()
     pad = len(line) - len(body)
     if body.startswith("--"):
-        return f'<span class="l c" style="--i:{pad}">{text(body[2:].strip())}</span>'
+        return f'<span class="l c" style="--i:{pad}">{" " * pad}<span class="h">-- </span>{text(body[2:].strip())}</span>'
     parts, at = [], 0
     for found in TOKEN.finditer(body) if definition.kind != "job" else []:
         is_head = pad == 0 and found[0] == definition.name and definition.kind not in ("row", "trait", "contract", "law", "rust") and (
             found.start() == 0 or body[:found.start()].strip() in ("record", "data"))
         parts += [signs(body[at:found.start()]), linked(found[0], definition, is_head)]
         at = found.end()
-    return f'<span class="l" style="--i:{pad}">{"".join(parts)}{signs(body[at:])}</span>'
+    return f'<span class="l" style="--i:{pad}">{" " * pad}{"".join(parts)}{signs(body[at:])}</span>'
 
 
 def code(definition):
@@ -85,15 +94,14 @@ def references(found, most=8):
 
 def definition_html(it):
     """A definition: its number and comment, its text, its margin, and the links to what it uses and what uses it."""
-    carried = layout.carried_by(it)
-    margin = f'{it.crate} · {layout.what_it_is(it)}' + (f", carried by {text(carried)}" if carried else "")
+    margin = f"{it.crate} · {layout.what_it_is(it)}"
     comment = text(layout.prose(it.comment)) or "<em>(no comment)</em>"
     uses, users = layout.uses_elsewhere(it), layout.users_of(it)
     foot = [text(", ".join(layout.bytes_in(it)))] * bool(layout.bytes_in(it))
     foot += [text(f"`{written}` is {what}") + references([target]) for written, what, target in layout.renamed_in(it)]
     foot += [f"uses {references(uses, 99)}"] * bool(uses) + [f"used in {references(users)}"] * bool(users)
     heading = f"<h4>{text(it.heading[0].upper() + it.heading[1:])}</h4>" if it.heading else ""
-    return (f'{heading}<section id="{it.id}" class="{it.reach}"><p><span>{it.number}</span> {comment}</p>{code(it)}'
+    return (f'{heading}<section id="{it.id}" class="{it.reach}"><p><a class="number" href="#{it.id}">{it.number}</a> {comment}</p>{code(it)}'
             f'<footer>{" · ".join(foot)}</footer><aside>{margin}</aside></section>')
 
 
@@ -104,7 +112,16 @@ def example_html(example, said, known):
             + f"<footer>{html.escape(example.shown)}, which is checked</footer></div>")
 
 
-def section_html(section, examples, known):
+def functions_html(by_id):
+    """The table of the functions of styles, with a number, a sentence, the operands and an example for each."""
+    rows = "".join(f'<tr id="function-{it.number}"><td><a href="#function-{it.number}">{it.number}</a></td><td><a href="#{rules.row_anchor(it.name.strip("`"))}">{text(it.name)}</a></td>'
+                   f"<td>{text(it.operands)}</td><td>{text(it.does)}{': ' + text(it.errors) if it.errors else ''}</td><td>{text(it.default)}</td><td>{text(it.example)}</td></tr>"
+                   for it in functions.table(by_id))
+    return ('<p>The 37 functions of styles. Operands are named from the top: I an integer, S a string, F a function, M a string or a missing field, L any literal.</p>'
+            f'<div class="wide"><table><tr><th></th><th>function</th><th>operands</th><th>what it does, and its own errors</th><th>default</th><th>example</th></tr>{rows}</table></div>')
+
+
+def section_html(section, examples, known, by_id):
     anchors = rules.headings()
     linked_rules = ", ".join(f'<a href="#{anchors[rule]}">{html.escape(rule)}</a>' for rule in section.rules if rule in anchors)
     out = [f'<h3 id="s{section.number}">{section.number} {text(section.title)}</h3>']
@@ -113,36 +130,55 @@ def section_html(section, examples, known):
         out.append(f'<p class="rule">The rule in words: {linked_rules}.{of_manuals}</p>')
     for name, example in ((name, examples[name]) for name in section.examples if name in examples):
         out.append(example_html(example, layout.caption(section, name, example), known))
+    out += [functions_html(by_id)] * (section.table == "functions")
     for module, found in section.parts:
-        intros = " ".join(f'{text(layout.prose(intro))} <span class="file">{file}</span>' for file, intro in chapters.files_of(module, found))
-        out.append(f'<p class="intro" id="m-{module.replace("::", ".").replace("/", ".")}">{intros}</p>')
+        intros = "".join(f'<p>{text(layout.prose(intro))} <span class="file">{file}</span></p>' for file, intro in chapters.files_of(module, found))
+        out.append(f'<div class="intro" id="m-{module.replace("::", ".").replace("/", ".")}">{intros}</div>')
         out += [definition_html(it) for it in found]
     return "\n".join(out)
 
 
 def chapter_html(chapter, examples, by_id):
     opening, known = text(links.linked(" ".join(chapter.opening), by_id)), set()
-    return (f'<h2 id="ch{chapter.number}">{chapter.number}. {text(chapter.title)}</h2><p class="opening">{opening}</p>'
-            + "\n".join(section_html(section, examples, known) for section in chapter.sections))
+    part = f'<p class="part">{text(chapter.part)}</p>' if chapter.part else ""
+    return (f'{part}<h2 id="ch{chapter.number}">{chapter.number}. {text(chapter.title)}</h2><p class="opening">{opening}</p>'
+            + "\n".join(section_html(section, examples, known, by_id) for section in chapter.sections))
 
 
-def contents_html(all_chapters):
-    items = "".join(
-        f'<li><a href="#ch{chapter.number}">{text(chapter.title)}</a> <small>{len(chapter.definitions)}</small><ul>'
-        + "".join(f'<li><a href="#s{section.number}">{text(section.title)}</a></li>' for section in chapter.sections) + "</ul></li>"
-        for chapter in all_chapters)
-    return (f'<nav><h2>Contents</h2><ol start="0"><li><a href="#notation">How to read this book</a></li>{items}</ol>'
-            '<p><a href="#rules">The rules in words</a>, <a href="#index">Index of all names</a>. The small numbers are the numbers of definitions.</p></nav>')
+def contents_html(book):
+    """The chapters with their sections, each by its number; of the first one and of the rules their headings."""
+    def item(anchor, title, number=""):
+        return f'<li><a href="#{anchor}">{number}{" " * bool(number)}{text(title)}</a></li>'
+    first = "".join(item(heading_id(block[3:]), block[3:]) for block in book.notation if block.startswith("## "))
+    words = "".join(item(rules.anchor(heading), heading) for level, heading in re.findall(r"(?m)^(##+) (.+)$", rules.source()) if level == "##")
+    chapters_ = "".join(f'{f"</ul><h3>{text(chapter.part)}</h3><ul>" if chapter.part else ""}<li><a href="#ch{chapter.number}">{chapter.number} {text(chapter.title)}</a><ul>'
+                        + "".join(item(f"s{section.number}", section.title, section.number) for section in chapter.sections) + "</ul></li>" for chapter in book.chapters)
+    return (f'<nav id="contents"><h2>Contents</h2><ul><li><a href="#notation">How to read this book</a><ul>{first}</ul></li>'
+            f'<li><a href="#rules">The rules in words</a><ul>{words}</ul></li>{chapters_}<li><a href="#index">Index</a></li></ul></nav>'
+            '<p class="tools"><label>Find a name <input type="search" id="find" list="names" placeholder="substring$, ITERATE, is_wanted"></label>'
+            '<output for="find" id="met"></output> <a href="#contents">Contents</a></p>')
+
+
+def heading_id(title):
+    """The anchor of a heading of the first chapter."""
+    return "read-" + re.sub(r"\W+", "-", title.lower()).strip("-")
+
+
+def bibtex_index_html():
+    """BibTeX's own names, each with its rule: functions, commands, options, messages."""
+    parts = "".join(f'<h3>{kind[0].upper() + kind[1:]}</h3><ul class="index own">' + "".join(f'<li><a href="#{it.anchor}">{html.escape(it.text, quote=False)}</a></li>' for it in names)
+                    + "</ul>" for kind, names in bibtex_names.by_kind().items())
+    return f'<h2 id="index">Index</h2>{parts}'
 
 
 def index_html(found):
-    """All names in the order of the alphabet, each with the places where something has it."""
+    """All names of definitions in the order of the alphabet, each with the places where something has it."""
     by_name = {}
     for it in sorted(found, key=lambda it: it.place):
         by_name.setdefault(it.name, []).append(it)
     rows = [f"<li>{html.escape(name)} " + ", ".join(f'<a href="#{it.id}">{it.number}</a>' for it in by_name[name]) + "</li>"
             for name in sorted(by_name, key=lambda name: (name.lower(), name))]
-    return f'<h2 id="index">Index of all names</h2><ul class="index">{"".join(rows)}</ul>'
+    return f'{bibtex_index_html()}<h3>Definitions</h3><ul class="index">{"".join(rows)}</ul>'
 
 
 # ---- the chapter on the notation ----
@@ -159,10 +195,10 @@ def words_html(found):
 
 
 def rows_html(file, by_id):
-    """A table of words or of questions, with what is said of each and the definitions that say it."""
+    """A table of words or of questions, with what is said of each and the definitions that say it. A question stands out from its answer."""
     rows = "".join(f"<tr><td>{text(row.word)}</td><td>{text(row.meaning)}</td><td>{text('; '.join(links.to(name, by_id) for name in row.names))}</td></tr>"
                    for row in links.rows(file))
-    return f'<table class="words">{rows}</table>'
+    return f'<table class="words{" asked" * (file == "questions.txt")}">{rows}</table>'
 
 
 def manuals_html(sections):
@@ -176,7 +212,7 @@ def manuals_html(sections):
 def items_html(block, by_id):
     """A list, with points or with numbers."""
     mark, tag = (r"- ", "ul") if block.startswith("- ") else (r"\d+\. ", "ol")
-    found = [text(links.linked(" ".join(item.split()), by_id)) for item in re.split(rf"(?m)^{mark}", block)[1:]]
+    found = [text(links.linked(rules.joined(item), by_id)) for item in re.split(rf"(?m)^{mark}", block)[1:]]
     return f"<{tag}>" + "".join(f"<li>{item}</li>" for item in found) + f"</{tag}>"
 
 
@@ -190,7 +226,7 @@ def notation_html(blocks, by_id, found, sections):
     out = ['<h2 id="notation">How to read this book</h2>']
     for block in blocks:
         if block.startswith("## "):
-            out.append(f"<h3>{text(block[3:])}</h3>")
+            out.append(f'<h3 id="{heading_id(block[3:])}">{text(block[3:])}</h3>')
         elif block.startswith("@show "):
             it = by_id[block[6:].replace("::", ".")]
             out.append(f'<div class="shown"><p><a href="#{it.id}">{it.number}</a> {text(layout.prose(it.comment))}</p>{code(it)}</div>')
@@ -203,16 +239,43 @@ def notation_html(blocks, by_id, found, sections):
         elif block.startswith(("- ", "1. ")):
             out.append(items_html(block, by_id))
         else:
-            out.append(f"<p>{text(links.linked(' '.join(block.split()), by_id))}</p>")
+            out.append(f"<p>{text(links.linked(rules.joined(block), by_id))}</p>")
     return "\n".join(out)
 
 
-def book_html(book):
-    """The whole book."""
+def page_html(title, body, script=""):
+    """A page that needs nothing else but the other page."""
     style = STYLE.read_text(encoding="utf-8")
-    body = [f'<h1>BibTeX, proved: the book of definitions</h1><p class="opening">{text(book.summary)}</p>', contents_html(book.chapters),
-            notation_html(book.notation, book.by_id, book.found, book.sections)]
-    body += [chapter_html(chapter, book.examples, book.by_id) for chapter in book.chapters]
+    script = f"\n<script>{script}</script>" if script else ""
     return ('<!doctype html>\n<html lang="en"><head><meta charset="utf-8"><meta name="viewport" content="width=device-width,initial-scale=1">'
-            f"<title>BibTeX, proved: the book of definitions</title><style>{style}</style></head><body>\n" + "\n".join(body)
-            + rules.as_html() + index_html(book.found) + "\n</body></html>\n")
+            f"<title>{title}</title><style>{style}</style></head><body>\n{body}{script}\n</body></html>\n")
+
+
+def followers(sections):
+    """For each rule, by its anchor, the sections that are its definitions, those that have to be believed first, as links."""
+    anchors, found = rules.headings(), {}
+    for section in sections:
+        for rule in section.rules:
+            if rule in anchors:
+                found.setdefault(anchors[rule], []).append(f'<a href="#s{section.number}">{section.number} {text(section.title)}</a>')
+    return {anchor: ", ".join(links_) for anchor, links_ in found.items()}
+
+
+def across(body, own, other, file):
+    """A page's text, with the links to what stands on the other page led there."""
+    return re.sub(r'href="#([^"]+)"', lambda found: f'href="{file}#{found[1]}"' if found[1] not in own and found[1] in other else found[0], body)
+
+
+def book_html(book):
+    """The book, and its worked examples, as two pages: their files' names with their texts."""
+    title = "BibTeX, proved: the book of definitions"
+    worked = [chapter for chapter in book.chapters if chapter.title == WORKED]
+    body = [f'<h1>{title}</h1><p class="opening">{text(book.summary)}</p>', contents_html(book),
+            notation_html(book.notation, book.by_id, book.found, book.sections), rules.as_html(followers(book.sections))]
+    body += [chapter_html(chapter, book.examples, book.by_id) for chapter in book.chapters if chapter not in worked]
+    body = "\n".join(body) + index_html(book.found)
+    examples = (f'<h1>{title}: worked examples</h1><p class="opening"><a href="{BOOK}">The book</a></p>'
+                + "\n".join(chapter_html(chapter, book.examples, book.by_id) for chapter in worked))
+    ids = [set(re.findall(r' id="([^"]+)"', page)) for page in (body, examples)]
+    return {BOOK: page_html(title, across(body, *ids, WORKED_EXAMPLES), SCRIPT.read_text(encoding="utf-8")),
+            WORKED_EXAMPLES: page_html(f"{title}: worked examples", across(examples, *ids[::-1], BOOK))}

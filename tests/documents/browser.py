@@ -1,0 +1,196 @@
+"""Looks at the book of definitions in a real browser, as a reader does: on a screen, a tablet and a phone, light and dark, printed, and by keyboard.
+
+    python3 tests/documents/browser.py
+
+It needs docs/book/out (`make book`) and Debian's chromium; where that isn't there, a line says so, and only the structure of the HTML is looked at. pdftotext shows
+the printed pages, where it is there. The last line is 'N passed, M failed'."""
+
+import html
+import json
+import os
+import pathlib
+import re
+import shutil
+import subprocess
+import sys
+import tempfile
+
+ROOT = pathlib.Path(__file__).resolve().parents[2]
+OUT = ROOT / "docs/book/out"
+PAGES = ("book.html", "worked.html")
+WIDTHS = (1280, 768, 390)
+MOST_BYTES = 3_000_000
+# What is asked of a page in the browser: a name, and an expression in which `page` is its window and `all` answers what a selector finds.
+ASKED = {
+    "nothing is wider than the page": "page.document.documentElement.scrollWidth <= page.innerWidth",
+    "code keeps its spaces": "all('code').every((it) => style(it).whiteSpace === 'pre-wrap' || style(it).whiteSpace === 'pre')",
+    "code is nearly as large as text": "all('p code').slice(0, 300).every((it) => parseFloat(style(it).fontSize) >= 0.8 * parseFloat(style(it.parentElement).fontSize))",
+    "comments in code don't hang": "all('pre .c').every((it) => style(it).textIndent === '0px')",
+    "names in the first column of tables are whole": "all('.wide td:first-child > span > code').every((it) => it.getClientRects().length === 1)",
+    "questions stand out": "all('.asked td:first-child').every((it) => style(it).fontWeight >= 600)",
+    "all that can be clicked can be reached by keyboard": "all('a, input').every((it) => it.tabIndex === 0) && !all('[tabindex]').length",
+    "definitions that aren't seen aren't drawn": "all('section').every((it) => style(it).contentVisibility === 'auto' || page.innerWidth >= 1184)",
+    "text is 11 pixels at least": "all('p, pre, td, li, footer, aside').every((it) => parseFloat(style(it).fontSize) >= 11)",
+}
+# What is asked of the book alone.
+ASKED_OF_BOOK = {
+    "a paragraph isn't joined in its code": "all('code').some((it) => it.textContent.includes('  '))",
+    "code is copied as it stands": """(() => {
+        const shown = [...page.document.getElementById('btx_text.Elements.kind_at').querySelectorAll('pre')][0];
+        page.getSelection().selectAllChildren(shown);
+        return page.getSelection().toString().includes('byte "{" then Open') && /\\n {4}else/.test(page.getSelection().toString());
+    })()""",
+    "a name is found by the search field": """['substring$', 'ITERATE', '--budget', 'is_wanted', 'bad cross reference'].every((name) => {
+        const field = page.document.getElementById('find');
+        field.value = name;
+        field.dispatchEvent(new page.Event('input'));
+        const first = page.document.querySelector('#met a');
+        return first && page.document.getElementById(decodeURIComponent(first.hash.slice(1)));
+    })""",
+    "Enter goes to what was found": """(() => {
+        const field = page.document.getElementById('find');
+        field.value = 'while$';
+        field.dispatchEvent(new page.Event('input'));
+        field.dispatchEvent(new page.KeyboardEvent('keydown', { key: 'Enter' }));
+        return page.location.hash === '#name-while';
+    })()""",
+    "the field stays in sight": "(page.scrollTo(0, 40000), page.document.querySelector('.tools').getBoundingClientRect().top >= -1)",
+}
+HARNESS = """<!doctype html><meta charset="utf-8"><body><pre id="result">{}</pre><script>
+const asked = %s, result = {};
+const frames = %s.map(([file, width]) => new Promise((done) => {
+  const frame = document.createElement("iframe");
+  frame.style.width = width + "px"; frame.style.height = "900px"; frame.style.border = "0";
+  frame.onload = () => {
+    const page = frame.contentWindow, style = (it) => page.getComputedStyle(it), all = (selector) => [...page.document.querySelectorAll(selector)];
+    for (const [name, text] of asked[file]) {
+      try { result[file + ", " + width + " px: " + name] = Boolean(eval(text)); } catch (error) { result[file + ", " + width + " px: " + name] = String(error); }
+    }
+    result[file + ", " + width + " px: background"] = style(page.document.body).backgroundColor;
+    done();
+  };
+  frame.src = file;
+  document.body.append(frame);
+}));
+Promise.all(frames).then(() => { document.getElementById("result").textContent = JSON.stringify(result); document.title = "done"; });
+</script>"""
+
+
+class Checks:
+    def __init__(self):
+        self.passed, self.failed = 0, 0
+
+    def check(self, is_right, message):
+        self.passed += bool(is_right)
+        if not is_right:
+            self.failed += 1
+            print(f"FAILED: {message}")
+
+
+def browser():
+    return next((found for found in map(shutil.which, ("chromium", "chromium-browser", "google-chrome")) if found), None)
+
+
+def run(program, room, *words):
+    flags = ["--headless", "--no-sandbox", "--disable-gpu", "--hide-scrollbars", "--no-first-run", f"--user-data-dir={room}/profile", "--allow-file-access-from-files"]
+    return subprocess.run([program, *flags, *words], capture_output=True, text=True, timeout=240, env={**os.environ, "HOME": str(room)})
+
+
+def asked_of(program, room, frames, *flags):
+    """What the browser answers of pages in frames of some widths."""
+    asked = {page: [*ASKED.items(), *(ASKED_OF_BOOK.items() if page == PAGES[0] else [])] for page in PAGES}
+    (room / "harness.html").write_text(HARNESS % (json.dumps(asked), json.dumps(frames)), encoding="utf-8")
+    ran = run(program, room, *flags, "--window-size=1400,1000", "--virtual-time-budget=60000", "--dump-dom", (room / "harness.html").as_uri())
+    found = re.search(r'<pre id="result">(.*?)</pre>', ran.stdout, re.S)
+    return json.loads(html.unescape(found[1])) if found else {}
+
+
+def check_structure(checks):
+    """What can be seen of the HTML without a browser."""
+    for name in PAGES:
+        text = (OUT / name).read_text(encoding="utf-8")
+        checks.check(len(text.encode()) <= MOST_BYTES, f"{name} has {len(text.encode()):,} bytes, and at most {MOST_BYTES:,} are wanted")
+        prose = html.unescape(re.sub(r"<(pre|code|style|script)\b.*?</\1>|<[^>]*>", " ", text, flags=re.S))
+        checks.check("**" not in prose, f"{name}: a bold mark isn't rendered: {prose[max(0, prose.find('**') - 40):][:80]}")
+        checks.check(not re.search(r"(==|\|\||&amp;&amp;)(</a>)?</span><span class=\"l\"", text), f"{name}: a line of code ends behind a sign that joins")
+        checks.check("prefers-color-scheme:dark" in text, f"{name} has no colours for the dark")
+        checks.check("carried by" not in prose, f"{name} names what carries each definition")
+        ids = re.findall(r' id="([^"]+)"', text)
+        checks.check(len(ids) == len(set(ids)), f"{name}: an anchor stands twice: {sorted(it for it in set(ids) if ids.count(it) > 1)[:3]}")
+        others = {other: set(re.findall(r' id="([^"]+)"', (OUT / other).read_text(encoding="utf-8"))) for other in PAGES}
+        lost = [link for link in re.findall(r'href="([^"]+)"', text) if "#" in link and link.partition("#")[2] not in others.get(link.partition("#")[0] or name, ())]
+        checks.check(not lost, f"{name}: {len(lost)} links lead nowhere: {lost[:3]}")
+    book = (OUT / PAGES[0]).read_text(encoding="utf-8")
+    contents = re.search(r'<nav id="contents">.*?</nav>', book, re.S)[0]
+    checks.check(re.search(r'href="#s1\.1">1\.1 ', contents), "the contents have no numbers of sections")
+    checks.check(all(f'href="#{anchor}"' in contents for anchor in ("rule-databases", "read-questions")), "the contents lack the rules or the questions")
+    checks.check("<small>" not in contents, "the contents have numbers that look like those of pages")
+    checks.check(re.search(r'<a class="number" href="#btx_text\.Class\.is_white">', book), "a definition's number is no link to itself")
+    checks.check(not re.search(r'<p>[^<]*<span class="file">[^<]*</span> [A-Z]', book), "what two files say at their fronts stands in one paragraph")
+    checks.check(re.search(r"(?m)^#+ Index", (OUT / "book.md").read_text(encoding="utf-8")), "book.md has no index")
+
+
+def check_screens(checks, program, room):
+    """The pages on screens of some widths, in the light and in the dark."""
+    frames = [(page, width) for page in PAGES for width in WIDTHS]
+    light, dark = (asked_of(program, room, frames, f"--blink-settings=preferredColorScheme={scheme}") for scheme in (1, 0))
+    checks.check(light and dark, "the browser answers nothing")
+    for name, answer in light.items():
+        if not name.endswith("background"):
+            checks.check(answer is True, f"{name} ({answer})")
+        else:
+            checks.check(brightness(answer) > 200 and brightness(dark.get(name, "rgb(255)")) < 80, f"{name}: {answer} in the light, {dark.get(name)} in the dark")
+
+
+def brightness(colour):
+    numbers = [float(number) for number in re.findall(r"[\d.]+", colour)][:3]
+    return sum(numbers) / max(len(numbers), 1)
+
+
+def check_paint(checks, program, room):
+    """How soon the book is seen first, by the browser's own clock; the best of three times, since others use the machine too."""
+    observed = """<script>new PerformanceObserver((list) => list.getEntries().forEach((it) => console.log(`${it.name}: ${it.startTime}`)))
+        .observe({ type: "paint", buffered: true });</script></body>"""
+    (room / "paint.html").write_text((OUT / PAGES[0]).read_text(encoding="utf-8").replace("</body>", observed), encoding="utf-8")
+    times = []
+    for _ in range(3):
+        ran = run(program, room, "--enable-logging=stderr", "--window-size=1280,900", f"--screenshot={room}/seen.png", (room / "paint.html").as_uri())
+        times += [float(time) for time in re.findall(r"first-contentful-paint: ([\d.]+)", ran.stderr)]
+    print(f"first paint: {', '.join(f'{time:.0f} ms' for time in times)}")
+    checks.check(times and min(times) <= 1000, "the book isn't seen within a second")
+
+
+def check_print(checks, program, room):
+    """The book on paper, if there is something that reads it."""
+    if not shutil.which("pdftotext"):
+        print("left out: pages on paper (there is no pdftotext)")
+        return
+    run(program, room, f"--print-to-pdf={room}/book.pdf", "--no-pdf-header-footer", (OUT / PAGES[0]).as_uri())
+    pages = subprocess.run(["pdftotext", "-layout", f"{room}/book.pdf", "-"], capture_output=True, text=True).stdout.split("\f")
+    checks.check(len(pages) > 50, f"the book has {len(pages)} pages on paper")
+    numbered = sum(bool(re.search(rf"(?m)^\s*{number}\s*$", page)) for number, page in enumerate(pages, 1))
+    checks.check(numbered >= len(pages) - 2, f"{numbered} of {len(pages)} pages have their number")
+    checks.check(sum("the book of definitions" in page for page in pages) >= len(pages) - 2, "pages have no running head")
+
+
+def main():
+    checks, program = Checks(), browser()
+    if not (OUT / PAGES[0]).is_file():
+        subprocess.run([sys.executable, "-B", ROOT / "docs/book/make.py"], stdout=subprocess.DEVNULL, check=False)
+    check_structure(checks)
+    if program is None:
+        print("left out: all that needs a browser (apt-get install chromium)")
+    else:
+        with tempfile.TemporaryDirectory(prefix="book-") as folder:
+            room = pathlib.Path(folder)
+            for name in PAGES:
+                shutil.copy(OUT / name, room / name)
+            check_screens(checks, program, room)
+            check_paint(checks, program, room)
+            check_print(checks, program, room)
+    print(f"{checks.passed} passed, {checks.failed} failed")
+    return bool(checks.failed)
+
+
+if __name__ == "__main__":
+    sys.exit(main())
