@@ -14,10 +14,10 @@ LEAST = {"functions of styles": 37, "commands of styles": 10, "options": 8, "mes
 
 
 class Name:
-    """A name and the place in the rules that says what it is."""
+    """A name, and where the rules say what it is: the anchor of its row, or of its section."""
 
-    def __init__(self, kind, text, anchor):
-        self.kind, self.text, self.anchor = kind, text, anchor
+    def __init__(self, kind, text, anchor, section):
+        self.kind, self.text, self.anchor, self.section = kind, text, anchor, section
 
 
 def cells(line):
@@ -43,7 +43,7 @@ def found():
                 text = text.split(" ")[0] if kind == "options" else text
                 if (kind, text) not in seen:
                     seen.add((kind, text))
-                    names.append(Name(kind, text.replace("\\|", "|"), rules.row_anchor(text) if kind in ROWS else heading))
+                    names.append(Name(kind, text.replace("\\|", "|"), rules.row_anchor(text) if kind in ROWS else heading, heading))
     return names
 
 

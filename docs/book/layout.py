@@ -127,13 +127,6 @@ def prose(lines):
     return first + text[1:] + ("" if text[-1] in ".:!?)" else ".")
 
 
-def carried_by(definition, most=2):
-    """The public contracts that carry a definition, in a line."""
-    found = getattr(definition, "carried", [])
-    more = f" and {len(found) - most} more" if len(found) > most else ""
-    return ", ".join(f"`{name}`" for name in found[:most]) + more
-
-
 def caption(section, name, example):
     """What is said of an example: the section's own words, or the comment at its row. (A job has a name alone.)"""
     return prose([section.captions.get(name) or ("" if example.row.kind == "job" else example.caption)])

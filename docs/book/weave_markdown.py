@@ -3,7 +3,9 @@
 import re
 import textwrap
 
+import bibtex_names
 import chapters
+import functions
 import glossary
 import layout
 import links
@@ -60,9 +62,8 @@ def code(definition):
 
 
 def definition_markdown(it):
-    carried = layout.carried_by(it)
     uses, users = layout.uses_elsewhere(it), layout.users_of(it)
-    foot = [f"{it.crate}, {layout.what_it_is(it)}" + (f", carried by {carried}" if carried else "")]
+    foot = [f"{it.crate}, {layout.what_it_is(it)}"]
     foot += [", ".join(layout.bytes_in(it))] * bool(layout.bytes_in(it))
     foot += [f"`{written}` is {what}{references([target])}" for written, what, target in layout.renamed_in(it)]
     foot += [f"uses {references(uses, 99)}"] * bool(uses) + [f"used in {references(users)}"] * bool(users)
@@ -70,7 +71,13 @@ def definition_markdown(it):
     return f"{heading}[]{{#{anchor(it)}}}**{it.number}** {layout.prose(it.comment) or '*(no comment)*'}\n\n{code(it)}\n\n*{'; '.join(foot)}*\n"
 
 
-def section_markdown(section, examples, known):
+def functions_markdown(by_id):
+    """The table of the functions of styles."""
+    rows = "".join(f"| {it.number} | {it.name} | {it.operands} | {it.does}{': ' + it.errors if it.errors else ''} | {it.default} | {it.example} |\n" for it in functions.table(by_id))
+    return f"| | function | operands | what it does, and its own errors | default | example |\n|---|---|---|---|---|---|\n{rows}"
+
+
+def section_markdown(section, examples, known, by_id):
     anchors = rules.headings()
     linked_rules = ", ".join(f"[{rule}](#{anchors[rule]})" for rule in section.rules if rule in anchors)
     of_manuals = f" The manuals: {manuals.sentence(section)}." if manuals.followed_by(section) else ""
@@ -80,6 +87,7 @@ def section_markdown(section, examples, known):
         caption = f". {said}" if said else "."
         words = "".join(f"- {word}\n" for word in layout.words_of(example, known))
         out.append(f"**Example**{caption}\n\n{code(example.row)}\n\n{words}\n*{example.shown}, which is checked*\n")
+    out += [functions_markdown(by_id)] * (section.table == "functions")
     for module, found in section.parts:
         intros = " ".join(f"{layout.prose(intro)} (`{file}`)" for file, intro in chapters.files_of(module, found))
         out.append(f"{intros}\n")
@@ -89,8 +97,9 @@ def section_markdown(section, examples, known):
 
 def chapter_markdown(chapter, examples, by_id):
     known = set()
-    sections = "\n".join(section_markdown(section, examples, known) for section in chapter.sections)
-    return f"# {chapter.number}. {chapter.title} {{.unnumbered}}\n\n{links.linked(' '.join(chapter.opening), by_id, True)}\n\n{sections}"
+    sections = "\n".join(section_markdown(section, examples, known, by_id) for section in chapter.sections)
+    part = f"# {chapter.part} {{.unnumbered}}\n\n" if chapter.part else ""
+    return f"{part}# {chapter.number}. {chapter.title} {{.unnumbered}}\n\n{links.linked(' '.join(chapter.opening), by_id, True)}\n\n{sections}"
 
 
 def words_markdown(found):
@@ -133,6 +142,18 @@ def notation_markdown(blocks, by_id, found, sections):
     return "\n".join(out)
 
 
+def index_markdown(found):
+    """BibTeX's own names with their rules, and the names of definitions with their numbers."""
+    parts = ["# Index {.unnumbered}\n"]
+    for kind, names in bibtex_names.by_kind().items():
+        parts.append(f"## {kind[0].upper() + kind[1:]} {{.unnumbered}}\n\n" + ", ".join(f"[`{it.text}`](#{it.section})" for it in names) + "\n")
+    by_name = {}
+    for it in sorted(found, key=lambda it: it.place):
+        by_name.setdefault(it.name, []).append(f"[{it.number}](#{anchor(it)})")
+    parts.append("## Definitions {.unnumbered}\n\n" + "; ".join(f"`{name}` {', '.join(by_name[name])}" for name in sorted(by_name, key=lambda name: (name.lower(), name))) + "\n")
+    return "\n".join(parts)
+
+
 def without_mathematics(text):
     r"""A `$` outside code as `\$`, since pandoc takes two of them in a paragraph for the ends of a formula."""
     pieces = re.split(r"(?ms)(^```.*?^```$|`[^`\n]*`)", text)
@@ -141,6 +162,6 @@ def without_mathematics(text):
 
 def book_markdown(book):
     """The whole book."""
-    parts = [HEAD, book.summary + "\n", notation_markdown(book.notation, book.by_id, book.found, book.sections)]
-    parts += [chapter_markdown(chapter, book.examples, book.by_id) for chapter in book.chapters] + [rules.as_markdown()]
+    parts = [HEAD, book.summary + "\n", notation_markdown(book.notation, book.by_id, book.found, book.sections), rules.as_markdown()]
+    parts += [chapter_markdown(chapter, book.examples, book.by_id) for chapter in book.chapters] + [index_markdown(book.found)]
     return without_mathematics("\n".join(parts))

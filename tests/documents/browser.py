@@ -123,7 +123,7 @@ def check_structure(checks):
     book = (OUT / PAGES[0]).read_text(encoding="utf-8")
     contents = re.search(r'<nav id="contents">.*?</nav>', book, re.S)[0]
     checks.check(re.search(r'href="#s1\.1">1\.1 ', contents), "the contents have no numbers of sections")
-    checks.check(all(f'href="#{anchor}"' in contents for anchor in ("rule-databases", "read-questions")), "the contents lack the rules or the questions")
+    checks.check(all(f'href="#{anchor}"' in contents for anchor in ("rule-databases", "read-questions-and-where-the-book-answers-them")), "the contents lack the rules or the questions")
     checks.check("<small>" not in contents, "the contents have numbers that look like those of pages")
     checks.check(re.search(r'<a class="number" href="#btx_text\.Class\.is_white">', book), "a definition's number is no link to itself")
     checks.check(not re.search(r'<p>[^<]*<span class="file">[^<]*</span> [A-Z]', book), "what two files say at their fronts stands in one paragraph")
