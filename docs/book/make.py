@@ -21,6 +21,7 @@ import believed
 import bibtex_names
 import chapters
 import definitions
+import differences
 import examples
 import functions
 import glossary
@@ -94,6 +95,9 @@ class Book:
         """The tables of docs/RULES.md from which the index and the table of functions are made."""
         lacking = bibtex_names.lacking() + functions.lacking(self.by_id)
         self.check(not lacking, "; ".join(lacking))
+        wrong = list(differences.wrong_in(self.by_id))
+        self.passed += len(differences.leads())
+        self.wrong += wrong
 
     def check_folders(self):
         """Each folder of specs/ has what it is named after, definition by definition (`folder_wanted` of reach.py)."""

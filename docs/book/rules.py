@@ -80,15 +80,16 @@ def items(block, mark, tag):
     return f"<{tag}>" + "".join(f"<li>{item}</li>" for item in found) + f"</{tag}>"
 
 
-def block_html(block, definitions):
-    """A heading, with a link to the definitions of its rule; a table, code, a list or a paragraph."""
+def block_html(block, definitions, prefix="rule-", signs=None):
+    """A heading, with a link to the definitions of its rule and a sign where it differs from the original; a table, code, a list or a paragraph."""
     lines = block.split("\n")
     heading = re.match(r"(##+) (.+)", block)
     if heading:
         level = len(heading[1]) + 1
-        rest = block_html("\n".join(lines[1:]), definitions) if lines[1:] else ""
-        defined = definitions.get(anchor(heading[2]))
-        return f'<h{level} id="{anchor(heading[2])}">{inline(heading[2])}</h{level}>' + (f'<p class="rule">Defined in {defined}.</p>' if defined else "") + rest
+        rest = block_html("\n".join(lines[1:]), definitions, prefix, signs) if lines[1:] else ""
+        at = prefix + anchor(heading[2]).removeprefix("rule-")
+        defined = f'<p class="rule">Defined in {definitions[at]}.</p>' if at in definitions else ""
+        return f'<h{level} id="{at}">{inline(heading[2])}</h{level}>{defined}{signs(at) if signs else ""}{rest}'
     if block.startswith("|"):
         return table(lines)
     if all(line.startswith("    ") for line in lines):
@@ -100,7 +101,7 @@ def block_html(block, definitions):
     return f"<p>{inline(joined(block))}</p>"
 
 
-def as_html(definitions):
-    """The rules as a chapter of the book; `definitions` has, for a rule's anchor, links to the sections that define it."""
+def as_html(definitions, signs):
+    """The rules as a chapter of the book; for a rule's anchor `definitions` has links to the sections that define it, and `signs` gives what differs from the original."""
     blocks = [block.strip("\n") for block in re.split(r"\n\n+", source())]
-    return '<h2 id="rules">The rules in words</h2>\n<div class="rules">' + "\n".join(block_html(block, definitions) for block in blocks if block.strip()) + "</div>"
+    return '<h2 id="rules">The rules in words</h2>\n<div class="rules">' + "\n".join(block_html(block, definitions, signs=signs) for block in blocks if block.strip()) + "</div>"

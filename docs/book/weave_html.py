@@ -7,6 +7,7 @@ import re
 
 import bibtex_names
 import chapters
+import differences
 import functions
 import glossary
 import layout
@@ -101,7 +102,7 @@ def definition_html(it):
     foot += [text(f"`{written}` is {what}") + references([target]) for written, what, target in layout.renamed_in(it)]
     foot += [f"uses {references(uses, 99)}"] * bool(uses) + [f"used in {references(users)}"] * bool(users)
     heading = f"<h4>{text(it.heading[0].upper() + it.heading[1:])}</h4>" if it.heading else ""
-    return (f'{heading}<section id="{it.id}" class="{it.reach}"><p><a class="number" href="#{it.id}">{it.number}</a> {comment}</p>{code(it)}'
+    return (f'{heading}<section id="{it.id}" class="{it.reach}"><p><a class="number" href="#{it.id}">{it.number}</a> {comment}</p>{differences.sign_html(it.id)}{code(it)}'
             f'<footer>{" · ".join(foot)}</footer><aside>{margin}</aside></section>')
 
 
@@ -133,7 +134,7 @@ def section_html(section, examples, known, by_id):
     out += [functions_html(by_id)] * (section.table == "functions")
     for module, found in section.parts:
         intros = "".join(f'<p>{text(layout.prose(intro))} <span class="file">{file}</span></p>' for file, intro in chapters.files_of(module, found))
-        out.append(f'<div class="intro" id="m-{module.replace("::", ".").replace("/", ".")}">{intros}</div>')
+        out.append(f'<div class="intro">{intros}</div>')
         out += [definition_html(it) for it in found]
     return "\n".join(out)
 
@@ -154,7 +155,7 @@ def contents_html(book):
     chapters_ = "".join(f'{f"</ul><h3>{text(chapter.part)}</h3><ul>" if chapter.part else ""}<li><a href="#ch{chapter.number}">{chapter.number} {text(chapter.title)}</a><ul>'
                         + "".join(item(f"s{section.number}", section.title, section.number) for section in chapter.sections) + "</ul></li>" for chapter in book.chapters)
     return (f'<nav id="contents"><h2>Contents</h2><ul><li><a href="#notation">How to read this book</a><ul>{first}</ul></li>'
-            f'<li><a href="#rules">The rules in words</a><ul>{words}</ul></li>{chapters_}<li><a href="#index">Index</a></li></ul></nav>'
+            f'<li><a href="#rules">The rules in words</a><ul>{words}</ul></li><li><a href="#differences">{differences.TITLE}</a></li>{chapters_}<li><a href="#index">Index</a></li></ul></nav>'
             '<p class="tools"><label>Find a name <input type="search" id="find" list="names" placeholder="substring$, ITERATE, is_wanted"></label>'
             '<output for="find" id="met"></output> <a href="#contents">Contents</a></p>')
 
@@ -271,7 +272,7 @@ def book_html(book):
     title = "BibTeX, proved: the book of definitions"
     worked = [chapter for chapter in book.chapters if chapter.title == WORKED]
     body = [f'<h1>{title}</h1><p class="opening">{text(book.summary)}</p>', contents_html(book),
-            notation_html(book.notation, book.by_id, book.found, book.sections), rules.as_html(followers(book.sections))]
+            notation_html(book.notation, book.by_id, book.found, book.sections), rules.as_html(followers(book.sections), differences.sign_html), differences.as_html()]
     body += [chapter_html(chapter, book.examples, book.by_id) for chapter in book.chapters if chapter not in worked]
     body = "\n".join(body) + index_html(book.found)
     examples = (f'<h1>{title}: worked examples</h1><p class="opening"><a href="{BOOK}">The book</a></p>'

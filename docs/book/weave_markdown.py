@@ -5,6 +5,7 @@ import textwrap
 
 import bibtex_names
 import chapters
+import differences
 import functions
 import glossary
 import layout
@@ -68,7 +69,7 @@ def definition_markdown(it):
     foot += [f"`{written}` is {what}{references([target])}" for written, what, target in layout.renamed_in(it)]
     foot += [f"uses {references(uses, 99)}"] * bool(uses) + [f"used in {references(users)}"] * bool(users)
     heading = f"#### {it.heading[0].upper() + it.heading[1:]}\n\n" if it.heading else ""
-    return f"{heading}[]{{#{anchor(it)}}}**{it.number}** {layout.prose(it.comment) or '*(no comment)*'}\n\n{code(it)}\n\n*{'; '.join(foot)}*\n"
+    return f"{heading}[]{{#{anchor(it)}}}**{it.number}** {layout.prose(it.comment) or '*(no comment)*'}\n\n{differences.sign_markdown(it.id)}{code(it)}\n\n*{'; '.join(foot)}*\n"
 
 
 def functions_markdown(by_id):
@@ -162,6 +163,6 @@ def without_mathematics(text):
 
 def book_markdown(book):
     """The whole book."""
-    parts = [HEAD, book.summary + "\n", notation_markdown(book.notation, book.by_id, book.found, book.sections), rules.as_markdown()]
+    parts = [HEAD, book.summary + "\n", notation_markdown(book.notation, book.by_id, book.found, book.sections), rules.as_markdown(), differences.as_markdown()]
     parts += [chapter_markdown(chapter, book.examples, book.by_id) for chapter in book.chapters] + [index_markdown(book.found)]
     return without_mathematics("\n".join(parts))

@@ -1,4 +1,4 @@
-"""Why a program's list differs from the original's: each cause is a row of docs/DECISIONS.md, and is shown by a change of the paper that takes the cause away.
+"""Why a program's list differs from the original's: each cause is a row of docs/DIFFERENCES.md, and is shown by a change of the paper that takes the cause away.
 
 A change keeps what a style does where its cause isn't met. If both programs write the same list for the changed paper, nothing else than the cause made
 the lists differ."""
@@ -55,7 +55,7 @@ def all_of_them(style):
     return with_literals_below(with_keys_apart(without_open_quotes(style)))
 
 
-# The beginning of the row in docs/DECISIONS.md, and the change that takes the cause away; each is tried where those before it haven't explained a difference.
+# The beginning of the row in docs/DIFFERENCES.md, and the change that takes the cause away; each is tried where those before it haven't explained a difference.
 CHANGES = (
     ("Entries with equal sort keys keep their present order", with_keys_apart),
     ("Each pop of an empty stack", with_literals_below),

@@ -1,5 +1,5 @@
 #!/usr/bin/env python3
-"""Compares the library's lists with the original's over papers made from what TeX Live ships, and finds for each difference the row of docs/DECISIONS.md that is its cause.
+"""Compares the library's lists with the original's over papers made from what TeX Live ships, and finds for each difference the row of docs/DIFFERENCES.md that is its cause.
 
     tests/corpus/check.py [LIBRARY] [--papers N] [--seed N] [--latex] [--keep FOLDER]
 
@@ -146,9 +146,9 @@ def check_papers(papers, given, outcome):
 
 def check_rows(outcome):
     """That each row stands in the document."""
-    decisions = " ".join((ROOT / "docs/DECISIONS.md").read_text(encoding="utf8").replace("**", "").split())
+    differences = " ".join((ROOT / "docs/DIFFERENCES.md").read_text(encoding="utf8").replace("**", "").split())
     for row in [*(row for row, _ in causes.CHANGES[:-1]), causes.TIES]:
-        outcome.count(row in decisions, f"docs/DECISIONS.md has no row {row!r}")
+        outcome.count(row in differences, f"docs/DIFFERENCES.md has no row {row!r}")
 
 
 def check_changes(outcome):

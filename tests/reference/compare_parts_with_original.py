@@ -4,7 +4,7 @@ databases with cross-references.
     python3 compare_parts_with_original.py [--rounds N] [--seed N] [--show N] calls|unbalanced|databases|star
 
 Wants the program `bibtex`. `unbalanced` are calls with braces that don't match, `star` are databases of which all is cited. Prints what
-differs; docs/DECISIONS.md names the kinds that are known."""
+differs; docs/DIFFERENCES.md names the kinds that are known."""
 
 import argparse
 import random

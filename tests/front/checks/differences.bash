@@ -1,4 +1,4 @@
-# What docs/DECISIONS.md says of the original, where that is installed: it and bibtex-search run the same job, and each gives what is said there.
+# What docs/DIFFERENCES.md says of the original, where that is installed: it and bibtex-search run the same job, and each gives what is said there.
 
 # list_both: the list of the original stands in original.bbl, that of bibtex-search in job.bbl.
 list_both() {
@@ -84,5 +84,5 @@ if has bibtex; then
     wants_text job.bbl $'l\nk\nm\n'
     end
 else
-    echo 'left out: what DECISIONS says of the original (without bibtex)'
+    echo 'left out: what DIFFERENCES says of the original (without bibtex)'
 fi

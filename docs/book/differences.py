@@ -1,0 +1,78 @@
+"""What differs from the original: docs/DIFFERENCES.md as a chapter behind the rules, and the signs at the rules and the definitions that a row is about (differs.txt)."""
+
+import functools
+import pathlib
+import re
+
+import rules
+
+FILE = pathlib.Path(__file__).resolve().parents[2] / "docs/DIFFERENCES.md"
+SIGNS = pathlib.Path(__file__).with_name("differs.txt")
+TITLE = "Differences from BibTeX"
+# The words in bold at a row's front.
+LEAD = re.compile(r"(?m)^- \*\*(.+?)\*\*", re.S)
+
+
+def source():
+    """The page without its title, with the headings that it has below."""
+    return FILE.read_text(encoding="utf-8").partition("\n\n")[2]
+
+
+def plain(lead):
+    return " ".join(lead.split()).rstrip(".,:;")
+
+
+def anchor(lead):
+    return "differs-" + re.sub(r"\W+", "-", plain(lead).lower()).strip("-")
+
+
+def leads():
+    """The words at the front of each row, in order."""
+    return [plain(lead) for lead in LEAD.findall(source())]
+
+
+@functools.lru_cache(maxsize=None)
+def signs():
+    """For each definition, and for each rule's anchor, the rows that it meets."""
+    found = {}
+    for line in SIGNS.read_text(encoding="utf-8").split("\n"):
+        if line.strip() and not line.startswith("//"):
+            what, rows = line.split("\t")
+            found[rules.anchor(what[5:]) if what.startswith("rule ") else what] = rows.split("; ")
+    return found
+
+
+def wrong_in(by_id):
+    """What is wrong with the table of signs, as messages."""
+    places, known = set(by_id) | set(rules.headings().values()), leads()
+    yield from (f"differs.txt: the book has no `{place}`" for place in signs() if place not in places)
+    signed = [lead for found in signs().values() for lead in found]
+    yield from (f"differs.txt: docs/DIFFERENCES.md has no row `{lead}`" for lead in signed if lead not in known)
+    yield from (f"differs.txt: it has no line for the row `{lead}` of docs/DIFFERENCES.md" for lead in known if lead not in signed)
+
+
+def sign_html(place):
+    """The sign at a rule or a definition, if a row is about it."""
+    found = signs().get(place, [])
+    rows = "; ".join(f'<a href="#{anchor(lead)}">{rules.inline(lead)}</a>' for lead in found)
+    return f'<p class="differs"><b>Differs from the original:</b> {rows}</p>' if found else ""
+
+
+def sign_markdown(place):
+    found = signs().get(place, [])
+    return "**Differs from the original:** " + "; ".join(f"[{lead}](#{anchor(lead)})" for lead in found) + "\n\n" if found else ""
+
+
+def as_html():
+    """The chapter, whose rows can be linked to."""
+    blocks = [block.strip("\n") for block in re.split(r"\n\n+", source()) if block.strip()]
+    made = "\n".join(rules.block_html(block, {}, prefix="differs-in-") for block in blocks)
+    for lead in leads():
+        made = made.replace(f"<li><b>{rules.inline(lead)}", f'<li id="{anchor(lead)}"><b>{rules.inline(lead)}', 1)
+    return f'<h2 id="differences">{TITLE}</h2>\n<div class="rules">{made}</div>'
+
+
+def as_markdown():
+    text = re.sub(r"(?m)^## (.+)$", r"## \1 {.unnumbered}", source())
+    text = re.sub(r"(?m)^- (\*\*.+?\*\*)", lambda found: f"- []{{#{anchor(found[1].strip('*'))}}}{found[1]}", text, flags=re.S)
+    return f"# {TITLE} {{#differences .unnumbered}}\n\n{text}"
