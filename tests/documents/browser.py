@@ -3,7 +3,7 @@
     python3 tests/documents/browser.py
 
 It needs docs/book/out (`make book`) and Debian's chromium; where that isn't there, a line says so, and only the structure of the HTML is looked at. pdftotext shows
-the printed pages, where it is there. The last line is 'N passed, M failed'."""
+the printed pages, where it is there. A browser that gives no answer within PATIENCE seconds is one failure. The last line is 'N passed, M failed'."""
 
 import html
 import json
@@ -20,6 +20,8 @@ OUT = ROOT / "docs/book/out"
 PAGES = ("book.html", "worked.html")
 WIDTHS = (1280, 768, 390)
 MOST_BYTES = 3_000_000
+# How many seconds the browser may take for one page: it takes some ten on a machine of its own.
+PATIENCE = 600
 # What is asked of a page in the browser: a name, and an expression in which `page` is its window and `all` answers what a selector finds.
 ASKED = {
     "nothing is wider than the page": "page.document.documentElement.scrollWidth <= page.innerWidth",
@@ -93,14 +95,16 @@ def browser():
 
 def run(program, room, *words):
     flags = ["--headless", "--no-sandbox", "--disable-gpu", "--hide-scrollbars", "--no-first-run", f"--user-data-dir={room}/profile", "--allow-file-access-from-files"]
-    return subprocess.run([program, *flags, *words], capture_output=True, text=True, timeout=240, env={**os.environ, "HOME": str(room)})
+    try:
+        return subprocess.run([program, *flags, *words], capture_output=True, text=True, errors="replace", timeout=PATIENCE, env={**os.environ, "HOME": str(room)})
+    except subprocess.TimeoutExpired:
+        return subprocess.CompletedProcess(words, 1, "", f"no answer within {PATIENCE} seconds")
 
 
-def asked_of(program, room, frames, *flags):
-    """What the browser answers of pages in frames of some widths."""
-    asked = {page: [*ASKED.items(), *(ASKED_OF_BOOK.items() if page == PAGES[0] else [])] for page in PAGES}
+def asked_of(program, room, asked, frames, *flags):
+    """What the browser answers of pages in frames of some widths. The page around them is loaded once they are, and is then printed."""
     (room / "harness.html").write_text(HARNESS % (json.dumps(asked), json.dumps(frames)), encoding="utf-8")
-    ran = run(program, room, *flags, "--window-size=1400,1000", "--virtual-time-budget=60000", "--dump-dom", (room / "harness.html").as_uri())
+    ran = run(program, room, *flags, "--window-size=1400,1000", "--dump-dom", (room / "harness.html").as_uri())
     found = re.search(r'<pre id="result">(.*?)</pre>', ran.stdout, re.S)
     return json.loads(html.unescape(found[1])) if found else {}
 
@@ -132,14 +136,15 @@ def check_structure(checks):
 
 def check_screens(checks, program, room):
     """The pages on screens of some widths, in the light and in the dark."""
-    frames = [(page, width) for page in PAGES for width in WIDTHS]
-    light, dark = (asked_of(program, room, frames, f"--blink-settings=preferredColorScheme={scheme}") for scheme in (1, 0))
-    checks.check(light and dark, "the browser answers nothing")
-    for name, answer in light.items():
-        if not name.endswith("background"):
-            checks.check(answer is True, f"{name} ({answer})")
-        else:
-            checks.check(brightness(answer) > 200 and brightness(dark.get(name, "rgb(255)")) < 80, f"{name}: {answer} in the light, {dark.get(name)} in the dark")
+    for page in PAGES:
+        asked = {page: [*ASKED.items(), *(ASKED_OF_BOOK.items() if page == PAGES[0] else [])]}
+        for width in WIDTHS:
+            light = asked_of(program, room, asked, [(page, width)], "--blink-settings=preferredColorScheme=1")
+            checks.check(light, f"{page}, {width} px: the browser answers nothing")
+            for name, answer in light.items():
+                checks.check(brightness(answer) > 200 if name.endswith("background") else answer is True, f"{name} ({answer})")
+        for name, answer in asked_of(program, room, {page: []}, [(page, WIDTHS[0])], "--blink-settings=preferredColorScheme=0").items():
+            checks.check(brightness(answer) < 80, f"{name}: {answer} in the dark")
 
 
 def brightness(colour):
