@@ -12,6 +12,7 @@
 PREFIX = /usr/local
 DESTDIR =
 NAME = bibtex-proved
+# (BIBTEX_PROGRAM names another program than the built one, here as in contrib/make-deb, examples/check and the tests)
 bin = $(DESTDIR)$(PREFIX)/bin
 share = $(DESTDIR)$(PREFIX)/share
 man = $(share)/man/man1
@@ -19,7 +20,7 @@ doc = $(share)/doc/bibtex-proved
 bash = $(share)/bash-completion/completions
 zsh = $(share)/zsh/site-functions
 fish = $(share)/fish/vendor_completions.d
-program = crates/bibtex/out/bibtex
+program = $(or $(BIBTEX_PROGRAM),crates/bibtex/out/bibtex)
 front = front/out
 page = $(subst -,\\-,$(NAME))
 title = $(shell printf '%s' '$(page)' | tr a-z A-Z)
@@ -71,13 +72,13 @@ install-completion:
 	install -m 644 contrib/completions/bibtex-search.fish '$(fish)'
 	for name in $(completed); do ln -sf bibtex-search '$(bash)'/$$name && ln -sf bibtex-search.fish '$(fish)'/$$name.fish || exit 1; done
 
-# The documents stand in the folders that they have in the sources, so that their links work.
+# The documents stand in the folders that they have in the sources, so that their links work; AS-INSTALLED.md says what they name that isn't installed.
 install-documents:
 	install -d '$(doc)/docs' '$(doc)/contrib'
-	install -m 644 README.md CHANGELOG.md '$(doc)'
+	install -m 644 README.md CHANGELOG.md contrib/AS-INSTALLED.md '$(doc)'
 	install -m 644 docs/*.md '$(doc)/docs'
 	install -m 644 contrib/README.md '$(doc)/contrib'
-	find examples -type f ! -name '*.pyc' | LC_ALL=C sort | while IFS= read -r file; do install -D -m 644 "$$file" '$(doc)'/"$$file" || exit 1; done
+	find examples -type f ! -name '*.pyc' ! -path examples/first/run | LC_ALL=C sort | while IFS= read -r file; do install -D -m 644 "$$file" '$(doc)'/"$$file" || exit 1; done
 
 install-library:
 	$(MAKE) --no-print-directory -C library install PREFIX='$(PREFIX)' DESTDIR='$(DESTDIR)'

@@ -3,7 +3,7 @@
 
     python3 tests/hostile/compare.py [--only NAME,..] [--runs N] OLDER [PROGRAM]
 
-PROGRAM is crates/bibtex/out/bibtex if none is given. The two run each job in turn. A bar for each job: at most a tenth more processor seconds, the
+PROGRAM is BIBTEX_PROGRAM, or else crates/bibtex/out/bibtex, if none is given. The two run each job in turn. A bar for each job: at most a tenth more processor seconds, the
 best of N runs (7), and a tenth more memory. Wants gcc. The last line is 'N bars met, M not'; the exit status is 0 only where M is 0."""
 
 import argparse

@@ -1,7 +1,7 @@
 #!/usr/bin/env python3
 """Hostile jobs: each must end as the rules say, in time, and with the bytes that they say.
 
-    python3 tests/hostile/run.py [PROGRAM]         runs the built program (crates/bibtex/out/bibtex if none is given)
+    python3 tests/hostile/run.py [PROGRAM]         runs the built program (BIBTEX_PROGRAM, or else crates/bibtex/out/bibtex, if none is given)
     python3 tests/hostile/run.py --reference       small sizes of the same jobs, by the reference in Python
     python3 tests/hostile/run.py --make FOLDER     writes a folder for each job
     python3 tests/hostile/run.py --only NAME,..    these jobs alone
@@ -9,6 +9,7 @@
 Its last line is 'N passed, M failed'; the exit status is 0 only where M is 0."""
 
 import argparse
+import os
 import pathlib
 import resource
 import subprocess
@@ -20,7 +21,7 @@ from collections import Counter
 from jobs import FAULTS, JOBS, files_of
 
 HERE = pathlib.Path(__file__).resolve().parent
-PROGRAM = HERE.parents[1] / "crates/bibtex/out/bibtex"
+PROGRAM = pathlib.Path(os.environ.get("BIBTEX_PROGRAM") or HERE.parents[1] / "crates/bibtex/out/bibtex")
 LONGEST_RUN = 60
 
 

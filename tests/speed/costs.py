@@ -3,7 +3,7 @@
 
     python3 tests/speed/costs.py [--only NAME,.. | --without-times] [PROGRAM]
 
-PROGRAM is crates/bibtex/out/bibtex if none is given. --without-times leaves out what is measured in seconds: `tests/run` does so. Each job is run in two sizes; a figure is the difference of what they took, by the
+PROGRAM is BIBTEX_PROGRAM, or else crates/bibtex/out/bibtex, if none is given. --without-times leaves out what is measured in seconds: `tests/run` does so. Each job is run in two sizes; a figure is the difference of what they took, by the
 difference of what it grows with. Memory is to be at most what RULES says, the lengths of outputs a hundredth more, and seconds, which depend on
 the machine and on what else it does, three times as many. A row of RULES without a job here, and a job without a row, is a bar that isn't
 met. Its last line is 'N bars met, M not'; the exit status is 0 only where M is 0."""

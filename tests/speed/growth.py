@@ -3,7 +3,7 @@
 
     python3 tests/speed/growth.py [--only NAME,..] [--original] [--runs N] [PROGRAM]
 
-PROGRAM is crates/bibtex/out/bibtex if none is given. Measures as `measure.py` does, and nothing where that can't. Prints a table of the
+PROGRAM is BIBTEX_PROGRAM, or else crates/bibtex/out/bibtex, if none is given. Measures as `measure.py` does, and nothing where that can't. Prints a table of the
 shapes in two sizes, and the bars; `--original` adds rows of the original `bibtex`, for which there are no bars. Its last line is
 'N bars met, M not'; the exit status is 0 only where M is 0."""
 

@@ -3,12 +3,13 @@
 
     python3 tests/speed/measure.py [--aims] [--sizes N,..] [--counted N] [--styles NAME,..] [--runs N] [--seed N] [PROGRAM]
 
-PROGRAM is crates/bibtex/out/bibtex if none is given. Instructions are counted by valgrind; without valgrind, or a compiler for
+PROGRAM is BIBTEX_PROGRAM, or else crates/bibtex/out/bibtex, if none is given. Instructions are counted by valgrind; without valgrind, or a compiler for
 `once.c`, nothing is measured. Prints a table of jobs, one of loops, and the bars; with --aims the aims that aren't met yet are bars too. Its last line is
 'N bars met, M not'; the exit status is 0 only where M is 0."""
 
 import argparse
 import math
+import os
 import pathlib
 import re
 import shutil
@@ -21,7 +22,7 @@ import jobs
 from jobs import ALPHA, ARTICLE, LONG, MESSAGES, PLAIN, READING_ALONE
 
 HERE = pathlib.Path(__file__).resolve().parent
-PROGRAM = HERE.parents[1] / "crates/bibtex/out/bibtex"
+PROGRAM = pathlib.Path(os.environ.get("BIBTEX_PROGRAM") or HERE.parents[1] / "crates/bibtex/out/bibtex")
 # Seconds, and how `timeout` ends where they are over.
 LONGEST_RUN = 1_800
 STATUS_OF_TIMEOUT = 124

@@ -3,7 +3,7 @@
 
     python3 tests/speed/where.py [--styles NAME,..] [--least N] [PROGRAM]
 
-PROGRAM is crates/bibtex/out/bibtex if none is given. Valgrind counts the instructions of each function (callgrind) in two lengths of a job; their
+PROGRAM is BIBTEX_PROGRAM, or else crates/bibtex/out/bibtex, if none is given. Valgrind counts the instructions of each function (callgrind) in two lengths of a job; their
 difference is shared among the steps, or the bytes, by which the jobs differ, so neither the start nor the reading counts for a step. What the
 compiler put into a function counts as that function's. Functions below N in 100 of a column (2 if it isn't given) are added up in their crate."""
 
