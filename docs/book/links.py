@@ -8,6 +8,11 @@ LINK = re.compile(r"\[\[([^\]\s]+)\]\]")
 HERE = pathlib.Path(__file__).parent
 
 
+def heading_id(title):
+    """The anchor of a heading of the book's first chapter or its last."""
+    return "read-" + re.sub(r"\W+", "-", title.lower()).strip("-")
+
+
 def key(name):
     """A definition's name as the book knows it."""
     return name.replace("::", ".")
@@ -39,7 +44,17 @@ class Row:
         self.names = names.split("; ")
 
 
+def groups(file):
+    """The rows of terms.txt or questions.txt, below the titles that they have: pairs of a title, or nothing, and rows."""
+    found = [(None, [])]
+    for line in (HERE / file).read_text(encoding="utf-8").split("\n"):
+        if line.startswith("# "):
+            found.append((line[2:], []))
+        elif line.strip() and not line.startswith("//"):
+            found[-1][1].append(Row(line))
+    return [(title, rows_) for title, rows_ in found if rows_]
+
+
 def rows(file):
-    """The rows of terms.txt or questions.txt."""
-    lines = (HERE / file).read_text(encoding="utf-8").split("\n")
-    return [Row(line) for line in lines if line.strip() and not line.startswith("//")]
+    """All rows of terms.txt or questions.txt."""
+    return [row for _, rows_ in groups(file) for row in rows_]

@@ -38,6 +38,14 @@ SIZES = {"README.md": r"some ([\d,]+) definitions of ([\d,]+) lines", "docs/PROO
          "docs/book/README.md": r"(?m)^\| believed \|.*\| ([\d,]+) \| ([\d,]+) \|$"}
 
 
+class Front:
+    """A chapter of the book's own words, from a file of this folder."""
+
+    def __init__(self, file, title, anchor):
+        self.file, self.title, self.anchor = file, title, anchor
+        self.blocks = re.split(r"\n\n+", (HERE / file).read_text(encoding="utf-8").strip())
+
+
 class Book:
     """What is woven: the chapters with their definitions, the examples by their names, and what is wrong."""
 
@@ -49,7 +57,8 @@ class Book:
         self.sections = [section for chapter in self.chapters for section in chapter.sections]
         self.passed, self.wrong, self.examples, self.rules = 0, [], {}, rules.headings()
         self.by_id = {name: it for it in self.found for name in (it.id, it.id.removesuffix("-type"))}
-        self.notation = re.split(r"\n\n+", (HERE / "notation.md").read_text(encoding="utf-8").strip())
+        self.first = Front("notation.md", "How to read this book", "notation")
+        self.last = Front("appendix.md", "The notation, sign by sign, questions and words", "appendix")
 
     @property
     def summary(self):
@@ -147,16 +156,16 @@ class Book:
             self.check(examples.holds(example), f"words.txt: the example of `{word}` isn't so: {example}")
 
     def check_notation(self):
-        for block in list(self.notation):
-            if block.startswith("@show "):
+        for front in (self.first, self.last):
+            for block in [it for it in front.blocks if it.startswith("@show ")]:
                 is_there = block[6:].replace("::", ".") in self.by_id
-                self.check(is_there, f"notation.md: the book has no definition `{block[6:]}`")
+                self.check(is_there, f"{front.file}: the book has no definition `{block[6:]}`")
                 if not is_there:
-                    self.notation.remove(block)
+                    front.blocks.remove(block)
 
     def check_links(self):
         """The definitions that the front matter and the openings of chapters name, and the words that the front matter explains."""
-        texts = {"notation.md": "\n".join(self.notation)}
+        texts = {front.file: "\n".join(front.blocks) for front in (self.first, self.last)}
         texts |= {f"chapters.txt, `{chapter.title}`": " ".join(chapter.opening) for chapter in self.chapters}
         found = [(place, name) for place, text in texts.items() for name in links.named_in(text)]
         found += [(file, name) for file in ("terms.txt", "questions.txt") for row in links.rows(file) for name in row.names]

@@ -150,19 +150,14 @@ def contents_html(book):
     """The chapters with their sections, each by its number; of the first one and of the rules their headings."""
     def item(anchor, title, number=""):
         return f'<li><a href="#{anchor}">{number}{" " * bool(number)}{text(title)}</a></li>'
-    first = "".join(item(heading_id(block[3:]), block[3:]) for block in book.notation if block.startswith("## "))
+    first, last = ("".join(item(links.heading_id(block[3:]), block[3:]) for block in front.blocks if block.startswith("## ")) for front in (book.first, book.last))
     words = "".join(item(rules.anchor(heading), heading) for level, heading in re.findall(r"(?m)^(##+) (.+)$", rules.source()) if level == "##")
     chapters_ = "".join(f'{f"</ul><h3>{text(chapter.part)}</h3><ul>" if chapter.part else ""}<li><a href="#ch{chapter.number}">{chapter.number} {text(chapter.title)}</a><ul>'
                         + "".join(item(f"s{section.number}", section.title, section.number) for section in chapter.sections) + "</ul></li>" for chapter in book.chapters)
-    return (f'<nav id="contents"><h2>Contents</h2><ul><li><a href="#notation">How to read this book</a><ul>{first}</ul></li>'
-            f'<li><a href="#rules">The rules in words</a><ul>{words}</ul></li><li><a href="#differences">{differences.TITLE}</a></li>{chapters_}<li><a href="#index">Index</a></li></ul></nav>'
+    return (f'<nav id="contents"><h2>Contents</h2><ul><li><a href="#{book.first.anchor}">{book.first.title}</a><ul>{first}</ul></li>'
+            f'<li><a href="#rules">The rules in words</a><ul>{words}</ul></li><li><a href="#differences">{differences.TITLE}</a></li>{chapters_}</ul><h3>Beside the chapters</h3><ul><li><a href="#{book.last.anchor}">{book.last.title}</a><ul>{last}</ul></li><li><a href="#index">Index</a></li></ul></nav>'
             '<p class="tools"><label>Find a name <input type="search" id="find" list="names" placeholder="substring$, ITERATE, is_wanted"></label>'
             '<output for="find" id="met"></output> <a href="#contents">Contents</a></p>')
-
-
-def heading_id(title):
-    """The anchor of a heading of the first chapter."""
-    return "read-" + re.sub(r"\W+", "-", title.lower()).strip("-")
 
 
 def bibtex_index_html():
@@ -182,7 +177,7 @@ def index_html(found):
     return f'{bibtex_index_html()}<h3>Definitions</h3><ul class="index">{"".join(rows)}</ul>'
 
 
-# ---- the chapter on the notation ----
+# ---- the first chapter and the last ----
 
 
 def words_html(found):
@@ -197,9 +192,12 @@ def words_html(found):
 
 def rows_html(file, by_id):
     """A table of words or of questions, with what is said of each and the definitions that say it. A question stands out from its answer."""
-    rows = "".join(f"<tr><td>{text(row.word)}</td><td>{text(row.meaning)}</td><td>{text('; '.join(links.to(name, by_id) for name in row.names))}</td></tr>"
-                   for row in links.rows(file))
+    rows = "".join((f'<tr><th colspan="3">{text(title)}</th></tr>' if title else "") + "".join(row_html(row, by_id) for row in found) for title, found in links.groups(file))
     return f'<table class="words{" asked" * (file == "questions.txt")}">{rows}</table>'
+
+
+def row_html(row, by_id):
+    return f"<tr><td>{text(row.word)}</td><td>{text(row.meaning)}</td><td>{text('; '.join(links.to(name, by_id) for name in row.names))}</td></tr>"
 
 
 def manuals_html(sections):
@@ -222,21 +220,21 @@ def code_use(use):
     return " <code>" + html.escape(line, quote=False) + "</code>"
 
 
-def notation_html(blocks, by_id, found, sections):
-    """The chapter on the notation: its paragraphs, lists and headings, the definitions that it shows, and the glossary."""
-    out = ['<h2 id="notation">How to read this book</h2>']
-    for block in blocks:
+def notation_html(front, book):
+    """A chapter of the book's own words: its paragraphs, lists and headings, the definitions that it shows, and the tables."""
+    by_id, out = book.by_id, [f'<h2 id="{front.anchor}">{front.title}</h2>']
+    for block in front.blocks:
         if block.startswith("## "):
-            out.append(f'<h3 id="{heading_id(block[3:])}">{text(block[3:])}</h3>')
+            out.append(f'<h3 id="{links.heading_id(block[3:])}">{text(block[3:])}</h3>')
         elif block.startswith("@show "):
             it = by_id[block[6:].replace("::", ".")]
             out.append(f'<div class="shown"><p><a href="#{it.id}">{it.number}</a> {text(layout.prose(it.comment))}</p>{code(it)}</div>')
         elif block == "@words":
-            out.append(words_html(found))
+            out.append(words_html(book.found))
         elif block in ("@terms", "@questions"):
             out.append(rows_html(f"{block[1:]}.txt", by_id))
         elif block == "@manuals":
-            out.append(manuals_html(sections))
+            out.append(manuals_html(book.sections))
         elif block.startswith(("- ", "1. ")):
             out.append(items_html(block, by_id))
         else:
@@ -272,9 +270,9 @@ def book_html(book):
     title = "BibTeX, proved: the book of definitions"
     worked = [chapter for chapter in book.chapters if chapter.title == WORKED]
     body = [f'<h1>{title}</h1><p class="opening">{text(book.summary)}</p>', contents_html(book),
-            notation_html(book.notation, book.by_id, book.found, book.sections), rules.as_html(followers(book.sections), differences.sign_html), differences.as_html()]
+            notation_html(book.first, book), rules.as_html(followers(book.sections), differences.sign_html), differences.as_html()]
     body += [chapter_html(chapter, book.examples, book.by_id) for chapter in book.chapters if chapter not in worked]
-    body = "\n".join(body) + index_html(book.found)
+    body = "\n".join(body) + notation_html(book.last, book) + index_html(book.found)
     examples = (f'<h1>{title}: worked examples</h1><p class="opening"><a href="{BOOK}">The book</a></p>'
                 + "\n".join(chapter_html(chapter, book.examples, book.by_id) for chapter in worked))
     ids = [set(re.findall(r' id="([^"]+)"', page)) for page in (body, examples)]

@@ -115,7 +115,8 @@ def words_markdown(found):
 
 def rows_markdown(file, by_id):
     """A table of words or of questions, as a list."""
-    return "\n".join(f"- **{row.word}**: {row.meaning.rstrip('.')}. {', '.join(links.to(name, by_id, True) for name in row.names)}" for row in links.rows(file)) + "\n"
+    return "\n".join((f"\n**{title}**\n\n" if title else "") + "\n".join(
+        f"- **{row.word}**: {row.meaning.rstrip('.')}. {', '.join(links.to(name, by_id, True) for name in row.names)}" for row in found) for title, found in links.groups(file)) + "\n"
 
 
 def manuals_markdown(sections):
@@ -124,20 +125,20 @@ def manuals_markdown(sections):
                      for (manual, number), found in manuals.followers(sections)) + "\n"
 
 
-def notation_markdown(blocks, by_id, found, sections):
-    out = ["# How to read this book {.unnumbered}\n"]
-    for block in blocks:
+def notation_markdown(front, book):
+    by_id, out = book.by_id, [f"# {front.title} {{#{front.anchor} .unnumbered}}\n"]
+    for block in front.blocks:
         if block.startswith("## "):
-            out.append(f"## {block[3:]} {{.unnumbered}}\n")
+            out.append(f"## {block[3:]} {{#{links.heading_id(block[3:])} .unnumbered}}\n")
         elif block.startswith("@show "):
             it = by_id[block[6:].replace("::", ".")]
             out.append(f"[{it.number}](#{anchor(it)}) {layout.prose(it.comment)}\n\n{code(it)}\n")
         elif block == "@words":
-            out.append(words_markdown(found))
+            out.append(words_markdown(book.found))
         elif block in ("@terms", "@questions"):
             out.append(rows_markdown(f"{block[1:]}.txt", by_id))
         elif block == "@manuals":
-            out.append(manuals_markdown(sections))
+            out.append(manuals_markdown(book.sections))
         else:
             out.append(links.linked(re.sub(r"\n(?!- |\d+\. )", " ", block), by_id, True) + "\n")
     return "\n".join(out)
@@ -163,6 +164,6 @@ def without_mathematics(text):
 
 def book_markdown(book):
     """The whole book."""
-    parts = [HEAD, book.summary + "\n", notation_markdown(book.notation, book.by_id, book.found, book.sections), rules.as_markdown(), differences.as_markdown()]
-    parts += [chapter_markdown(chapter, book.examples, book.by_id) for chapter in book.chapters] + [index_markdown(book.found)]
+    parts = [HEAD, book.summary + "\n", notation_markdown(book.first, book), rules.as_markdown(), differences.as_markdown()]
+    parts += [chapter_markdown(chapter, book.examples, book.by_id) for chapter in book.chapters] + [notation_markdown(book.last, book), index_markdown(book.found)]
     return without_mathematics("\n".join(parts))

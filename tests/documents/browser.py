@@ -22,6 +22,8 @@ WIDTHS = (1280, 768, 390)
 MOST_BYTES = 3_000_000
 # How many seconds the browser may take for one page: it takes some ten on a machine of its own.
 PATIENCE = 600
+# How many milliseconds a page of a few words takes at most until it is seen, on a machine that isn't busy.
+IDLE_PAINT = 150
 # What is asked of a page in the browser: a name, and an expression in which `page` is its window and `all` answers what a selector finds.
 ASKED = {
     "nothing is wider than the page": "page.document.documentElement.scrollWidth <= page.innerWidth",
@@ -153,16 +155,26 @@ def brightness(colour):
 
 
 def check_paint(checks, program, room):
-    """How soon the book is seen first, by the browser's own clock; the best of three times, since others use the machine too."""
+    """How soon the book is seen first, by the browser's own clock; the best of three times. Where a page of a few words takes long, too, the machine is busy with other
+    things, and nothing is said of the book."""
+    empty, times = painted(program, room, "<!doctype html><body>A few words.</body>"), painted(program, room, (OUT / PAGES[0]).read_text(encoding="utf-8"))
+    print(f"first paint: {', '.join(f'{time:.0f} ms' for time in times)}; of a few words: {', '.join(f'{time:.0f} ms' for time in empty)}")
+    if empty and min(empty) > IDLE_PAINT:
+        print("left out: how soon the book is seen (the machine is busy)")
+        return
+    checks.check(times and min(times) <= 1000, "the book isn't seen within a second")
+
+
+def painted(program, room, text):
+    """The times of a page's first paint, of three runs of the browser."""
     observed = """<script>new PerformanceObserver((list) => list.getEntries().forEach((it) => console.log(`${it.name}: ${it.startTime}`)))
         .observe({ type: "paint", buffered: true });</script></body>"""
-    (room / "paint.html").write_text((OUT / PAGES[0]).read_text(encoding="utf-8").replace("</body>", observed), encoding="utf-8")
+    (room / "paint.html").write_text(text.replace("</body>", observed), encoding="utf-8")
     times = []
     for _ in range(3):
         ran = run(program, room, "--enable-logging=stderr", "--window-size=1280,900", f"--screenshot={room}/seen.png", (room / "paint.html").as_uri())
         times += [float(time) for time in re.findall(r"first-contentful-paint: ([\d.]+)", ran.stderr)]
-    print(f"first paint: {', '.join(f'{time:.0f} ms' for time in times)}")
-    checks.check(times and min(times) <= 1000, "the book isn't seen within a second")
+    return times
 
 
 def check_print(checks, program, room):
