@@ -164,6 +164,49 @@ wants_text job.bbl $'a\n'
 wants_text job.blg "$first_log"
 end
 
+# Standard output is a pipe that takes a part of the log and then nothing: the files are written all the same.
+begin output_that_takes_a_part
+use_style 'FUNCTION {g} {"0123456789" duplicate$ * duplicate$ * duplicate$ * duplicate$ * warning$} FUNCTION {f} {g g g g g g g g}
+FUNCTION {h} {f f f f f f f f} EXECUTE {h} EXECUTE {h} EXECUTE {h} EXECUTE {h} EXECUTE {h} EXECUTE {h} EXECUTE {h} EXECUTE {h}'
+status=0
+timeout 60 python3 - "$program" >"$folder/taken" 2>"$folder/stderr" <<'EOF' || status=$?
+import os, subprocess, sys
+
+out, into = os.pipe()
+os.set_blocking(into, False)
+ended = subprocess.run([sys.argv[1], "job"], stdin=subprocess.DEVNULL, stdout=into)
+os.close(into)
+with open(out, "rb") as taken:
+    print(len(taken.read()) < os.stat("job.blg").st_size)
+sys.exit(ended.returncode)
+EOF
+wants_status 6
+wants_error "$device_error"
+wants_text "$folder/taken" $'True\n'
+wants_text job.bbl ''
+end
+
+# The list's file can't be cut: what it holds isn't taken for the new list.
+begin list_that_cannot_be_cut
+status=0
+timeout 60 python3 - "$program" >"$folder/stdout" 2>"$folder/stderr" <<'EOF' || status=$?
+import fcntl, os, subprocess, sys
+
+sealed = os.memfd_create("list", os.MFD_ALLOW_SEALING)
+os.write(sealed, b"an old list\n")
+fcntl.fcntl(sealed, fcntl.F_ADD_SEALS, fcntl.F_SEAL_SHRINK)
+os.symlink(f"/proc/{os.getpid()}/fd/{sealed}", "job.bbl")
+ended = subprocess.run([sys.argv[1], "job"], stdin=subprocess.DEVNULL, stdout=subprocess.DEVNULL)
+print(os.pread(sealed, 100, 0).decode(), end="")
+os.unlink("job.bbl")
+sys.exit(ended.returncode)
+EOF
+wants_status 6
+wants_error "$device_error"
+wants_output $'an old list\n'
+wants_text job.blg "${first_log%Ended*}"
+end
+
 # The name of the outputs is longer than any that the system takes.
 begin long_name_of_a_job
 run_program "$(printf 'n%.0s' {1..300})"

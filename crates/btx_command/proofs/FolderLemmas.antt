@@ -3,27 +3,10 @@ use Rattle.std.proofs.Common.{◌≡◌, ◌∙◌, ◌++◌, ap, sym, subst, re
 use Rattle.std.specs.Prelude.{IfSome, IsUtf8, if◌then◌else◌}
 use Rattle.std.specs.Option.{option_map}
 use Rattle.std.specs.Str.{is_utf8}
-use Rattle.std.specs.Io.Take.{take_inner, take_limit, take_remaining}
-use Rattle.std.specs.declared.io.traits.Take.{Take}
 use Rattle.std.proofs.lemmas.Str.{IsUtf8-from_is_utf8, is_utf8-from_IsUtf8}
 use Rattle.btx_aux.specs.language.Files.{Files}
 use Rattle.btx_command.specs.FolderFiles.{Holds, folder_files, most_read}
 use Rattle.btx_command.specs.Paths.{path_in}
-
--- ---- the front of a file
-
-known_front : (known : Option (List ℕ)) (most : ℕ) (before after : List ℕ)
-    → IfSome (option_map (λ (xs : List ℕ). take most xs) known) (λ xs. after ≡ before ++ xs) → IfSome known (λ xs. after ≡ before ++ take most xs)
-known_front None most before after read = read
-known_front (Some xs) most before after read = read
-
-pub front_is_read : {R : Type 0} (remaining : R → Option (List ℕ)) (file : R) (front : Take R) (most : ℕ) (before after : List ℕ)
-    → take_limit front ≡ most → take_inner front ≡ file → IfSome (take_remaining remaining front) (λ xs. after ≡ before ++ xs)
-    → IfSome (remaining file) (λ xs. after ≡ before ++ take most xs)
-front_is_read remaining file front most before after is_most is_file read =
-    let AtMost : ℕ → Type 0 = λ n. IfSome (option_map (λ (xs : List ℕ). take n xs) (remaining (take_inner front))) (λ xs. after ≡ before ++ xs) in
-    let OfFile : _ → Type 0 = λ it. IfSome (option_map (λ (xs : List ℕ). take most xs) (remaining it)) (λ xs. after ≡ before ++ xs) in
-    known_front (remaining file) most before after (subst OfFile is_file (subst AtMost is_most read))
 
 -- ---- a file of a folder
 

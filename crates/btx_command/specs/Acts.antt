@@ -1,15 +1,15 @@
 -- What the program does outside, by its outputs.
-use Rattle.std.specs.Prelude.{◌≡◌, ◌++◌, ℕ, List, [], ◌∷◌, Option, Result, Ok, Err}
-use Rattle.std.specs.Option.{option_map}
+use Rattle.std.specs.Prelude.{◌≡◌, ◌++◌, ℕ, List, [], ◌∷◌, Result, Ok, Err, take}
 use Rattle.btx_run.specs.declared.run_fault.RunFault.{RunFault}
 
--- what can be done, with what came of it; `W` are the files of lists
+-- What can be done, with what came of it; `W` are the files of lists. A file of the real system is the bytes that the system took from it, since it was
+-- opened or emptied.
 pub data Act (W : Type 0) : Type 0 where
   -- the list's file of this path was opened, or that failed
   OpenedList : (path : List ℕ) (opened : Result W RunFault) → Act W
   -- a list's file was closed, as it was then
   ClosedList : (file : W) → Act W
-  -- the log that an earlier run may have left at this path was emptied
+  -- the log that an earlier run may have left at this path was to be emptied; what isn't an ordinary file is left alone
   EmptiedLog : (path : List ℕ) → Act W
   -- a log was stored in the file of this path, or that failed
   StoredLog : (path log : List ℕ) (stored : Result (Unit {0}) RunFault) → Act W
@@ -20,15 +20,20 @@ pub data Act (W : Type 0) : Type 0 where
   -- a fault was reported on standard error
   ReportedFault : (fault : RunFault) → Act W
 
--- what was done so far; of the real system's outputs nothing is known
+-- what was done so far, in order
 abbrev pub Done : Type 0 → Type 0
-Done W = Option (List (Act W))
+Done W = List (Act W)
 
 -- these acts were done, in order, behind what was done before
 abbrev pub WereDone : {W : Type 0} → Done W → Done W → List (Act W) → Type 0
-WereDone before after acts = after ≡ option_map (λ done. done ++ acts) before
+WereDone before after acts = after ≡ before ++ acts
 
 -- the fault of an answer is reported
 abbrev pub reporting : {W : Type 0} {T : Type 0} → Result T RunFault → List (Act W)
 reporting (Ok value) = []
 reporting (Err fault) = ReportedFault fault ∷ []
+
+-- the bytes that a writing of these took: as many of the first as it answered, or none where it failed
+abbrev pub taken : {E : Type 0} → Result ℕ E → List ℕ → List ℕ
+taken (Ok count) bytes = take count bytes
+taken (Err error) bytes = []

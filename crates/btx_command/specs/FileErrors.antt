@@ -1,7 +1,9 @@
 -- What a file that failed means.
-use Rattle.std.specs.Prelude.{Bool, false, Result, Ok, Err}
+use Rattle.std.specs.Prelude.{Bool, false, true, Option, None, Some, Result, Ok, Err}
+use Rattle.std.specs.IoError.{error_kind}
+use Rattle.std.specs.declared.io.Error.{Error}
 use Rattle.std.specs.declared.io.ErrorKind.{ErrorKind}
-use Rattle.std.specs.declared.io.ErrorKind.TheVariants.{OutOfMemory}
+use Rattle.std.specs.declared.io.ErrorKind.TheVariants.{Interrupted, OutOfMemory}
 use Rattle.btx_aux.specs.declared.fetch_fault.FetchFault.{FetchFault}
 use Rattle.btx_aux.specs.declared.fetch_fault.FetchFault.TheVariants as fetch_fault
 use Rattle.btx_run.specs.declared.run_fault.RunFault.{RunFault}
@@ -12,10 +14,21 @@ abbrev pub unopened : ErrorKind → Result Bool FetchFault
 unopened OutOfMemory = Err fetch_fault.Memory
 unopened _ = Ok false
 
--- for a fetch, where it was opened and couldn't be read: memory was refused, or the device failed
-abbrev pub read_fault : ErrorKind → FetchFault
-read_fault OutOfMemory = fetch_fault.Memory
-read_fault _ = fetch_fault.Device
+-- for a fetch, where a reading of it failed: it is tried again if a signal interrupted it; else memory was refused, or the device failed
+abbrev pub read_fault : ErrorKind → Option FetchFault
+read_fault Interrupted = None
+read_fault OutOfMemory = Some fetch_fault.Memory
+read_fault _ = Some fetch_fault.Device
+
+-- the device failed a reading of a file: it failed, memory wasn't refused, and no signal interrupted it
+abbrev pub is_device_kind : ErrorKind → Bool
+is_device_kind Interrupted = false
+is_device_kind OutOfMemory = false
+is_device_kind _ = true
+
+abbrev pub is_device_read : {T : Type 0} → Result T Error → Bool
+is_device_read (Ok value) = false
+is_device_read (Err error) = is_device_kind (error_kind error)
 
 -- for the program, where an output couldn't be created or written: memory was refused, or the device failed
 abbrev pub output_fault : ErrorKind → RunFault

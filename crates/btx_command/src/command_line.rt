@@ -1,5 +1,5 @@
 //! The command line.
-ghost use Rattle.std.specs.Prelude.{◌≡◌, ◌⊎◌, IfOk, codes, map, string_bytes, unwrap_or};
+ghost use Rattle.std.specs.Prelude.{◌≡◌, ◌⊎◌, if◌then◌else◌, is_ok, IfOk, codes, map, string_bytes, unwrap_or};
 ghost use Rattle.clap.specs.Words.{FailsBy, fault_of, first_of, found_of, kind_of, matches_of, one_of, rows_of};
 ghost use Rattle.clap.specs.Simple.{App};
 ghost use Rattle.btx_command.specs.CommandLine.{AreOptionsOf, HasNumbers, IsBibtex, IsFlag, IsGivenFrom, IsNameOf, IsSettingsOf, Refuses, mode_of, most_steps, number_or};
@@ -10,7 +10,7 @@ use crate::options::bibtex_command;
 use btx_run::{KeptBytes, LineLength, Options, TextMode};
 use clap::error::ErrorKind;
 use clap::{ArgMatches, Error};
-use std::alloc::Global;
+use std::alloc::{AllocError, Global};
 
 // How many references keep an entry in the list that isn't cited, where nothing is said.
 const USUAL_CROSSREFS: u32 = 2;
@@ -110,12 +110,16 @@ fn name_of(job: &str) -> &str
 fn refusal_of(alloc: Global, error: &Error) -> Refusal
     ensures { (refusal_exit result ≡ refused_memory) ⊎ (refusal_exit result ≡ fault_exit (kind_of error.now)) }
 {
-    let kind = error.kind();
-    if matches!(kind, ErrorKind::OutOfMemory) {
-        return Refusal::Memory;
-    }
-    match (kind, error.to_string(alloc)) {
-        (_, Err(_)) => Refusal::Memory,
+    refusal_with(error.kind(), error.to_string(alloc))
+}
+
+// What is answered for words with a fault of this kind, whose text was made, or couldn't be for want of memory. No other text has want of memory for an
+// answer.
+fn refusal_with(kind: ErrorKind, text: Result<String, AllocError>) -> Refusal
+    ensures { refusal_exit result ≡ (if is_ok text then fault_exit kind else refused_memory) }
+{
+    match (kind, text) {
+        (_, Err(_)) | (ErrorKind::OutOfMemory, _) => Refusal::Memory,
         (ErrorKind::DisplayHelp | ErrorKind::DisplayVersion, Ok(text)) => Refusal::Shown(text),
         (_, Ok(text)) => Refusal::Mistake(text),
     }

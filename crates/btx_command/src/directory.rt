@@ -1,25 +1,26 @@
 //! The files of a folder.
-ghost use Rattle.std.specs.Prelude.{◌≡◌, ◌++◌, [], false, IfOk, IfSome, OnOk, take};
+ghost use Rattle.std.specs.Prelude.{◌≡◌, [], false, IfOk, IfSome};
 ghost use Rattle.std.specs.IoError.{error_kind};
 ghost use Rattle.std.specs.Option.{option_map};
+ghost use Rattle.btx_aux.specs.language.Fetches.{is_device_fetch};
 ghost use Rattle.btx_aux.specs.language.Files.{file_of};
-ghost use Rattle.btx_command.specs.FileErrors.{read_fault, unopened};
-ghost use Rattle.btx_command.specs.FolderFiles.{folder_files, most_read};
+ghost use Rattle.btx_text.specs.language.Counts.{count_after};
+ghost use Rattle.btx_command.specs.FileErrors.{unopened};
+ghost use Rattle.btx_command.specs.FolderFiles.{folder_files};
 
 use crate::paths::path_in;
+use crate::reading::read_front;
 use crate::system::System;
 use btx_run::{FetchFault, Finder, History};
-use btx_text::GREATEST_FILE;
 use std::alloc::Global;
 use std::io;
-use std::io::{ErrorKind, Read};
+use std::io::ErrorKind;
 
 /// The files of a folder of a system. Their content is known where the system's is.
 pub struct DirectoryFinder<'a, S> {
     system: S,
     directory: &'a str,
     history: History,
-    failures: u64,
 }
 
 impl<S: Drop> Drop for DirectoryFinder<'_, S> {
@@ -28,7 +29,6 @@ impl<S: Drop> Drop for DirectoryFinder<'_, S> {
             system: _,
             directory: _,
             history: _,
-            failures: _,
         } = self;
     }
 }
@@ -39,21 +39,19 @@ impl<'a, S: System> DirectoryFinder<'a, S> {
         ensures system { result.system ≡ system }
         ensures directory { result.directory ≡ directory.entry }
         ensures history { result.history ≡ history }
-        ensures failures { result.failures ≡ 0 }
     {
         DirectoryFinder {
             system,
             directory,
             history,
-            failures: 0,
         }
     }
 
-    /// Answers how many fetches of this finder ended in a device error. The count begins again at 0 after `u64::MAX`.
-    pub fn failures(&self) -> u64
-        ensures { result ≡ self.now.failures }
+    /// Answers the system.
+    pub fn system(&self) -> &S
+        ensures { result.now ≡ self.now.system }
     {
-        self.failures
+        &self.system
     }
 
     /// Answers the history.
@@ -66,63 +64,48 @@ impl<'a, S: System> DirectoryFinder<'a, S> {
             system: _,
             directory: _,
             history,
-            failures: _,
         } = self;
         history
     }
-
-    // Appends the bytes of the file of this name, as far as a file is read. `Ok(false)`: it can't be opened, or its name isn't UTF-8, and
-    // nothing was read.
-    fn read(&self, alloc: Global, name: &[u8], into: &mut Vec<u8>) -> Result<bool, FetchFault>
-        ensures nothing { result ≡ Ok false → into.new.items ≡ into.old.items }
-        ensures found { into.old.items ≡ [] → IfSome (S.content self.now.system) (λ files.
-            IfOk result (λ found. folder_files self.now.directory.now files name.now ≡ file_of found into.new.items)) }
-    {
-        let Ok(name) = str::from_utf8(name) else {
-            return Ok(false);
-        };
-        let Ok(path) = path_in(alloc, self.directory, name) else {
-            return Err(FetchFault::Memory);
-        };
-        let file = match self.system.open(path.as_str()) {
-            Ok(file) => file,
-            Err(error) => return unopened(&error),
-        };
-        read_file(file, into)?;
-        Ok(true)
-    }
 }
 
-// The greatest number of bytes that are read of a file.
-const MOST_READ: u64 = GREATEST_FILE as u64 + 1;
-
-// Appends the bytes of a file, as far as one is read.
-fn read_file<R: Read + Drop>(file: R, into: &mut Vec<u8>) -> Result<(), FetchFault>
-    ensures { OnOk result (IfSome (R.remaining file) (λ bytes. into.new.items ≡ into.old.items ++ take most_read bytes)) }
+// Appends the bytes of the file of this name in the folder `directory`, as far as a file is read. `Ok(false)`: it can't be opened, or its name isn't
+// UTF-8, and nothing was read.
+fn read_in<S: System>(
+    alloc: Global,
+    system: &mut S,
+    directory: &str,
+    name: &[u8],
+    into: &mut Vec<u8>,
+) -> Result<bool, FetchFault>
+    ensures nothing { result ≡ Ok false → into.new.items ≡ into.old.items }
+    ensures found { into.old.items ≡ [] → IfSome (S.content system.old) (λ files.
+        IfOk result (λ found. folder_files directory.now files name.now ≡ file_of found into.new.items)) }
+    ensures stays { S.content system.new ≡ S.content system.old }
+    ensures counts { S.failures system.new ≡ count_after (is_device_fetch result) (S.failures system.old) }
 {
-    match file.take(MOST_READ).read_to_end(into) {
-        Ok(_) => Ok(()),
-        Err(error) => Err(read_fault(&error)),
-    }
+    let Ok(name) = str::from_utf8(name) else {
+        return Ok(false);
+    };
+    let Ok(path) = path_in(alloc, directory, name) else {
+        return Err(FetchFault::Memory);
+    };
+    let file = match system.open(path.as_str()) {
+        Ok(file) => file,
+        Err(error) => return unopened(&error),
+    };
+    read_front(system, file, into)?;
+    Ok(true)
 }
 
 // What a file that can't be opened means for a fetch: there is no such file, or memory was refused.
 fn unopened(error: &io::Error) -> Result<bool, FetchFault>
-    ensures { result ≡ unopened (error_kind error.now) }
+    ensures kind { result ≡ unopened (error_kind error.now) }
+    ensures device { is_device_fetch result ≡ false }
 {
     match error.kind() {
         ErrorKind::OutOfMemory => Err(FetchFault::Memory),
         _ => Ok(false),
-    }
-}
-
-// What a read that failed means for a fetch: the device failed, or memory was refused.
-fn read_fault(error: &io::Error) -> FetchFault
-    ensures { result ≡ read_fault (error_kind error.now) }
-{
-    match error.kind() {
-        ErrorKind::OutOfMemory => FetchFault::Memory,
-        _ => FetchFault::Device,
     }
 }
 
@@ -131,7 +114,7 @@ impl<S: System> Finder for DirectoryFinder<'_, S> {
 
     ghost answers = { λ finder. finder.history };
 
-    ghost failures = { λ finder. finder.failures };
+    ghost failures = { λ finder. S.failures finder.system };
 
     fn fetch(
         &mut self,
@@ -140,7 +123,7 @@ impl<S: System> Finder for DirectoryFinder<'_, S> {
         into: &mut Vec<u8>,
     ) -> Result<bool, FetchFault> {
         into.clear();
-        let answer = self.read(alloc, name, into);
+        let answer = read_in(alloc, &mut self.system, self.directory, name, into);
         match answer {
             Ok(found) => {
                 if self.history.note(alloc, name, found, into).is_err() {
@@ -148,11 +131,7 @@ impl<S: System> Finder for DirectoryFinder<'_, S> {
                     return Err(FetchFault::Memory);
                 }
             }
-            Err(FetchFault::Memory) => into.clear(),
-            Err(FetchFault::Device) => {
-                into.clear();
-                self.failures = self.failures.wrapping_add(1);
-            }
+            Err(_) => into.clear(),
         }
         answer
     }

@@ -4,6 +4,7 @@
 pub mod command_line;
 pub mod directory;
 pub mod given;
+mod handed;
 pub mod job;
 mod list_file;
 pub mod options;
@@ -11,6 +12,7 @@ pub mod outcome;
 pub mod outputs;
 pub mod paths;
 pub mod program;
+mod reading;
 mod spelling;
 pub mod system;
 

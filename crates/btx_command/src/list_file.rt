@@ -1,13 +1,18 @@
 //! The file of the list of references, which keeps what an earlier run left until something is known of this one.
-ghost use Rattle.std.specs.Prelude.{◌≡◌, true, None, OnOk, OnErr, IfOk, ◌≤◌, length};
+ghost use Rattle.std.specs.Prelude.{◌≡◌, true, [], Some, OnOk, OnErr, Err, IfErr, IfOk, ◌≤◌, length};
+ghost use Rattle.std.specs.IoError.{error_kind};
+ghost use Rattle.std.specs.declared.io.ErrorKind.TheVariants.{InvalidInput};
+ghost use Rattle.std.specs.Io.{WritesAtMost};
 ghost use Rattle.std.specs.Io.KnownBytes.{Keeps, WriteAppends};
 ghost use Rattle.btx_command.specs.ListFiles.{FinishesList, emptied, keeps_old, received_by, unwritten};
 
+use crate::handed::Handed;
 use crate::outcome::output_fault;
 use btx_run::{End, Report, RunFault, Sink, SinkFault};
 use std::fs::OpenFile;
 use std::io;
 use std::io::{ErrorKind, Write};
+use std::marker::Model;
 
 /// A file that can be emptied as long as nothing is written to it.
 pub trait EmptiedFile: Write {
@@ -83,24 +88,49 @@ impl<W: EmptiedFile> ListFile<W> {
     }
 }
 
-/// A file of the real system. What it holds isn't known.
+/// A file of the real system. It shows the bytes that the system took from it, since it was opened or emptied.
 #[derive(Drop)]
 pub struct SystemFile<F> {
     file: F,
+    handed: Handed,
+}
+
+impl<F> Model for SystemFile<F> {
+    ghost use Rattle.std.specs.Prelude.{ℕ, List};
+
+    ghost Value = { List ℕ };
+
+    ghost view = { λ it. it.handed.bytes };
 }
 
 impl<F> SystemFile<F> {
     /// Makes a file of the real system from one that is open.
-    pub fn new(file: F) -> Self {
-        SystemFile { file }
+    pub fn new(file: F) -> Self
+        ensures { result ≡ [] }
+    {
+        SystemFile {
+            file,
+            handed: Handed::new(),
+        }
     }
 }
 
+// Hands bytes to a file, once, and notes those that it took.
+fn hand<F: Write>(file: &mut F, handed: &mut Handed, bytes: &[u8]) -> io::Result<usize>
+    ensures bound { WritesAtMost result bytes.now }
+    ensures file { WriteAppends (F.contents file.old) (F.contents file.new) result bytes.now }
+    ensures noted { WriteAppends (Some handed.old.bytes) (Some handed.new.bytes) result bytes.now }
+{
+    let answer = file.write(bytes);
+    *handed = handed.and(&(bytes, &answer));
+    answer
+}
+
 impl<F: Write> Write for SystemFile<F> {
-    ghost contents = { λ _. None };
+    ghost contents = { λ it. Some it };
 
     fn write(&mut self, bytes: &[u8]) -> io::Result<usize> {
-        self.file.write(bytes)
+        hand(&mut self.file, &mut self.handed, bytes)
     }
 
     fn flush(&mut self) -> io::Result<()> {
@@ -108,13 +138,23 @@ impl<F: Write> Write for SystemFile<F> {
     }
 }
 
+// What it means that a file was cut to no bytes, or that it couldn't be: it has nothing to throw away, if that is an invalid input to it.
+fn emptied(answer: io::Result<()>) -> io::Result<()>
+    ensures emptied { OnOk result (IfErr answer (λ error. error_kind error ≡ InvalidInput)) }
+    ensures same { IfErr result (λ error. answer ≡ Err error) }
+{
+    match answer {
+        Err(error) if error.kind() == ErrorKind::InvalidInput => Ok(()),
+        answer => answer,
+    }
+}
+
 impl<F: Write + OpenFile> EmptiedFile for SystemFile<F> {
     // What has no length, as a device or a pipe, is refused as an invalid input: there is nothing to throw away.
     fn empty(&mut self) -> io::Result<()> {
-        match self.file.set_len(0) {
-            Err(error) if error.kind() == ErrorKind::InvalidInput => Ok(()),
-            answer => answer,
-        }
+        emptied(self.file.set_len(0))?;
+        self.handed = Handed::new();
+        Ok(())
     }
 }
 

@@ -1,0 +1,67 @@
+//! What was handed to the system, as proofs see it.
+ghost use Rattle.std.specs.Prelude.{◌≡◌, ◌++◌, ℕ, List, []};
+ghost use Rattle.std.specs.Borrow.{ftrue};
+ghost use Rattle.btx_command.specs.Acts.{Act};
+
+use std::marker::Model;
+
+/// Bytes that were handed to the system. Only proofs speak of them: at run time there is nothing here.
+#[derive(Drop)]
+pub struct Handed {
+    pub ghost bytes: { List ℕ },
+}
+
+impl Model for Handed {
+    ghost also_owns = { λ _. ftrue };
+}
+
+impl Handed {
+    /// No byte yet.
+    pub fn new() -> Handed
+        ensures { result.bytes ≡ [] }
+    {
+        Handed {}
+    }
+
+    /// These bytes.
+    pub fn of(bytes: &[u8]) -> Handed
+        ensures { result.bytes ≡ bytes.now }
+    {
+        Handed::new().and(&bytes)
+    }
+
+    /// These bytes, and then others, which a proof picks by what is seen.
+    pub fn and<T>(&self, seen: &T) -> Handed
+        ghost more: { List ℕ }
+        ensures { result.bytes ≡ self.now.bytes ++ more }
+    {
+        Handed {}
+    }
+}
+
+/// What was done outside. Only proofs speak of it: at run time there is nothing here.
+#[derive(Drop)]
+pub struct Acts {
+    pub ghost done: { List (Act (List ℕ)) },
+}
+
+impl Model for Acts {
+    ghost also_owns = { λ _. ftrue };
+}
+
+impl Acts {
+    /// Nothing yet.
+    pub fn new() -> Acts
+        ensures { result.done ≡ [] }
+    {
+        Acts {}
+    }
+
+    /// These acts, and then others, which a proof picks by what is seen.
+    pub fn and<T>(&self, seen: &T) -> Acts
+        ghost more: { List (Act (List ℕ)) }
+        ensures { result.done ≡ self.now.done ++ more }
+    {
+        Acts {}
+    }
+}
