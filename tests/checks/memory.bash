@@ -128,6 +128,36 @@ refused_in_worked white_in_argument 2 '' 'k, j'
 refused_in_worked sorted_keys 0 "FUNCTION {f} {cite\$ 'sort.key\$ :=} FUNCTION {g} {cite\$ write\$ newline\$} ITERATE {f} SORT ITERATE {g}" b,a,C '@misc{a}@misc{b}@misc{C}'
 first_of_two_faults
 
+# wants_example: what the example of the library prints where memory was refused once: its list, or nothing. `faults` counts the runs that say what failed.
+wants_example() {
+    [ ! -s "$folder/stderr" ] || faults=$((faults + 1))
+    case $status in
+    0) wants_output "$whole_list" ;;
+    5) wants_output '' ;;
+    *) complaints+=("the exit status is $status, not 0 or 5") ;;
+    esac
+    [[ $(cat "$folder/stderr") == @(|'out of memory'|'device error') ]] || complaints+=("standard error is $(printf '%q' "$(cat "$folder/stderr")")")
+}
+
+# refused_in_library: a job over files in memory, by the example of the library. Where the finder itself gets no memory, nothing is run.
+refused_in_library() {
+    local program=$here/../crates/btx_example/out/btx_example
+    if [ ! -x "$program" ]; then
+        echo "        left out: there is no $program"
+        return
+    fi
+    begin refused_memory_in_the_library
+    keep "$here/../crates/btx_example/stdout" whole_list
+    local faults=0
+    refuses_each wants_example
+    wants_status 0
+    wants_output "$whole_list"
+    [ "$faults" -gt 0 ] || complaints+=('no run says what failed')
+    end
+}
+
+refused_in_library
+
 # A refusal for want of memory has no text of its own, and each other one has its whole text.
 # wants_memory_or_text: what stands after a run that was to print a text with a status, and in which memory was refused once.
 wants_memory_or_text() {

@@ -10,15 +10,19 @@ use std::process::ExitCode;
 use std::str;
 
 // The files of a job: what LaTeX wrote of a document, a style, and a database.
-const AUX: &[u8] = b"\\citation{knuth}\n\\bibstyle{short}\n\\bibdata{books}\n";
+const AUX: &[u8] = b"\\citation{newts}\n\\bibstyle{short}\n\\bibdata{books}\n";
 
 const STYLE: &[u8] = b"ENTRY {author title}{}{}
-FUNCTION {book} {author write$ \": \" write$ title write$ \".\" write$ newline$}
+FUNCTION {book} {\"[\" write$ author #1 \"{l}] {ff~}{ll}: \" format.name$ write$ title write$ \".\" write$ newline$}
 READ
 ITERATE {call.type$}
 ";
 
-const DATABASE: &[u8] = b"@book{knuth, author = {Donald E. Knuth}, title = {The {\\TeX}book}}\n";
+// The author is Karel Čapek, in UTF-8. One entry alone refers to the second one, which therefore isn't listed.
+const DATABASE: &[u8] =
+    b"@book{newts, author = {Karel \xC4\x8Capek}, title = {War with the Newts}, crossref = {works}}
+@book{works, author = {Karel \xC4\x8Capek}, title = {Works}}
+";
 
 // What a run wrote, and what it answered.
 #[derive(Drop)]

@@ -42,6 +42,14 @@ pub fn options(budget: u64) -> Options {
     }
 }
 
+/// Makes options whose numbers are the greatest that their types have.
+pub fn greatest_options() -> Options {
+    Options {
+        min_crossrefs: u32::MAX,
+        ..options(u64::MAX)
+    }
+}
+
 /// Makes the files of a job: its `.aux` file, its style and its database.
 pub fn job_of<'a>(aux: &'a [u8], style: &'a [u8], database: &'a [u8]) -> [File<'a>; 3] {
     [(b"job.aux", aux), (b"s.bst", style), (b"d.bib", database)]
@@ -70,6 +78,22 @@ pub fn run_named(
         log: log.writer,
         answer,
     })
+}
+
+/// The status of a run of the job `name` over `files`, and 255 after a fault.
+pub fn status_with(
+    alloc: Global,
+    files: &[File<'_>],
+    name: &[u8],
+    options: &Options,
+) -> Result<u8, Fault> {
+    let mut finder = MemoryFinder::new(alloc, files)?;
+    let mut bbl = Over::new(Vec::new(alloc));
+    let mut log = Over::new(Vec::new(alloc));
+    match run(alloc, &mut finder, name, options, &mut bbl, &mut log) {
+        Ok(report) => Ok(report.status),
+        Err(_) => Ok(u8::MAX),
+    }
 }
 
 /// What a run answered, of its report the status alone.

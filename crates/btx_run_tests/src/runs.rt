@@ -1,7 +1,7 @@
 //! Whole runs: what they write to both outputs, and what they answer.
 use crate::jobs::{
-    AUX, DATABASE, Ending, FOUND, File, Outputs, Row, STYLE, all_end, ends_as, job_of, run_named,
-    run_over, status_of,
+    AUX, DATABASE, Ending, FOUND, File, Outputs, Row, STYLE, all_end, ends_as, greatest_options,
+    job_of, run_named, run_over, status_of, status_with,
 };
 use btx_run::{Limit, RunFault, budget_law};
 use btx_tests::texts::{Run, joined, text_of};
@@ -674,6 +674,27 @@ fn chains_end(rt: &(impl Abort + AllocGlobal), chain: &[File<'_>]) -> Result<(),
 #[test]
 fn opens_twenty_files(rt: HostRuntime) -> Result<(), Fail> {
     chains_end(&rt, &CHAIN)
+}
+
+// The length of a long name of a job.
+const LONG_NAME: usize = 5_000;
+
+// The status of a run whose job has a long name, and whose numbers are the greatest that their types have.
+fn status_of_greatest(alloc: Global) -> Result<u8, Fault> {
+    let mut file = vec![in alloc; b'x'; LONG_NAME]?;
+    file.extend_from_slice(b".aux")?;
+    let files: [File<'_>; 3] = [
+        (file.as_slice(), AUX),
+        (b"s.bst", STYLE),
+        (b"d.bib", DATABASE),
+    ];
+    let name = &file.as_slice()[..LONG_NAME];
+    status_with(alloc, &files, name, &greatest_options())
+}
+
+#[test]
+fn takes_greatest_numbers(rt: HostRuntime) {
+    assert!(rt; status_of_greatest(rt.alloc()) == Ok(0));
 }
 
 // Whether a fault is reported with these words.

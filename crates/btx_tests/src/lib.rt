@@ -7,6 +7,8 @@ mod breaking;
 #[cfg(test)]
 mod citations;
 pub mod fakes;
+#[cfg(test)]
+mod faults;
 pub mod finders;
 #[cfg(test)]
 mod logs;
