@@ -2,6 +2,9 @@
 //! run's, and 5 after a fault. Copy it and put your own files into the place of these.
 #![tactic(auto)]
 
+ghost use Rattle.std.specs.Prelude.{◌≡◌, IfOk, OnErr};
+ghost use Rattle.btx_text.specs.declared.element_kind.TextMode.TheVariants.{Utf8};
+
 use btx_run::{
     FetchFault, KeptBytes, LineLength, MemoryFinder, Options, Over, Report, RunFault, TextMode, run,
 };
@@ -33,7 +36,11 @@ struct Ran {
 }
 
 // What can be asked of a run: each option as the program has it by default, but a small budget, and text that is read as UTF-8.
-fn options() -> Options {
+fn options() -> Options
+    ensures crossrefs { result.min_crossrefs ≡ 2 }
+    ensures budget { result.budget ≡ 1000000 }
+    ensures text { result.text ≡ Utf8 }
+{
     Options {
         min_crossrefs: 2,
         budget: 1_000_000,
@@ -69,19 +76,32 @@ fn run_paper(alloc: Global) -> Result<Ran, FetchFault> {
     })
 }
 
+// The exit status after a fault.
+const AFTER_A_FAULT: u8 = 5;
+
+// The exit status for what a run answered: its report's, or 5 after a fault.
+fn status_of(answer: Result<Report, RunFault>) -> u8
+    ensures report { IfOk answer (λ report. result ≡ report.status) }
+    ensures fault { OnErr answer (result ≡ 5) }
+{
+    match answer {
+        Ok(report) => report.status,
+        Err(_) => AFTER_A_FAULT,
+    }
+}
+
 fn main(rt: HostRuntime) -> ExitCode {
     let Ok(ran) = run_paper(rt.alloc()) else {
-        return ExitCode::from(5);
+        return ExitCode::from(AFTER_A_FAULT);
     };
     match ran.answer {
-        Ok(report) => {
+        Ok(_) => {
             let list = str::from_utf8(ran.list.as_slice()).unwrap_or("the list isn't UTF-8\n");
             let _ = print!(rt; "{list}");
-            ExitCode::from(report.status)
         }
         Err(fault) => {
             let _ = eprintln!(rt; "{fault}");
-            ExitCode::from(5)
         }
     }
+    ExitCode::from(status_of(ran.answer))
 }
