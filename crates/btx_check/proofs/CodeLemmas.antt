@@ -6,26 +6,28 @@ use Rattle.btx_bst.specs.declared.built_in.BuiltIn.TheVariants as built_in
 use Rattle.btx_bst.specs.declared.callee.Callee.{Callee}
 use Rattle.btx_bst.specs.declared.callee.Callee.TheVariants as callee
 use Rattle.btx_bst.specs.declared.token.Token.TheVariants as token
-use Rattle.btx_stack.specs.declared.literal.Literal.TheVariants.{Text}
+use Rattle.btx_stack.specs.declared.literal.Literal.TheVariants.{Text, Integer}
 use Rattle.btx_check.specs.declared.description.Mask.{Mask}
 use Rattle.btx_check.specs.declared.description.Value.{Value}
 use Rattle.btx_check.specs.declared.description.Value.TheVariants as value
 use Rattle.std.specs.Prelude.{◌+ℤ◌, ◌-ℤ◌, int_lt, IsTrue}
 use Rattle.std.proofs.lemmas.Int.{ints}
+use Rattle.std.specs.Ordering.{int_eq}
+use Rattle.std.proofs.lemmas.Bool.Decides.{Decides-int_eq, Decides-like, same_from_decides}
 use Rattle.btx_step.specs.language.Operands.{Any}
 use Rattle.btx_check.specs.declared.description.Upper.{Upper}
 use Rattle.btx_check.specs.declared.description.Upper.TheVariants as upper
 use Rattle.btx_check.specs.Descriptions.{Is, exactly, blank, filled, gone, nothing, open_end, present, something, Above, Below}
 use Rattle.btx_check.specs.States.{Abstract, slot, putting, pushing, pushing_new, knowing, with_stack, putting_text}
 use Rattle.btx_check.specs.Names.{IsName, NeedsEntry, kind_of, IsIntegerOf, IsStringOf}
-use Rattle.btx_check.specs.Bounds.{Narrows, SumIs}
+use Rattle.btx_check.specs.Bounds.{Narrows, SumIs, Matches}
 use Rattle.btx_check.specs.Answers.{Ruled, Added, TopIs, TwoAre, Stepped, Comparable, TopsFit, Pushed}
 use Rattle.btx_check.proofs.AddLemmas.{sub_then, into_sub}
 use Rattle.btx_check.proofs.RunLemmas.{rest_into, ruled}
 use Rattle.btx_check.proofs.RowLemmas.{rule_duplicate, rule_pop, rule_skip, rule_swap, rule_write, rule_empty}
 use Rattle.btx_check.proofs.Names.{rule_field_known, rule_field_new, rule_global_integer_known, rule_global_string_known}
 use Rattle.btx_check.proofs.PlainRows.{rule_top}
-use Rattle.btx_check.proofs.Refined.{rule_num_names_known, rule_greater_known, rule_less_known, rule_plus_known, rule_minus_known}
+use Rattle.btx_check.proofs.Refined.{rule_num_names_known, rule_greater_known, rule_less_known, rule_plus_known, rule_equals_integers, rule_minus_known}
 use Rattle.btx_check.proofs.Assign.{rule_assign_global_integer, rule_assign_entry_integer, rule_assign_global_string, rule_assign_entry_string}
 use Rattle.btx_check.proofs.Covering.{style_rule_runs}
 use Rattle.btx_check.proofs.LastRows.{rule_stack, rule_missing, rule_equals, rule_global_integer_new, rule_global_string_new, rule_entry_integer_new, rule_entry_string_new, rule_entry_integer_known, rule_entry_string_known, text_runs, integer_runs, quote_runs}
@@ -140,6 +142,32 @@ code_equals a b j i d c old mid new t k x y = ruled _ _ _ _
     (rule_equals a j i b.stack new t.stack (room_two a b j i d c t) (rest_into a b (λ x. pushing_new (exactly (pos 1)) x) new t.rest (into_sub _ mid new x.into y.sub)) (rest_into a b (λ x. pushing_new (exactly (pos 0)) x) new t.rest y.into)
     (subst (λ (e : Value). Comparable e (get_or a.values i value.Any)) (sym t.first) (subst (λ (e : Value). Comparable d e) (sym t.second) k)))
     (sub_then old mid new x.sub y.sub)
+
+int_eq_is : (x y : ℤ) → int_eq x y ≡ true → x ≡ y
+int_eq_is x y e = (Decides-int_eq x y).0 e
+
+int_eq_back : (x y : ℤ) → int_eq x y ≡ false → int_eq y x ≡ false
+int_eq_back x y e = same_from_decides (int_eq y x) (int_eq x y) (Decides-like (int_eq y x) (λ q. sym q) (λ q. sym q) (Decides-int_eq y x)) (Decides-int_eq x y) ∙ e
+
+pub code_equals_integers : (a b : Abstract) (j i : ℕ) (lo : Option ℤ) (hi : Upper) (lo2 : Option ℤ) (hi2 : Upper) (c d c' d' : Value) (old mid new : List Abstract) → TwoAre a j i (value.Integer lo hi) (value.Integer lo2 hi2) b
+    → Matches true (value.Integer lo2 hi2) (value.Integer lo hi) c d → Matches false (value.Integer lo2 hi2) (value.Integer lo hi) c' d' → Added (pushing_new (exactly (pos 1)) (knowing j d (knowing i c b))) old mid
+    → Added (pushing_new (exactly (pos 0)) (knowing j d' (knowing i c' b))) mid new → Ruled (callee.BuiltIn built_in.Equals) a old new
+code_equals_integers a b j i lo hi lo2 hi2 c d c' d' old mid new t same other x y = ruled _ _ _ _
+    (rule_equals_integers a j i b.stack lo hi lo2 hi2 c d c' d' new t.stack (room_two a b j i (value.Integer lo hi) (value.Integer lo2 hi2) t) t.first t.second
+    (rest_into a b (λ x. pushing_new (exactly (pos 1)) (knowing j d (knowing i c x))) new t.rest (into_sub _ mid new x.into y.sub)) (rest_into a b (λ x. pushing_new (exactly (pos 0)) (knowing j d' (knowing i c' x))) new t.rest y.into) same other)
+    (sub_then old mid new x.sub y.sub)
+
+-- both are what both say
+pub matches_same : (c d r : Value) → ((left : ℕ) (n : ℤ) → Is left c (Integer n) → Is left d (Integer n) → Is left r (Integer n)) → Matches true c d r r
+matches_same c d r f left x y o p e =
+    let q = int_eq_is x y e in
+    let k : Is left r (Integer x) = f left x o (subst (λ (n : ℤ). Is left d (Integer n)) (sym q) p) in
+    (k, subst (λ (n : ℤ). Is left r (Integer n)) q k)
+
+-- each is what it is where the other is not the same
+pub matches_other : (c d c' d' : Value) → ((left : ℕ) (x y : ℤ) → Is left c (Integer x) → Is left d (Integer y) → int_eq x y ≡ false → Is left c' (Integer x)) → ((left : ℕ) (x y : ℤ) → Is left d (Integer x) → Is left c (Integer y) → int_eq x y ≡ false → Is left d' (Integer x))
+    → Matches false c d c' d'
+matches_other c d c' d' f g left x y o p e = (f left x y o p e, g left y x p o (int_eq_back x y e))
 
 pub code_greater : (a b : Abstract) (j i : ℕ) (lo : Option ℤ) (hi : Upper) (lo2 : Option ℤ) (hi2 : Upper) (c d c' d' : Value) (old mid new : List Abstract) → TwoAre a j i (value.Integer lo hi) (value.Integer lo2 hi2) b
     → Narrows true (value.Integer lo2 hi2) (value.Integer lo hi) c d → Narrows false (value.Integer lo2 hi2) (value.Integer lo hi) c' d' → Added (pushing_new (exactly (pos 1)) (knowing j d (knowing i c b))) old mid

@@ -19,3 +19,4 @@ pub mod RunLemmas
 pub mod CodeLemmas
 pub mod TypeLemmas
 pub mod PlainLemmas
+pub mod Kept

@@ -5,7 +5,7 @@ use Rattle.std.specs.Prelude.{◌+ℤ◌, ◌-ℤ◌, int_lt, ◌==◌, ◌&&◌
 use Rattle.btx_bst.specs.declared.built_in.BuiltIn.TheVariants as built_in
 use Rattle.btx_bst.specs.declared.callee.Callee.TheVariants as callee
 use Rattle.btx_stack.specs.declared.literal.Literal.{Literal}
-use Rattle.btx_stack.specs.declared.literal.Literal.TheVariants.{Integer, Text}
+use Rattle.btx_stack.specs.declared.literal.Literal.TheVariants.{Integer, Text, Function, Missing}
 use Rattle.btx_step.specs.declared.literal.Wanted.TheVariants as wanted
 use Rattle.btx_step.specs.declared.said.Note.TheVariants as note
 use Rattle.btx_step.specs.declared.said.Said.TheVariants as said
@@ -13,7 +13,8 @@ use Rattle.btx_step.specs.declared.stand_in.StandIn.TheVariants.{Zero}
 use Rattle.btx_step.specs.language.Jobs.{Job}
 use Rattle.btx_step.specs.language.Stores.{Store}
 use Rattle.btx_step.specs.language.Answers.{with_literals, pushed, truth, complains}
-use Rattle.btx_step.specs.language.Arithmetic.{fits, result_of}
+use Rattle.std.specs.Ordering.{int_eq}
+use Rattle.btx_step.specs.language.Arithmetic.{fits, result_of, equals}
 use Rattle.btx_step.specs.language.Operands.{Of}
 use Rattle.btx_step.specs.language.Table.{row}
 use Rattle.btx_step.specs.language.Steps.{built_in_run}
@@ -29,7 +30,7 @@ use Rattle.btx_check.specs.declared.description.Upper.{Upper}
 use Rattle.btx_check.specs.Descriptions.{White, Full, allows, Is, exactly, nothing, open_end, something}
 use Rattle.btx_check.specs.States.{Abstract, values_in, at, pushing_new, knowing, with_stack}
 use Rattle.btx_check.specs.Inclusion.{Into}
-use Rattle.btx_check.specs.Bounds.{SumIs, Narrows}
+use Rattle.btx_check.specs.Bounds.{SumIs, Narrows, Matches}
 use Rattle.btx_check.specs.Running.{Leads, RuleNow, Rule}
 use Rattle.btx_check.specs.Answers.{OpFits, TopsFit}
 use Rattle.btx_check.proofs.Holding.{stack-length, fresh, known}
@@ -82,6 +83,24 @@ module _ (a : Abstract) (j i : ℕ) (below : List ℕ) (lo : Option ℤ) (hi : U
       (subst (λ (is : List ℕ). OnKnown left (OnwardAt job left left a h.0 below to s) h.0 a.values (row built_in.Less).operands is ((row built_in.Less).does job)) (sym st)
       (λ n ej o m ei p. let o2 = subst (λ (x : Value). Is left x (Integer n)) dj o in let p2 = subst (λ (x : Value). Is left x (Integer m)) di p in
       compared job left h.0 s (int_lt m n) n m ej ei (λ e. let q = up left n m o2 p2 e in (q.1, q.0)) (λ e. let q = down left n m o2 p2 e in (q.1, q.0))))
+
+  equal_integers : Matches true (value.Integer lo2 hi2) (value.Integer lo hi) c d → Matches false (value.Integer lo2 hi2) (value.Integer lo hi) c' d' → (job : Job) (left : ℕ) (v : List Literal) (s : Store) (y x : Literal) → at v j ≡ Some y → at v i ≡ Some x
+      → Is left (value.Integer lo hi) y → Is left (value.Integer lo2 hi2) x → OnwardAt job left left a v below to s (equals y x)
+  equal_integers same other job left v s (Integer n) (Integer m) ej ei o p = compared job left v s (int_eq m n) n m ej ei (λ e. same left m n p o e) (λ e. other left m n p o e)
+  equal_integers same other job left v s (Integer n) (Text t) ej ei o p = absurd p
+  equal_integers same other job left v s (Integer n) (Function f) ej ei o p = absurd p
+  equal_integers same other job left v s (Integer n) Missing ej ei o p = absurd p
+  equal_integers same other job left v s (Text t) x ej ei o p = absurd o
+  equal_integers same other job left v s (Function f) x ej ei o p = absurd o
+  equal_integers same other job left v s Missing x ej ei o p = absurd o
+
+  -- it is the same
+  pub rule_equals_integers : Matches true (value.Integer lo2 hi2) (value.Integer lo hi) c d → Matches false (value.Integer lo2 hi2) (value.Integer lo hi) c' d' → RuleNow (callee.BuiltIn built_in.Equals) a to
+  unfolding built_in_run
+  rule_equals_integers same other job g g' left s h = row_known job left left built_in.Equals a below to s refl
+      (subst (λ (is : List ℕ). TopsFit a.values (row built_in.Equals).operands is below) (sym st) (tt, (tt, refl))) h
+      (subst (λ (is : List ℕ). OnKnown left (OnwardAt job left left a h.0 below to s) h.0 a.values (row built_in.Equals).operands is ((row built_in.Equals).does job)) (sym st)
+      (λ y ej o x ei p. equal_integers same other job left h.0 s y x ej ei (subst (λ (z : Value). Is left z y) dj o) (subst (λ (z : Value). Is left z x) di p)))
 
 -- ---- sums and differences
 

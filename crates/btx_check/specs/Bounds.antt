@@ -1,5 +1,6 @@
 -- Descriptions of integers: what sums and comparisons say of them.
 use Rattle.std.specs.Prelude.{◌≡◌, ℕ, suc, ◌≤◌, ℤ, pos, int_lt, cond, Bool}
+use Rattle.std.specs.Ordering.{int_eq}
 use Rattle.btx_stack.specs.declared.literal.Literal.TheVariants.{Integer}
 use Rattle.btx_step.specs.language.Arithmetic.{fits}
 use Rattle.btx_step.specs.language.Control.{is_positive}
@@ -18,3 +19,7 @@ Narrows b c d c' d' = (left : ℕ) (x y : ℤ) → Is left c (Integer x) → Is 
 -- `c` describes the integers of `e` that are above 0, and `d` the others
 abbrev pub Splits : Value → Value → Value → Type 0
 Splits e c d = (left : ℕ) (n : ℤ) → Is left e (Integer n) → Is left (cond (is_positive n) c d) (Integer n)
+
+-- the two descriptions after `=` of this answer
+abbrev pub Matches : Bool → Value → Value → Value → Value → Type 0
+Matches b c d c' d' = (left : ℕ) (x y : ℤ) → Is left c (Integer x) → Is left d (Integer y) → int_eq x y ≡ b → Is left c' (Integer x) × Is left d' (Integer y)

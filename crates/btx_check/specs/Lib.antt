@@ -5,5 +5,6 @@ pub mod Inclusion
 pub mod Names
 pub mod Bounds
 pub mod Running
+pub mod Between
 pub mod Answers
 pub mod Verdicts

@@ -1,7 +1,5 @@
--- What is shown of steps, of whole executions, of loops and of commands.
+-- What is shown of steps, of whole executions and of loops, and where the first command begins.
 use Rattle.std.specs.Prelude.{◌≡◌, ℕ, suc, ◌+◌, ◌≤◌, ◌<◌, length, List, [], ◌∷◌, Bool, true, false, None, Some}
-use Rattle.btx_bst.specs.language.Items.{Item}
-use Rattle.btx_bst.specs.language.Items as item
 use Rattle.btx_bst.specs.language.Style.{Style}
 use Rattle.btx_bst.specs.declared.callee.Callee.{Callee}
 use Rattle.btx_bst.specs.declared.token.Token.{Token}
@@ -18,7 +16,7 @@ use Rattle.btx_step.specs.language.Steps.{function_run}
 use Rattle.btx_machine.specs.language.States.{Out, State, Outcome, Done, Stopped, Limit}
 use Rattle.btx_machine.specs.language.Meaning.{Action}
 use Rattle.btx_machine.specs.language.MeaningBySteps.{in_turn, act}
-use Rattle.btx_check.specs.Promise.{Calm, Calmly, IsSpared, IsOf, most_steps, StyleIsClean}
+use Rattle.btx_check.specs.Promise.{Calm, Calmly, IsSpared, IsOf}
 use Rattle.btx_check.specs.States.{Abstract, Values, values_in, slot, In, Among}
 
 -- a store of a job: as many variables as the style declares, for each entry too, and the current entry is one of the library's
@@ -118,41 +116,3 @@ Each P (a ∷ xs) = P a × Each P xs
 -- nothing is on the stack
 abbrev pub IsEmpty : Abstract → Type 0
 IsEmpty a = a.stack ≡ []
-
--- nothing is on the stack, and no more steps are left than the promise is made for
-abbrev pub Clear : ℕ → State → Type 0
-Clear left s = (s.store.literals ≡ []) × (left ≤ most_steps)
-
--- a command ends without a fault, and nothing is left on the stack
-abbrev pub Ended : Job → Out → ℕ → Outcome → Type 0
-Ended job start most (Done s left) = Sound job start most s × Clear left s
-Ended job start most (Stopped s) = Sound job start most s
-Ended job start most (Limit kind s left) = Sound job start most s × IsSpared kind
-
--- what is found of a command: its function runs from where nothing is known, and leaves nothing on the stack
-pub record Found (style : Style) (allowed : List ℕ) (f : Callee) (entry : Bool) (deepest : ℕ) : Type 0 where
-  pub start : Abstract
-  pub starts : Starts start
-  pub entry_is : start.entry ≡ entry
-  pub loops : ℕ
-  pub few_bodies : deepest ≤ 4096
-  pub few_loops : loops ≤ 4096
-  pub ends : List Abstract
-  pub runs : RunsFrom style allowed (token.Run f) (start ∷ []) deepest loops ends
-  pub empty : Each IsEmpty ends
-
--- what is found of a command or a message
-abbrev pub ItemFound : Style → List ℕ → ℕ → Item → Type 0
-ItemFound style allowed deepest (item.Execute f) = Found style allowed f false deepest
-ItemFound style allowed deepest (item.Iterate f) = Found style allowed f true deepest
-ItemFound style allowed deepest (item.Reverse f) = Found style allowed f true deepest
-ItemFound style allowed deepest _ = Unit {0}
-
--- what is found of all commands
-abbrev pub AllFound : Style → List ℕ → ℕ → List Item → Type 0
-AllFound style allowed deepest [] = Unit {0}
-AllFound style allowed deepest (x ∷ xs) = ItemFound style allowed deepest x × AllFound style allowed deepest xs
-
--- THE LAW: a style of whose commands this was found is clean
-abbrev pub FoundIsClean : Type 0
-FoundIsClean = (style : Style) (allowed : List ℕ) (deepest : ℕ) → AllFound style allowed deepest style.items → StyleIsClean style allowed deepest

@@ -27,6 +27,13 @@ pub fn add(work: &Work, out: &mut Vec<State>, a: State) -> Result<(), AllocError
     if a.is_impossible() {
         return Ok(());
     }
+    add_sure(work, out, a)
+}
+
+/// Adds a description to others, to one that it is like if there is one, without a look whether it describes anything.
+pub fn add_sure(work: &Work, out: &mut Vec<State>, a: State) -> Result<(), AllocError>
+    ensures { IfOk result (λ _. Added a out.old.items out.new.items) }
+{
     let b = a.tidied(work.alloc)?;
     add_possible(work, out, b)?;
     Ok(())
@@ -55,7 +62,7 @@ pub fn add_same(work: &Work, b: &State, out: &mut Vec<State>) -> Result<(), Allo
     ensures { IfOk result (λ _. Added b.now out.old.items out.new.items) }
 {
     let a = b.copy()?;
-    add(work, out, a)
+    add_sure(work, out, a)
 }
 
 /// Adds a description with a number pushed.
@@ -64,7 +71,7 @@ pub fn add_pushed(work: &Work, b: State, i: usize, out: &mut Vec<State>) -> Resu
 {
     let mut a = b;
     a.push(i)?;
-    add(work, out, a)
+    add_sure(work, out, a)
 }
 
 /// Adds a description with two numbers pushed.
@@ -80,7 +87,7 @@ pub fn add_pushed_both(
     let mut a = b;
     a.push(i)?;
     a.push(j)?;
-    add(work, out, a)
+    add_sure(work, out, a)
 }
 
 /// Adds a description with a new literal.
@@ -89,7 +96,7 @@ pub fn add_new(work: &Work, b: State, d: Value, out: &mut Vec<State>) -> Result<
 {
     let mut a = b;
     a.push_new(d)?;
-    add(work, out, a)
+    add_sure(work, out, a)
 }
 
 /// Adds a description in which a number is known better.
@@ -162,8 +169,8 @@ pub fn add_recalled(
     let mut a = b;
     let number = a.values_len();
     a.push_new(d)?;
-    a.put(name, number);
-    add(work, out, a)
+    a.put(work.alloc, name, number)?;
+    add_sure(work, out, a)
 }
 
 /// Adds a description in which a name's value has another number.
@@ -177,8 +184,8 @@ pub fn add_put(
     ensures { IfOk result (λ _. Added (putting name i b) out.old.items out.new.items) }
 {
     let mut a = b;
-    a.put(name, i);
-    add(work, out, a)
+    a.put(work.alloc, name, i)?;
+    add_sure(work, out, a)
 }
 
 /// Adds a description in which a string variable keeps the first bytes of a string.
@@ -194,8 +201,8 @@ pub fn add_text_put(
     let mut a = b;
     let number = a.values_len();
     a.keep(m)?;
-    a.put(name, number);
-    add(work, out, a)
+    a.put(work.alloc, name, number)?;
+    add_sure(work, out, a)
 }
 
 /// Adds a description with nothing on the stack.
@@ -204,5 +211,5 @@ pub fn add_without_stack(work: &Work, b: State, out: &mut Vec<State>) -> Result<
 {
     let mut a = b;
     a.clear();
-    add(work, out, a)
+    add_sure(work, out, a)
 }

@@ -1,5 +1,7 @@
 //! Bounds of integers.
 ghost use Rattle.std.specs.Prelude.{◌≡◌, ℕ, suc, ◌≤◌, ℤ, pos, negsuc, ◌≤ℤ◌, ◌+ℤ◌, ◌-ℤ◌, int_lt, true, false, Option, IsTrue};
+ghost use Rattle.std.specs.Option.{MatchOption};
+ghost use Rattle.std.specs.Ordering.{int_eq};
 ghost use Rattle.btx_stack.specs.declared.literal.Literal.TheVariants.{Integer};
 ghost use Rattle.btx_step.specs.language.Control.{is_positive};
 ghost use Rattle.btx_check.specs.declared.description.Value.TheVariants as value;
@@ -183,5 +185,66 @@ pub fn difference_high(a: Upper, b: Option<i32>) -> Upper
                 Some(m) => Upper::Number(m.checked_sub(n)),
             },
         },
+    }
+}
+
+/// What is known of an integer that is described twice.
+pub fn both(low: Option<i32>, high: Upper, low2: Option<i32>, high2: Upper) -> Value
+    ensures { (left : ℕ) (n : ℤ) → Is left (value.Integer low high) (Integer n) → Is left (value.Integer low2 high2) (Integer n) → Is left result (Integer n) }
+{
+    Value::Integer(raise(low, low2), lower(high, high2))
+}
+
+// The number that an integer of these bounds is, if it can be one alone.
+fn only(low: Option<i32>, high: Upper) -> Option<i32>
+    ensures { MatchOption result (Unit {0}) (λ n. (left : ℕ) (x : ℤ) → Above low x → Below left high x → x ≡ n) }
+{
+    match high {
+        Upper::Counter => None,
+        Upper::Number(high) => match (low, high) {
+            (Some(m), Some(n)) => if m == n { low } else { None },
+            _ => None,
+        },
+    }
+}
+
+// A lower bound of what isn't this number.
+fn low_without(low: Option<i32>, n: i32) -> Option<i32>
+    ensures { (x : ℤ) → Above low x → int_eq x n ≡ false → Above result x }
+{
+    match low {
+        None => None,
+        Some(m) => if m == n && m < 2_000_000_000 {
+            Some(m + 1)
+        } else {
+            low
+        },
+    }
+}
+
+// An upper bound of what isn't this number.
+fn high_without(high: Upper, n: i32) -> Upper
+    ensures { (left : ℕ) (x : ℤ) → Below left high x → int_eq x n ≡ false → Below left result x }
+{
+    match high {
+        Upper::Counter => high,
+        Upper::Number(h) => match h {
+            None => high,
+            Some(m) => if m == n && m > -2_000_000_000 {
+                Upper::Number(Some(m - 1))
+            } else {
+                high
+            },
+        },
+    }
+}
+
+/// What is known of an integer that isn't another one.
+pub fn other_than(low: Option<i32>, high: Upper, low2: Option<i32>, high2: Upper) -> Value
+    ensures { (left : ℕ) (x y : ℤ) → Is left (value.Integer low high) (Integer x) → Is left (value.Integer low2 high2) (Integer y) → int_eq x y ≡ false → Is left result (Integer x) }
+{
+    match only(low2, high2) {
+        None => Value::Integer(low, high),
+        Some(n) => Value::Integer(low_without(low, n), high_without(high, n)),
     }
 }

@@ -4,6 +4,7 @@ use crate::state::State;
 use crate::work::Work;
 use btx_bst::Callee;
 use std::alloc::{AllocError, Global};
+use std::rc::RcSlice;
 
 impl State {
     /// Whether this and another one are to be joined: they have the same on the stack, as far as that is distinguished, and the flags don't differ.
@@ -162,14 +163,14 @@ impl<'a> Pairs<'a> {
         alloc: Global,
         mine: &[Option<usize>],
         its: &[Option<usize>],
-    ) -> Result<Vec<Option<usize>>, AllocError> {
-        let mut names: Vec<Option<usize>> = Vec::new(alloc);
+    ) -> Result<RcSlice<Option<usize>>, AllocError> {
+        let mut names: Vec<Option<usize>> = Vec::with_capacity(alloc, mine.len())?;
         for k in 0..mine.len() {
             let other = if k < its.len() { its[k] } else { None };
             let number = self.name(mine[k], other)?;
             names.push(number)?;
         }
-        Ok(names)
+        RcSlice::from_vec(names)
     }
 
     // The number of a name that may have one in both.

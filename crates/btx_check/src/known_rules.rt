@@ -6,7 +6,7 @@ ghost use Rattle.btx_bst.specs.declared.callee.Callee.TheVariants as callee;
 ghost use Rattle.btx_check.specs.Answers.{Ruled, Comparable};
 
 use crate::adding::{Known, add_found, add_new, add_tested};
-use crate::bounds::{lower, next, previous, raise};
+use crate::bounds::{both, lower, next, other_than, previous, raise};
 use crate::description::Value;
 use crate::operands::{pair_of, top_of};
 use crate::state::State;
@@ -191,14 +191,40 @@ pub fn equals(work: &Work, a: &State, out: &mut Vec<State>) -> Result<bool, Allo
 {
     match pair_of(a)? {
         None => Ok(false),
-        Some(t) => {
-            if !is_comparable(t.first_value, t.second_value) {
-                return Ok(false);
+        Some(t) => match (t.first_value, t.second_value) {
+            (Value::Integer(low, high), Value::Integer(low2, high2)) => {
+                let same = both(low2, high2, low, high);
+                let first = Known {
+                    number: t.first,
+                    value: same,
+                };
+                let second = Known {
+                    number: t.second,
+                    value: same,
+                };
+                add_tested(work, t.below.copy()?, first, second, Value::one(), out)?;
+                let below = other_than(low2, high2, low, high);
+                let top = other_than(low, high, low2, high2);
+                let first = Known {
+                    number: t.first,
+                    value: top,
+                };
+                let second = Known {
+                    number: t.second,
+                    value: below,
+                };
+                add_tested(work, t.below, first, second, Value::zero(), out)?;
+                Ok(true)
             }
-            add_new(work, t.below.copy()?, Value::one(), out)?;
-            add_new(work, t.below, Value::zero(), out)?;
-            Ok(true)
-        }
+            _ => {
+                if !is_comparable(t.first_value, t.second_value) {
+                    return Ok(false);
+                }
+                add_new(work, t.below.copy()?, Value::one(), out)?;
+                add_new(work, t.below, Value::zero(), out)?;
+                Ok(true)
+            }
+        },
     }
 }
 

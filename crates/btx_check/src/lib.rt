@@ -4,8 +4,10 @@
 mod adding;
 mod bounds;
 pub mod description;
+pub mod findings;
 mod joining;
 mod known_rules;
+mod lasting;
 mod loops;
 mod name_rules;
 mod operands;
@@ -15,10 +17,13 @@ mod running;
 mod stack_rules;
 mod state;
 mod sums;
+mod tracing;
 mod types;
 pub mod verdict;
+mod wants;
 mod within;
 pub mod work;
 
+pub use findings::{Cause, Condition, Fault, Finding, Findings, Growth, Operand, examine};
 pub use verdict::{Clean, Verdict, check};
 pub use work::{Place, Warning};

@@ -5,7 +5,7 @@ ghost use Rattle.std.specs.Result.{IfOk};
 ghost use Rattle.btx_step.specs.language.Operands.{Of};
 ghost use Rattle.btx_check.specs.Answers.{TopIs, TwoAre, ThreeAre, OpFits, Taken, Pushed, Dropped};
 
-use crate::adding::{add, add_new};
+use crate::adding::{add_new, add_sure};
 use crate::description::Value;
 use crate::state::State;
 use crate::work::Work;
@@ -24,19 +24,27 @@ pub struct Top {
 pub fn top_of(a: &State) -> Result<Option<Top>, AllocError>
     ensures { IfOk result (λ o. IfSome o (λ t. TopIs a.now t.number t.value t.below)) }
 {
+    let all = a.copy()?;
+    Ok(taken_off(all))
+}
+
+/// What stands on top of a description that isn't needed any more, if there is something.
+fn taken_off(a: State) -> Option<Top>
+    ensures { IfSome result (λ t. TopIs a t.number t.value t.below) }
+{
     if !a.has_room() {
-        return Ok(None);
+        return None;
     }
-    let mut below = a.copy()?;
+    let mut below = a;
     match below.pop() {
-        None => Ok(None),
+        None => None,
         Some(number) => {
-            let value = a.value(number);
-            Ok(Some(Top {
+            let value = below.value(number);
+            Some(Top {
                 number,
                 value,
                 below,
-            }))
+            })
         }
     }
 }
@@ -58,7 +66,7 @@ pub fn pair_of(a: &State) -> Result<Option<Pair>, AllocError>
 {
     match top_of(a)? {
         None => Ok(None),
-        Some(t) => match top_of(&t.below)? {
+        Some(t) => match taken_off(t.below) {
             None => Ok(None),
             Some(u) => Ok(Some(Pair {
                 first: t.number,
@@ -90,7 +98,7 @@ pub fn triple_of(a: &State) -> Result<Option<Triple>, AllocError>
 {
     match pair_of(a)? {
         None => Ok(None),
-        Some(p) => match top_of(&p.below)? {
+        Some(p) => match taken_off(p.below) {
             None => Ok(None),
             Some(t) => Ok(Some(Triple {
                 first: p.first,
@@ -215,7 +223,7 @@ pub fn drops(work: &Work, taken: Option<State>, out: &mut Vec<State>) -> Result<
     match taken {
         None => Ok(false),
         Some(below) => {
-            add(work, out, below)?;
+            add_sure(work, out, below)?;
             Ok(true)
         }
     }

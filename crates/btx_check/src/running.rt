@@ -31,15 +31,31 @@ pub fn run(
 ) -> Result<bool, AllocError>
     ensures { IfOk result (λ ok. IsTrue ok → Stepped style.now allowed.now (token.Run f) (a.now ∷ []) room.deep room.loops out.old.items out.new.items) }
 {
+    if a.is_impossible() {
+        return Ok(true);
+    }
+    run_sure(work, style, allowed, room, a, f, out)
+}
+
+/// The same, without a look whether the description describes anything.
+#[cycle(search)]
+pub fn run_sure(
+    work: &mut Work,
+    style: &Style,
+    allowed: &[u32],
+    room: Room,
+    a: &State,
+    f: Callee,
+    out: &mut Vec<State>,
+) -> Result<bool, AllocError>
+    ensures { IfOk result (λ ok. IsTrue ok → Stepped style.now allowed.now (token.Run f) (a.now ∷ []) room.deep room.loops out.old.items out.new.items) }
+{
     if room.fuel == 0 {
         work.gave_up = true;
         return Ok(false);
     }
     if !work.step() {
         return Ok(false);
-    }
-    if a.is_impossible() {
-        return Ok(true);
     }
     work.met(a.height());
     let room = Room {
@@ -102,7 +118,7 @@ pub fn run_token(
     ensures { IfOk result (λ ok. IsTrue ok → Stepped style.now allowed.now t (a.now ∷ []) room.deep room.loops out.old.items out.new.items) }
 {
     match t {
-        Token::Run(f) => run(work, style, allowed, room, a, f, out),
+        Token::Run(f) => run_sure(work, style, allowed, room, a, f, out),
         _ => push_token(work, style, a, t, out),
     }
 }

@@ -5,7 +5,7 @@ ghost use Rattle.btx_bst.specs.declared.built_in.BuiltIn.TheVariants as built_in
 ghost use Rattle.btx_bst.specs.declared.callee.Callee.TheVariants as callee;
 ghost use Rattle.btx_check.specs.Answers.{Ruled};
 
-use crate::adding::{add, add_pushed, add_pushed_both, add_same, add_without_stack};
+use crate::adding::{add_pushed, add_pushed_both, add_same, add_sure, add_without_stack};
 use crate::description::Value;
 use crate::operands::{pair_of, top_of};
 use crate::state::State;
@@ -32,7 +32,7 @@ pub fn pop(work: &Work, a: &State, out: &mut Vec<State>) -> Result<bool, AllocEr
     match top_of(a)? {
         None => Ok(false),
         Some(t) => {
-            add(work, out, t.below)?;
+            add_sure(work, out, t.below)?;
             Ok(true)
         }
     }
@@ -45,7 +45,7 @@ pub fn top(work: &Work, a: &State, out: &mut Vec<State>) -> Result<bool, AllocEr
     match top_of(a)? {
         None => Ok(false),
         Some(t) => {
-            add(work, out, t.below)?;
+            add_sure(work, out, t.below)?;
             Ok(true)
         }
     }
@@ -91,7 +91,7 @@ pub fn write(work: &Work, a: &State, out: &mut Vec<State>) -> Result<bool, Alloc
                 if m.missing {
                     return Ok(false);
                 }
-                add(work, out, t.below)?;
+                add_sure(work, out, t.below)?;
                 Ok(true)
             }
             _ => Ok(false),

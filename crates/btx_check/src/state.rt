@@ -2,12 +2,14 @@
 ghost use Rattle.std.specs.Prelude.{ℕ, ◌≡◌, ◌<◌, List, [], ◌∷◌, length, slice_index_or, slice_set, Option, Some, None, IsTrue};
 ghost use Rattle.std.specs.Option.{MatchOption, IfSome};
 ghost use Rattle.std.specs.Result.{IfOk};
+ghost use Rattle.std.specs.Rc.{rc_slice_items};
 ghost use Rattle.btx_check.specs.declared.description.Value.TheVariants.{Any};
 ghost use Rattle.btx_stack.specs.declared.literal.Literal.{Literal};
 ghost use Rattle.btx_check.specs.Descriptions.{Is};
 ghost use Rattle.btx_check.specs.States.{slot, putting, Abstract, pushing, pushing_new, knowing, with_stack, keeping};
 ghost use Rattle.btx_check.specs.Inclusion.{Within, IsImpossible};
 ghost use Rattle.btx_check.specs.Running.{Starts};
+ghost use Rattle.btx_check.specs.Between.{IsGlobal, where_entry};
 
 use crate::description::{Mask, Upper, Value};
 use crate::within::{fields_map, stack_maps, values_map};
@@ -15,6 +17,7 @@ use crate::work::Work;
 use btx_bst::{Callee, Style};
 use std::alloc::{AllocError, Global};
 use std::marker::Model;
+use std::rc::RcSlice;
 
 /// What is known of a state. Literals have numbers; two places of one number hold the same literal.
 #[derive(Drop)]
@@ -22,11 +25,12 @@ pub struct State {
     // Top first.
     pub(crate) stack: Vec<usize>,
     pub(crate) values: Vec<Value>,
-    pub(crate) global_integers: Vec<Option<usize>>,
-    pub(crate) global_strings: Vec<Option<usize>>,
-    pub(crate) entry_integers: Vec<Option<usize>>,
-    pub(crate) entry_strings: Vec<Option<usize>>,
-    pub(crate) fields: Vec<Option<usize>>,
+    // The number of each name's value, if it has one. Copies of a description share these.
+    pub(crate) global_integers: RcSlice<Option<usize>>,
+    pub(crate) global_strings: RcSlice<Option<usize>>,
+    pub(crate) entry_integers: RcSlice<Option<usize>>,
+    pub(crate) entry_strings: RcSlice<Option<usize>>,
+    pub(crate) fields: RcSlice<Option<usize>>,
     pub(crate) entry: bool,
 }
 
@@ -36,11 +40,11 @@ impl Model for State {
     ghost view = { λ s. record {
       stack = s.stack.items;
       values = s.values.items;
-      global_integers = s.global_integers.items;
-      global_strings = s.global_strings.items;
-      entry_integers = s.entry_integers.items;
-      entry_strings = s.entry_strings.items;
-      fields = s.fields.items;
+      global_integers = rc_slice_items s.global_integers;
+      global_strings = rc_slice_items s.global_strings;
+      entry_integers = rc_slice_items s.entry_integers;
+      entry_strings = rc_slice_items s.entry_strings;
+      fields = rc_slice_items s.fields;
       entry = s.entry;
     } };
 }
@@ -68,13 +72,38 @@ impl State {
         ensures { IfOk result (λ a. a ≡ self.now) }
     {
         Ok(State {
-            stack: self.stack.clone()?,
-            values: self.values.clone()?,
+            stack: copied_numbers(&self.stack)?,
+            values: copied_values(&self.values)?,
             global_integers: self.global_integers.clone()?,
             global_strings: self.global_strings.clone()?,
             entry_integers: self.entry_integers.clone()?,
             entry_strings: self.entry_strings.clone()?,
             fields: self.fields.clone()?,
+            entry: self.entry,
+        })
+    }
+
+    /// The same where an entry is current, or where none is.
+    pub fn where_entry(&self, entry: bool) -> Result<State, AllocError>
+        ensures { IfOk result (λ a. a ≡ where_entry entry self.now) }
+    {
+        let mut a = self.copy()?;
+        a.entry = entry;
+        Ok(a)
+    }
+
+    /// What this says of global variables, and of nothing else.
+    pub fn globals(&self, alloc: Global) -> Result<State, AllocError>
+        ensures { IfOk result (λ a. IsGlobal a) }
+    {
+        Ok(State {
+            stack: Vec::new(alloc),
+            values: copied_values(&self.values)?,
+            global_integers: self.global_integers.clone()?,
+            global_strings: self.global_strings.clone()?,
+            entry_integers: no_numbers(alloc, self.entry_integers.len())?,
+            entry_strings: no_numbers(alloc, self.entry_strings.len())?,
+            fields: no_numbers(alloc, self.fields.len())?,
             entry: self.entry,
         })
     }
@@ -184,16 +213,46 @@ impl State {
     }
 
     /// Sets the number of a name's value.
-    pub fn put(&mut self, name: Callee, number: usize)
-        ensures { self.new ≡ putting name number self.old }
+    pub fn put(&mut self, alloc: Global, name: Callee, number: usize) -> Result<(), AllocError>
+        ensures { IfOk result (λ _. self.new ≡ putting name number self.old) }
     {
         match name {
-            Callee::GlobalInteger(i) => put_in(&mut self.global_integers, i as usize, number),
-            Callee::GlobalString(i) => put_in(&mut self.global_strings, i as usize, number),
-            Callee::EntryInteger(i) => put_in(&mut self.entry_integers, i as usize, number),
-            Callee::EntryString(i) => put_in(&mut self.entry_strings, i as usize, number),
-            Callee::Field(i) => put_in(&mut self.fields, i as usize, number),
-            _ => {}
+            Callee::GlobalInteger(i) => {
+                self.global_integers = with_number(
+                    alloc,
+                    &self.global_integers,
+                    i as usize,
+                    number,
+                )?;
+                Ok(())
+            }
+            Callee::GlobalString(i) => {
+                self.global_strings = with_number(
+                    alloc,
+                    &self.global_strings,
+                    i as usize,
+                    number,
+                )?;
+                Ok(())
+            }
+            Callee::EntryInteger(i) => {
+                self.entry_integers = with_number(
+                    alloc,
+                    &self.entry_integers,
+                    i as usize,
+                    number,
+                )?;
+                Ok(())
+            }
+            Callee::EntryString(i) => {
+                self.entry_strings = with_number(alloc, &self.entry_strings, i as usize, number)?;
+                Ok(())
+            }
+            Callee::Field(i) => {
+                self.fields = with_number(alloc, &self.fields, i as usize, number)?;
+                Ok(())
+            }
+            _ => Ok(()),
         }
     }
 
@@ -244,20 +303,20 @@ impl State {
         values_map(numbers, &self.values, &other.values)
     }
 
-    // More numbers than are needed, and some.
-    fn most_live(&self) -> usize {
-        let globals = self
-            .global_integers
+    // Whether many numbers are neither a name's nor on the stack. They are counted at some lengths alone.
+    fn is_loose(&self) -> bool {
+        if self.values.len() < SPARE_NUMBERS || self.values.len() % 8 != 0 {
+            return false;
+        }
+        let live = self
+            .stack
             .len()
-            .saturating_add(self.global_strings.len());
-        let own = self
-            .entry_integers
-            .len()
-            .saturating_add(self.entry_strings.len());
-        let names = globals
-            .saturating_add(own)
-            .saturating_add(self.fields.len());
-        names.saturating_add(64)
+            .saturating_add(used(&self.global_integers))
+            .saturating_add(used(&self.global_strings))
+            .saturating_add(used(&self.entry_integers))
+            .saturating_add(used(&self.entry_strings))
+            .saturating_add(used(&self.fields));
+        self.values.len() > live.saturating_add(SPARE_NUMBERS)
     }
 
     /// What says no more than this and another one, if they are to be joined.
@@ -292,7 +351,7 @@ impl State {
     pub fn tidied(self, alloc: Global) -> Result<State, AllocError>
         ensures { IfOk result (λ a. Within self a) }
     {
-        if self.values.len() < self.most_live() {
+        if !self.is_loose() {
             return Ok(self);
         }
         match self.joined(alloc, &self, false)? {
@@ -306,6 +365,20 @@ impl State {
             }
         }
     }
+}
+
+// How many numbers that nothing has any more are borne.
+const SPARE_NUMBERS: usize = 20;
+
+// How many names have a number.
+fn used(numbers: &[Option<usize>]) -> usize {
+    let mut count: usize = 0;
+    for number in numbers {
+        if number.is_some() {
+            count = count.saturating_add(1);
+        }
+    }
+    count
 }
 
 /// Whether no literal is so.
@@ -326,12 +399,36 @@ pub fn is_nothing(value: Value) -> bool
     }
 }
 
-// So many places without a number.
-fn no_numbers(alloc: Global, n: usize) -> Result<Vec<Option<usize>>, AllocError>
-    ensures { IfOk result (λ v. (i : ℕ) → slice_index_or v.items i None ≡ None) }
+// How many further items a copy has room for.
+const ROOM_TO_GROW: usize = 2;
+
+// The same numbers once more, with room for some others.
+fn copied_numbers(numbers: &Vec<usize>) -> Result<Vec<usize>, AllocError>
+    ensures { IfOk result (λ v. v.items ≡ numbers.now.items) }
+{
+    let room = numbers.len().saturating_add(ROOM_TO_GROW);
+    let mut copied: Vec<usize> = Vec::with_capacity(*numbers.allocator(), room)?;
+    copied.extend_from_slice(numbers)?;
+    Ok(copied)
+}
+
+// The same values once more, with room for some others.
+fn copied_values(values: &Vec<Value>) -> Result<Vec<Value>, AllocError>
+    ensures { IfOk result (λ v. v.items ≡ values.now.items) }
+{
+    let room = values.len().saturating_add(ROOM_TO_GROW);
+    let mut copied: Vec<Value> = Vec::with_capacity(*values.allocator(), room)?;
+    copied.extend_from_slice(values)?;
+    Ok(copied)
+}
+
+// `n` places without a number.
+fn no_numbers(alloc: Global, n: usize) -> Result<RcSlice<Option<usize>>, AllocError>
+    ensures { IfOk result (λ v. (i : ℕ) → slice_index_or (rc_slice_items v) i None ≡ None) }
 {
     let numbers: Vec<Option<usize>> = vec![in alloc; None; n]?;
-    Ok(numbers)
+    let shared = RcSlice::from_vec(numbers)?;
+    Ok(shared)
 }
 
 // The number at a place.
@@ -348,4 +445,19 @@ fn put_in(numbers: &mut [Option<usize>], i: usize, n: usize)
     if i < numbers.len() {
         numbers[i] = Some(n);
     }
+}
+
+// The same numbers, but for that at the place `i`, which is `n`.
+fn with_number(
+    alloc: Global,
+    numbers: &[Option<usize>],
+    i: usize,
+    n: usize,
+) -> Result<RcSlice<Option<usize>>, AllocError>
+    ensures { IfOk result (λ v. rc_slice_items v ≡ slice_set numbers.now i (Some n)) }
+{
+    let mut copied: Vec<Option<usize>> = Vec::from_slice(alloc, numbers)?;
+    put_in(&mut copied, i, n);
+    let shared = RcSlice::from_vec(copied)?;
+    Ok(shared)
 }

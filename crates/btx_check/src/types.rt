@@ -1,5 +1,5 @@
 //! Which functions of a style are meant as types of entries: a guess, which the verdict states.
-use btx_bst::{BuiltIn, Callee, Style, Token};
+use btx_bst::{BuiltIn, Callee, Item, Style, Token};
 use std::alloc::{AllocError, Global};
 
 // The types that databases use.
@@ -165,5 +165,139 @@ fn is_assigned_literal(body: &[Token], k: usize) -> bool {
         Token::Integer(_) => true,
         Token::Run(Callee::GlobalInteger(_)) => true,
         _ => false,
+    }
+}
+
+/// The most bodies that may be open at once.
+pub const MOST_BODIES: usize = 4096;
+
+/// How many bodies are open at once at most, as a guess: a quoted function is thought to be executed where it is quoted. It counts only once the check has
+/// gone by with it.
+pub fn likely_depth(alloc: Global, style: &Style, allowed: &[u32]) -> Result<usize, AllocError> {
+    let before = depths(alloc, style, 0)?;
+    let mut of_types = match style.type_function(b"default.type") {
+        Some(number) => depth_at(&before, number),
+        None => 0,
+    };
+    for number in allowed {
+        let depth = depth_at(&before, *number);
+        of_types = if depth > of_types { depth } else { of_types };
+    }
+    let depths = depths(alloc, style, of_types)?;
+    let mut most = 1;
+    for item in style.items() {
+        match *item {
+            Item::Execute(f) | Item::Iterate(f) | Item::Reverse(f) => {
+                let depth = depth_of(&depths, f, of_types);
+                most = if depth > most { depth } else { most };
+            }
+            _ => {}
+        }
+    }
+    Ok(if most < MOST_BODIES {
+        most
+    } else {
+        MOST_BODIES
+    })
+}
+
+// Of each function, how many bodies it opens at most; `of_types` is that of `call.type$`. A function mentions only functions of lower numbers.
+fn depths(alloc: Global, style: &Style, of_types: usize) -> Result<Vec<usize>, AllocError> {
+    let mut depths: Vec<usize> = Vec::new(alloc);
+    for i in 0..style.functions() {
+        let mut deepest = 0;
+        for token in style.body(i) {
+            match *token {
+                Token::Run(f) | Token::Quote(f) => {
+                    let depth = depth_of(&depths, f, of_types);
+                    deepest = if depth > deepest { depth } else { deepest };
+                }
+                _ => {}
+            }
+        }
+        depths.push(deepest.saturating_add(1))?;
+    }
+    Ok(depths)
+}
+
+// How many bodies a function opens.
+fn depth_of(depths: &[usize], f: Callee, of_types: usize) -> usize {
+    match f {
+        Callee::User(i) => depth_at(depths, i),
+        Callee::BuiltIn(BuiltIn::CallType) => of_types,
+        _ => 0,
+    }
+}
+
+fn depth_at(depths: &[usize], i: u32) -> usize {
+    if (i as usize) < depths.len() {
+        depths[i as usize]
+    } else {
+        0
+    }
+}
+
+/// Which global variables a function can assign: of each, whether it is quoted in what the function reaches.
+#[derive(Drop)]
+pub struct Assigned {
+    pub integers: Vec<bool>,
+    pub strings: Vec<bool>,
+}
+
+/// What a function can assign, where entries have these types. A function mentions only functions of lower numbers, but for `call.type$`.
+pub fn assigned_by(
+    alloc: Global,
+    style: &Style,
+    allowed: &[u32],
+    f: Callee,
+) -> Result<Assigned, AllocError> {
+    let mut reached: Vec<bool> = vec![in alloc; false; style.functions()]?;
+    mark(&mut reached, f);
+    if f == Callee::BuiltIn(BuiltIn::CallType) {
+        mark_types(style, allowed, &mut reached);
+    }
+    let mut found = Assigned {
+        integers: vec![in alloc; false; style.global_integers()]?,
+        strings: vec![in alloc; false; style.global_strings()]?,
+    };
+    for _ in 0..2 {
+        for k in 0..style.functions() {
+            let i = style.functions() - 1 - k;
+            if at(&reached, i) {
+                for token in style.body(i) {
+                    reach(style, allowed, &mut reached, &mut found, *token);
+                }
+            }
+        }
+    }
+    Ok(found)
+}
+
+// Marks what a token reaches or assigns.
+fn reach(style: &Style, allowed: &[u32], reached: &mut [bool], found: &mut Assigned, token: Token) {
+    match token {
+        Token::Quote(Callee::GlobalInteger(v)) => set(&mut found.integers, v),
+        Token::Quote(Callee::GlobalString(v)) => set(&mut found.strings, v),
+        Token::Run(Callee::BuiltIn(BuiltIn::CallType))
+        | Token::Quote(Callee::BuiltIn(BuiltIn::CallType)) => mark_types(style, allowed, reached),
+        Token::Run(f) | Token::Quote(f) => mark(reached, f),
+        _ => {}
+    }
+}
+
+// Marks the functions of types.
+fn mark_types(style: &Style, allowed: &[u32], reached: &mut [bool]) {
+    for number in allowed {
+        set(reached, *number);
+    }
+    match style.type_function(b"default.type") {
+        Some(number) => set(reached, number),
+        None => {}
+    }
+}
+
+fn set(marks: &mut [bool], i: u32) {
+    if (i as usize) < marks.len() {
+        marks[i as usize] = true;
     }
 }

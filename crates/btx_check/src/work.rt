@@ -31,6 +31,8 @@ pub struct Work {
     pub alloc: Global,
     /// How many steps may still be taken.
     pub steps: u64,
+    /// How many could be taken.
+    pub all_steps: u64,
     /// Whether the search was given up: for want of steps, or since it went too deep.
     pub gave_up: bool,
     /// How many more bodies could always be opened.
@@ -54,6 +56,7 @@ impl Work {
         Work {
             alloc,
             steps,
+            all_steps: steps,
             gave_up: false,
             spare_bodies: usize::MAX,
             most_literals: 0,
@@ -65,6 +68,7 @@ impl Work {
 
     /// Begins again, with the steps and the flags that there are.
     pub fn begin(&mut self) {
+        self.gave_up = false;
         self.spare_bodies = usize::MAX;
         self.most_literals = 0;
         self.open.clear();
@@ -79,6 +83,11 @@ impl Work {
         }
         self.steps -= 1;
         true
+    }
+
+    /// How many steps were taken.
+    pub fn taken(&self) -> u64 {
+        self.all_steps.saturating_sub(self.steps)
     }
 
     /// Notes that a body was opened, after which `spare` more can be.

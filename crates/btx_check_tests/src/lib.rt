@@ -2,4 +2,6 @@
 #![tactic(auto)]
 
 #[cfg(test)]
+mod operands;
+#[cfg(test)]
 mod styles;

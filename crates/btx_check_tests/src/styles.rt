@@ -1,6 +1,6 @@
 //! Small styles, each beside one that differs from it in what makes it go wrong.
 use btx_bst::read_style;
-use btx_check::{Verdict, check};
+use btx_check::{Verdict, check, examine};
 use std::alloc::Global;
 
 // What stands before the commands of each style.
@@ -24,11 +24,15 @@ const VALUES: &[u8] = b"FUNCTION {f} {#5 'n := n #0 > 'skip$ {#1 write$} if$} RE
 FUNCTION {f} {\"a\" duplicate$ * 's := s write$} READ EXECUTE {f}
 FUNCTION {f} {#1 #2 swap$ < {\"a\" write$} 'skip$ if$} READ EXECUTE {f}
 FUNCTION {f} {\"a\" #1 = {skip$} {skip$} if$} READ ITERATE {skip$}
+FUNCTION {f} {s text.length$ 'n := n #0 = 'skip$ {n #0 = {#1 write$} 'skip$ if$} if$} READ EXECUTE {f}
+FUNCTION {i} {#1 'n :=} FUNCTION {f} {n #1 = 'skip$ {#1 write$} if$} READ EXECUTE {i} ITERATE {f}
 FUNCTION {f} {title empty$ {\"\"} 'title if$ 's := s num.names$ #0 > {s #1 \"{ll}\" format.name$ write$} 'skip$ if$} READ ITERATE {f}";
 
 const SPOILT_VALUES: &[u8] =
     b"FUNCTION {f} {#5 'n := #0 'n := n #0 > 'skip$ {#1 write$} if$} READ EXECUTE {f}
 FUNCTION {f} {\"a\" #1 = pop$} READ EXECUTE {f}
+FUNCTION {f} {s text.length$ 'n := n #0 = 'skip$ {n #1 = {#1 write$} 'skip$ if$} if$} READ EXECUTE {f}
+FUNCTION {i} {#1 'n :=} FUNCTION {f} {n #1 = 'skip$ {#1 write$} if$ #2 'n :=} READ EXECUTE {i} ITERATE {f}
 FUNCTION {f} {#1 'skip$ :=} READ EXECUTE {f}
 FUNCTION {f} {\"a\" 's := s empty$ {#1 write$} 'skip$ if$} READ EXECUTE {f}
 FUNCTION {f} {pop$} READ EXECUTE {f}
@@ -48,7 +52,7 @@ FUNCTION {book} {title write$} READ ITERATE {call.type$}
 FUNCTION {book} {skip$} FUNCTION {default.type} {pop$} READ ITERATE {call.type$}";
 
 // Whether a style of this head and this rest is called clean.
-fn is_clean(alloc: Global, rest: &[u8]) -> bool {
+pub(crate) fn is_clean(alloc: Global, rest: &[u8]) -> bool {
     let mut text: Vec<u8> = Vec::new(alloc);
     if text.extend_from_slice(HEAD).is_err() || text.extend_from_slice(rest).is_err() {
         return false;
@@ -60,6 +64,36 @@ fn is_clean(alloc: Global, rest: &[u8]) -> bool {
         Ok(Verdict::Clean(_)) => true,
         _ => false,
     }
+}
+
+// How many places are found where a style of this head and this rest may go wrong; 100 if it can't be told.
+fn places_of(alloc: Global, rest: &[u8]) -> usize {
+    let mut text: Vec<u8> = Vec::new(alloc);
+    if text.extend_from_slice(HEAD).is_err() || text.extend_from_slice(rest).is_err() {
+        return 100;
+    }
+    let Ok(style) = read_style(alloc, b"s.bst", &text) else {
+        return 100
+    };
+    match examine(alloc, &style, 100_000) {
+        Ok(findings) => findings.found.len(),
+        Err(_) => 100,
+    }
+}
+
+// A style that may go wrong in two places, and one that can't.
+const TWO_PLACES: &[u8] = b"FUNCTION {f} {title write$ editor write$} READ ITERATE {f}";
+
+const NO_PLACE: &[u8] = b"FUNCTION {f} {s write$} READ ITERATE {f}";
+
+#[test]
+fn places(rt: HostRuntime) {
+    assert!(rt; places_of(rt.alloc(), TWO_PLACES) == 2);
+}
+
+#[test]
+fn no_place(rt: HostRuntime) {
+    assert!(rt; places_of(rt.alloc(), NO_PLACE) == 0);
 }
 
 // How many of these lines are styles that are called clean.
@@ -85,7 +119,7 @@ fn spoilt_fields(rt: HostRuntime) {
 
 #[test]
 fn values(rt: HostRuntime) {
-    assert!(rt; clean_of(rt.alloc(), VALUES) == 5);
+    assert!(rt; clean_of(rt.alloc(), VALUES) == 7);
 }
 
 #[test]

@@ -15,8 +15,8 @@ use Rattle.btx_check.proofs.running.+search.Goals as goal
 pub run-returns-then-is_impossible : goal.run-returns-then-is_impossible
 run-returns-then-is_impossible t c = λ h. impossible_ran _ _ _ _ _ _ _ (c.is_impossible.ensures (search (rules, c.if-is_impossible.true)))
 
-pub run-returns-in_default : goal.run-returns-in_default
-run-returns-in_default t c = ok_map c.run_one.result (λ ok. IsTrue ok → Ruled c.args.f c.args.a.now c.args.out.now.items c.run_one.new.out.items) _ (λ b h ok. rule_ran _ _ _ _ _ _ _ _ (h ok)) c.run_one.ensures
+pub run_sure-returns-in_default : goal.run_sure-returns-in_default
+run_sure-returns-in_default t c = ok_map c.run_one.result (λ ok. IsTrue ok → Ruled c.args.f c.args.a.now c.args.out.now.items c.run_one.new.out.items) _ (λ b h ok. rule_ran _ _ _ _ _ _ _ _ (h ok)) c.run_one.ensures
 
 pub run_token-returns-in_default : goal.run_token-returns-in_default
 run_token-returns-in_default t c = ok_map c.push_token.result (λ ok. IsTrue ok → (allowed : List ℕ) (deep loops : ℕ) → Stepped c.args.style.now allowed c.args.t (c.args.a.now ∷ []) deep loops c.args.out.now.items c.push_token.new.out.items) _ (λ b h ok. h ok c.args.allowed.now c.args.room.deep c.args.room.loops) c.push_token.ensures

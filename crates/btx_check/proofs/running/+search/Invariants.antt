@@ -4,22 +4,25 @@ use Rattle.btx_check.specs.Answers.{Stepped, Reached, TypesStepped}
 use Rattle.btx_check.proofs.running.+search.Given as goal
 
 abbrev pub decreases-run : goal.decreases-run
-decreases-run l = 8 * l.room.fuel
+decreases-run l = 8 * l.room.fuel + 1
 
 abbrev pub decreases-run_all : goal.decreases-run_all
 decreases-run_all l = 8 * l.room.fuel + 2
 
 abbrev pub decreases-run_if : goal.decreases-run_if
-decreases-run_if l = 8 * l.room.fuel + 1
+decreases-run_if l = 8 * l.room.fuel + 2
 
 abbrev pub decreases-run_loop : goal.decreases-run_loop
 decreases-run_loop l = 8 * l.room.fuel + 3
+
+abbrev pub decreases-run_sure : goal.decreases-run_sure
+decreases-run_sure l = 8 * l.room.fuel
 
 abbrev pub decreases-run_token : goal.decreases-run_token
 decreases-run_token l = 8 * l.room.fuel + 1
 
 abbrev pub decreases-run_types : goal.decreases-run_types
-decreases-run_types l = 8 * l.room.fuel + 1
+decreases-run_types l = 8 * l.room.fuel + 2
 
 abbrev pub decreases-run_user : goal.decreases-run_user
 decreases-run_user l = 8 * l.room.fuel + 3

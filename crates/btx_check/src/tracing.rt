@@ -1,0 +1,895 @@
+//! The search for all places where a style may go wrong: it executes functions on descriptions as `running` does, and goes on after a fault. No proof rests on it.
+use crate::adding::{add, add_known, add_same};
+use crate::bounds::{not_positive, positive};
+use crate::description::{Upper, Value};
+use crate::findings::{Cause, Condition, Fault, Finding, Growth, Operand};
+use crate::lasting::{globals_of, lasting};
+use crate::loops::{all_in, proposed};
+use crate::name_rules::assign;
+use crate::rules::{one_step, push_token};
+use crate::state::State;
+use crate::types::meant_types;
+use crate::wants::{Left, Wants, wants_of};
+use crate::work::{Place, Room, Work};
+use btx_bst::{BuiltIn, Callee, Item, Style, Token};
+use btx_step::Wanted;
+use std::alloc::{AllocError, Global};
+
+/// What the search found.
+#[derive(Drop)]
+pub struct Traced {
+    /// Where the style may go wrong.
+    pub found: Vec<Finding>,
+    /// Why literals are too many or too few.
+    pub causes: Vec<Cause>,
+    /// Whether it came to its end.
+    pub is_whole: bool,
+}
+
+// Descriptions before any fault of a visit, and after one.
+#[derive(Drop)]
+struct Lanes {
+    good: Vec<State>,
+    spoilt: Vec<State>,
+}
+
+impl Lanes {
+    fn new(alloc: Global) -> Lanes {
+        Lanes {
+            good: Vec::new(alloc),
+            spoilt: Vec::new(alloc),
+        }
+    }
+
+    // Where descriptions go before a fault, or after one.
+    fn lane(&mut self, is_first: bool) -> &mut Vec<State> {
+        if is_first {
+            &mut self.good
+        } else {
+            &mut self.spoilt
+        }
+    }
+}
+
+// An `if$`, and by how much its branches let the stack grow, where they were executed.
+#[derive(Clone, Copy)]
+struct Fork {
+    place: Place,
+    yes: Option<Growth>,
+    no: Option<Growth>,
+}
+
+// What the search goes by.
+#[derive(Drop)]
+struct Search {
+    work: Work,
+    allowed: Vec<u32>,
+    // The command, by its number, and the type of the entry.
+    item: usize,
+    entry_type: Option<u32>,
+    found: Vec<Finding>,
+    forks: Vec<Fork>,
+    // Of each function: whether it can leave different numbers of literals from one description.
+    uneven: Vec<bool>,
+}
+
+/// Searches a style for places where it may go wrong, with as many steps as a check had, and what it kept descriptions apart by.
+pub fn trace(before: Work, style: &Style) -> Result<Traced, AllocError> {
+    let alloc = before.alloc;
+    let mut work = Work::new(alloc, before.all_steps);
+    work.flags = before.flags;
+    let mut search = Search {
+        work,
+        allowed: meant_types(alloc, style)?,
+        item: 0,
+        entry_type: None,
+        found: Vec::new(alloc),
+        forks: Vec::new(alloc),
+        uneven: vec![in alloc; false; style.functions()]?,
+    };
+    let items = style.items();
+    let mut known = State::start(alloc, false, style)?;
+    for k in 0..items.len() {
+        search.item = k;
+        let item = items[k];
+        match item {
+            Item::Execute(f) => {
+                let ends = search.visit(style, f, false, &known)?;
+                known = globals_of(&search.work, style, &ends)?;
+            }
+            Item::Iterate(f) | Item::Reverse(f) => {
+                known = lasting(&search.work, style, &search.allowed, f, &known)?;
+                let _ = search.visit(style, f, true, &known)?;
+            }
+            _ => {}
+        }
+    }
+    search.into_traced(alloc, style)
+}
+
+impl Search {
+    // A function, executed for a command, from what is known before it: where it ends without a fault.
+    fn visit(
+        &mut self,
+        style: &Style,
+        f: Callee,
+        entry: bool,
+        known: &State,
+    ) -> Result<Vec<State>, AllocError> {
+        let start = known.where_entry(entry)?;
+        let room = Room {
+            fuel: 2000,
+            deep: 4096,
+            loops: 100,
+        };
+        self.entry_type = None;
+        self.work.open.clear();
+        let mut out = Lanes::new(self.work.alloc);
+        self.function(style, room, &start, true, f, &mut out)?;
+        self.left_over(style, f, &out.good, true)?;
+        self.left_over(style, f, &out.spoilt, false)?;
+        Ok(out.good)
+    }
+
+    // Notes literals that are left over when a command ends.
+    fn left_over(
+        &mut self,
+        style: &Style,
+        f: Callee,
+        states: &[State],
+        is_first: bool,
+    ) -> Result<(), AllocError> {
+        let token = match f {
+            Callee::User(i) if (i as usize) < style.functions() => style.body(i as usize).len(),
+            _ => 0,
+        };
+        let place = Place {
+            function: number_of(f),
+            token,
+        };
+        for a in states {
+            if !a.is_empty() {
+                self.work.open.clear();
+                self.work.open.push(place)?;
+                self.note(a, f, Fault::LeftOver, None, is_first)?;
+            }
+        }
+        Ok(())
+    }
+
+    // Notes a fault at the place that was reached, if it isn't known there.
+    fn note(
+        &mut self,
+        a: &State,
+        executed: Callee,
+        fault: Fault,
+        operand: Option<Operand>,
+        is_first: bool,
+    ) -> Result<(), AllocError> {
+        let place = match self.work.open.last() {
+            Some(place) => *place,
+            None => Place {
+                function: None,
+                token: 0,
+            },
+        };
+        let entry_type = self.entry_type;
+        for known in self.found.iter_mut() {
+            if known.place == place && known.fault == fault {
+                if is_first {
+                    known.is_first = true;
+                }
+                return add_type(&mut known.types, entry_type);
+            }
+        }
+        let mut types: Vec<Option<u32>> = Vec::new(self.work.alloc);
+        types.push(entry_type)?;
+        let conditions = conditions_of(self.work.alloc, a)?;
+        let way = self.work.open.clone()?;
+        self.found.push(Finding {
+            fault,
+            place,
+            executed,
+            operand,
+            literals: a.height(),
+            way,
+            item: self.item,
+            types,
+            conditions,
+            is_first,
+        })?;
+        Ok(())
+    }
+
+    // A function, from a description: what it leads to is added to the others.
+    #[cycle(tracing)]
+    fn function(
+        &mut self,
+        style: &Style,
+        room: Room,
+        a: &State,
+        is_first: bool,
+        f: Callee,
+        out: &mut Lanes,
+    ) -> Result<(), AllocError> {
+        if room.fuel == 0 {
+            self.work.gave_up = true;
+            return Ok(());
+        }
+        if !self.work.step() || a.is_impossible() {
+            return Ok(());
+        }
+        let room = Room {
+            fuel: room.fuel - 1,
+            deep: room.deep,
+            loops: room.loops,
+        };
+        match f {
+            Callee::BuiltIn(BuiltIn::If) => self.choice(style, room, a, is_first, out),
+            Callee::BuiltIn(BuiltIn::While) => self.turns(style, room, a, is_first, out),
+            Callee::BuiltIn(BuiltIn::CallType) => self.by_type(style, room, a, is_first, out),
+            Callee::User(i) => self.body(style, room, a, is_first, i, out),
+            _ => self.simple(style, a, is_first, f, out),
+        }
+    }
+
+    // A token, from each of these.
+    #[cycle(tracing)]
+    fn token(
+        &mut self,
+        style: &Style,
+        room: Room,
+        states: &[State],
+        is_first: bool,
+        t: Token,
+        out: &mut Lanes,
+    ) -> Result<(), AllocError> {
+        for a in states {
+            match t {
+                Token::Run(f) => self.function(style, room, a, is_first, f, out)?,
+                _ => {
+                    let _ = push_token(&self.work, style, a, t, out.lane(is_first))?;
+                }
+            }
+        }
+        Ok(())
+    }
+
+    // The body of a function of the style.
+    #[cycle(tracing)]
+    fn body(
+        &mut self,
+        style: &Style,
+        room: Room,
+        a: &State,
+        is_first: bool,
+        i: u32,
+        out: &mut Lanes,
+    ) -> Result<(), AllocError> {
+        if i as usize >= style.functions() {
+            return Ok(());
+        }
+        self.work.enter(i, 0)?;
+        let mut now = Lanes::new(self.work.alloc);
+        let first = a.copy()?;
+        now.lane(is_first).push(first)?;
+        for t in style.body(i as usize) {
+            let mut after = Lanes::new(self.work.alloc);
+            self.token(style, room, &now.good, true, *t, &mut after)?;
+            self.token(style, room, &now.spoilt, false, *t, &mut after)?;
+            now = after;
+            self.work.advance();
+        }
+        self.work.leave();
+        if is_first && !is_even(&now.good) {
+            mark(&mut self.uneven, i);
+        }
+        for b in now.good.iter() {
+            add_same(&self.work, b, &mut out.good)?;
+        }
+        for b in now.spoilt.iter() {
+            add_same(&self.work, b, &mut out.spoilt)?;
+        }
+        Ok(())
+    }
+
+    // A function of one step. Where an operand may be wrong and may be right, the search goes on with the latter; and with what follows the fault.
+    fn simple(
+        &mut self,
+        style: &Style,
+        a: &State,
+        is_first: bool,
+        f: Callee,
+        out: &mut Lanes,
+    ) -> Result<(), AllocError> {
+        let mut now = a.copy()?;
+        for _ in 0..4 {
+            let is_done = match f {
+                Callee::BuiltIn(BuiltIn::Assign) => assign(
+                    &self.work,
+                    style,
+                    &now,
+                    out.lane(is_first),
+                )?,
+                _ => one_step(&self.work, &now, f, out.lane(is_first))?,
+            };
+            if is_done {
+                return Ok(());
+            }
+            let operand = self.fault(&now, f, is_first)?;
+            self.recover(&now, f, &mut out.spoilt)?;
+            if !narrow(&mut now, operand) {
+                return Ok(());
+            }
+        }
+        Ok(())
+    }
+
+    // Notes the fault of a function: the operand that is the reason, if one is.
+    fn fault(
+        &mut self,
+        a: &State,
+        f: Callee,
+        is_first: bool,
+    ) -> Result<Option<Operand>, AllocError> {
+        let wants = wants_of(f);
+        if !a.has_entry() && needs_entry(f) {
+            self.note(a, f, Fault::NoEntry, None, is_first)?;
+            return Ok(None);
+        }
+        if a.height() < wants.count {
+            self.note(a, f, Fault::EmptyStack, None, is_first)?;
+            return Ok(None);
+        }
+        let operand = wrong_operand(a, &wants, f);
+        self.note(a, f, fault_of(f, operand), operand, is_first)?;
+        Ok(operand)
+    }
+
+    // Adds what follows a fault: without the operands, and with what stands for a result.
+    fn recover(&mut self, a: &State, f: Callee, out: &mut Vec<State>) -> Result<(), AllocError> {
+        let wants = wants_of(f);
+        let mut b = a.copy()?;
+        for _ in 0..wants.count {
+            let _ = b.pop();
+        }
+        match wants.left {
+            Left::Nothing => {}
+            Left::Zero => b.push_new(Value::zero())?,
+            Left::EmptyString => b.push_new(Value::Text(crate::rules::mask_of(b"")))?,
+        }
+        add(&self.work, out, b)
+    }
+
+    // `if$`.
+    #[cycle(tracing)]
+    fn choice(
+        &mut self,
+        style: &Style,
+        room: Room,
+        a: &State,
+        is_first: bool,
+        out: &mut Lanes,
+    ) -> Result<(), AllocError> {
+        let f = Callee::BuiltIn(BuiltIn::If);
+        let mut below = a.copy()?;
+        let first = below.pop();
+        let second = below.pop();
+        let third = below.pop();
+        match (
+            value_of(a, first),
+            value_of(a, second),
+            value_of(a, third),
+            third,
+        ) {
+            (
+                Some(Value::Function(g)),
+                Some(Value::Function(f)),
+                Some(Value::Integer(low, high)),
+                Some(number),
+            ) => {
+                let mut yes = below.copy()?;
+                yes.know(number, positive(low, high));
+                let mut no = below;
+                no.know(number, not_positive(low, high));
+                self.branches(style, room, &yes, &no, f, g, is_first, out)
+            }
+            _ => {
+                let _ = self.fault(a, f, is_first)?;
+                self.recover(a, f, &mut out.spoilt)
+            }
+        }
+    }
+
+    // The two functions of an `if$`.
+    #[cycle(tracing)]
+    fn branches(
+        &mut self,
+        style: &Style,
+        room: Room,
+        yes: &State,
+        no: &State,
+        f: Callee,
+        g: Callee,
+        is_first: bool,
+        out: &mut Lanes,
+    ) -> Result<(), AllocError> {
+        let mut after_yes = Lanes::new(self.work.alloc);
+        self.function(style, room, yes, is_first, f, &mut after_yes)?;
+        let mut after_no = Lanes::new(self.work.alloc);
+        self.function(style, room, no, is_first, g, &mut after_no)?;
+        if is_first {
+            self.compare(yes.height(), &after_yes.good, &after_no.good)?;
+        }
+        self.join(after_yes, out)?;
+        self.join(after_no, out)
+    }
+
+    // Adds descriptions to others.
+    fn join(&mut self, from: Lanes, out: &mut Lanes) -> Result<(), AllocError> {
+        for b in from.good {
+            add(&self.work, &mut out.good, b)?;
+        }
+        for b in from.spoilt {
+            add(&self.work, &mut out.spoilt, b)?;
+        }
+        Ok(())
+    }
+
+    // Notes by how much the branches of an `if$` let the stack grow.
+    fn compare(&mut self, height: usize, yes: &[State], no: &[State]) -> Result<(), AllocError> {
+        let Some(place) = self.work.open.last() else {
+            return Ok(());
+        };
+        let place = *place;
+        let yes = growth(height, yes);
+        let no = growth(height, no);
+        for known in self.forks.iter_mut() {
+            if known.place == place {
+                known.yes = both_grown(known.yes, yes);
+                known.no = both_grown(known.no, no);
+                return Ok(());
+            }
+        }
+        self.forks.push(Fork { place, yes, no })?;
+        Ok(())
+    }
+
+    // `while$`.
+    #[cycle(tracing)]
+    fn turns(
+        &mut self,
+        style: &Style,
+        room: Room,
+        a: &State,
+        is_first: bool,
+        out: &mut Lanes,
+    ) -> Result<(), AllocError> {
+        let f = Callee::BuiltIn(BuiltIn::While);
+        let mut below = a.copy()?;
+        let first = below.pop();
+        let second = below.pop();
+        match (value_of(a, first), value_of(a, second)) {
+            (Some(Value::Function(g)), Some(Value::Function(f))) => {
+                if room.loops == 0 {
+                    self.work.gave_up = true;
+                    return Ok(());
+                }
+                let inside = Room {
+                    fuel: room.fuel,
+                    deep: room.deep,
+                    loops: room.loops - 1,
+                };
+                self.heads(style, inside, &below, is_first, f, g, out)
+            }
+            _ => {
+                let _ = self.fault(a, f, is_first)?;
+                self.recover(a, f, &mut out.spoilt)
+            }
+        }
+    }
+
+    // A loop: heads are proposed until its body leads back to them. What follows a fault in it isn't followed round it.
+    #[cycle(tracing)]
+    fn heads(
+        &mut self,
+        style: &Style,
+        room: Room,
+        b: &State,
+        is_first: bool,
+        f: Callee,
+        g: Callee,
+        out: &mut Lanes,
+    ) -> Result<(), AllocError> {
+        let mut heads: Vec<State> = Vec::new(self.work.alloc);
+        let head = b.copy()?;
+        heads.push(head)?;
+        for round in 0..40 {
+            let mut tests = Lanes::new(self.work.alloc);
+            self.token(style, room, &heads, is_first, Token::Run(f), &mut tests)?;
+            let mut again: Vec<State> = Vec::new(self.work.alloc);
+            let mut ends: Vec<State> = Vec::new(self.work.alloc);
+            self.turn(tests.lane(is_first), is_first, &mut again, &mut ends)?;
+            let mut bodies = Lanes::new(self.work.alloc);
+            self.token(style, room, &again, is_first, Token::Run(g), &mut bodies)?;
+            let back = bodies.lane(is_first);
+            if all_in(&self.work, back, &heads)? {
+                for e in ends {
+                    add(&self.work, out.lane(is_first), e)?;
+                }
+                return Ok(());
+            }
+            heads = proposed(&self.work, b, heads, back, round > 2)?;
+        }
+        self.work.gave_up = true;
+        Ok(())
+    }
+
+    // Splits descriptions by the result of a loop's test.
+    fn turn(
+        &mut self,
+        tests: &[State],
+        is_first: bool,
+        again: &mut Vec<State>,
+        ends: &mut Vec<State>,
+    ) -> Result<(), AllocError> {
+        for a in tests {
+            let mut below = a.copy()?;
+            let top = below.pop();
+            match (value_of(a, top), top) {
+                (Some(Value::Integer(low, high)), Some(number)) => {
+                    let on = positive(low, high);
+                    let off = not_positive(low, high);
+                    add_known(&self.work, below.copy()?, number, on, again)?;
+                    add_known(&self.work, below, number, off, ends)?;
+                }
+                (value, _) => {
+                    let fault = if value.is_none() {
+                        Fault::EmptyStack
+                    } else {
+                        Fault::WrongKind
+                    };
+                    self.note(a, Callee::BuiltIn(BuiltIn::While), fault, None, is_first)?;
+                }
+            }
+        }
+        Ok(())
+    }
+
+    // `call.type$`.
+    #[cycle(tracing)]
+    fn by_type(
+        &mut self,
+        style: &Style,
+        room: Room,
+        a: &State,
+        is_first: bool,
+        out: &mut Lanes,
+    ) -> Result<(), AllocError> {
+        if !a.has_entry() {
+            return self.note(
+                a,
+                Callee::BuiltIn(BuiltIn::CallType),
+                Fault::NoEntry,
+                None,
+                is_first,
+            );
+        }
+        for k in 0..self.allowed.len() {
+            if k < self.allowed.len() {
+                let number = self.allowed[k];
+                self.entry_type = Some(number);
+                self.function(style, room, a, is_first, Callee::User(number), out)?;
+            }
+        }
+        self.entry_type = None;
+        match style.type_function(b"default.type") {
+            None => add_same(&self.work, a, out.lane(is_first)),
+            Some(number) => self.function(style, room, a, is_first, Callee::User(number), out),
+        }
+    }
+
+    // What was found, with the causes: forks in functions that are uneven and use no other one that is.
+    fn into_traced(self, alloc: Global, style: &Style) -> Result<Traced, AllocError> {
+        let owners = owners(alloc, style)?;
+        let reach = reaches(alloc, style, &self.uneven, &owners)?;
+        let mut causes: Vec<Cause> = Vec::new(alloc);
+        for fork in self.forks.iter() {
+            match (fork.place.function, fork.yes, fork.no) {
+                (Some(function), Some(yes), Some(no)) => {
+                    let owner = owner_at(&owners, function);
+                    if yes != no && at(&self.uneven, owner) && !at(&reach, owner) {
+                        causes.push(Cause {
+                            function: owner,
+                            place: fork.place,
+                            yes,
+                            no,
+                        })?;
+                    }
+                }
+                _ => {}
+            }
+        }
+        Ok(Traced {
+            found: self.found,
+            causes,
+            is_whole: !self.work.gave_up,
+        })
+    }
+}
+
+// The number of a function of the style.
+fn number_of(f: Callee) -> Option<u32> {
+    match f {
+        Callee::User(i) => Some(i),
+        _ => None,
+    }
+}
+
+// Adds a type to others.
+fn add_type(types: &mut Vec<Option<u32>>, entry_type: Option<u32>) -> Result<(), AllocError> {
+    for known in types.iter() {
+        if *known == entry_type {
+            return Ok(());
+        }
+    }
+    types.push(entry_type)?;
+    Ok(())
+}
+
+// What is known of a number, if there is one.
+fn value_of(a: &State, number: Option<usize>) -> Option<Value> {
+    match number {
+        None => None,
+        Some(number) => Some(a.value(number)),
+    }
+}
+
+// What is known of the fields of the entry.
+fn conditions_of(alloc: Global, a: &State) -> Result<Vec<Condition>, AllocError> {
+    let mut conditions: Vec<Condition> = Vec::new(alloc);
+    for k in 0..a.fields.len() {
+        match value_of(a, a.fields[k]) {
+            Some(Value::Text(m)) => {
+                let is_given = !m.missing && !m.empty && !m.white;
+                if k < u32::MAX as usize && (is_given || !m.full) {
+                    conditions.push(Condition {
+                        field: k as u32,
+                        is_given,
+                    })?;
+                }
+            }
+            _ => {}
+        }
+    }
+    Ok(conditions)
+}
+
+// Whether a function needs an entry.
+fn needs_entry(f: Callee) -> bool {
+    match f {
+        Callee::BuiltIn(b) => matches!(
+            b,
+            BuiltIn::Cite | BuiltIn::Type | BuiltIn::CallType | BuiltIn::Missing
+        ),
+        Callee::Field(_) | Callee::EntryInteger(_) | Callee::EntryString(_) => true,
+        _ => false,
+    }
+}
+
+// The first operand that may be wrong.
+fn wrong_operand(a: &State, wants: &Wants, f: Callee) -> Option<Operand> {
+    for k in 0..3 {
+        if k < wants.count && k < a.stack.len() {
+            let number = a.stack[k];
+            let value = a.value(number);
+            let is_right = match wants.kinds[k] {
+                Some(wanted) => crate::operands::is_fit(value, wanted),
+                None => is_right_here(a, value, f),
+            };
+            if !is_right {
+                return Some(Operand {
+                    position: k,
+                    value,
+                    name: name_of(a, number),
+                    wanted: wants.kinds[k],
+                });
+            }
+        }
+    }
+    None
+}
+
+// Whether an operand of no fixed kind is right: of `=` and of `:=`.
+fn is_right_here(a: &State, value: Value, f: Callee) -> bool {
+    match (f, value) {
+        (Callee::BuiltIn(BuiltIn::Equals), Value::Text(m)) => !m.missing,
+        (Callee::BuiltIn(BuiltIn::Equals), Value::Integer(_, _)) => {
+            a.stack.len() >= 2
+                && matches!(a.value(a.stack[0]), Value::Integer(_, _))
+                && matches!(a.value(a.stack[1]), Value::Integer(_, _))
+        }
+        (Callee::BuiltIn(BuiltIn::Equals), _) => false,
+        (Callee::BuiltIn(BuiltIn::Assign), Value::Text(m)) => !m.missing,
+        (Callee::BuiltIn(BuiltIn::Assign), Value::Integer(_, _)) => true,
+        (Callee::BuiltIn(BuiltIn::Assign), _) => false,
+        _ => true,
+    }
+}
+
+// The message of a function whose operand is wrong.
+fn fault_of(f: Callee, operand: Option<Operand>) -> Fault {
+    match f {
+        Callee::BuiltIn(BuiltIn::Equals) => Fault::Incomparable,
+        Callee::BuiltIn(BuiltIn::Assign) => match operand {
+            Some(_) => Fault::WrongKind,
+            None => Fault::NotAssignable,
+        },
+        _ => Fault::WrongKind,
+    }
+}
+
+// Takes a missing field from what an operand may be, if it may be a string as well.
+fn narrow(a: &mut State, operand: Option<Operand>) -> bool {
+    match operand {
+        Some(operand) => match operand.value {
+            Value::Text(m) => {
+                if !m.missing || !(m.empty || m.white || m.full) {
+                    return false;
+                }
+                if operand.position < a.stack.len() {
+                    let number = a.stack[operand.position];
+                    a.know(number, Value::Text(m.present()));
+                    return true;
+                }
+                false
+            }
+            _ => false,
+        },
+        None => false,
+    }
+}
+
+// The name whose value a number is.
+fn name_of(a: &State, number: usize) -> Option<Callee> {
+    for k in 0..a.fields.len() {
+        if a.fields[k] == Some(number) && k < u32::MAX as usize {
+            return Some(Callee::Field(k as u32));
+        }
+    }
+    for k in 0..a.global_strings.len() {
+        if a.global_strings[k] == Some(number) && k < u32::MAX as usize {
+            return Some(Callee::GlobalString(k as u32));
+        }
+    }
+    for k in 0..a.global_integers.len() {
+        if a.global_integers[k] == Some(number) && k < u32::MAX as usize {
+            return Some(Callee::GlobalInteger(k as u32));
+        }
+    }
+    None
+}
+
+// Whether all of these have the same number of literals.
+fn is_even(states: &[State]) -> bool {
+    for a in states {
+        if a.height() != states[0].height() {
+            return false;
+        }
+    }
+    true
+}
+
+// By how many literals these have more than there were.
+fn growth(height: usize, states: &[State]) -> Option<Growth> {
+    let mut grown: Option<Growth> = None;
+    for a in states {
+        let by = difference(a.height(), height);
+        grown = both_grown(
+            grown,
+            Some(Growth {
+                least: by,
+                most: by,
+            }),
+        );
+    }
+    grown
+}
+
+// The growth of both.
+fn both_grown(one: Option<Growth>, other: Option<Growth>) -> Option<Growth> {
+    match (one, other) {
+        (Some(g), Some(h)) => Some(Growth {
+            least: if h.least < g.least { h.least } else { g.least },
+            most: if h.most > g.most { h.most } else { g.most },
+        }),
+        (None, _) => other,
+        _ => one,
+    }
+}
+
+// A difference of two heights of the stack.
+fn difference(a: usize, b: usize) -> i64 {
+    if a >= b {
+        match i64::try_from(a - b) {
+            Ok(n) => n,
+            Err(_) => i64::MAX,
+        }
+    } else {
+        match i64::try_from(b - a) {
+            Ok(n) => 0 - n,
+            Err(_) => i64::MIN,
+        }
+    }
+}
+
+// Sets a mark.
+fn mark(marks: &mut [bool], i: u32) {
+    if (i as usize) < marks.len() {
+        marks[i as usize] = true;
+    }
+}
+
+fn at(marks: &[bool], i: u32) -> bool {
+    if (i as usize) < marks.len() {
+        marks[i as usize]
+    } else {
+        false
+    }
+}
+
+// Of each function the one that has a name and holds it: itself, or the next one with a name, since the functions in a function have lower numbers than it.
+fn owners(alloc: Global, style: &Style) -> Result<Vec<u32>, AllocError> {
+    let mut owners: Vec<u32> = vec![in alloc; 0; style.functions()]?;
+    let mut owner: u32 = 0;
+    for k in 0..owners.len() {
+        let i = owners.len() - 1 - k;
+        if i < u32::MAX as usize {
+            let number = i as u32;
+            if style.name(Callee::User(number)) != b"{}".as_slice() {
+                owner = number;
+            }
+        }
+        owners[i] = owner;
+    }
+    Ok(owners)
+}
+
+fn owner_at(owners: &[u32], i: u32) -> u32 {
+    if (i as usize) < owners.len() {
+        owners[i as usize]
+    } else {
+        i
+    }
+}
+
+// Of each function with a name: whether it uses another one, by itself or through others, that is uneven.
+fn reaches(
+    alloc: Global,
+    style: &Style,
+    uneven: &[bool],
+    owners: &[u32],
+) -> Result<Vec<bool>, AllocError> {
+    let mut reach: Vec<bool> = vec![in alloc; false; style.functions()]?;
+    for i in 0..style.functions() {
+        let number = if i < u32::MAX as usize {
+            i as u32
+        } else {
+            u32::MAX
+        };
+        let owner = owner_at(owners, number);
+        for t in style.body(i) {
+            match *t {
+                Token::Run(Callee::User(j)) | Token::Quote(Callee::User(j)) => {
+                    let used = owner_at(owners, j);
+                    if (used != owner && at(uneven, used)) || at(&reach, j) {
+                        mark(&mut reach, owner);
+                        mark(&mut reach, number);
+                    }
+                }
+                _ => {}
+            }
+        }
+    }
+    Ok(reach)
+}
