@@ -227,21 +227,11 @@ impl State {
                 Ok(())
             }
             Callee::GlobalString(i) => {
-                self.global_strings = with_number(
-                    alloc,
-                    &self.global_strings,
-                    i as usize,
-                    number,
-                )?;
+                self.global_strings = with_number(alloc, &self.global_strings, i as usize, number)?;
                 Ok(())
             }
             Callee::EntryInteger(i) => {
-                self.entry_integers = with_number(
-                    alloc,
-                    &self.entry_integers,
-                    i as usize,
-                    number,
-                )?;
+                self.entry_integers = with_number(alloc, &self.entry_integers, i as usize, number)?;
                 Ok(())
             }
             Callee::EntryString(i) => {

@@ -21,7 +21,11 @@ fn gives(rt: &HostRuntime, directory: &str, row: &Row<'_>) -> Result<bool, Alloc
     let history = History::new(rt.alloc());
     let mut finder = DirectoryFinder::new(RealSystem::new(rt), directory, history);
     let answer = finder.fetch(rt.alloc(), row.name, &mut into);
-    Ok(answer == row.answer && finder.system().failures() == row.failures && into.as_slice() == row.bytes)
+    Ok(
+        answer == row.answer
+            && finder.system().failures() == row.failures
+            && into.as_slice() == row.bytes,
+    )
 }
 
 // Whether each name gives what is said.
