@@ -85,7 +85,7 @@ def code(definition):
     return "<pre>" + "".join(code_line(line, definition) for line in layout.shown(definition)) + "</pre>"
 
 
-def references(found, most=8):
+def references(found, most=6):
     more = f" and {len(found) - most} more" if len(found) > most else ""
     return ", ".join(f'<a href="#{it.id}">{html.escape(it.name)}</a>&nbsp;{it.number}' for it in found[:most]) + more
 
