@@ -59,7 +59,7 @@ all_stored known = known.stored ++ option_to_list known.current
 abbrev pub closed : Known → Known
 closed known = record known { stored = all_stored known; current = None }
 
--- a string of this text has been made: one that is too long ends the reading
+-- a string of this text has been made: one that is too long ends the reading with what is known so far; else `next` is known
 abbrev pub if_fits : List ℕ → Known → Known → Known
 if_fits text known next = if nat_lt greatest_string (length text) then record known { limit = Some limit.String } else next
 
@@ -73,7 +73,8 @@ stored_with stored key = find (λ (entry : Stored). is_same_key key entry.key) s
 abbrev pub parents_named : List Stored → List (List ℕ)
 parents_named stored = flat_map (λ (entry : Stored). option_to_list (entry.value (codes "crossref"))) stored
 
--- an entry of this key is to be stored: `*` is cited, or the key is, or a stored entry names it as its parent
+-- an entry of this key is to be stored: `*` is cited, or the key is, or a stored entry names it as its parent; so a parent that
+-- isn't cited has to stand behind a child
 abbrev pub is_asked : Request → List Stored → List ℕ → Bool
 is_asked wanted stored key = is_some wanted.all || list_any (is_same_key key) (wanted.cited ++ parents_named stored)
 

@@ -41,7 +41,8 @@ pub data Effect : Type 0 where
 abbrev pub push : Literal → State → Effect
 push x s = if nat_lt (length s.literals) MOST_LITERALS then Leaves (record s { literals = x ∷ s.literals }) else Meets limit.Literals s
 
--- a string is pushed, if it isn't too long: one of more than 1,000,000 bytes ends the run (this project's own); `t` is the state in which it is pushed
+-- a string is pushed, if it isn't too long: one of more than 1,000,000 bytes ends the run (this project's own). `t` is the state in which it is pushed; where
+-- it is too long the run ends in `s`, and what `t` logs isn't logged
 abbrev pub push_text_in : State → List ℕ → State → Effect
 push_text_in t text s = if nat_lt greatest_string (length text) then Meets limit.String s else push (Text text) t
 
@@ -188,7 +189,7 @@ is_positive n = int_lt (pos 0) n
 abbrev pub push_result : ℤ → State → Effect
 push_result n s = if fits n then push (Integer n) s else push_instead zero_instead (error (codes "Integer overflow") s)
 
--- `chr.to.int$`: the code of a string of one character
+-- `chr.to.int$`: the code of a string of one byte, where text is UTF-8 too
 abbrev pub code_of : List ℕ → State → Effect
 code_of (b ∷ []) s = push (Integer (pos b)) s
 code_of text s = push_instead zero_instead (error (codes "\"" ++ text ++ codes "\" isn't a single character") s)

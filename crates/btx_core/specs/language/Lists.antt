@@ -44,7 +44,7 @@ slots_of wanted stored = map (slot_of wanted stored) (listed_keys wanted stored)
 
 -- ---- who the parent is, and what it gives
 
--- an entry refers to a parent that the databases don't have: an error
+-- an entry refers to a parent of which no entry is stored, since the databases have none, or since it isn't cited and stands before all that name it: an error
 abbrev pub bad_reference : List ℕ → List ℕ → Line
 bad_reference child parent =
     message Error (codes "A bad cross reference--entry \"" ++ child ++ codes "\" refers to entry \"" ++ parent ++ codes "\", which doesn't exist")
@@ -94,7 +94,7 @@ module _ (slots : List Slot) where
   keeps_parent i = option_map_or stays_at (parent i) false
 
   -- what is wrong with the parent of the entry at a place: it has no entry; or it has a parent itself. A parent that stands before the entry counts as having
-  -- one only if it keeps it: if that has an entry and stays
+  -- one only if it keeps its `crossref`: if its own parent has an entry and stays
   abbrev pub parent_messages : ℕ → List Line
   parent_messages i = option_map_or (λ key.
       option_map_or (λ j. if not (has_entry j) then bad_reference (key_at i) key ∷ []
@@ -117,7 +117,7 @@ module _ (slots : List Slot) where
 
 -- ---- the library
 
--- a key of the list that the databases don't have: a warning, in the original's words
+-- a key of the list of which no entry is stored: a warning, in the original's words
 abbrev pub no_entry_line : List ℕ → Line
 no_entry_line key = message Warning (codes "I didn't find a database entry for \"" ++ key ++ codes "\"")
 

@@ -65,7 +65,8 @@ module _ (the : Divisions) where
   abbrev pub sections : List ℕ → Sections
   sections name = option_map_or (λ (cut : List ℕ × List ℕ). cut_again cut.0 cut.1 (the.cut cut.1)) (the.cut name) (One name)
 
-  -- a token is von: the first of its letters at depth 0 and special characters is in lower case
+  -- a token is von: the first of its special characters and of its letters `A-Z` and `a-z` at depth 0 is in lower case. A byte from 128 up is passed over, so
+  -- `Émile` is von
   abbrev pub is_von : NameToken → Bool
   is_von token = first_is_lower (the.elements Bytes token.text)
 
@@ -115,7 +116,8 @@ IsFormat format None = (items : List FormatItem) → are_items items ≡ true �
 -- ---- `format.name$`
 
 module _ (the : Divisions) (mode : TextMode) where
-  -- the abbreviation of a token: its first letter, or its first special character if that comes before
+  -- the abbreviation of a token: its first letter, at any depth (a byte from 128 up is one); or its first group that begins with a backslash, at any depth too,
+  -- if that comes before
   abbrev pub initial : List ℕ → List ℕ
   initial [] = []
   initial (b ∷ bs) = if begins_initial (b ∷ bs) then first_text (the.elements mode (b ∷ bs)) else initial bs
@@ -124,14 +126,15 @@ module _ (the : Divisions) (mode : TextMode) where
   abbrev pub is_short : List ℕ → Bool
   is_short text = nat_lt (text_length the mode text) 3
 
-  -- the byte between two tokens: the `~` or `-` of the name; else a `~` before the last token and while the piece is short, with the token and its period;
-  -- else a space
+  -- the byte between two tokens: the `~` or `-` of the name; else a `~` before the last token, and while the piece so far, with what stands before its letter
+  -- and with this token and its period, has fewer than three characters; else a space
   abbrev pub tie : List ℕ → Joint → Bool → ℕ
   tie so_far Tie is_last = byte "~"
   tie so_far Hyphen is_last = byte "-"
   tie so_far Space is_last = if is_last || is_short so_far then byte "~" else byte " "
 
-  -- what stands behind a token of a piece: the piece's own string; else a period behind an abbreviation, and the byte between. Nothing behind the last
+  -- what stands behind a token of a piece, which this number of tokens follows: the piece's own string; else a period behind an abbreviation, and the byte
+  -- between. Nothing behind the last
   abbrev pub behind_token : FormatPiece → List ℕ → Joint → ℕ → List ℕ
   behind_token piece so_far joint zero = []
   behind_token piece so_far joint (suc left) =

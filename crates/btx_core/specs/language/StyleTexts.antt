@@ -1,5 +1,6 @@
 -- 11. How a style is written (btxhak, sections 5.1 and 5.2). A text is commands, one after another, each its word and its arguments. Whitespace and
--- comments may stand before each thing. What is wrong ends a command, and then all is skipped up to the first empty line below the line of the mistake.
+-- comments may stand before each thing. What is wrong ends a command, and then all is skipped up to the first empty line below the line of the mistake. A line of
+-- whitespace alone is empty; one with a comment isn't.
 -- `Place`, `Gap` and the spelling of names, words and bodies are those of `TokenSpelling` and `WordSpelling`.
 use Rattle.btx_bst.specs.declared.callee.Kind.{Kind}
 use Rattle.btx_bst.specs.language.BuiltIns.{built_in_of}
