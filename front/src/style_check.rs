@@ -44,6 +44,7 @@ pub struct StyleCheck {
 impl StyleCheck {
     /// Checks a style in at most `steps` steps of the check. Where `has_entries`, an entry is searched for that shows each warning.
     pub fn new(style: File, steps: u64, has_entries: bool) -> StyleCheck {
+        let style = File { name: name_in_job(&style.name), ..style };
         let bytes = style.bytes.clone().unwrap_or_default();
         let verdict = check_within(&style, steps);
         let found = match &verdict {
@@ -85,6 +86,12 @@ fn processor_time() -> u64 {
     let fields = stat.rsplit(')').next().unwrap_or_default().split_whitespace();
     // (behind the program's name: those of the program itself, and those of the system for it)
     fields.skip(11).take(2).filter_map(|field| field.parse::<u64>().ok()).sum()
+}
+
+/// A style's name as an `.aux` file can have it: whitespace, braces, commas and control bytes are `-`. The path stays, by which the style is shown.
+fn name_in_job(name: &[u8]) -> Vec<u8> {
+    let is_apart = |byte: &u8| *byte <= b' ' || *byte == 127 || b"{},".contains(byte);
+    name.iter().map(|byte| if is_apart(byte) { b'-' } else { *byte }).collect()
 }
 
 /// A job of a style, without entries.
