@@ -75,8 +75,11 @@ impl ShownLine<'_> {
     }
 }
 
-/// The first place from here on that isn't inside of a character.
+/// The first place from here on that isn't inside of a character. A line begins with one, whatever its first byte is.
 fn first_of_character(line: &[u8], from: usize) -> usize {
+    if from == 0 {
+        return 0;
+    }
     let inside = line[from..].iter().take_while(|byte| **byte & 0xc0 == 0x80).count();
     if inside < LONGEST_CHARACTER { from + inside } else { from }
 }
@@ -117,6 +120,7 @@ mod tests {
         assert_eq!(lines("田 1}".as_bytes(), Some(4), Some(80)), ["d.bib:7: 田 1}", "            ^"]);
         assert_eq!(lines(b"x", None, None), ["d.bib:7: x"]);
         assert_eq!(lines(b"x\r", Some(2), None), ["d.bib:7: x", "          ^"]);
+        assert_eq!(lines(b"\x80 1}", Some(3), None), ["d.bib:7: ? 1}", "            ^"]);
     }
 
     #[test]

@@ -238,3 +238,14 @@ if has kpsewhich; then
     done
     end
 fi
+
+# A name that an `.aux` file can't have hides no mistake of the style.
+begin style_of_an_odd_name
+for name in 'my style' 'a}b' $'tab\tbed' 'one,two'; do
+    printf 'ENTRY{}{}{}\nFUNCTION {misc} { nosuch }\nFOO\nREAD\n' >"$name.bst"
+    run_lint "$name"
+    wants_status 2
+    grep -q "nosuch is an unknown function" "$folder/stdout" || complaints+=("nothing is said of $name: $(head -n 3 "$folder/stdout")")
+    rm "$name.bst"
+done
+end
