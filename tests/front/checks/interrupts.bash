@@ -5,7 +5,7 @@ LD_LIBRARY_PATH=$libraries python3 "$here/signals.py" --seed "${seed:-1}" --endl
 echo "        $(tail -n 1 found)"
 end
 
-# measure_pace: how long the proved program takes for 21,000,010 steps, in percent of the 0.18 s of the machine on which the bounds in seconds were set, 100 at least. Slower machines have
+# measure_pace: how long the proved program takes for 21,000,010 steps, in percent of the 0.12 s of the machine on which the bounds in seconds were set, 100 at least. Slower machines have
 # more time, in proportion.
 measure_pace() {
     local place=$room/pace taken
@@ -14,7 +14,7 @@ measure_pace() {
     echo '@misc{k}' >"$place/d.bib"
     echo 'ENTRY{}{}{} FUNCTION {f} {#3000000 {duplicate$ #0 >} {#1 -} while$ pop$} READ EXECUTE {f}' >"$place/s.bst"
     taken=$(TIMEFORMAT=%3U && { time "$program" --terse --dir "$place" job >/dev/null 2>&1; } 2>&1)
-    pace=$((10#${taken/[.,]/} * 100 / 180))
+    pace=$((10#${taken/[.,]/} * 100 / 120))
     [ "$pace" -ge 100 ] || pace=100
     echo "pace: $pace percent of the time that the bounds are for"
 }
