@@ -3,8 +3,8 @@
 
    A text is a pointer and a length. A pointer is never null, not even of a text of length 0 (write ""); this holds of every pointer below. Memory in
    which a call writes overlaps nothing else that the call is given. The library calls malloc, realloc and free, and nothing else; it isn't to be
-   called from a signal handler, or in the forked child of a process with threads. A call takes less than 64 KiB of stack; btx_check takes more: it follows functions and literals as
-   deep as they are nested, as far as its steps go. btx(3) says more. */
+   called from a signal handler, or in the forked child of a process with threads. A call takes less than 64 KiB of stack; the check of a
+   style takes more: it follows functions and literals as deep as they are nested, as far as its steps go. btx(3) says more. */
 #ifndef BTX_H
 #define BTX_H
 
