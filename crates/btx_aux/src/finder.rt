@@ -1,8 +1,9 @@
 //! A source of files by name.
-ghost use Rattle.std.specs.Prelude.{◌≡◌, ℕ, [], Option, IfSome, IfOk, OnErr, Ok, Err, false, List};
+ghost use Rattle.std.specs.Prelude.{◌≡◌, [], Option, IfSome, IfOk, OnErr, Ok, Err, false, List};
 ghost use Rattle.btx_aux.specs.language.Files.{Files, file_of};
 ghost use Rattle.btx_aux.specs.language.Answers.{FinderAnswer, answers_after};
-ghost use Rattle.btx_text.specs.language.Counts.{count_after};
+ghost use Rattle.btx_text.specs.declared.failures.Failures.{Failures};
+ghost use Rattle.btx_text.specs.language.Counts.{failures_after};
 ghost use Rattle.btx_aux.specs.language.Fetches.{is_device_fetch};
 
 use crate::fetch_fault::FetchFault;
@@ -17,8 +18,8 @@ pub trait Finder {
     /// The answers that it has given, first to last.
     ghost answers: { Self → List FinderAnswer };
 
-    /// How often the device has failed; a `u64`, which goes from its greatest value to 0.
-    ghost failures: { Self → ℕ };
+    /// How often the device has failed, and whether it did at the last fetch.
+    ghost failures: { Self → Failures };
 
     /// Fetches a file. `Ok(true)`: `into` is the file's bytes. `Ok(false)`: there is no such file, and `into` is empty. After a
     /// fault `into` is empty, and the count of failures rose, by one, exactly where the fault is the device's.
@@ -29,5 +30,5 @@ pub trait Finder {
         ensures absent { result ≡ Ok false → into.new.items ≡ [] }
         ensures fault { OnErr result (into.new.items ≡ []) }
         ensures grows { answers self.new ≡ answers_after result name.now into.new.items (answers self.old) }
-        ensures counts { failures self.new ≡ count_after (is_device_fetch result) (failures self.old) };
+        ensures counts { failures self.new ≡ failures_after (is_device_fetch result) (failures self.old) };
 }

@@ -1,6 +1,7 @@
 //! Files that are kept in memory.
 ghost use Rattle.std.specs.Prelude.{◌≡◌, ℕ, List, [], Some, Ok, false, IfOk, IfErr, OnOk, OnErr};
 ghost use Rattle.std.specs.Option.{option_or};
+ghost use Rattle.btx_text.specs.refinement.Counts.{no_failures};
 ghost use Rattle.btx_aux.specs.language.Files.{Files, file_of};
 ghost use Rattle.btx_aux.specs.language.Answers.{FinderAnswer};
 ghost use Rattle.btx_aux.specs.laws.Pairs.{file_of_pair, files_of_pairs};
@@ -101,7 +102,7 @@ impl Finder for MemoryFinder {
 
     ghost answers = { λ finder. finder.1 };
 
-    ghost failures = { λ _. 0 };
+    ghost failures = { λ _. no_failures };
 
     fn fetch(
         &mut self,

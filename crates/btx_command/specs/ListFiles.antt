@@ -2,6 +2,7 @@
 use Rattle.std.specs.Prelude.{◌≡◌, ℕ, Bool, true, false, List, [], Option, Result, Ok, Err, OnOk, MatchBool, if◌then◌else◌}
 use Rattle.std.specs.Io.KnownBytes.{Keeps}
 use Rattle.std.specs.Option.{option_map}
+use Rattle.btx_text.specs.refinement.Counts.{no_failures}
 use Rattle.btx_machine.specs.declared.report.End.{End}
 use Rattle.btx_machine.specs.declared.report.End.TheVariants.{NoTopFile}
 use Rattle.btx_machine.specs.declared.report.Report.{Report}
@@ -18,7 +19,7 @@ emptied held = option_map (λ bytes. []) held
 
 -- a list's file that was opened, and that this run hasn't written to
 abbrev pub unwritten : {W : Type 0} → W → ListFile W
-unwritten file = record { file = file; is_emptied = false; failures = 0 }
+unwritten file = record { file = file; is_emptied = false; failures = no_failures }
 
 -- what a list's file has received in this run: nothing as long as it holds what an earlier run left, then all that it holds
 abbrev pub received_by : {W : Type 0} → (W → Held) → ListFile W → Held

@@ -5,6 +5,7 @@ ghost use Rattle.std.specs.Option.{option_map};
 ghost use Rattle.btx_aux.specs.language.Fetches.{is_device_fetch};
 ghost use Rattle.btx_aux.specs.language.Files.{file_of};
 ghost use Rattle.btx_text.specs.language.Counts.{count_after};
+ghost use Rattle.btx_text.specs.refinement.Counts.{failures_of};
 ghost use Rattle.btx_command.specs.FileErrors.{unopened};
 ghost use Rattle.btx_command.specs.FolderFiles.{folder_files};
 
@@ -21,6 +22,8 @@ pub struct DirectoryFinder<'a, S> {
     system: S,
     directory: &'a str,
     history: History,
+    /// Whether the device failed at the last fetch, which only proofs read. How often it has failed the system counts.
+    last_failed: bool,
 }
 
 impl<S: Drop> Drop for DirectoryFinder<'_, S> {
@@ -29,6 +32,7 @@ impl<S: Drop> Drop for DirectoryFinder<'_, S> {
             system: _,
             directory: _,
             history: _,
+            last_failed: _,
         } = self;
     }
 }
@@ -39,11 +43,13 @@ impl<'a, S: System> DirectoryFinder<'a, S> {
         ensures system { result.system ≡ system }
         ensures directory { result.directory ≡ directory.entry }
         ensures history { result.history ≡ history }
+        ensures last_failed { result.last_failed ≡ false }
     {
         DirectoryFinder {
             system,
             directory,
             history,
+            last_failed: false,
         }
     }
 
@@ -64,6 +70,7 @@ impl<'a, S: System> DirectoryFinder<'a, S> {
             system: _,
             directory: _,
             history,
+            last_failed: _,
         } = self;
         history
     }
@@ -114,7 +121,7 @@ impl<S: System> Finder for DirectoryFinder<'_, S> {
 
     ghost answers = { λ finder. finder.history };
 
-    ghost failures = { λ finder. S.failures finder.system };
+    ghost failures = { λ finder. failures_of (S.failures finder.system) finder.last_failed };
 
     fn fetch(
         &mut self,
@@ -124,6 +131,7 @@ impl<S: System> Finder for DirectoryFinder<'_, S> {
     ) -> Result<bool, FetchFault> {
         into.clear();
         let answer = read_in(alloc, &mut self.system, self.directory, name, into);
+        self.last_failed = matches!(answer, Err(FetchFault::Device));
         match answer {
             Ok(found) => {
                 if self.history.note(alloc, name, found, into).is_err() {

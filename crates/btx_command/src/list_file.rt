@@ -9,6 +9,7 @@ ghost use Rattle.btx_command.specs.ListFiles.{FinishesList, emptied, keeps_old, 
 use crate::handed::Handed;
 use crate::outcome::output_fault;
 use btx_run::{End, Report, RunFault, Sink, SinkFault};
+use btx_text::Failures;
 use std::fs::OpenFile;
 use std::io;
 use std::io::{ErrorKind, Write};
@@ -27,7 +28,7 @@ pub trait EmptiedFile: Write {
 pub struct ListFile<W> {
     file: W,
     is_emptied: bool,
-    failures: u64,
+    failures: Failures,
 }
 
 impl<W: EmptiedFile> ListFile<W> {
@@ -38,7 +39,7 @@ impl<W: EmptiedFile> ListFile<W> {
         ListFile {
             file,
             is_emptied: false,
-            failures: 0,
+            failures: Failures::none(),
         }
     }
 
@@ -179,9 +180,7 @@ impl<W: EmptiedFile> Sink for ListFile<W> {
             Ok(taken) => taken == 0 && !bytes.is_empty(),
             Err(_) => true,
         };
-        if failed {
-            self.failures = self.failures.wrapping_add(1);
-        }
+        self.failures.note(failed);
         answer.map_err(|_| SinkFault)
     }
 }

@@ -3,7 +3,7 @@ ghost use Rattle.std.specs.Prelude.{◌≡◌, ◌++◌, ◌+◌, ◌<◌, ◌�
 ghost use Rattle.std.specs.Io.KnownBytes.{Appends};
 ghost use Rattle.arrayvec.specs.ArrayVec.{array_vec_len};
 ghost use Rattle.btx_text.specs.language.Class.{is_white};
-ghost use Rattle.btx_text.specs.language.Counts.{count_after};
+ghost use Rattle.btx_text.specs.refinement.Counts.{RisesIf};
 ghost use Rattle.btx_out.specs.declared.breaker.State.TheVariants as states;
 ghost use Rattle.btx_out.specs.refinement.Breakers.{Ends, EndsPart, Finishes, FinishesPart, Puts, PutsPart, failed, holding, is_fresh};
 ghost use Rattle.btx_out.specs.language.Breaking.{from_white, indented, last_white, written_line as line_of, skip_white, till_white};
@@ -233,7 +233,7 @@ fn collect_lines<'a, W: Sink>(
     ensures err { OnErr result (AppendsPrefix (W.received sink.old) (W.received sink.new)
         (sure_after line_length (Collecting line.old.items) bytes.now)) }
     ensures fault { IfErr result (λ fault. fault ≡ Fault.Device) }
-    ensures counts { W.failures sink.new ≡ count_after (is_err result) (W.failures sink.old) }
+    ensures counts { RisesIf (is_err result) (W.failures sink.old, W.failures sink.new) }
 {
     // Most bytes fit the line, and nothing becomes sure.
     if bytes.len() <= line_length - line.len() {
@@ -257,7 +257,7 @@ fn pass<'a, W: Sink>(bytes: &'a [u8], sink: &mut W) -> Result<Next<'a>, Fault>
     ensures fewer { IfOk result (λ next. length next.rest.now < length bytes.now) }
     ensures err { OnErr result ((line_length : ℕ) → AppendsPrefix (W.received sink.old) (W.received sink.new) (sure_after line_length Passing bytes.now)) }
     ensures fault { IfErr result (λ fault. fault ≡ Fault.Device) }
-    ensures counts { W.failures sink.new ≡ count_after (is_err result) (W.failures sink.old) }
+    ensures counts { RisesIf (is_err result) (W.failures sink.old, W.failures sink.new) }
 {
     let (ink, rest) = split_at_white(bytes);
     write_whole(ink, sink)?;
@@ -316,7 +316,7 @@ fn take_some<'a, W: Sink>(
     ensures err { OnErr result (AppendsPrefix (W.received sink.old) (W.received sink.new)
         (sure_after line_length (left_of state line.old.items) bytes.now)) }
     ensures fault { IfErr result (λ fault. fault ≡ Fault.Device) }
-    ensures counts { W.failures sink.new ≡ count_after (is_err result) (W.failures sink.old) }
+    ensures counts { RisesIf (is_err result) (W.failures sink.old, W.failures sink.new) }
 {
     match state {
         State::Collecting => collect_lines(line_length, line, bytes, sink),
@@ -342,7 +342,7 @@ fn take_all<W: Sink>(
     ensures err { OnErr result (AppendsPrefix (W.received sink.old) (W.received sink.new)
         (sure_after line_length (left_of state line.old.items) bytes.now)) }
     ensures fault { IfErr result (λ fault. fault ≡ Fault.Device) }
-    ensures counts { W.failures sink.new ≡ count_after (is_err result) (W.failures sink.old) }
+    ensures counts { RisesIf (is_err result) (W.failures sink.old, W.failures sink.new) }
 {
     let mut state = state;
     let mut rest = bytes;
@@ -360,7 +360,7 @@ fn write_end<W: Sink>(state: State, line: &mut Kept, sink: &mut W) -> Result<(),
     ensures ok { OnOk result (Appends (W.received sink.old) (W.received sink.new) (end_written (left_of state line.old.items))) }
     ensures err { OnErr result (AppendsPrefix (W.received sink.old) (W.received sink.new) (end_written (left_of state line.old.items))) }
     ensures fault { IfErr result (λ fault. fault ≡ Fault.Device) }
-    ensures counts { W.failures sink.new ≡ count_after (is_err result) (W.failures sink.old) }
+    ensures counts { RisesIf (is_err result) (W.failures sink.old, W.failures sink.new) }
 {
     match state {
         State::Collecting => {
@@ -422,7 +422,7 @@ impl Breaker {
         ensures part { OnErr result (PutsPart self.old bytes.now (W.received sink.old) (W.received sink.new)) }
         ensures fault { IfErr result (λ fault. fault ≡ Fault.Device) }
 
-        ensures counts { IsSome self.old.pending → W.failures sink.new ≡ count_after (is_err result) (W.failures sink.old) }
+        ensures counts { IsSome self.old.pending → RisesIf (is_err result) (W.failures sink.old, W.failures sink.new) }
         ensures after_failure { self.old.pending ≡ None → (result ≡ Err Fault.Device) × (sink.new ≡ sink.old) }
     {
         let state = self.state.ok_or(Fault::Device)?;
@@ -449,7 +449,7 @@ impl Breaker {
         ensures part { OnErr result (EndsPart self.old (W.received sink.old) (W.received sink.new)) }
         ensures fault { IfErr result (λ fault. fault ≡ Fault.Device) }
 
-        ensures counts { IsSome self.old.pending → W.failures sink.new ≡ count_after (is_err result) (W.failures sink.old) }
+        ensures counts { IsSome self.old.pending → RisesIf (is_err result) (W.failures sink.old, W.failures sink.new) }
         ensures after_failure { self.old.pending ≡ None → (result ≡ Err Fault.Device) × (sink.new ≡ sink.old) }
     {
         let state = self.state.ok_or(Fault::Device)?;
@@ -468,7 +468,7 @@ impl Breaker {
         ensures part { OnErr result (FinishesPart self.old (W.received sink.old) (W.received sink.new)) }
         ensures fault { IfErr result (λ fault. fault ≡ Fault.Device) }
 
-        ensures counts { IsSome self.old.pending → W.failures sink.new ≡ count_after (is_err result) (W.failures sink.old) }
+        ensures counts { IsSome self.old.pending → RisesIf (is_err result) (W.failures sink.old, W.failures sink.new) }
         ensures after_failure { self.old.pending ≡ None → (result ≡ Err Fault.Device) × (sink.new ≡ sink.old) }
     {
         if self.is_fresh() {

@@ -1,7 +1,7 @@
 //! The lines of a log.
 ghost use Rattle.std.specs.Prelude.{◌≡◌, ◌∷◌, ◌++◌, [], IfErr, OnOk, OnErr, is_err};
 ghost use Rattle.std.specs.Io.KnownBytes.{Appends};
-ghost use Rattle.btx_text.specs.language.Counts.{count_after};
+ghost use Rattle.btx_text.specs.refinement.Counts.{RisesIf};
 ghost use Rattle.btx_out.specs.language.Pieces.{AppendsPrefix};
 
 use crate::sink::Sink;
@@ -23,7 +23,7 @@ impl Log {
         ensures ok { OnOk result (Appends (L.received sink.old) (L.received sink.new) (line.now ++ 10 ∷ [])) }
         ensures err { OnErr result (AppendsPrefix (L.received sink.old) (L.received sink.new) (line.now ++ 10 ∷ [])) }
         ensures fault { IfErr result (λ fault. fault ≡ Fault.Device) }
-        ensures counts { L.failures sink.new ≡ count_after (is_err result) (L.failures sink.old) }
+        ensures counts { RisesIf (is_err result) (L.failures sink.old, L.failures sink.new) }
     {
         write_whole(line, sink)?;
         write_whole(b"\n", sink)
@@ -35,7 +35,7 @@ pub(crate) fn write_whole<S: Sink>(bytes: &[u8], sink: &mut S) -> Result<(), Fau
     ensures ok { OnOk result (Appends (S.received sink.old) (S.received sink.new) bytes.now) }
     ensures err { OnErr result (AppendsPrefix (S.received sink.old) (S.received sink.new) bytes.now) }
     ensures fault { IfErr result (λ fault. fault ≡ Fault.Device) }
-    ensures counts { S.failures sink.new ≡ count_after (is_err result) (S.failures sink.old) }
+    ensures counts { RisesIf (is_err result) (S.failures sink.old, S.failures sink.new) }
 {
     let mut at = 0;
     while at < bytes.len() {

@@ -1,9 +1,12 @@
 //! Receivers of bytes.
 ghost use Rattle.std.specs.Prelude.{◌≡◌, ℕ, ◌≤◌, Option, List, IfOk, length};
 ghost use Rattle.std.specs.Io.KnownBytes.{WriteAppends};
-ghost use Rattle.btx_text.specs.language.Counts.{count_after};
+ghost use Rattle.btx_text.specs.declared.failures.Failures.{Failures};
+ghost use Rattle.btx_text.specs.language.Counts.{failures_after};
+ghost use Rattle.btx_text.specs.refinement.Counts.{no_failures};
 ghost use Rattle.btx_out.specs.language.Writes.{is_failed_write};
 
+use btx_text::Failures;
 use std::io::Write;
 use thiserror::Error;
 
@@ -17,15 +20,16 @@ pub trait Sink {
     /// The bytes received, for a sink that shows them.
     ghost received: { Self → Option (List ℕ) };
 
-    /// How often a write has failed; a `u64`, which goes from its greatest value to 0.
-    ghost failures: { Self → ℕ };
+    /// How often a write has failed, and whether the last one did.
+    ghost failures: { Self → Failures };
 
     /// Takes bytes from the front of a piece: `Ok(n)` says how many, and an error that it took none. A write has failed where it
-    /// answers an error, be it that it was interrupted, or 0 although it was given bytes. Such a write raises the count by one, no other.
+    /// answers an error, be it that it was interrupted, or 0 although it was given bytes. Such a write raises the count of failures by
+    /// one, no other, and each write says whether the last one failed.
     fn write(&mut self, bytes: &[u8]) -> Result<usize, SinkFault>
         ensures bound { IfOk result (λ n. n ≤ length bytes.now) }
         ensures bytes { WriteAppends (received self.old) (received self.new) result bytes.now }
-        ensures counts { failures self.new ≡ count_after (is_failed_write result (length bytes.now)) (failures self.old) };
+        ensures counts { failures self.new ≡ failures_after (is_failed_write result (length bytes.now)) (failures self.old) };
 }
 
 /// A sink over any writer. Each write is one write of that writer and has its answer.
@@ -33,19 +37,19 @@ pub trait Sink {
 pub struct Over<W> {
     /// What is written to.
     pub writer: W,
-    /// How often a write has failed.
-    pub failures: u64,
+    /// How often a write has failed, and whether the last one did.
+    pub failures: Failures,
 }
 
 impl<W: Write> Over<W> {
     /// A sink that has not failed yet.
     pub fn new(writer: W) -> Self
         ensures writer { result.writer ≡ writer }
-        ensures failures { result.failures ≡ 0 }
+        ensures failures { result.failures ≡ no_failures }
     {
         Over {
             writer,
-            failures: 0,
+            failures: Failures::none(),
         }
     }
 }
@@ -61,9 +65,7 @@ impl<W: Write> Sink for Over<W> {
             Ok(taken) => taken == 0 && !bytes.is_empty(),
             Err(_) => true,
         };
-        if failed {
-            self.failures = self.failures.wrapping_add(1);
-        }
+        self.failures.note(failed);
         answer.map_err(|_| SinkFault)
     }
 }

@@ -4,6 +4,7 @@ use Rattle.std.specs.Io.KnownBytes.{Appends}
 use Rattle.std.proofs.KnownBytes.{Appends-trans, Appends-nil}
 use Rattle.btx_text.specs.declared.fault.Fault.{Fault}
 use Rattle.btx_text.specs.declared.fault.Fault.TheVariants.{Memory, Device, FileLimit, StringLimit}
+use Rattle.btx_text.specs.declared.failures.Failures.{Failures}
 use Rattle.btx_text.specs.language.Counts.{Change}
 use Rattle.btx_text.specs.language.Limits.{greatest_file}
 use Rattle.btx_text.specs.language.LogLines.{Line}
@@ -200,17 +201,17 @@ module _ (name : List ℕ) (options : Options) (a z : Received) (job : AuxJob) w
 
 -- ---- counts of failures
 
-pub counts_of_memory : (r : Result Report Fault) (bbl log : ℕ) → r ≡ Err Memory → CountsOfTwo r (bbl, bbl) (log, log)
+pub counts_of_memory : (r : Result Report Fault) (bbl log : Failures) → r ≡ Err Memory → CountsOfTwo r (bbl, bbl) (log, log)
 counts_of_memory r bbl log is = subst (λ (r : Result Report Fault). CountsOfTwo r (bbl, bbl) (log, log)) (sym is) (refl, refl)
 
-pub counts_of_style : (r : Result Report Fault) (fault : Fault) (name text : List ℕ) (bbl log : ℕ) → r ≡ Err fault → Reads (Err fault) name text → length text ≤ greatest_file
+pub counts_of_style : (r : Result Report Fault) (fault : Fault) (name text : List ℕ) (bbl log : Failures) → r ≡ Err fault → Reads (Err fault) name text → length text ≤ greatest_file
     → CountsOfTwo r (bbl, bbl) (log, log)
 counts_of_style r Memory name text bbl log is reads fits = counts_of_memory r bbl log is
 counts_of_style r FileLimit name text bbl log is reads fits = absurd (omega (arith, reads, fits))
 counts_of_style r Device name text bbl log is reads fits = absurd reads
 counts_of_style r StringLimit name text bbl log is reads fits = absurd reads
 
-pub counts_of_end : (r : Result Report Fault) (bbl : ℕ) (log : Change) → CountsOfOne r log → CountsOfTwo r (bbl, bbl) log
+pub counts_of_end : (r : Result Report Fault) (bbl : Failures) (log : Change) → CountsOfOne r log → CountsOfTwo r (bbl, bbl) log
 counts_of_end (Ok report) bbl log counts = (refl, counts)
 counts_of_end (Err Memory) bbl log counts = (refl, counts)
 counts_of_end (Err Device) bbl log counts = inr (refl, counts)

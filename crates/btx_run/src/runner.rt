@@ -198,7 +198,7 @@ pub fn run<F: Finder, W: Sink, L: Sink>(
         WhereDirect (reading_of files name.now).gives (λ functions. StaysWithin functions report))) }
 
     // After a fault both outputs are prefixes of the product's, and keep step; the log's last line is begun only behind the whole list.
-    // The device's fault is answered exactly where one of the three counts of failures rose, by one.
+    // The device's fault is answered exactly where one of the three counts of failures rose, by one, and the call that failed is then the last of its device.
     ensures fault { OnErr result (IfSome (F.content finder.old) (λ files.
         AtFault (W.received bbl.old, L.received log.old) (W.received bbl.new, L.received log.new) (product_with files name.now options.now) options.now.budget)) }
     ensures counts { CountsOfRun result (F.failures finder.old, F.failures finder.new) (W.failures bbl.old, W.failures bbl.new) (L.failures log.old, L.failures log.new) }

@@ -3,6 +3,7 @@ use crate::jobs::{AUX, DATABASE, FOUND, File, STYLE, job_of, options, status_of}
 use btx_run::{FetchFault, MemoryFinder, Over, RunFault, run};
 use btx_tests::fakes::{Failing, FakeWriter};
 use btx_tests::finders::FailingFinder;
+use btx_text::Failures;
 use std::alloc::Global;
 use std::process::Abort;
 use std::test::Fail;
@@ -49,11 +50,19 @@ fn worn(device: Device) -> Device {
     }
 }
 
+// Of a device that has failed this often, and not last.
+fn failures(count: u64) -> Failures {
+    Failures {
+        count,
+        last_failed: false,
+    }
+}
+
 // A sink over a device.
 fn sink(alloc: Global, device: Device) -> Over<FakeWriter> {
     Over {
         writer: FakeWriter::new(alloc, device.most, device.how, device.at),
-        failures: device.before,
+        failures: failures(device.before),
     }
 }
 
@@ -80,7 +89,7 @@ fn try_job(
         inner: MemoryFinder::new(alloc, files)?,
         fails_at,
         fetches: 0,
-        failures: u64::MAX,
+        failures: failures(u64::MAX),
     };
     let mut bbl = sink(alloc, bbl);
     let mut log = sink(alloc, log);
@@ -89,7 +98,7 @@ fn try_job(
         answer: status_of(report),
         bbl,
         log,
-        fetches: (finder.fetches, finder.failures),
+        fetches: (finder.fetches, finder.failures.count),
     })
 }
 
@@ -123,7 +132,8 @@ fn try_side(
 // Whether an output failed once, was not written to again, and holds a prefix of a text that isn't all of it.
 fn is_cut(output: &Over<FakeWriter>, at: u64, whole: &[u8]) -> bool {
     let writer = &output.writer;
-    output.failures == 1
+    output.failures.count == 1
+        && output.failures.last_failed
         && writer.writes == at.saturating_add(1)
         && whole.starts_with(&writer.bytes)
         && writer.bytes.len() < whole.len()
@@ -147,7 +157,7 @@ fn is_past(rt: &impl Abort, tried: &Tried, side: Side, at: u64) -> bool {
         Side::Bbl => (&tried.bbl, &tried.log),
         Side::Log => (&tried.log, &tried.bbl),
     };
-    assert!(rt; other.failures == 0);
+    assert!(rt; other.failures.count == 0);
     if tried.answer == Ok(0) {
         assert!(rt; output.writer.writes == at);
         return true;
@@ -263,8 +273,8 @@ fn is_whole(alloc: Global, most: usize) -> Result<bool, FetchFault> {
     let tried = try_style(alloc, LINES, sound(most), sound(most))?;
     Ok(
         tried.answer == Ok(0)
-            && (tried.bbl.failures == 0 && tried.bbl.writer.bytes.as_slice() == BBL)
-            && (tried.log.failures == 0 && tried.log.writer.bytes.as_slice() == LOG),
+            && (tried.bbl.failures.count == 0 && tried.bbl.writer.bytes.as_slice() == BBL)
+            && (tried.log.failures.count == 0 && tried.log.writer.bytes.as_slice() == LOG),
     )
 }
 
@@ -282,8 +292,8 @@ fn goes_round(alloc: Global) -> Result<bool, FetchFault> {
     let tried = try_style(alloc, LINES, device, worn(sound(9)))?;
     Ok(
         tried.answer == Err(RunFault::Device)
-            && tried.bbl.failures == 0
-            && tried.log.failures == u64::MAX,
+            && tried.bbl.failures.count == 0
+            && tried.log.failures.count == u64::MAX,
     )
 }
 

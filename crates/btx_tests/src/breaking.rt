@@ -165,7 +165,9 @@ fn pieces_hold(
 
 // Whether a line's end leaves these lines, and no write failed.
 fn ends_as(breaker: &mut Breaker, sink: &mut Over<FakeWriter>, lines: &[u8]) -> bool {
-    breaker.newline(sink).is_ok() && sink.failures == 0 && sink.writer.bytes.as_slice() == lines
+    breaker.newline(sink).is_ok()
+        && sink.failures.count == 0
+        && sink.writer.bytes.as_slice() == lines
 }
 
 // A logical line in two pieces, and its end.
@@ -195,7 +197,9 @@ fn failing_holds(
         return None;
     }
     let stays = stays_failed(breaker, sink) && stays_failed(breaker, sink);
-    let is_last = sink.writer.writes == at.saturating_add(1) && sink.failures == 1;
+    let is_last = sink.writer.writes == at.saturating_add(1)
+        && sink.failures.count == 1
+        && sink.failures.last_failed;
     Some(stays && is_last && texts.lines.starts_with(&sink.writer.bytes))
 }
 

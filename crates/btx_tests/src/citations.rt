@@ -2,7 +2,7 @@
 use crate::finders::{EveryFinder, FailingFinder, RefusedFinder};
 use crate::texts::joined;
 use btx_aux::{AuxJob, End, FetchFault, Finder, History, MemoryFinder, read_aux};
-use btx_text::{Fault, LineKind, LogLine};
+use btx_text::{Failures, Fault, LineKind, LogLine};
 use std::alloc::{AllocError, Global};
 use std::ops::Range;
 use std::test::Fail;
@@ -445,10 +445,10 @@ fn read_failing(alloc: Global, inner: MemoryFinder, fails_at: u64) -> Tried {
         inner,
         fails_at,
         fetches: 0,
-        failures: 0,
+        failures: Failures::none(),
     };
     let fault = says_over(alloc, &mut finder, b"job.aux", through_job()).err();
-    (fault, finder.fetches, finder.failures)
+    (fault, finder.fetches, finder.failures.count)
 }
 
 // Reads the files that input one another, where one fetch is refused memory.
@@ -457,9 +457,10 @@ fn read_refused(alloc: Global, inner: MemoryFinder, refused_at: u64) -> Tried {
         inner,
         refused_at,
         fetches: 0,
+        failures: Failures::none(),
     };
     let fault = says_over(alloc, &mut finder, b"job.aux", through_job()).err();
-    (fault, finder.fetches, 0)
+    (fault, finder.fetches, finder.failures.count)
 }
 
 // Reads them so over files in memory. Without memory for these nothing is fetched.

@@ -1,7 +1,9 @@
 //! Finders that fail or are refused memory, and finders of as many files as are asked for.
 ghost use Rattle.std.specs.Prelude.{◌≡◌, IfErr, None, OnErr, OnOk, [], Ok, false};
+ghost use Rattle.btx_text.specs.refinement.Counts.{no_failures};
 
 use btx_aux::{FetchFault, Finder, History};
+use btx_text::Failures;
 use std::alloc::Global;
 
 /// A finder whose device fails at one fetch.
@@ -10,7 +12,7 @@ pub struct FailingFinder<F> {
     pub inner: F,
     pub fails_at: u64,
     pub fetches: u64,
-    pub failures: u64,
+    pub failures: Failures,
 }
 
 impl<F: Finder> Finder for FailingFinder<F> {
@@ -30,13 +32,12 @@ impl<F: Finder> Finder for FailingFinder<F> {
         self.fetches = self.fetches.saturating_add(1);
         if fails {
             into.clear();
-            self.failures = self.failures.wrapping_add(1);
+            self.failures.note(true);
             return Err(FetchFault::Device);
         }
         let answer = self.inner.fetch(alloc, name, into);
-        if let Err(FetchFault::Device) = answer {
-            self.failures = self.failures.wrapping_add(1);
-        }
+        self.failures
+            .note(matches!(answer, Err(FetchFault::Device)));
         answer
     }
 }
@@ -47,6 +48,7 @@ pub struct RefusedFinder<F> {
     pub inner: F,
     pub refused_at: u64,
     pub fetches: u64,
+    pub failures: Failures,
 }
 
 impl<F: Finder> Finder for RefusedFinder<F> {
@@ -54,7 +56,7 @@ impl<F: Finder> Finder for RefusedFinder<F> {
 
     ghost answers = { λ finder. F.answers finder.inner };
 
-    ghost failures = { λ finder. F.failures finder.inner };
+    ghost failures = { λ finder. finder.failures };
 
     fn fetch(
         &mut self,
@@ -66,9 +68,13 @@ impl<F: Finder> Finder for RefusedFinder<F> {
         self.fetches = self.fetches.saturating_add(1);
         if is_refused {
             into.clear();
+            self.failures.note(false);
             return Err(FetchFault::Memory);
         }
-        self.inner.fetch(alloc, name, into)
+        let answer = self.inner.fetch(alloc, name, into);
+        self.failures
+            .note(matches!(answer, Err(FetchFault::Device)));
+        answer
     }
 }
 
@@ -96,7 +102,7 @@ impl Finder for EveryFinder<'_> {
 
     ghost answers = { λ finder. finder.history };
 
-    ghost failures = { λ _. 0 };
+    ghost failures = { λ _. no_failures };
 
     fn fetch(
         &mut self,

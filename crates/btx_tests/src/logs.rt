@@ -28,7 +28,7 @@ fn writes_of(
 ) -> Option<u64> {
     let mut sink = Over::new(FakeWriter::new(alloc, most, how, at));
     let answer = log_lines(lines, &mut sink);
-    if (answer, sink.failures, sink.writer.bytes.as_slice()) == left {
+    if (answer, sink.failures.count, sink.writer.bytes.as_slice()) == left {
         Some(sink.writer.writes)
     } else {
         None

@@ -1,11 +1,12 @@
 //! The words of the other crates: byte classes, the lines of a text, the elements of a string, strings that are
-//! lent or shared, the lines of a log, the limits of a run, and the faults of a call.
+//! lent or shared, the lines of a log, the limits of a run, the faults of a call, and how often a device failed.
 #![tactic(auto)]
 
 pub mod byte_class;
 pub mod classify;
 pub mod depths;
 pub mod element_kind;
+pub mod failures;
 pub mod fault;
 pub mod keys;
 pub mod laws;
@@ -22,6 +23,7 @@ pub use byte_class::Class;
 pub use classify::class;
 pub use depths::depth_at;
 pub use element_kind::{Kind, TextMode};
+pub use failures::Failures;
 pub use fault::Fault;
 pub use keys::{fold_key, same_key};
 pub use limits::{GREATEST_FILE, GREATEST_STRING, Limit, MOST_LITERALS};

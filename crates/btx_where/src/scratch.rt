@@ -1,5 +1,6 @@
 //! Outputs that nobody reads.
 ghost use Rattle.std.specs.Prelude.{None};
+ghost use Rattle.btx_text.specs.refinement.Counts.{no_failures};
 
 use btx_out::{Sink, SinkFault};
 
@@ -16,7 +17,7 @@ pub struct Nowhere {}
 impl Sink for Nowhere {
     ghost received = { λ _. None };
 
-    ghost failures = { λ _. 0 };
+    ghost failures = { λ _. no_failures };
 
     fn write(&mut self, bytes: &[u8]) -> Result<usize, SinkFault> {
         Ok(bytes.len())

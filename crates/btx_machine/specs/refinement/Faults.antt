@@ -1,5 +1,5 @@
--- What a fault says of the two sinks: want of memory changes no count of failures, and the device's fault is answered exactly where one of
--- their two counts rose, by one. No other fault is answered.
+-- What a fault says of the two sinks: at want of memory no write has failed, and the device's fault is answered exactly where one write to one
+-- of them failed, which nothing followed there. No other fault is answered.
 use Rattle.std.specs.Prelude.{Result, Ok, Err, IsSome}
 use Rattle.btx_text.specs.language.Counts.{Change, Stays}
 use Rattle.btx_text.specs.refinement.Counts.{OneOfTwoRises}
@@ -7,8 +7,8 @@ use Rattle.btx_text.specs.declared.fault.Fault.{Fault}
 use Rattle.btx_text.specs.declared.fault.Fault.TheVariants.{Memory, Device, FileLimit, StringLimit}
 use Rattle.btx_machine.specs.refinement.Outputs.{Outputs, SameSinks}
 
--- a call over two devices: its answer is a value, want of memory or the device's fault, and exactly at the device's fault one of the two counts
--- rose, by one
+-- a call over two devices: its answer is a value, want of memory or the device's fault, and exactly at the device's fault one call of one of them failed,
+-- and none followed it there
 abbrev pub CountsOfTwo : {T : Type 0} → Result T Fault → Change → Change → Type 0
 CountsOfTwo (Ok value) a b = Stays a × Stays b
 CountsOfTwo (Err Memory) a b = Stays a × Stays b

@@ -14,8 +14,8 @@ invariant-loop-item g l = record {
   fewer : l.left ≤ l.fn.left;
   writes : Writes l.work.outputs;
   sinks : SameSinks l.fn.work.outputs l.work.outputs;
-  bbl_counts : l.work.outputs.bbl.failures ≡ l.fn.work.outputs.bbl.failures;
-  log_counts : l.work.outputs.log.sink.failures ≡ l.fn.work.outputs.log.sink.failures;
+  bbl_counts : l.work.outputs.bbl.failures.count ≡ l.fn.work.outputs.bbl.failures.count;
+  log_counts : l.work.outputs.log.sink.failures.count ≡ l.fn.work.outputs.log.sink.failures.count;
   same : Comes l.fn.work l.work
       (Reached (do_items l.job (items_view l.items) []) (do_items l.job (items_view (drop l.item-index l.items)) l.list.items) (l.fn.left - l.left));
 }

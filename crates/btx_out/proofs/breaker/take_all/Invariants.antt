@@ -10,7 +10,7 @@ invariant-loop-rest g l =
     record {
       fits : array_vec_len l.line ≤ l.line_length;
       goes_on : Advances l.line_length (left_of l.initial.state l.initial.line.items) l.bytes (left_of l.state l.line.items) l.rest (sink.received l.initial.sink) (sink.received l.sink);
-      counts : sink.failures l.sink ≡ sink.failures l.initial.sink;
+      counts : (sink.failures l.sink).count ≡ (sink.failures l.initial.sink).count;
     }
 
 abbrev pub decreases-loop-rest : goal.decreases-loop-rest

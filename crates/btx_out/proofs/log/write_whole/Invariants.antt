@@ -9,7 +9,7 @@ invariant-loop-at g l =
     record {
       within : l.at ≤ length l.bytes;
       received : Appends (sink.received l.initial.sink) (sink.received l.sink) (take l.at l.bytes);
-      failures : sink.failures l.sink ≡ sink.failures l.initial.sink;
+      failures : (sink.failures l.sink).count ≡ (sink.failures l.initial.sink).count;
     }
 
 abbrev pub decreases-loop-at : goal.decreases-loop-at

@@ -7,8 +7,8 @@ use Rattle.btx_aux.specs.refinement.Faults.{CountsOfOne}
 use Rattle.btx_machine.specs.refinement.Faults.{CountsOfTwo}
 use Rattle.btx_machine.specs.refinement.Outputs.{Journal}
 
--- a call over the finder and both outputs: its answer is a value, want of memory or the device's fault, and exactly at the device's fault one of the three
--- counts rose, by one
+-- a call over the finder and both outputs: its answer is a value, want of memory or the device's fault, and exactly at the device's fault one call of one
+-- of the three failed, and none followed it there
 abbrev pub CountsOfThree : {T : Type 0} → Result T Fault → Change → Change → Change → Type 0
 CountsOfThree (Ok value) a b c = Stays a × Stays b × Stays c
 CountsOfThree (Err Memory) a b c = Stays a × Stays b × Stays c
@@ -16,7 +16,7 @@ CountsOfThree (Err Device) a b c = OneOfThreeRises a b c
 CountsOfThree (Err FileLimit) a b c = ⊥
 CountsOfThree (Err StringLimit) a b c = ⊥
 
--- a call that writes to the log: it goes where it went, and what the answer says of its count is so
+-- a call that writes to the log: it goes where it went, and what the answer says of its failures is so
 abbrev pub CountsOfLogging : {T : Type 0} → Result T Fault → Journal → Journal → Type 0
 CountsOfLogging result old new = (new.sink.name ≡ old.sink.name) × CountsOfOne result (old.sink.failures, new.sink.failures)
 

@@ -9,7 +9,7 @@ abbrev pub invariant-loop-message : goal.invariant-loop-message
 invariant-loop-message g l = record {
   breaker : l.self.breaker ≡ l.fn.self.breaker;
   sinks : SameSinks l.fn.self l.self;
-  bbl_counts : l.self.bbl.failures ≡ l.fn.self.bbl.failures;
-  log_counts : l.self.log.sink.failures ≡ l.fn.self.log.sink.failures;
+  bbl_counts : l.self.bbl.failures.count ≡ l.fn.self.bbl.failures.count;
+  log_counts : l.self.log.sink.failures.count ≡ l.fn.self.log.sink.failures.count;
   same : Logs l.fn.self l.self (map message_line (drop l.message-index l.messages)) (map message_line l.messages);
 }

@@ -14,7 +14,7 @@ invariant-loop-name g l =
       read : ByAnswers (finder.content l.initial.finder) (finder.answers l.initial.finder) (finder.answers l.finder) (λ asked. AreAmong asked (texts_of (take l.name-index l.names))) (λ files.
           IsRead l.found (counts_at l.initial.journal, counts_at l.journal) (l.initial.journal.sink.received, l.journal.sink.received) (databases_read files (texts_of (take l.name-index l.names))));
       stays : finder.content l.finder ≡ finder.content l.initial.finder;
-      fetches : finder.failures l.finder ≡ finder.failures l.initial.finder;
+      fetches : (finder.failures l.finder).count ≡ (finder.failures l.initial.finder).count;
       sink : l.journal.sink.name ≡ l.initial.journal.sink.name;
-      writes : l.journal.sink.failures ≡ l.initial.journal.sink.failures;
+      writes : l.journal.sink.failures.count ≡ l.initial.journal.sink.failures.count;
     }

@@ -8,5 +8,5 @@ abbrev pub invariant-loop-line : goal.invariant-loop-line
 invariant-loop-line g l = record {
   logs : Logs (counts_at l.initial.journal, counts_at l.journal) (l.initial.journal.sink.received, l.journal.sink.received) (take l.line-index l.lines);
   sink : l.journal.sink.name ≡ l.initial.journal.sink.name;
-  failures : l.journal.sink.failures ≡ l.initial.journal.sink.failures;
+  failures : l.journal.sink.failures.count ≡ l.initial.journal.sink.failures.count;
 }
