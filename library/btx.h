@@ -3,8 +3,8 @@
 
    A text is a pointer and a length. A pointer is never null, not even of a text of length 0 (write ""); this holds of every pointer below. Memory in
    which a call writes overlaps nothing else that the call is given. The library calls malloc, realloc and free, and nothing else; it isn't to be
-   called from a signal handler, or in the forked child of a process with threads. A call takes less than 64 KiB of stack; the check of a
-   style takes more: it follows functions and literals as deep as they are nested, as far as its steps go. btx(3) says more. */
+   called from a signal handler, or in the forked child of a process with threads. A call takes less than 64 KiB of stack, and the check
+   of a style less than 1 MiB, however deep the style nests its functions. */
 #ifndef BTX_H
 #define BTX_H
 
@@ -109,7 +109,7 @@ uint32_t btx_where(const unsigned char *job, size_t job_len, const btx_file *fil
 enum {
     BTX_CLEAN = 0,     /* no run of it logs a fault of its own */
     BTX_WARNINGS = 1,  /* it isn't known to be clean */
-    BTX_INCOMPLETE = 2 /* the check took as many steps as it may */
+    BTX_INCOMPLETE = 2 /* the check took as many steps as it may, or the style nests its functions deeper than it follows them */
 };
 
 typedef struct {
@@ -122,8 +122,8 @@ typedef struct {
 
 /* Checks a style before any run, in at most `steps` steps of the check. `name` is that of its file. If it is clean, no run of it logs an empty stack, an operand of a wrong kind, an
    assignment to no variable, a use without an entry or literals left over, or ends at the limit of literals, bodies or loops: for any document and databases in which each entry's type is
-   one that the style doesn't know or one that is named in `types`, each with a byte 10, and for up to 1,500,000,000 steps of the style. If it isn't known to be clean, `notes` say where
-   it may go wrong, in lines whose form the man page says. Answers BTX_FULL if one of the two is longer than its room; BTX_REFUSED if the style is longer than a file may be; after
+   one that the style doesn't know or one that is named in `types`, each with a byte 10, and for up to 1,500,000,000 steps of the style. If it isn't called clean, `notes` say where
+   it may go wrong and why, as far as another search of at most as many steps finds it, in lines whose form the man page says. Answers BTX_FULL if one of the two is longer than its room; BTX_REFUSED if the style is longer than a file may be; after
    that and BTX_MEMORY nothing was written. */
 uint32_t btx_check(const unsigned char *name, size_t name_len, const unsigned char *style, size_t style_len, uint64_t steps,
                    unsigned char *types, size_t types_room, unsigned char *notes, size_t notes_room, btx_verdict *verdict);

@@ -16,11 +16,12 @@ else
     echo 'left out: valgrind is not there'
 fi
 
-# wants_stack: the last run's stack was within the 64 KiB of the header, the thread's own needs included.
+# wants_stack [BYTES]: the last run's stack was within the 64 KiB of the header, or within BYTES, the thread's own needs included.
 wants_stack() {
+    local most=${1:-65536}
     wants_quiet
     read -r used _ <"$folder/stdout"
-    [ "${used:-65536}" -lt 65536 ] || complaints+=("$used bytes of stack were used")
+    [ "${used:-$most}" -lt "$most" ] || complaints+=("$used bytes of stack were used")
 }
 
 for example in "${jobs[@]}"; do
@@ -57,4 +58,32 @@ braces=$(printf '{%.0s' $(seq 20000))
 printf '@misc{a, title = {%s%s}}\n' "$braces" "${braces//\{/\}}" >d.bib
 run "$tests/stack" . job
 wants_stack
+end
+
+# check_nested NAME VERDICT BODY: a style with this body in its function misc is checked within the 1 MiB of the header, with this verdict.
+check_nested() {
+    begin "stack_of_check.$1"
+    printf 'ENTRY {title}{}{} INTEGERS {i}\nFUNCTION {misc} {%s}\nREAD ITERATE {misc}\n' "$3" >s.bst
+    run "$tests/stack" --check . s.bst
+    wants_stack 1048576
+    read -r _ _ _ _ verdict <"$folder/stdout"
+    [ "$verdict" = "$2" ] || complaints+=("the verdict is $verdict")
+    end
+}
+
+check_nested 100_choices clean "$(letters 100 'i { ')$(letters 100 "} 'skip\$ if\$ ")"
+check_nested choices incomplete "$(letters 1000 'i { ')$(letters 1000 "} 'skip\$ if\$ ")"
+check_nested choices_behind_a_fault warnings "title write\$ $(letters 1000 'i { ')$(letters 1000 "} 'skip\$ if\$ ")"
+check_nested loops incomplete "$(letters 1000 '{i} { ')$(letters 1000 '} while$ ')"
+check_nested loops_and_choices incomplete "$(letters 19 '{i} { ')$(letters 1000 'i { ')$(letters 1000 "} 'skip\$ if\$ ")$(letters 19 '} while$ ')"
+check_nested recursion incomplete "{duplicate\$ i swap\$ 'skip\$ if\$} duplicate\$ i swap\$ 'skip\$ if\$ pop\$"
+
+begin stack_of_check.calls
+{
+    printf 'ENTRY {}{}{}\nFUNCTION {f0} {}\n'
+    for n in $(seq 4000); do printf 'FUNCTION {f%d} {f%d}\n' "$n" $((n - 1)); done
+    printf 'READ EXECUTE {f4000}\n'
+} >s.bst
+run "$tests/stack" --check . s.bst
+wants_stack 1048576
 end

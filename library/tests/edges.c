@@ -108,7 +108,8 @@ static void check_style(const char *style, uint64_t steps, size_t room, uint32_t
 static void styles(void) {
     const char *clean = "ENTRY{title}{}{} FUNCTION {misc} {title pop$ \"x\" cite$ * write$} READ ITERATE {call.type$}";
     const char *faulty = "ENTRY{title}{}{}\nFUNCTION {misc} {title\nwrite$} READ ITERATE {call.type$}";
-    const char *notes = "next write$\nmissing title\nat in 3 0 1 misc\n";
+    const char *notes = "warning kind first\nnext write$\ndepth 1\noperand 0 text mewf\nwants text\nname field title\nmissing title\nitem ITERATE 3 call.type$\n"
+                        "at in 3 0 1 misc\ntype misc\n";
     check_style(clean, 1000, 256, BTX_DONE, BTX_CLEAN, "misc\n", "");
     check_style(clean, 1000, 5, BTX_DONE, BTX_CLEAN, "misc\n", "");
     check_style(clean, 1000, 4, BTX_FULL, BTX_CLEAN, "misc\n", "");

@@ -23,8 +23,7 @@ static void *memory(size_t size) {
     return found;
 }
 
-/* The bytes of a file, or null where there is none. */
-static unsigned char *read_file(const char *folder, const char *name, size_t *len) {
+unsigned char *read_file(const char *folder, const char *name, size_t *len) {
     char path[4096];
     snprintf(path, sizeof path, "%s/%s", folder, name);
     FILE *file = fopen(path, "rb");

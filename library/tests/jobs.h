@@ -24,6 +24,9 @@ typedef struct {
 /* Ends the test, with a line that says why, unless this holds. */
 void must(int holds, const char *what, ...);
 
+/* The bytes of a file, or null where there is none. */
+unsigned char *read_file(const char *folder, const char *name, size_t *len);
+
 /* Finds all that a job needs, in a folder. */
 void find_job(job *found, const char *folder, const char *name);
 void free_job(job *found);

@@ -10,6 +10,7 @@ import pathlib
 import pty
 import random
 import shutil
+import signal
 import stat
 import struct
 import subprocess
@@ -421,12 +422,16 @@ class Reports(InFolder):
         outcomes = self.outcomes("--with", self.program(script))
         self.assertEqual(sorted(outcome for outcome, _ in outcomes.values()), ["equal"] * 11 + ["not run"])
 
+    def interruptible(self, words, **given):
+        """Starts a command that an interrupt reaches, also where whoever runs these tests ignores interrupts, as a shell's job in the background does."""
+        return subprocess.Popen(words, stdout=subprocess.PIPE, preexec_fn=lambda: signal.signal(signal.SIGINT, signal.SIG_DFL), **given)
+
     def test_interrupted_with_a_program(self):
         for number in range(10):
             self.job(f"job{number}", b"")
         with tempfile.TemporaryDirectory() as room:
             words = [sys.executable, "-m", "btx", "compare", str(self.folder), "--processes", "2", "--with", str(self.program("sleep 62.5"))]
-            process = subprocess.Popen(words, env={**ENVIRONMENT, "TMPDIR": room}, stdout=subprocess.PIPE, stderr=subprocess.PIPE)
+            process = self.interruptible(words, env={**ENVIRONMENT, "TMPDIR": room}, stderr=subprocess.PIPE)
             while ["sleep", "62.5"] not in command_lines():
                 time.sleep(0.1)
             process.send_signal(2)
@@ -440,7 +445,7 @@ class Reports(InFolder):
         for number in range(40):
             self.job(f"job{number}", b"k: T\n", **{"s.bst": STYLE.replace(b"{cite$", b"{{#1} {skip$} while$ cite$")})
         words = [sys.executable, "-m", "btx", "compare", str(self.folder), "--processes", "2", "--budget", "30000000"]
-        process = subprocess.Popen(words, env=ENVIRONMENT, stdout=subprocess.PIPE, stderr=subprocess.DEVNULL, text=True)
+        process = self.interruptible(words, env=ENVIRONMENT, stderr=subprocess.DEVNULL, text=True)
         time.sleep(3)
         process.send_signal(2)
         began = time.monotonic()

@@ -2,11 +2,12 @@
 ghost use Rattle.std.specs.Prelude.{◌≡◌, ◌++◌, IfOk, OnOk, IsTrue, false};
 ghost use Rattle.btx_bst.specs.language.StyleText.{style_of};
 ghost use Rattle.btx_check.specs.Promise.{StyleIsClean};
+ghost use Rattle.btx_check.specs.Verdicts.{IsRight};
 ghost use Rattle.btx_c.specs.Checks.{TextIsClean, type_name, type_names};
 
-use crate::warned::note_warning;
+use crate::warned::note_findings;
 use btx_bst::{Callee, Style, read_style};
-use btx_check::{Clean, Verdict, check};
+use btx_check::{Clean, Findings, Verdict, examine};
 use btx_text::Fault;
 use std::alloc::{AllocError, Global};
 
@@ -90,17 +91,36 @@ fn said_unclean(is_whole: bool, notes: Vec<u8>, types: Vec<u8>) -> Checked
     }
 }
 
-/// Checks the style whose file has the name `name` and the bytes `text`, in at most `steps` steps.
+// Answers what is said of a style of which this was found.
+fn said(
+    alloc: Global,
+    name: &[u8],
+    text: &[u8],
+    style: &Style<'_>,
+    findings: &Findings,
+) -> Result<Checked, AllocError>
+    requires style { style.now ≡ style_of name.now text.now }
+    requires right { IsRight style.now findings.now.verdict }
+    ensures { IfOk result (λ said. IsTrue said.is_clean → TextIsClean name.now text.now said.bodies said.types.items) }
+{
+    match &findings.verdict {
+        Verdict::Clean(clean) => said_clean(alloc, name, text, style, clean),
+        Verdict::NotKnownClean(_) => {
+            let notes = note_findings(alloc, style, text, findings)?;
+            Ok(said_unclean(true, notes, Vec::new(alloc)))
+        }
+        Verdict::Incomplete => {
+            let notes = note_findings(alloc, style, text, findings)?;
+            Ok(said_unclean(false, notes, Vec::new(alloc)))
+        }
+    }
+}
+
+/// Checks the style whose file has the name `name` and the bytes `text`, in at most `steps` steps; where it isn't clean, another search takes at most as many.
 pub fn check_style(alloc: Global, name: &[u8], text: &[u8], steps: u64) -> Result<Checked, Fault>
     ensures { IfOk result (λ said. IsTrue said.is_clean → TextIsClean name.now text.now said.bodies said.types.items) }
 {
     let style = read_style(alloc, name, text)?;
-    match check(alloc, &style, steps)? {
-        Verdict::Clean(clean) => Ok(said_clean(alloc, name, text, &style, &clean)?),
-        Verdict::NotKnownClean(warning) => {
-            let notes = note_warning(alloc, &style, text, &warning)?;
-            Ok(said_unclean(true, notes, Vec::new(alloc)))
-        }
-        Verdict::Incomplete => Ok(said_unclean(false, Vec::new(alloc), Vec::new(alloc))),
-    }
+    let findings = examine(alloc, &style, steps)?;
+    Ok(said(alloc, name, text, &style, &findings)?)
 }

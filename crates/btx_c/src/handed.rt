@@ -1,5 +1,6 @@
 //! The files that a caller hands in.
 ghost use Rattle.std.specs.Prelude.{◌≡◌, [], false, Ok, Some, OnOk, OnErr, IfErr, IfOk};
+ghost use Rattle.btx_text.specs.refinement.Counts.{no_failures};
 ghost use Rattle.btx_aux.specs.language.Files.{file_of};
 ghost use Rattle.btx_c.specs.Handed.{OtherFiles, beside, bytes_in, file_in, known};
 ghost use Rattle.btx_c.specs.Known.{known_of};
@@ -7,6 +8,7 @@ ghost use Rattle.btx_c.specs.Known.{known_of};
 use crate::index::Index;
 use crate::others::Others;
 use btx_aux::{FetchFault, Finder, History};
+use btx_text::Failures;
 use std::alloc::Global;
 
 /// A file of a job, or that there is no file of this name. C hands in each text as a pointer, which is never null, and a length.
@@ -51,8 +53,8 @@ pub struct Handed<'i, 'f> {
     index: &'i Index<'f>,
     others: Others,
     history: History,
-    /// How often it was asked for a file of which nothing was said.
-    pub unknown: u64,
+    /// How often it was asked for a file of which nothing was said, and whether it was at the last fetch.
+    pub failures: Failures,
 }
 
 impl<'i, 'f> Handed<'i, 'f> {
@@ -61,13 +63,13 @@ impl<'i, 'f> Handed<'i, 'f> {
         ghost others: { OtherFiles }
         ensures files { result.index.now ≡ index.now }
         ensures others { result.others.files ≡ others }
-        ensures unknown { result.unknown ≡ 0 }
+        ensures failures { result.failures ≡ no_failures }
     {
         Handed {
             index,
             others: Others::any(),
             history: History::new(alloc),
-            unknown: 0,
+            failures: Failures::none(),
         }
     }
 }
@@ -110,7 +112,7 @@ impl<'i, 'f> Finder for Handed<'i, 'f> {
 
     ghost answers = { λ finder. finder.history };
 
-    ghost failures = { λ finder. finder.unknown };
+    ghost failures = { λ finder. finder.failures };
 
     #[tactic(auto, using(crate::proofs::HandedLemmas::beside_known))]
     fn fetch(
@@ -120,16 +122,13 @@ impl<'i, 'f> Finder for Handed<'i, 'f> {
         into: &mut Vec<u8>,
     ) -> Result<bool, FetchFault> {
         let answer = copy(self.index, name, into);
-        match answer {
-            Ok(found) => {
-                if self.history.note(alloc, name, found, into).is_err() {
-                    into.clear();
-                    return Err(FetchFault::Memory);
-                }
-            }
-            Err(FetchFault::Memory) => {}
-            Err(_) => self.unknown = self.unknown.wrapping_add(1),
+        self.failures
+            .note(matches!(answer, Err(FetchFault::Device)));
+        let found = answer?;
+        if self.history.note(alloc, name, found, into).is_err() {
+            into.clear();
+            return Err(FetchFault::Memory);
         }
-        answer
+        Ok(found)
     }
 }

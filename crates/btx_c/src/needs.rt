@@ -1,5 +1,6 @@
 //! Which files a job needs of which nothing was said.
 ghost use Rattle.std.specs.Prelude.{◌≡◌, ◌++◌, [], false, Ok, Some, IfErr, IfOk, OnErr, OnOk};
+ghost use Rattle.btx_text.specs.refinement.Counts.{no_failures};
 ghost use Rattle.btx_aux.specs.language.Files.{file_of};
 ghost use Rattle.btx_aux.specs.declared.end.End.TheVariants.{Whole};
 ghost use Rattle.btx_aux.specs.refinement.Entries.{texts_of};
@@ -131,7 +132,7 @@ impl<'i, 'f> Finder for Asking<'i, 'f> {
 
     ghost answers = { λ finder. finder.history };
 
-    ghost failures = { λ _. 0 };
+    ghost failures = { λ _. no_failures };
 
     fn fetch(
         &mut self,

@@ -39,7 +39,7 @@ pub fn places(
     );
     match answer {
         Ok(_) => Ok(notes),
-        Err(_) if finder.unknown > 0 => Err(Cause::UnknownFile),
+        Err(_) if finder.failures.count > 0 => Err(Cause::UnknownFile),
         Err(_) => Err(Cause::Memory),
     }
 }

@@ -66,7 +66,7 @@ fn run_into(
     let mut finder = Handed::new(alloc, &index);
     match run(alloc, &mut finder, name, options, list, log) {
         Ok(report) => Ok(report),
-        Err(_) => Err(cause_of(alloc, &index, name, options, finder.unknown > 0)),
+        Err(_) => Err(cause_of(alloc, &index, name, options, finder.failures.count > 0)),
     }
 }
 

@@ -1,5 +1,6 @@
 //! What a job writes if the files of which nothing was said are there, or aren't.
 ghost use Rattle.std.specs.Prelude.{◌≡◌, [], Ok, Some, false, true, IfErr, IfOk, OnErr};
+ghost use Rattle.btx_text.specs.refinement.Counts.{no_failures};
 ghost use Rattle.btx_aux.specs.language.Files.{file_of};
 ghost use Rattle.btx_machine.specs.language.Product.{log_of};
 ghost use Rattle.btx_core.specs.refinement.ComputedProduct.{product};
@@ -49,7 +50,7 @@ impl<'i, 'f> Finder for Supposed<'i, 'f> {
 
     ghost answers = { λ finder. finder.history };
 
-    ghost failures = { λ _. 0 };
+    ghost failures = { λ _. no_failures };
 
     fn fetch(
         &mut self,

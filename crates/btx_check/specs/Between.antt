@@ -8,6 +8,7 @@ use Rattle.btx_bst.specs.declared.token.Token.TheVariants as token
 use Rattle.btx_step.specs.language.Jobs.{Job}
 use Rattle.btx_step.specs.language.Stores.{Store}
 use Rattle.btx_machine.specs.language.States.{Out, State, Outcome, Done, Stopped, Limit}
+use Rattle.btx_check.specs.declared.work.TheConstants.{MOST_LOOPS}
 use Rattle.btx_check.specs.Promise.{IsSpared, StyleIsClean}
 use Rattle.btx_check.specs.States.{Abstract, In}
 use Rattle.btx_check.specs.Inclusion.{Sub, Within}
@@ -40,7 +41,7 @@ Ended job start most a (Limit kind s left) = Sound job start most s × IsSpared 
 
 -- a function runs from what is known before it, executed for a command, and leaves nothing on the stack
 pub record Visited (style : Style) (allowed : List ℕ) (f : Callee) (entry : Bool) (deepest : ℕ) (before : Abstract) (ends : List Abstract) : Type 0 where
-  pub runs : RunsFrom style allowed (token.Run f) (where_entry entry before ∷ []) deepest 100 ends
+  pub runs : RunsFrom style allowed (token.Run f) (where_entry entry before ∷ []) deepest MOST_LOOPS ends
   pub empty : Each IsEmpty ends
 
 -- what is found of a command: its function runs from what is known before it, leaves nothing on the stack, and leads to what is known after it

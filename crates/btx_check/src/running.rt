@@ -39,6 +39,7 @@ pub fn run(
 
 /// The same, without a look whether the description describes anything.
 #[cycle(search)]
+#[inline(never)]
 pub fn run_sure(
     work: &mut Work,
     style: &Style,
@@ -74,6 +75,7 @@ pub fn run_sure(
 }
 
 /// A function of one step. Where it may go wrong, that is noted.
+#[inline(never)]
 fn run_one(work: &mut Work, a: &State, f: Callee, out: &mut Vec<State>) -> Result<bool, AllocError>
     ensures { IfOk result (λ ok. IsTrue ok → Ruled f a.now out.old.items out.new.items) }
 {
@@ -85,6 +87,7 @@ fn run_one(work: &mut Work, a: &State, f: Callee, out: &mut Vec<State>) -> Resul
 }
 
 /// `:=`. Where it may go wrong, that is noted.
+#[inline(never)]
 fn run_assign(
     work: &mut Work,
     style: &Style,
@@ -125,6 +128,7 @@ pub fn run_token(
 
 /// A token, from each of these.
 #[cycle(search)]
+#[inline(never)]
 pub fn run_all(
     work: &mut Work,
     style: &Style,
@@ -146,6 +150,7 @@ pub fn run_all(
 
 /// The body of a function of the style.
 #[cycle(search)]
+#[inline(never)]
 pub fn run_user(
     work: &mut Work,
     style: &Style,
@@ -189,6 +194,7 @@ pub fn run_user(
 
 /// `if$`.
 #[cycle(search)]
+#[inline(never)]
 pub fn run_if(
     work: &mut Work,
     style: &Style,
@@ -225,6 +231,7 @@ pub fn run_if(
 
 /// `while$`.
 #[cycle(search)]
+#[inline(never)]
 pub fn run_while(
     work: &mut Work,
     style: &Style,
@@ -263,6 +270,7 @@ pub fn run_while(
 
 /// A loop: heads are proposed until its body leads back to them.
 #[cycle(search)]
+#[inline(never)]
 pub fn run_loop(
     work: &mut Work,
     style: &Style,
@@ -321,6 +329,7 @@ pub fn run_loop(
 
 /// `call.type$`: the function of each type that an entry may have, and of the default type, or nothing where there is none.
 #[cycle(search)]
+#[inline(never)]
 pub fn run_types(
     work: &mut Work,
     style: &Style,

@@ -10,7 +10,7 @@ use crate::rules::{one_step, push_token};
 use crate::state::State;
 use crate::types::meant_types;
 use crate::wants::{Left, Wants, wants_of};
-use crate::work::{Place, Room, Work};
+use crate::work::{MOST_LOOPS, MOST_NESTED, Place, Room, Work};
 use btx_bst::{BuiltIn, Callee, Item, Style, Token};
 use btx_step::Wanted;
 use std::alloc::{AllocError, Global};
@@ -118,9 +118,9 @@ impl Search {
     ) -> Result<Vec<State>, AllocError> {
         let start = known.where_entry(entry)?;
         let room = Room {
-            fuel: 2000,
+            fuel: MOST_NESTED,
             deep: 4096,
-            loops: 100,
+            loops: MOST_LOOPS,
         };
         self.entry_type = None;
         self.work.open.clear();
@@ -203,6 +203,7 @@ impl Search {
 
     // A function, from a description: what it leads to is added to the others.
     #[cycle(tracing)]
+    #[inline(never)]
     fn function(
         &mut self,
         style: &Style,
@@ -235,6 +236,7 @@ impl Search {
 
     // A token, from each of these.
     #[cycle(tracing)]
+    #[inline(never)]
     fn token(
         &mut self,
         style: &Style,
@@ -257,6 +259,7 @@ impl Search {
 
     // The body of a function of the style.
     #[cycle(tracing)]
+    #[inline(never)]
     fn body(
         &mut self,
         style: &Style,
@@ -294,6 +297,7 @@ impl Search {
     }
 
     // A function of one step. Where an operand may be wrong and may be right, the search goes on with the latter; and with what follows the fault.
+    #[inline(never)]
     fn simple(
         &mut self,
         style: &Style,
@@ -341,6 +345,10 @@ impl Search {
             self.note(a, f, Fault::EmptyStack, None, is_first)?;
             return Ok(None);
         }
+        if !a.has_entry() && assigns_in_entry(a, f) {
+            self.note(a, f, Fault::NoEntry, None, is_first)?;
+            return Ok(None);
+        }
         let operand = wrong_operand(a, &wants, f);
         self.note(a, f, fault_of(f, operand), operand, is_first)?;
         Ok(operand)
@@ -363,6 +371,7 @@ impl Search {
 
     // `if$`.
     #[cycle(tracing)]
+    #[inline(never)]
     fn choice(
         &mut self,
         style: &Style,
@@ -403,6 +412,7 @@ impl Search {
 
     // The two functions of an `if$`.
     #[cycle(tracing)]
+    #[inline(never)]
     fn branches(
         &mut self,
         style: &Style,
@@ -457,6 +467,7 @@ impl Search {
 
     // `while$`.
     #[cycle(tracing)]
+    #[inline(never)]
     fn turns(
         &mut self,
         style: &Style,
@@ -491,6 +502,7 @@ impl Search {
 
     // A loop: heads are proposed until its body leads back to them. What follows a fault in it isn't followed round it.
     #[cycle(tracing)]
+    #[inline(never)]
     fn heads(
         &mut self,
         style: &Style,
@@ -558,6 +570,7 @@ impl Search {
 
     // `call.type$`.
     #[cycle(tracing)]
+    #[inline(never)]
     fn by_type(
         &mut self,
         style: &Style,
@@ -677,13 +690,46 @@ fn needs_entry(f: Callee) -> bool {
     }
 }
 
+// What is assigned to, if `f` is `:=`.
+fn assigned(a: &State, f: Callee) -> Option<Callee> {
+    if f != Callee::BuiltIn(BuiltIn::Assign) || a.stack.is_empty() {
+        return None;
+    }
+    match a.value(a.stack[0]) {
+        Value::Function(variable) => Some(variable),
+        _ => None,
+    }
+}
+
+// Whether a function assigns to a variable of an entry.
+fn assigns_in_entry(a: &State, f: Callee) -> bool {
+    match assigned(a, f) {
+        Some(Callee::EntryInteger(_)) | Some(Callee::EntryString(_)) => true,
+        _ => false,
+    }
+}
+
+// The kind of the value that a function assigns, if it assigns to a variable.
+fn assigned_kind(a: &State, f: Callee) -> Option<Wanted> {
+    match assigned(a, f) {
+        Some(Callee::EntryInteger(_)) | Some(Callee::GlobalInteger(_)) => Some(Wanted::Integer),
+        Some(Callee::EntryString(_)) | Some(Callee::GlobalString(_)) => Some(Wanted::Text),
+        _ => None,
+    }
+}
+
 // The first operand that may be wrong.
 fn wrong_operand(a: &State, wants: &Wants, f: Callee) -> Option<Operand> {
     for k in 0..3 {
         if k < wants.count && k < a.stack.len() {
             let number = a.stack[k];
             let value = a.value(number);
-            let is_right = match wants.kinds[k] {
+            let wanted = if k == 1 && wants.kinds[k].is_none() {
+                assigned_kind(a, f)
+            } else {
+                wants.kinds[k]
+            };
+            let is_right = match wanted {
                 Some(wanted) => crate::operands::is_fit(value, wanted),
                 None => is_right_here(a, value, f),
             };
@@ -692,7 +738,7 @@ fn wrong_operand(a: &State, wants: &Wants, f: Callee) -> Option<Operand> {
                     position: k,
                     value,
                     name: name_of(a, number),
-                    wanted: wants.kinds[k],
+                    wanted,
                 });
             }
         }
@@ -700,7 +746,7 @@ fn wrong_operand(a: &State, wants: &Wants, f: Callee) -> Option<Operand> {
     None
 }
 
-// Whether an operand of no fixed kind is right: of `=` and of `:=`.
+// Whether an operand of no kind is right: of `=`.
 fn is_right_here(a: &State, value: Value, f: Callee) -> bool {
     match (f, value) {
         (Callee::BuiltIn(BuiltIn::Equals), Value::Text(m)) => !m.missing,
@@ -710,9 +756,6 @@ fn is_right_here(a: &State, value: Value, f: Callee) -> bool {
                 && matches!(a.value(a.stack[1]), Value::Integer(_, _))
         }
         (Callee::BuiltIn(BuiltIn::Equals), _) => false,
-        (Callee::BuiltIn(BuiltIn::Assign), Value::Text(m)) => !m.missing,
-        (Callee::BuiltIn(BuiltIn::Assign), Value::Integer(_, _)) => true,
-        (Callee::BuiltIn(BuiltIn::Assign), _) => false,
         _ => true,
     }
 }

@@ -12,7 +12,7 @@ use crate::lasting::{all_within, globals_of, lasting};
 use crate::running::run;
 use crate::state::State;
 use crate::types::{MOST_BODIES, constants, likely_depth, meant_types};
-use crate::work::{Room, Warning, Work};
+use crate::work::{MOST_LOOPS, MOST_NESTED, Room, Warning, Work};
 use btx_bst::{Callee, Item, Style};
 use std::alloc::{AllocError, Global};
 
@@ -67,9 +67,9 @@ fn visit(
 {
     let start = before.where_entry(entry)?;
     let room = Room {
-        fuel: 2000,
+        fuel: MOST_NESTED,
         deep: deepest,
-        loops: 100,
+        loops: MOST_LOOPS,
     };
     if !run(work, style, allowed, room, &start, f, out)? {
         return Ok(false);

@@ -230,6 +230,13 @@ fn field_of(a: &State, number: usize) -> Option<Callee> {
     None
 }
 
+/// How deep the search follows what a command executes: each function that another one executes counts, `if$`, `while$` and `call.type$` as well as those of the style.
+/// This bounds the stack of the processor that the search takes. The greatest depth of a style in TeX Live is that of `ACM-Reference-Format`, 179.
+pub const MOST_NESTED: usize = 320;
+
+/// How many loops it follows in one another.
+pub const MOST_LOOPS: usize = 20;
+
 /// How much may still be opened: bodies and loops, and how deep the search may go.
 #[derive(Clone, Copy)]
 pub struct Room {

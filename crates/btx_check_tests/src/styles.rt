@@ -49,7 +49,8 @@ const SPOILT_LOOPS: &[u8] =
 FUNCTION {f} {#0 'n := {\"a\"} {n #1 + 'n :=} while$} READ EXECUTE {f}
 FUNCTION {f} {#0 'n := {#10 n >} {n #1 + 'n :=} while$ n #9 > {#1 write$} 'skip$ if$} READ EXECUTE {f}
 FUNCTION {book} {title write$} READ ITERATE {call.type$}
-FUNCTION {book} {skip$} FUNCTION {default.type} {pop$} READ ITERATE {call.type$}";
+FUNCTION {book} {skip$} FUNCTION {default.type} {pop$} READ ITERATE {call.type$}
+FUNCTION {h} {duplicate$ #1 swap$ 'skip$ if$} FUNCTION {g} {'h h} READ EXECUTE {g}";
 
 // Whether a style of this head and this rest is called clean.
 pub(crate) fn is_clean(alloc: Global, rest: &[u8]) -> bool {

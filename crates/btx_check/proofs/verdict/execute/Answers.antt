@@ -7,7 +7,7 @@ pub returns : goal.returns
 returns c = let h = c.in_ok-visit.ensures (search (rules, c.if-not-branch.false)) in record {
   before_is = c.requires.global;
   after_is = c.in_ok-after.ensures;
-  loops = 100;
+  loops = 20;
   few_bodies = omega arith;
   few_loops = omega arith;
   ends = c.visit.new.out.items;

@@ -10,7 +10,7 @@ returns c = let h = c.in_ok-visit.ensures (search (rules, c.if-not-branch.false)
   found = record {
     before_is = c.in_ok-after.ensures;
     after_is = c.in_ok-after.ensures;
-    loops = 100;
+    loops = 20;
     few_bodies = omega arith;
     few_loops = omega arith;
     ends = c.visit.new.out.items;
