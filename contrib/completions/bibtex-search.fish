@@ -50,6 +50,6 @@ __bibtex_option bibtex-lint l line 'Print a line for each style'
 __bibtex_option bibtex-lint l json 'Print all that is found as JSON'
 __bibtex_option bibtex-lint l entry 'Search for an entry that shows each warning'
 complete -c bibtex-lint -l job -x -a '(__fish_complete_suffix .aux)' -d 'Explain where the style of a job stands at each error'
-__bibtex_option bibtex-lint l steps 'Steps that a check may take' 1000000
+__bibtex_option bibtex-lint l steps 'Steps that a check may take' 2000000
 __bibtex_option bibtex-lint l help 'Print the options'
 __bibtex_option bibtex-lint l version 'Print the version'

@@ -47,10 +47,10 @@ fn main() -> io::Result<()> {
     let part = if is_terse { Part::Messages } else { Part::Whole };
     let terminal = Terminal { is_terminal: true, has_colours: false, width: width.unwrap_or(0) };
     let terminal = if width.is_some() { terminal } else { Terminal::NONE };
-    let mut out = io::stdout().lock();
+    let mut shown = Vec::new();
     match word.to_str() {
-        Some("shapes") => shapes::write(&log, &files, part, &mut out)?,
-        _ => explain::write(&log, &files, part, &terminal, &mut out)?,
+        Some("shapes") => shapes::write(&log, &files, part, usize::MAX, &mut shown),
+        _ => explain::write(&log, &files, part, &terminal, &mut shown)?,
     }
-    out.flush()
+    io::stdout().write_all(&shown)
 }

@@ -50,6 +50,12 @@ impl Advice<'_> {
         self.names.iter().enumerate().fold(text.to_string(), put_name)
     }
 
+    /// Whether a style's code alone makes the message, and no value of a database: an operand or an entry that isn't there, an operand of a wrong kind, literals that are left.
+    pub fn is_of_code(&self) -> bool {
+        let of_code = ["You can't pop ", "= needs ", "You can't assign ", "You can't mess ", "The literal stack "];
+        self.is_of_operands() || of_code.iter().any(|begin| ROWS[self.number].1.starts_with(begin))
+    }
+
     /// Whether the message is about an operand of a wrong kind.
     pub fn is_of_operands(&self) -> bool {
         ROWS[self.number].2.starts_with("push the operands ")
@@ -94,6 +100,43 @@ fn matched<'a>(pattern: &str, text: &'a [u8]) -> Option<Vec<&'a [u8]>> {
 pub fn operands(function: &[u8]) -> Option<&'static str> {
     OPERANDS.iter().find(|(name, _)| name.as_bytes() == function).map(|(_, operands)| *operands)
 }
+
+/// The names of the built-in functions.
+pub fn built_in() -> impl Iterator<Item = &'static [u8]> {
+    OPERANDS.iter().map(|(name, _)| name.as_bytes()).chain(WITHOUT_OPERANDS.iter().map(|name| name.as_bytes()))
+}
+
+/// Whether a built-in function always leaves a number.
+pub fn leaves_number(function: &[u8]) -> bool {
+    LEAVE_NUMBERS.iter().any(|name| name.as_bytes() == function)
+}
+
+/// Whether a built-in function always leaves a string.
+pub fn leaves_text(function: &[u8]) -> bool {
+    LEAVE_TEXTS.iter().any(|name| name.as_bytes() == function)
+}
+
+const WITHOUT_OPERANDS: [&str; 8] =
+    ["call.type$", "cite$", "newline$", "preamble$", "quote$", "skip$", "stack$", "type$"];
+
+const LEAVE_NUMBERS: [&str; 11] =
+    ["=", ">", "<", "+", "-", "empty$", "missing$", "num.names$", "text.length$", "width$", "chr.to.int$"];
+
+const LEAVE_TEXTS: [&str; 13] = [
+    "*",
+    "add.period$",
+    "change.case$",
+    "cite$",
+    "format.name$",
+    "int.to.chr$",
+    "int.to.str$",
+    "preamble$",
+    "purify$",
+    "quote$",
+    "substring$",
+    "text.prefix$",
+    "type$",
+];
 
 /// What each built-in function takes, in the order in which it is pushed.
 const OPERANDS: &[(&str, &str)] = &[
@@ -182,7 +225,7 @@ const ROWS: &[Row] = &[
     (Section::Execution, "= needs two integers or two strings", "compare two numbers or two strings; a number becomes a string by `int.to.str$`"),
     (Section::Execution, "Integer overflow", "the result is 0 here: keep numbers within 32 bits, or work with strings"),
     (Section::Execution, "You can't assign to ~", "only variables are assigned to: `value 'variable :=`"),
-    (Section::Execution, "You can't mess with entries here", "fields, entry variables, `cite$`, `type$` and `call.type$` belong to an entry: run the function by ITERATE or REVERSE, not by EXECUTE"),
+    (Section::Execution, "You can't mess with entries here", "fields, entry variables, `cite$`, `type$` and `call.type$` belong to an entry: take the command out that runs the function by EXECUTE, or run it by ITERATE or REVERSE"),
     (Section::Execution, "~ isn't an ASCII code", "`int.to.chr$` takes 0 to 127"),
     (Section::Execution, "\"~\" isn't a single character", "`chr.to.int$` takes a string of one byte"),
     (Section::Execution, "\"~\" is an illegal case-conversion string", "the conversion is `\"t\"`, `\"l\"` or `\"u\"`"),

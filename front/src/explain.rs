@@ -1,15 +1,18 @@
 //! A log for its reader: each message, the line and the entry that it is about, and what to do.
 
 use crate::advice::{self, Section};
+use crate::code_places::Code;
 use crate::database::Item;
 use crate::entries::{Entries, Stored};
 use crate::job::{File, Files};
 use crate::log::{Content, Ended, Line, Log, Message, Place, Severity};
+use crate::operands::advice_at;
+use crate::repeats::Repeats;
 use crate::scene::{Call, End, Scene};
 use crate::shapes::{Part, counted, went_well};
 use crate::shown_line::{ShownLine, first_columns};
 use crate::sources::{Sources, Spot};
-use crate::style_text::{Command, Defined, costs_a_token, end_of_skipped, is_command, nearest_word};
+use crate::style_text::{Command, Defined, costs_a_token, end_of_skipped, is_command, lines_of_name, nearest_word};
 use crate::terminal::{Terminal, in_lines, plain};
 use crate::text::{Text, split_first};
 use std::collections::HashSet;
@@ -52,6 +55,7 @@ pub fn write(log: &Log<'_>, files: &Files, part: Part, terminal: &Terminal, out:
         }
     }
     explainer.end_lines()?;
+    explainer.end_repeats()?;
     // A log that has filled its room has no last line.
     if let Some(end) = explainer.scene_of_end.take() {
         explainer.scene_of_end(end, None)?;
@@ -81,10 +85,18 @@ struct Explainer<'a, W: Write> {
     entries: Option<Entries<'a>>,
     terminal: &'a Terminal,
     scene_of_end: Option<&'a End>,
+    /// Whether a signal ended the run: then no budget is to be raised.
+    is_interrupted: bool,
     /// The kinds of messages of which it was said what to do, and the functions of which it was said what they take.
     advised: HashSet<usize>,
     taught: HashSet<&'a [u8]>,
     causes: Vec<Cause<'a>>,
+    repeats: Repeats<'a>,
+    /// Whether the last error wasn't printed since it repeats: then the literals that the log lists below it aren't either.
+    is_repeated: bool,
+    /// The code of the style, once an error of its execution was met, and where the first mistake of its text is.
+    code: Option<Code<'a>>,
+    first_of_style: Option<String>,
     /// The line of the last message, if it is one of a style.
     last_of_style: usize,
     /// What was said last of a brace that is missing, or of one too many.
@@ -103,9 +115,14 @@ impl<'a, W: Write> Explainer<'a, W> {
             entries: None,
             terminal,
             scene_of_end: log.scene_of_end(),
+            is_interrupted: log.is_interrupted,
             advised: HashSet::new(),
             taught: HashSet::new(),
             causes: Vec::new(),
+            repeats: Repeats::default(),
+            is_repeated: false,
+            code: None,
+            first_of_style: None,
             last_of_style: 0,
             said_of_braces: None,
             explained: 0,
@@ -139,8 +156,18 @@ impl<'a, W: Write> Explainer<'a, W> {
 
     /// A line of the log, with what follows it.
     fn line(&mut self, line: &Line<'a>) -> io::Result<()> {
+        let was_repeated = std::mem::take(&mut self.is_repeated);
         match &line.content {
             Content::Message(message) if self.follows(message) => Ok(()),
+            Content::Message(message) if self.repeats.has(line.bytes, message, self.first_of_style.is_some()) => {
+                self.explained += 1;
+                self.is_repeated = true;
+                Ok(())
+            }
+            Content::Other if was_repeated => {
+                self.is_repeated = true;
+                Ok(())
+            }
             Content::Message(message) => self.message(line.bytes, message),
             Content::Ended(end) => self.ended(line.bytes, end),
             Content::Found(_) => self.put_line("", line.bytes),
@@ -189,15 +216,30 @@ impl<'a, W: Write> Explainer<'a, W> {
 
     fn ended(&mut self, line: &'a [u8], end: &Ended<'a>) -> io::Result<()> {
         self.end_lines()?;
+        let has_errors = !self.repeats.is_empty();
+        self.end_repeats()?;
         self.put_line(if end.is_finished() { "" } else { ERROR_COLOUR }, line)?;
         if !end.is_finished() {
             if let Some(scene) = self.scene_of_end.take() {
                 self.scene_of_end(scene, Some(end.steps))?;
             }
-            let (text, _) = split_first(line, b", warnings ").unwrap_or((line, b""));
-            self.advise(&[Section::Run], text)?;
+            if !self.is_interrupted {
+                let (text, _) = split_first(line, b", warnings ").unwrap_or((line, b""));
+                self.advise(&[Section::Run], text)?;
+            }
         }
-        counted(end).map_or(Ok(()), |count| writeln!(self.out, "{count}"))
+        counted(end).map_or(Ok(()), |count| writeln!(self.out, "{count}"))?;
+        match self.first_of_style.take().filter(|_| has_errors) {
+            Some(place) => self.put_advice(&format!(
+                "mend the style's text first, {place}: errors of its execution may follow from that"
+            )),
+            None => Ok(()),
+        }
+    }
+
+    /// Says of errors of the execution how often they repeat.
+    fn end_repeats(&mut self) -> io::Result<()> {
+        self.repeats.texts().iter().try_for_each(|text| writeln!(self.out, "{text}"))
     }
 
     // ---- messages ----
@@ -252,6 +294,7 @@ impl<'a, W: Write> Explainer<'a, W> {
         let Some(spot) = self.sources.spot(message) else { return self.advise(&[Section::Style], message.text) };
         self.show_line(&spot)?;
         self.last_of_style = spot.number;
+        self.first_of_style.get_or_insert_with(|| format!("{}:{}", plain(shown_path(spot.file)), spot.number));
         let (Some(text), commands) = (self.sources.text(style), self.sources.commands(style)) else { return Ok(()) };
         let (start, end) = text.span(spot.number);
         let place = spot.part.map_or(end, |(at, _)| start + at);
@@ -274,7 +317,37 @@ impl<'a, W: Write> Explainer<'a, W> {
         if let Some(word) = word {
             self.put_place(&format!("is it {}?", word.to_uppercase()))?;
         }
+        if let Some(name) = unknown(message.text).filter(|_| self.causes.len() < MOST_CAUSES) {
+            self.unknown_name(name, style, spot.number, &text, &commands)?;
+        }
         self.advise(&[Section::Style], message.text)
+    }
+
+    /// Says which name may be meant by one that isn't known, and where it stands. Further errors of that name are counted.
+    fn unknown_name(
+        &mut self,
+        name: &'a [u8],
+        style: &'a [u8],
+        number: usize,
+        text: &Text<'a>,
+        commands: &[Command<'a>],
+    ) -> io::Result<()> {
+        self.causes.push(Cause { style, number, has_commands: false, lost: Defined::one(name), unprinted: 0 });
+        if let Some(near) = Defined::new(text.bytes, 0, text.bytes.len(), commands).nearest(name) {
+            if near.eq_ignore_ascii_case(name) {
+                return self
+                    .put_place("the style defines it, but not above this place, or in a command that isn't read");
+            }
+            self.put_place(&format!("is it {}?", plain(near)))?;
+        }
+        let (lines, count) = lines_of_name(text, name);
+        if count < 2 {
+            return Ok(());
+        }
+        let dots = if lines.len() > MOST_OF_SCENE { ", .." } else { "" };
+        let plural = if lines.len() > 1 { "s" } else { "" };
+        let lines: Vec<String> = lines.iter().take(MOST_OF_SCENE).map(usize::to_string).collect();
+        self.put_place(&format!("{} stands at {count} places: line{plural} {}{dots}", plain(name), lines.join(", ")))
     }
 
     /// What to do about an error that a missing brace, or one too many, has made in a function above.
@@ -386,7 +459,17 @@ impl<'a, W: Write> Explainer<'a, W> {
             };
             self.put_place(&format!("`{}` takes {operands}{hint}", plain(function)))?;
         }
-        self.advise(&[Section::Execution], message.text)
+        match self.advice_at(message, function) {
+            Some(advice) => self.put_advice(&advice),
+            None => self.advise(&[Section::Execution], message.text),
+        }
+    }
+
+    /// What to do about an error at its place, where the style's text shows that.
+    fn advice_at(&mut self, message: &Message<'a>, function: &[u8]) -> Option<String> {
+        let scene = message.scene?;
+        let bytes = self.sources.file(&scene.at.file)?.bytes.as_deref()?;
+        advice_at(self.code.get_or_insert_with(|| Code::new(bytes)), scene, message.text, function)
     }
 
     /// Where in the style something happened.
@@ -566,10 +649,11 @@ Error--Repeated entry--line 3 of file d.bib
     #[test]
     fn advice_is_given_once_a_kind() {
         let error = "Error--\"A\" is not an integer while executing + for entry k\n";
-        let told = explain(&error.repeat(2), "", "@misc{k}");
+        let told = explain(&(error.repeat(3) + &error.replace('+', "-")), "", "@misc{k}");
         assert_eq!(told.matches("what to do").count(), 1);
         assert_eq!(told.matches("`+` takes NUMBER NUMBER, pushed in this order\n").count(), 1);
         assert_eq!(told.matches("for @misc{k}, which begins at d.bib:1\n").count(), 2);
+        assert!(told.ends_with(&format!("(2 more errors are like `{}`; for k)\n", error.trim_end())), "{told}");
         let assigned = explain("Error--0 is not a function while executing :=\n", "", "");
         assert!(assigned.contains("`:=` takes VALUE 'VARIABLE: is there a `'` before the variable?"), "{assigned}");
     }

@@ -8,11 +8,13 @@ use crate::text::Text;
 use std::collections::{HashMap, HashSet};
 use std::ops::Range;
 
-/// A hint: the line of the name, and what is to be said of it.
+/// A hint: the line of the name or of the loop, and what is to be said of it.
 #[derive(Debug, Clone, PartialEq, Eq)]
 pub struct Hint {
     pub line: usize,
     pub text: String,
+    /// Whether it is about a loop, of which no verdict says that it ends.
+    pub is_of_loop: bool,
 }
 
 /// What a name stands for.
@@ -34,6 +36,13 @@ struct Uses {
     given: Vec<i64>,
 }
 
+impl Uses {
+    /// Whether it is 0 wherever it is assigned, in more places than one: a name that is given a number once is a constant.
+    fn is_always_0(&self) -> bool {
+        self.quoted > 1 && self.given.len() == self.quoted && self.given.iter().all(|given| *given == 0)
+    }
+}
+
 /// A name that a style declares.
 struct Declared<'a> {
     name: &'a [u8],
@@ -50,9 +59,9 @@ pub fn hints(bytes: &[u8]) -> Vec<Hint> {
     let found = declared(bytes).into_iter().filter_map(|declared| {
         let none = Uses::default();
         let said = said_of(&declared, uses.get(&Folded(declared.name)).unwrap_or(&none))?;
-        Some(Hint { line: text.line_of(declared.start), text: said })
+        Some(Hint { line: text.line_of(declared.start), text: said, is_of_loop: false })
     });
-    let mut hints: Vec<Hint> = found.chain(endless(bytes)).collect();
+    let mut hints: Vec<Hint> = found.chain(of_loops(bytes)).collect();
     hints.sort_by_key(|hint| hint.line);
     hints
 }
@@ -66,9 +75,8 @@ fn said_of(declared: &Declared<'_>, uses: &Uses) -> Option<String> {
         Sort::Function => None,
         _ if is_unused => Some(format!("the variable {name} is never used")),
         _ if uses.taken == 0 => Some(format!("the variable {name} is assigned, and its value never used")),
-        Sort::Integer if uses.given.len() == uses.quoted && uses.given.iter().all(|given| *given == 0) => {
-            Some(format!("the integer {name} is always 0"))
-        }
+        Sort::Integer if uses.quoted == 0 => Some(format!("the integer {name} is always 0: nothing assigns to it")),
+        Sort::Integer if uses.is_always_0() => Some(format!("the integer {name} is always 0")),
         Sort::Integer | Sort::Text => None,
     }
 }
@@ -210,20 +218,46 @@ struct Loops<'a> {
     /// For each closing brace the opening one, by their numbers.
     opened: HashMap<usize, usize>,
     variables: HashSet<Folded<'a>>,
+    /// Those of INTEGERS.
+    counters: HashSet<Folded<'a>>,
     /// The tokens of each function of the style, its name included.
     functions: HashMap<Folded<'a>, Range<usize>>,
 }
 
-/// The loops whose body changes nothing that their test reads: such a loop isn't entered, or doesn't end.
-fn endless(bytes: &[u8]) -> Vec<Hint> {
+/// A loop: the numbers of the tokens in the braces of its test and of its body, and of its `while$`.
+#[derive(Debug, Clone)]
+struct Loop {
+    test: Range<usize>,
+    body: Range<usize>,
+    end: usize,
+}
+
+/// The loops that don't change what their test reads: such a loop isn't entered, or doesn't end. And those in which a counter doesn't count.
+fn of_loops(bytes: &[u8]) -> Vec<Hint> {
     let (loops, text) = (Loops::new(bytes), Text::new(bytes));
+    let line = |token: usize| text.line_of(loops.tokens[token].start);
     let mut left = MOST_TOKENS;
     let mut found = Vec::new();
-    for index in 0..loops.tokens.len() {
-        let said = loops.said_of(index, &mut left);
-        found.extend(said.map(|said| Hint { line: text.line_of(loops.tokens[index].start), text: said }));
+    for end in 0..loops.tokens.len() {
+        let Some(of_while) = loops.loop_of(end) else { continue };
+        let lines = (line(of_while.body.start - 1), line(end));
+        let said =
+            loops.endless(&of_while, lines, &mut left).into_iter().chain(loops.still(&of_while, lines, &mut left));
+        let begin = line(of_while.test.start - 1);
+        found.extend(said.map(|text| Hint { line: begin, text, is_of_loop: true }));
     }
     found
+}
+
+/// The lines of a loop's body, in words.
+fn in_lines((first, last): (usize, usize)) -> String {
+    if first == last { format!("line {first}") } else { format!("lines {first}-{last}") }
+}
+
+/// Names in a row.
+fn listed(names: &[Folded<'_>], word: &str) -> String {
+    let names: Vec<String> = names.iter().map(|name| plain(name.0)).collect();
+    names.join(&format!(" {word} "))
 }
 
 /// For each closing brace the opening one.
@@ -242,8 +276,12 @@ fn opened(tokens: &[Token]) -> HashMap<usize, usize> {
 impl<'a> Loops<'a> {
     fn new(bytes: &'a [u8]) -> Loops<'a> {
         let tokens: Vec<Token> = Tokens::new(bytes).collect();
-        let all = declared(bytes).into_iter().filter(|declared| declared.sort != Sort::Function);
-        let variables = all.map(|declared| Folded(declared.name)).collect();
+        let all = declared(bytes);
+        let of_sort = |is_it: fn(Sort) -> bool| {
+            all.iter().filter(move |declared| is_it(declared.sort)).map(|declared| Folded(declared.name)).collect()
+        };
+        let variables = of_sort(|sort| sort != Sort::Function);
+        let counters = of_sort(|sort| sort == Sort::Integer);
         let commands = commands(bytes);
         let place = |start: usize| tokens.partition_point(|token| token.start < start);
         let ends = commands.iter().skip(1).map(|next| next.start).chain([bytes.len()]);
@@ -253,7 +291,7 @@ impl<'a> Loops<'a> {
             let name = tokens.get(span.clone())?.iter().find(|token| token.kind == Kind::Name)?;
             Some((Folded(of(bytes, name)), span))
         });
-        Loops { bytes, variables, functions: functions.collect(), opened: opened(&tokens), tokens }
+        Loops { bytes, variables, counters, functions: functions.collect(), opened: opened(&tokens), tokens }
     }
 
     /// The tokens in the braces that end directly before a token.
@@ -262,26 +300,56 @@ impl<'a> Loops<'a> {
         Some(*self.opened.get(&close)? + 1..close)
     }
 
-    /// What is said of the token, if it is the `while$` of a loop that changes nothing that its test reads.
-    fn said_of(&self, index: usize, left: &mut usize) -> Option<String> {
-        if !of(self.bytes, &self.tokens[index]).eq_ignore_ascii_case(b"while$") {
+    /// The loop whose `while$` this token is, where both of its functions stand in braces directly before it.
+    fn loop_of(&self, end: usize) -> Option<Loop> {
+        if !of(self.bytes, &self.tokens[end]).eq_ignore_ascii_case(b"while$") {
             return None;
         }
-        let body = self.braces_before(index)?;
+        let body = self.braces_before(end)?;
         let test = self.braces_before(body.start - 1)?;
-        let read = self.read_by(test)?;
-        if self.names_one_of(body, &read, left) {
+        Some(Loop { test, body, end })
+    }
+
+    /// What is said of a loop that changes nothing that its test reads.
+    fn endless(&self, of_while: &Loop, lines: (usize, usize), left: &mut usize) -> Option<String> {
+        let read = self.read_by(of_while.test.clone())?;
+        if read.iter().any(|name| self.may_change(of_while.body.clone(), *name, left)) {
             return None;
         }
-        let names: Vec<_> = read.iter().map(|name| String::from_utf8_lossy(name.0)).collect();
-        Some(if names.is_empty() {
-            "the test of this loop always leaves the same: does the loop end?".to_string()
+        let body = in_lines(lines);
+        Some(if read.is_empty() {
+            format!("does this loop end? Its test always leaves the same (body: {body})")
         } else {
-            format!(
-                "the body of this loop never changes {}, which its test reads: does the loop end?",
-                names.join(" or ")
-            )
+            format!("does this loop end? Its body ({body}) never changes {}, which its test reads", listed(&read, "or"))
         })
+    }
+
+    /// What is said of a loop whose body uses variables that were given a number above it, and that nothing in its function changes.
+    fn still(&self, of_while: &Loop, lines: (usize, usize), left: &mut usize) -> Option<String> {
+        let function = self.functions.values().find(|span| span.contains(&of_while.end))?;
+        let mut names: Vec<Folded<'a>> = Vec::new();
+        for token in self.tokens[of_while.body.clone()].iter().filter(|token| token.kind == Kind::Name) {
+            let name = Folded(of(self.bytes, token));
+            let is_given = || self.is_given_once(function.clone(), of_while.test.start, name);
+            if self.counters.contains(&name) && !names.contains(&name) && is_given() {
+                names.push(name);
+            }
+        }
+        names.retain(|name| !self.may_change(of_while.body.clone(), *name, left));
+        let body = in_lines(lines);
+        let all = listed(&names, "and");
+        (!names.is_empty()).then(|| format!("does this loop count? Its body ({body}) uses {all} and never changes it"))
+    }
+
+    /// Whether a function assigns once to a variable: a number, before this token.
+    fn is_given_once(&self, function: Range<usize>, before: usize, name: Folded<'a>) -> bool {
+        let is_it = |place: &usize| {
+            let token = &self.tokens[*place];
+            token.kind == Kind::Quoted && Folded(&of(self.bytes, token)[1..]) == name
+        };
+        let mut places = function.filter(is_it);
+        let (first, second) = (places.next(), places.next());
+        first.is_some_and(|place| place < before && self.tokens[place - 1].kind == Kind::Integer) && second.is_none()
     }
 
     /// The variables that a test reads; None where it also reads the stack, a field, or what a function of the style does.
@@ -300,8 +368,8 @@ impl<'a> Loops<'a> {
         (!test.is_empty()).then_some(read)
     }
 
-    /// Whether one of these variables is named in these tokens, or in the functions that they name. It may be where `left` tokens don't suffice to see.
-    fn names_one_of(&self, body: Range<usize>, wanted: &[Folded<'a>], left: &mut usize) -> bool {
+    /// Whether a variable stands behind a quote in these tokens, or in the functions that they name. It may do where `left` tokens don't suffice to see.
+    fn may_change(&self, body: Range<usize>, wanted: Folded<'a>, left: &mut usize) -> bool {
         let (mut open, mut seen) = (vec![body], HashSet::new());
         while let Some(span) = open.pop() {
             if span.len() > *left {
@@ -311,7 +379,7 @@ impl<'a> Loops<'a> {
             for token in self.tokens[span].iter().filter(|token| matches!(token.kind, Kind::Name | Kind::Quoted)) {
                 let text = of(self.bytes, token);
                 let name = Folded(if token.kind == Kind::Quoted { &text[1..] } else { text });
-                if wanted.contains(&name) {
+                if token.kind == Kind::Quoted && name == wanted {
                     return true;
                 }
                 if let Some(function) = self.functions.get(&name).filter(|_| seen.insert(name)) {
@@ -338,12 +406,13 @@ mod tests {
 
     #[test]
     fn what_has_no_use_is_named() {
-        let style = "ENTRY {title}{}{label extra}\nINTEGERS {i\n zero one}\nSTRINGS {s T}\nFUNCTION {not.used} {skip$}\n\
-            FUNCTION {misc} {title 's := #0 'zero := #1 'one := #0 'one := #1 zero one + +\n t * label * 'LABEL := }\nREAD\nFUNCTION {late} {}\nITERATE {call.type$}\n";
+        let style = "ENTRY {title}{}{label extra}\nINTEGERS {i\n zero one none once}\nSTRINGS {s T}\nFUNCTION {not.used} {skip$}\n\
+            FUNCTION {misc} {title 's := #0 'zero := #0 'zero := #0 'once := #1 'one := #0 'one := #1 zero one + once none +\n t * label * 'LABEL := }\nREAD\nFUNCTION {late} {}\nITERATE {call.type$}\n";
         let wanted = [
             (1, "the variable extra is never used"),
             (2, "the variable i is never used"),
             (3, "the integer zero is always 0"),
+            (3, "the integer none is always 0: nothing assigns to it"),
             (4, "the variable s is assigned, and its value never used"),
             (5, "the function not.used is never used"),
             (9, "the function late is never used"),
@@ -366,11 +435,14 @@ mod tests {
                 "INTEGERS {{i}} STRINGS {{s}}\nFUNCTION {{c.d}} {{#1 'i := i pop$ \"\" 's := s pop$}}\nFUNCTION {{a.b}} {{\n{body}\n}}\nEXECUTE {{a.b}} EXECUTE {{c.d}}"
             ))
         };
-        let changes = "the body of this loop never changes i, which its test reads: does the loop end?";
-        assert_eq!(of("{i #0 >} {\"x\" write$} while$"), [(4, changes.to_string())]);
+        let changes = "does this loop end? Its body (lines 5-6) never changes i, which its test reads";
+        assert_eq!(of("{i #0 >}\n{i int.to.str$ write$\n} while$"), [(4, changes.to_string())]);
+        let same = "does this loop end? Its test always leaves the same (body: line 4)";
+        assert_eq!(of("{#1} {skip$} while$"), [(4, same.to_string())]);
+        let counts = "does this loop count? Its body (line 5) uses i and never changes it";
         assert_eq!(
-            of("{#1} {skip$} while$"),
-            [(4, "the test of this loop always leaves the same: does the loop end?".to_string())]
+            of("#1 'i := \"xx\" 's :=\n{s empty$ not} {i pop$ s #2 global.max$ substring$ 's :=} while$"),
+            [(5, counts.to_string())]
         );
         for body in [
             "{i #0 >} {i #1 - 'i :=} while$",
@@ -378,6 +450,8 @@ mod tests {
             "{duplicate$ #0 >} {#1 -} while$",
             "'i {skip$} while$",
             "{i} 'c.d while$",
+            "#1 'i := {s empty$} {i pop$ i #1 + 'i := \"\" 's :=} while$",
+            "s num.names$ 'i := {s empty$} {i pop$ \"\" 's :=} while$",
         ] {
             assert_eq!(of(body), []);
         }

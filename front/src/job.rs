@@ -4,7 +4,7 @@ use crate::btx::{self, MemoryRefused};
 use crate::exit::Failure;
 use crate::kpathsea::Format;
 use crate::search::{Search, path_of};
-use crate::system::zeros;
+use crate::system::{trying, zeros};
 use crate::terminal::plain;
 use std::collections::HashSet;
 use std::fmt;
@@ -122,8 +122,8 @@ fn read_ordinary(path: &[u8]) -> io::Result<Place> {
     }
     let mut bytes = Vec::new();
     // One byte more than there are, so that the end is seen without more room.
-    bytes.try_reserve_exact(data.len() as usize + 1).map_err(|_| ErrorKind::OutOfMemory)?;
-    file.take(MOST_READ).read_to_end(&mut bytes)?;
+    trying(|| bytes.try_reserve_exact(data.len() as usize + 1)).map_err(|_| ErrorKind::OutOfMemory)?;
+    trying(|| file.take(MOST_READ).read_to_end(&mut bytes))?;
     Ok(Place::File(bytes, number))
 }
 

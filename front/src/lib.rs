@@ -25,6 +25,8 @@
 //! | [`run_log`] | the log of a run as it is written and printed |
 //! | [`terminal`] | what is safe to print on a terminal, and how wide it is |
 //! | [`exit`] | the exit statuses |
+//! | [`code_places`], [`operands`] | what stands at a place of a style's code, and what that says of a wrong operand |
+//! | [`repeats`] | errors of an execution that repeat |
 //! | [`style_check`], [`hints`] | what can be said of a style before any document uses it |
 //! | [`lint_warnings`], [`lint_entry`] | where a style may go wrong, and an entry that shows it |
 //! | [`lint_text`], [`lint_forms`] | what is printed of a style, for people and for other programs |
@@ -36,6 +38,7 @@ pub mod advice;
 pub mod aux_text;
 #[allow(unsafe_code)]
 pub mod btx;
+pub mod code_places;
 pub mod confined_program;
 pub mod database;
 pub mod databases;
@@ -53,8 +56,10 @@ pub mod lint_text;
 pub mod lint_warnings;
 pub mod log;
 pub mod notes;
+pub mod operands;
 pub mod outputs;
 pub mod places;
+pub mod repeats;
 pub mod run_log;
 pub mod scene;
 pub mod search;

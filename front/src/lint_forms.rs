@@ -1,10 +1,11 @@
 //! What is printed of a style: for people, as a line, as JSON.
 
 use crate::btx::Verdict;
+use crate::code_places::Code;
 use crate::explain;
 use crate::hints::Hint;
 use crate::lint_entry::Shown;
-use crate::lint_text::{groups, verdict, what_of, write};
+use crate::lint_text::{Style, groups, said_of, verdict, write};
 use crate::lint_warnings::{Cause, Fault, Operand, Value, Warning};
 use crate::log::Log;
 use crate::notes::Spot;
@@ -18,6 +19,12 @@ fn path_of(check: &StyleCheck) -> String {
     check.files.with_ending(".bst").next().map(|file| plain(explain::shown_path(file))).unwrap_or_default()
 }
 
+/// The code of the style.
+fn code_of(check: &StyleCheck) -> Code<'_> {
+    let bytes = check.files.with_ending(".bst").next().and_then(|file| file.bytes.as_deref());
+    Code::new(bytes.unwrap_or_default())
+}
+
 // ---- for people ----
 
 /// Writes what is found of a style: what is wrong in its text, where a run may go wrong, hints, and the verdict.
@@ -26,18 +33,22 @@ pub fn write_for_people(check: &StyleCheck, terminal: &Terminal, out: &mut impl 
     if check.messages > 0 {
         explain::write(&Log::new(&check.log), &check.files, Part::Messages, terminal, out)?;
     }
-    write(&path, &check.found, check.entries.as_deref(), out)?;
-    for hint in &check.hints {
+    let style = Style { path: &path, code: &code_of(check), terminal };
+    write(&style, &check.found, check.entries.as_deref(), out)?;
+    for hint in check.hints.iter().filter(|hint| !hint.is_of_loop) {
         writeln!(out, "{path}:{}: hint: {}", hint.line, hint.text)?;
     }
-    write_verdict(&path, check, out)
+    write_verdict(&path, check, out)?;
+    let unsaid = if check.is_clean() { "clean says nothing of loops: " } else { "" };
+    for hint in check.hints.iter().filter(|hint| hint.is_of_loop) {
+        writeln!(out, "{path}:{}: hint: {unsaid}{}", hint.line, hint.text)?;
+    }
+    Ok(())
 }
 
 fn write_verdict(path: &str, check: &StyleCheck, out: &mut impl Write) -> io::Result<()> {
     match &check.verdict {
-        Some(Verdict::Clean { .. }) if check.messages > 0 => {
-            writeln!(out, "{path}: its text has mistakes: mend these first (what could be read of it is clean)")
-        }
+        _ if check.messages > 0 => write_mistakes(path, check, out),
         Some(Verdict::Clean { literals, bodies, types }) => {
             writeln!(
                 out,
@@ -46,15 +57,23 @@ fn write_verdict(path: &str, check: &StyleCheck, out: &mut impl Write) -> io::Re
             let types: String = types.iter().map(|name| format!("{}, ", plain(name))).collect();
             writeln!(out, "    for entries of the types {types}and of all that it doesn't know")
         }
-        Some(Verdict::Warnings(_)) => {
-            let of_text = if check.messages > 0 { "; they may follow from what is wrong in its text" } else { "" };
-            writeln!(out, "{path}: warnings: {}{of_text}", verdict(&check.found))
-        }
+        Some(Verdict::Warnings(_)) => writeln!(out, "{path}: warnings: {}", verdict(&check.found)),
         _ => writeln!(
             out,
-            "{path}: incomplete: the check didn't come to its end; nothing is said of the style (--steps=N)"
+            "{path}: incomplete: the check didn't come to its end: it took too long (--steps=N), or the style goes too deep"
         ),
     }
+}
+
+/// The verdict on a style whose text has mistakes, whatever is found of the rest.
+fn write_mistakes(path: &str, check: &StyleCheck, out: &mut impl Write) -> io::Result<()> {
+    let rest = match &check.verdict {
+        Some(Verdict::Clean { .. }) => "no warning in what could be read of it".to_string(),
+        Some(Verdict::Warnings(_)) => format!("warnings: {}, which may follow from them", verdict(&check.found)),
+        _ => "the check of the rest didn't come to its end".to_string(),
+    };
+    let plural = if check.messages == 1 { "" } else { "s" };
+    writeln!(out, "{path}: mistakes in its text ({} message{plural}): mend these first; {rest}", check.messages)
 }
 
 // ---- as a line ----
@@ -70,13 +89,16 @@ fn first_of(warning: &Warning) -> String {
 pub fn line_of(check: &StyleCheck) -> String {
     let path = path_of(check);
     let shown = check.found.shown();
+    let word = check.word();
     let said = match &check.verdict {
-        Some(Verdict::Clean { literals, bodies, .. }) => format!("clean, literals {literals}, bodies {bodies}"),
+        Some(Verdict::Clean { literals, bodies, .. }) if check.is_clean() => {
+            format!("{word}, literals {literals}, bodies {bodies}")
+        }
         Some(Verdict::Warnings(_)) => {
             let first = shown.first().map_or(String::new(), |first| format!("{}, ", first_of(first)));
-            format!("warnings, {first}places {}, causes {}", shown.len(), groups(&shown).len())
+            format!("{word}, {first}places {}, causes {}", shown.len(), groups(&shown).len())
         }
-        _ => "incomplete".to_string(),
+        _ => word.to_string(),
     };
     format!("{path}: {said}, messages {}, hints {}", check.messages, check.hints.len())
 }
@@ -111,22 +133,17 @@ fn json_object(parts: &[(&str, String)]) -> String {
 
 /// What is found of a style, as an object of JSON.
 pub fn json_of(check: &StyleCheck) -> String {
-    let mut parts = vec![("style", json(&path_of(check)))];
-    match &check.verdict {
-        Some(Verdict::Clean { literals, bodies, types }) => {
-            parts.push(("verdict", json("clean")));
-            parts.push(("literals", literals.to_string()));
-            parts.push(("bodies", bodies.to_string()));
-            parts.push(("types", json_names(types)));
-        }
-        Some(Verdict::Warnings(_)) => parts.push(("verdict", json("warnings"))),
-        _ => parts.push(("verdict", json("incomplete"))),
+    let mut parts = vec![("style", json(&path_of(check))), ("verdict", json(check.word()))];
+    if let Some(Verdict::Clean { literals, bodies, types }) = check.verdict.as_ref().filter(|_| check.is_clean()) {
+        parts.push(("literals", literals.to_string()));
+        parts.push(("bodies", bodies.to_string()));
+        parts.push(("types", json_names(types)));
     }
     let lines = check.log.split(|byte| *byte == b'\n').filter(|line| !line.is_empty());
     parts.push(("messages", json_list(lines.map(|line| json(&plain(line))))));
-    let shown = check.found.shown();
+    let (shown, code) = (check.found.shown(), code_of(check));
     let entry = |number: usize| check.entries.as_ref().and_then(|entries| entries.get(number));
-    let warnings = shown.iter().enumerate().map(|(number, warning)| json_of_warning(warning, entry(number)));
+    let warnings = shown.iter().enumerate().map(|(number, warning)| json_of_warning(warning, &code, entry(number)));
     parts.push(("warnings", json_list(warnings)));
     if !check.found.causes.is_empty() {
         parts.push(("causes", json_list(check.found.causes.iter().map(json_of_cause))));
@@ -161,8 +178,9 @@ fn json_of_operand(operand: &Operand) -> String {
     json_object(&parts)
 }
 
-fn json_of_warning(warning: &Warning, entry: Option<&Shown>) -> String {
-    let mut parts = vec![("text", json(&what_of(warning)))];
+fn json_of_warning(warning: &Warning, code: &Code<'_>, entry: Option<&Shown>) -> String {
+    let (what, advice) = said_of(warning, code);
+    let mut parts = vec![("text", json(&what)), ("do", json(&advice))];
     if let Some(fault) = warning.fault {
         parts.push(("fault", json(Fault::word(fault))));
     }

@@ -25,7 +25,7 @@ const HELP: &str = "\
                  for up to two seconds a style; each is tried by a run
 --job JOB        explain instead where JOB's style stands at each error, as
                  bibtex-explain does
---steps=N        how many steps a check may take (1000000)
+--steps=N        how many steps a check may take (2000000)
 --help           print this and exit
 --version        print the version and exit
 
@@ -34,7 +34,7 @@ Exit status: 0 all are clean; 1 the words are refused, or a style isn't found;
 ";
 
 /// How many steps a check may take.
-const STEPS: u64 = 1_000_000;
+const STEPS: u64 = 2_000_000;
 
 /// How a style's check is printed.
 #[derive(Debug, Clone, Copy, PartialEq, Eq)]
@@ -54,6 +54,9 @@ struct How {
     has_entries: bool,
 }
 
+/// How they are checked where nothing else is said.
+const USUAL: How = How { form: Form::People, steps: STEPS, has_entries: false };
+
 /// What the words of the command line ask for.
 #[derive(Debug, PartialEq, Eq)]
 enum Asked {
@@ -66,8 +69,8 @@ enum Asked {
 
 /// Reads the words of the command line.
 fn read_words(words: impl Iterator<Item = Vec<u8>>) -> Asked {
-    let mut how = How { form: Form::People, steps: STEPS, has_entries: false };
-    let mut styles = Vec::new();
+    let mut how = USUAL;
+    let (mut styles, mut job) = (Vec::new(), None);
     let (mut words, mut are_names) = (words, false);
     while let Some(word) = words.next() {
         let option = word.strip_prefix(b"-").filter(|rest| !rest.is_empty() && !are_names);
@@ -82,14 +85,22 @@ fn read_words(words: impl Iterator<Item = Vec<u8>>) -> Asked {
             b"entry" => how.has_entries = true,
             b"help" => return Asked::Help,
             b"version" => return Asked::Version,
-            b"job" => return words.next().map_or_else(|| Asked::Refused("--job needs a job".into()), Asked::Job),
+            b"job" => match words.next() {
+                Some(word) => job = Some(word),
+                None => return Asked::Refused("--job needs a job".into()),
+            },
             _ => match steps_of(option) {
                 Some(number) => how.steps = number,
                 None => return Asked::Refused(format!("I don't know the option {}", plain(&word))),
             },
         }
     }
-    if styles.is_empty() { Asked::Refused("name a style".into()) } else { Asked::Check { how, styles } }
+    match job {
+        Some(job) if styles.is_empty() && how == USUAL => Asked::Job(job),
+        Some(_) => Asked::Refused("--job takes no other option and no style: it explains a job for people".into()),
+        None if styles.is_empty() => Asked::Refused("name a style".into()),
+        None => Asked::Check { how, styles },
+    }
 }
 
 /// The number of an option `steps=N`.
@@ -199,8 +210,12 @@ mod tests {
         assert_eq!(asked(&["--entry", "plain"]), check(Form::People, STEPS, true, "plain"));
         assert_eq!(asked(&["--job", "paper"]), Asked::Job(b"paper".to_vec()));
         assert_eq!(asked(&["--help", "x"]), Asked::Help);
-        for refused in [&["--job"][..], &[], &["--nosuch", "plain"], &["--steps=x", "plain"]] {
+        for refused in
+            [&["--job"][..], &[], &["--nosuch", "plain"], &["--steps=x", "plain"], &["--json", "--job", "paper"]]
+        {
             assert!(matches!(asked(refused), Asked::Refused(_)), "{refused:?}");
         }
+        assert!(matches!(asked(&["--job", "paper", "--line"]), Asked::Refused(_)));
+        assert!(matches!(asked(&["--job", "paper", "plain"]), Asked::Refused(_)));
     }
 }

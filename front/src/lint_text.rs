@@ -1,10 +1,13 @@
 //! The warnings of a style in words for its designer.
 
 use crate::advice;
+use crate::code_places::Code;
 use crate::lint_entry::Shown;
 use crate::lint_warnings::{Cause, Fault, Growth, Operand, Value, Wanted, Warning, Warnings};
 use crate::notes::Spot;
-use crate::terminal::plain;
+use crate::operands::{assigned, compared, let_through, without_entry};
+use crate::shown_line::ShownLine;
+use crate::terminal::{Terminal, plain};
 use std::io::{self, Write};
 
 /// How many types, and how many fields, are named at most.
@@ -108,8 +111,27 @@ fn literals(count: usize) -> String {
     }
 }
 
+/// What may go wrong and what to do, in words. The style's text says of some operands more than the notes do.
+pub fn said_of(warning: &Warning, code: &Code<'_>) -> (String, String) {
+    let usual = || (what_of(warning), advice_of(warning));
+    let Some(place) = warning.places.first().and_then(|spot| code.place(spot, &warning.next)) else { return usual() };
+    let next = plain(&warning.next);
+    match (warning.fault, &warning.missing) {
+        (Some(Fault::NotAssignable | Fault::WrongKind), None) if next == ":=" => assigned(place)
+            .map_or_else(usual, |(what, advice)| (format!("`{next}` takes VALUE 'VARIABLE: {what}"), advice)),
+        (Some(Fault::Incomparable), None) => compared(place).map_or_else(usual, |(what, advice)| {
+            (format!("`{next}` compares two strings or two numbers: {what}"), advice)
+        }),
+        (_, Some(field)) => match let_through(place, Some(field)) {
+            Some(advice) => (what_of(warning), advice),
+            None => usual(),
+        },
+        _ => usual(),
+    }
+}
+
 /// What may go wrong, in words.
-pub fn what_of(warning: &Warning) -> String {
+fn what_of(warning: &Warning) -> String {
     let next = plain(&warning.next);
     let takes = advice::operands(&warning.next);
     let operand = warning.operand.as_ref().map(|operand| operand_text(operand, takes.unwrap_or("")));
@@ -118,7 +140,10 @@ pub fn what_of(warning: &Warning) -> String {
             let command = warning.item.as_ref().map_or(format!("a command with `{next}`"), owner);
             format!("{command} may leave {} on the stack", warning.depth.map_or("literals".to_string(), literals))
         }
-        (Some(Fault::NoEntry), _, _) => format!("`{next}` needs a current entry, and EXECUTE has none"),
+        (Some(Fault::NoEntry), _, _) => {
+            let command = warning.item.as_ref().map_or("EXECUTE".to_string(), owner);
+            format!("`{next}` needs a current entry, and {command} has none")
+        }
         (Some(Fault::EmptyStack), Some(takes), _) => {
             let depth = warning.depth.map_or("too few literals".to_string(), literals);
             format!("`{next}` takes {takes}, and there may be {depth} on the stack here")
@@ -161,7 +186,7 @@ const TAKE_OFF: &str =
     "take off what is pushed, by `write$` or `pop$`, in each function on the way and in both branches of each `if$`";
 
 /// What to do about it.
-pub fn advice_of(warning: &Warning) -> String {
+fn advice_of(warning: &Warning) -> String {
     let takes = advice::operands(&warning.next);
     if let Some(field) = &warning.missing {
         let field = plain(field);
@@ -176,7 +201,10 @@ pub fn advice_of(warning: &Warning) -> String {
         };
     }
     match warning.fault {
-        Some(Fault::NoEntry) => "run the function by ITERATE or REVERSE, not by EXECUTE".to_string(),
+        Some(Fault::NoEntry) => match &warning.item {
+            Some(item) => without_entry(&owner(item), item.call.line),
+            None => "run the function by ITERATE or REVERSE, not by EXECUTE".to_string(),
+        },
         Some(Fault::NotAssignable) => "assign to a name that INTEGERS, STRINGS or ENTRY declares".to_string(),
         Some(Fault::LeftOver) => TAKE_OFF.to_string(),
         None if warning.places.is_empty() => TAKE_OFF.to_string(),
@@ -192,7 +220,10 @@ fn advice_on_kind(warning: &Warning, takes: &str) -> String {
     let Some(operand) = &warning.operand else { return LEAVE_THE_SAME.to_string() };
     let is_function = matches!(operand.value, Value::Function(_));
     match operand.wanted {
-        Some(Wanted::Function) if warning.next == b":=" => "write a ' before the variable".to_string(),
+        Some(Wanted::Function) if warning.next == b":=" => {
+            let name = operand.owner.as_ref().map_or(String::new(), |(_, name)| format!(": `'{}`", plain(name)));
+            format!("write a ' before the variable{name}")
+        }
         Some(Wanted::Function) => {
             "put both functions in braces, or write a ' before the name of each; the number or test stands before them"
                 .to_string()
@@ -262,41 +293,100 @@ fn growth_text((least, most): Growth) -> String {
     if least == most { least.to_string() } else { format!("{least} to {most}") }
 }
 
-/// Writes where the numbers of literals differ.
-fn write_cause(path: &str, cause: &Cause, out: &mut impl Write) -> io::Result<()> {
+/// A style as its warnings are shown: its path, its code, and where they are printed.
+pub struct Style<'s, 'a> {
+    pub path: &'s str,
+    pub code: &'s Code<'a>,
+    pub terminal: &'s Terminal,
+}
+
+impl Style<'_, '_> {
+    /// Writes the line of a place, with a mark below its token.
+    fn write_line(&self, spot: &Spot, token: &[u8], out: &mut impl Write) -> io::Result<()> {
+        let number = spot.call.line;
+        let line = self.code.text.line(number);
+        if line.is_empty() {
+            return Ok(());
+        }
+        let mark = self.code.place(spot, token).map(|place| place.mark());
+        let lines = ShownLine { name: self.path, number, line, mark }.lines(self.terminal);
+        lines.iter().try_for_each(|line| writeln!(out, "    {line}"))
+    }
+}
+
+/// Writes where the numbers of literals differ, and in which lines of the same function they do so, too.
+fn write_cause(style: &Style<'_, '_>, cause: &Cause, others: &[usize], out: &mut impl Write) -> io::Result<()> {
     let [yes, no] = cause.grows.map(growth_text);
-    let Spot { call, .. } = &cause.spot;
     writeln!(
         out,
-        "{path}:{}: in {}: the branches of this `if$` leave different numbers of literals: the first {yes}, the second {no}",
-        call.line,
+        "{}:{}: in {}: the branches of this `if$` leave different numbers of literals: the first {yes}, the second {no}",
+        style.path,
+        cause.spot.call.line,
         owner(&cause.spot)
     )?;
+    style.write_line(&cause.spot, b"if$", out)?;
+    write_lines("and, which may follow from it,", others, out)?;
     writeln!(out, "    do: let both leave the same number; warnings below may follow from this")
 }
 
+/// Whether numbers of literals vary in a branch: then another `if$` is the reason, where there is one.
+fn varies(cause: &Cause) -> bool {
+    cause.grows.iter().any(|(least, most)| least != most)
+}
+
+/// Writes the causes. Those that may follow from another one of the same function are named with it.
+fn write_causes(style: &Style<'_, '_>, causes: &[Cause], out: &mut impl Write) -> io::Result<()> {
+    let has_first =
+        |cause: &Cause| causes.iter().any(|first| !varies(first) && owner(&first.spot) == owner(&cause.spot));
+    let mut named: Vec<String> = Vec::new();
+    for cause in causes.iter().filter(|cause| !(varies(cause) && has_first(cause))) {
+        let function = owner(&cause.spot);
+        let is_other = |other: &&Cause| varies(other) && !varies(cause) && owner(&other.spot) == function;
+        let is_new = !named.contains(&function);
+        let others = causes.iter().filter(is_other).filter(|_| is_new).map(|other| other.spot.call.line);
+        write_cause(style, cause, &others.collect::<Vec<_>>(), out)?;
+        named.push(function);
+    }
+    Ok(())
+}
+
+/// Writes further lines, if there are any.
+fn write_lines(word: &str, lines: &[usize], out: &mut impl Write) -> io::Result<()> {
+    if lines.is_empty() {
+        return Ok(());
+    }
+    let plural = if lines.len() > 1 { "s" } else { "" };
+    let lines: Vec<String> = lines.iter().map(usize::to_string).collect();
+    writeln!(out, "    {word} in line{plural} {}", lines.join(", "))
+}
+
 /// Writes the warnings of one cause.
-fn write_group(path: &str, group: &[&Warning], entry: Option<&Shown>, out: &mut impl Write) -> io::Result<()> {
-    let first = group[0];
+fn write_group(
+    style: &Style<'_, '_>,
+    group: &[&Warning],
+    entry: Option<&Shown>,
+    out: &mut impl Write,
+) -> io::Result<()> {
+    let (first, path) = (group[0], style.path);
+    let (what, advice) = said_of(first, style.code);
     match (first.spot(), first.places.first()) {
-        (Some(_), Some(at)) => writeln!(out, "{path}:{}: in {}: {}", at.call.line, owner(at), what_of(first))?,
-        (Some(item), None) => writeln!(out, "{path}:{}: {}", item.call.line, what_of(first))?,
-        (None, _) => writeln!(out, "{path}: {}", what_of(first))?,
+        (Some(_), Some(at)) => writeln!(out, "{path}:{}: in {}: {what}", at.call.line, owner(at))?,
+        (Some(item), None) => writeln!(out, "{path}:{}: {what}", item.call.line)?,
+        (None, _) => writeln!(out, "{path}: {what}")?,
+    }
+    if let Some(spot) = first.spot() {
+        style.write_line(spot, &first.next, out)?;
     }
     let mut lines: Vec<usize> = group[1..].iter().map(|warning| warning.line()).collect();
     lines.sort_unstable();
     lines.dedup();
     lines.retain(|line| *line != first.line());
-    if !lines.is_empty() {
-        let plural = if lines.len() > 1 { "s" } else { "" };
-        let lines: Vec<String> = lines.iter().map(usize::to_string).collect();
-        writeln!(out, "    and in line{plural} {}", lines.join(", "))?;
-    }
+    write_lines("and", &lines, out)?;
     let said = [
         ("for entries of type", types_of(group)),
         ("when", conditions_of(first)),
         ("run by", way_of(first)),
-        ("do", Some(advice_of(first))),
+        ("do", Some(advice)),
     ];
     for (label, text) in said {
         if let Some(text) = text {
@@ -333,12 +423,17 @@ fn plain_lines(text: &[u8]) -> Vec<String> {
 }
 
 /// Writes all warnings of a style; `entries` says of each that is shown whether an entry shows it, where that was asked.
-pub fn write(path: &str, found: &Warnings, entries: Option<&[Shown]>, out: &mut impl Write) -> io::Result<()> {
+pub fn write(
+    style: &Style<'_, '_>,
+    found: &Warnings,
+    entries: Option<&[Shown]>,
+    out: &mut impl Write,
+) -> io::Result<()> {
     let shown = found.shown();
     let is_of_stack =
         |warning: &&&Warning| matches!(warning.fault, Some(Fault::EmptyStack | Fault::LeftOver | Fault::WrongKind));
     if shown.iter().any(|warning| is_of_stack(&warning)) {
-        found.causes.iter().try_for_each(|cause| write_cause(path, cause, out))?;
+        write_causes(style, &found.causes, out)?;
     }
     for group in groups(&shown) {
         let warnings: Vec<&Warning> = group.iter().map(|number| shown[*number]).collect();
@@ -346,7 +441,7 @@ pub fn write(path: &str, found: &Warnings, entries: Option<&[Shown]>, out: &mut 
             let mut of_group = group.iter().filter_map(|number| entries.get(*number));
             of_group.clone().find(|entry| matches!(entry, Shown::By { .. })).or_else(|| of_group.next())
         });
-        write_group(path, &warnings, entry, out)?;
+        write_group(style, &warnings, entry, out)?;
     }
     Ok(())
 }
@@ -425,7 +520,9 @@ mod tests {
             warning stack first\nnext add.period$\nat in 3 3 2 f\ncause in 7 3 9 f\ngrows 0 0 1 2\n";
         let mut out = Vec::new();
         let found = read(notes, b"s.bst");
-        write("s.bst", &found, None, &mut out).unwrap();
+        let code = Code::new(b"");
+        let style = Style { path: "s.bst", code: &code, terminal: &Terminal::NONE };
+        write(&style, &found, None, &mut out).unwrap();
         let wanted = "s.bst:7: in f: the branches of this `if$` leave different numbers of literals: the first 0, the second 1 to 2\n    \
             do: let both leave the same number; warnings below may follow from this\n\
             s.bst:4: in f: `write$` takes TEXT, and there may be no literal on the stack here\n    and in line 3\n    \

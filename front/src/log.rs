@@ -5,7 +5,9 @@
 
 use crate::advice::{self, Section};
 use crate::scene::{End, Scene, Scenes};
-use crate::text::{split_first, split_last};
+use crate::text::{split_first, split_last, split_line};
+use std::collections::{BTreeMap, btree_map};
+use std::iter::Peekable;
 
 /// How grave a message is.
 #[derive(Debug, Clone, Copy, PartialEq, Eq)]
@@ -102,12 +104,19 @@ pub struct Line<'a> {
 pub struct Log<'a> {
     bytes: &'a [u8],
     scenes: Option<&'a Scenes>,
+    /// Whether a signal ended the run.
+    pub is_interrupted: bool,
 }
 
 impl<'a> Log<'a> {
     /// The log that these bytes are.
     pub fn new(bytes: &'a [u8]) -> Self {
-        Log { bytes, scenes: None }
+        Log { bytes, scenes: None, is_interrupted: false }
+    }
+
+    /// The same log, of a run that a signal ended or didn't: it was stopped by that, and not by the budget that was asked for.
+    pub fn interrupted(self, is_interrupted: bool) -> Self {
+        Log { is_interrupted, ..self }
     }
 
     /// The same log, with the places in the style that somebody found out.
@@ -122,7 +131,9 @@ impl<'a> Log<'a> {
 
     /// The lines of the log, in their order. They aren't kept: a log may have millions.
     pub fn lines(&self) -> Lines<'a> {
-        Lines { rest: self.bytes, scenes: self.scenes, part: Part::AuxFiles, errors: 0, warnings: 0 }
+        let errors = Numbered::new(self.scenes.map(|scenes| &scenes.errors));
+        let warnings = Numbered::new(self.scenes.map(|scenes| &scenes.warnings));
+        Lines { rest: self.bytes, part: Part::AuxFiles, errors, warnings }
     }
 }
 
@@ -137,14 +148,33 @@ enum Part {
     Run,
 }
 
+/// Messages of one kind, counted as they come, and the scenes that are known of those that are still to come.
+#[derive(Debug, Clone)]
+struct Numbered<'a> {
+    count: usize,
+    scenes: Peekable<btree_map::Iter<'a, usize, Scene>>,
+}
+
+impl<'a> Numbered<'a> {
+    fn new(scenes: Option<&'a BTreeMap<usize, Scene>>) -> Self {
+        Numbered { count: 0, scenes: scenes.map(BTreeMap::iter).unwrap_or_default().peekable() }
+    }
+
+    /// The scene of the next message.
+    fn next_scene(&mut self) -> Option<&'a Scene> {
+        let number = self.count;
+        self.count += 1;
+        self.scenes.next_if(|(of, _)| **of == number).map(|(_, scene)| scene)
+    }
+}
+
 /// The lines of a log.
 #[derive(Debug, Clone)]
 pub struct Lines<'a> {
     rest: &'a [u8],
-    scenes: Option<&'a Scenes>,
     part: Part,
-    errors: usize,
-    warnings: usize,
+    errors: Numbered<'a>,
+    warnings: Numbered<'a>,
 }
 
 impl<'a> Iterator for Lines<'a> {
@@ -154,7 +184,7 @@ impl<'a> Iterator for Lines<'a> {
         if self.rest.is_empty() {
             return None;
         }
-        let (bytes, rest) = split_first(self.rest, b"\n").unwrap_or((self.rest, b""));
+        let (bytes, rest) = split_line(self.rest);
         self.rest = rest;
         Some(Line { bytes, content: self.content(bytes) })
     }
@@ -174,14 +204,10 @@ impl<'a> Lines<'a> {
             return Content::Found(name);
         }
         if let Some(text) = line.strip_prefix(b"Error--") {
-            self.errors += 1;
-            let scene = self.scenes.and_then(|scenes| scenes.errors.get(&(self.errors - 1)));
-            return Content::Message(Message { scene, ..error(text) });
+            return Content::Message(Message { scene: self.errors.next_scene(), ..error(text) });
         }
         if let Some(text) = line.strip_prefix(b"Warning--") {
-            self.warnings += 1;
-            let scene = self.scenes.and_then(|scenes| scenes.warnings.get(&(self.warnings - 1)));
-            return Content::Message(Message { scene, ..warning(text) });
+            return Content::Message(Message { scene: self.warnings.next_scene(), ..warning(text) });
         }
         let end = if self.rest.is_empty() { ended(line) } else { None };
         end.map_or(Content::Other, Content::Ended)

@@ -1,9 +1,9 @@
 //! Where a style stood at each error of a run's execution, and where the run was stopped or met a limit. The library runs the job once more to find
 //! that out, so it is asked only where there is something to find.
 
-use crate::btx::{self, Answer, Options, Ran};
+use crate::btx::{self, Answer, Options, Ran, Rooms};
 use crate::job::Files;
-use crate::log::{Content, Log, Message, Place, Severity};
+use crate::log::{Content, Line, Log, Message, Place, Severity};
 use crate::notes::{self, Note, Spot, What};
 use crate::scene::{Call, End, Held, Scene, Scenes};
 use crate::style_text::Tokens;
@@ -26,6 +26,12 @@ const STEPS_OF_ALL: u64 = 400_000_000;
 /// How many steps of a run are looked at that doesn't end: where it stands then is found step by step, which takes longer.
 const STEPS_OF_ENDLESS: u64 = 1_000_000;
 
+/// A run that fills a room is looked at up to where it has filled this part of it, and this many bytes at least: in so few steps it does what it is to be blamed for. How many
+/// steps are tried first; each time that this isn't enough twice as many are, `STEPS_OF_ENDLESS` at most.
+const PART_OF_ROOM: usize = 128;
+const LEAST_OF_ROOM: usize = 1 << 19;
+const FIRST_STEPS_OF_FLOOD: u64 = 1 << 14;
+
 /// The same as time of the processor, since a step may take very long: of a run that ends, and of one that doesn't, for each time that it is run again; and of all runs
 /// that find the places of events. One event is looked for in any case.
 const TIME: Duration = Duration::from_secs(5);
@@ -46,29 +52,54 @@ struct Logged<'a> {
     listing: Vec<&'a [u8]>,
 }
 
-/// The first errors of the execution in a log, by their numbers; and how many errors there are in all.
-fn errors_of(log: &[u8]) -> (HashMap<usize, Logged<'_>>, usize) {
-    let mut found: HashMap<usize, Logged<'_>> = HashMap::new();
-    let mut count: usize = 0;
-    for line in Log::new(log).lines() {
+/// The errors in a log.
+#[derive(Default)]
+struct Errors<'a> {
+    /// The first errors of the execution, by their numbers.
+    of_execution: HashMap<usize, Logged<'a>>,
+    /// How many errors there are.
+    count: usize,
+}
+
+impl<'a> Errors<'a> {
+    /// Those of a whole log.
+    fn of(log: &'a [u8]) -> Errors<'a> {
+        let mut errors = Errors::default();
+        Log::new(log).lines().for_each(|line| errors.add(&line));
+        errors
+    }
+
+    /// Those of a log up to where enough errors of the execution are found.
+    fn first_of(log: &'a [u8]) -> Errors<'a> {
+        let mut errors = Errors::default();
+        let mut lines = Log::new(log).lines();
+        while errors.of_execution.len() < MOST_LOGGED
+            && let Some(line) = lines.next()
+        {
+            errors.add(&line);
+        }
+        errors
+    }
+
+    /// Takes the next line.
+    fn add(&mut self, line: &Line<'a>) {
         match line.content {
             Content::Message(Message { severity: Severity::Error, place, .. }) => {
                 if let Place::Execution { function, entry } = place
-                    && found.len() < MOST_LOGGED
+                    && self.of_execution.len() < MOST_LOGGED
                 {
-                    found.insert(count, Logged { function, entry, listing: Vec::new() });
+                    self.of_execution.insert(self.count, Logged { function, entry, listing: Vec::new() });
                 }
-                count += 1;
+                self.count += 1;
             }
             Content::Message(_) | Content::Ended(_) | Content::Found(_) => {}
             Content::Other => {
-                if let Some(last) = count.checked_sub(1).and_then(|last| found.get_mut(&last)) {
+                if let Some(last) = self.count.checked_sub(1).and_then(|last| self.of_execution.get_mut(&last)) {
                     last.listing.push(line.bytes);
                 }
             }
         }
     }
-    (found, count)
 }
 
 /// The job whose places are found.
@@ -87,15 +118,15 @@ fn steps_within(time: Duration, all: u64, took: Duration) -> u64 {
 }
 
 /// Where the style stood at the errors of a run, and at its end where it didn't come to an end of its own.
-pub fn scenes(files: &Files, options: &Options, ran: &Ran) -> Scenes {
+pub fn scenes(files: &Files, options: &Options, rooms: &Rooms, ran: &Ran) -> Scenes {
     let Some(style) = files.with_ending(".bst").next() else { return Scenes::default() };
     let search = Search { files, options, style: &style.name, text: style.bytes.as_deref().unwrap_or(b"") };
     match ran.answer {
         Answer::Done(report) if report.has_finished() && report.errors == 0 => Scenes::default(),
         Answer::Done(report) => {
-            let (errors, count) = errors_of(&ran.log);
+            let errors = Errors::of(&ran.log);
             // A style can log lines that look like errors; then no error's number is certain.
-            let errors = if count as u64 == report.errors { errors } else { HashMap::new() };
+            let errors = if errors.count as u64 == report.errors { errors.of_execution } else { HashMap::new() };
             if report.has_finished() && errors.is_empty() {
                 return Scenes::default();
             }
@@ -111,14 +142,33 @@ pub fn scenes(files: &Files, options: &Options, ran: &Ran) -> Scenes {
             search.scenes(&errors, if is_cut { steps } else { options.budget }, steps, of_all, !report.has_finished())
         }
         Answer::ListFull | Answer::LogFull if ran.took <= TIME => {
-            let steps = options.budget.min(STEPS_OF_ENDLESS);
-            search.scenes(&errors_of(&ran.log).0, steps, steps, STEPS_OF_ALL, true)
+            let (errors, steps) = (Errors::first_of(&ran.log).of_execution, search.steps_of_flood(rooms));
+            search.scenes(&errors, steps, steps, STEPS_OF_ALL, true)
         }
         Answer::ListFull | Answer::LogFull | Answer::Memory => Scenes::default(),
     }
 }
 
 impl Search<'_> {
+    /// In how many steps a run that fills one of these rooms has filled a part of it.
+    fn steps_of_flood(&self, rooms: &Rooms) -> u64 {
+        let part = |room: usize| (room / PART_OF_ROOM).max(room.min(LEAST_OF_ROOM));
+        let parts = Rooms { list: part(rooms.list), log: part(rooms.log) };
+        let most = self.options.budget.min(STEPS_OF_ENDLESS);
+        let is_enough = |budget: u64| {
+            let options = Options { budget, ..*self.options };
+            matches!(
+                btx::run(&self.files.top, &self.files.all, &options, &parts).answer,
+                Answer::ListFull | Answer::LogFull
+            )
+        };
+        let mut steps = FIRST_STEPS_OF_FLOOD;
+        while steps < most && !is_enough(steps) {
+            steps *= 2;
+        }
+        steps.min(most)
+    }
+
     /// The notes of the first `most` events, and of the end, of a run with this budget.
     fn notes(&self, budget: u64, most: u64) -> Vec<Note> {
         let options = Options { budget, ..*self.options };
@@ -230,7 +280,6 @@ const MOST_LEFT: usize = 8;
 #[cfg(test)]
 mod tests {
     use super::*;
-    use crate::btx::Rooms;
     use crate::job::File;
 
     const OPTIONS: Options =
@@ -257,8 +306,9 @@ mod tests {
     /// The scenes of a job with this style.
     fn found(style: &str) -> Scenes {
         let files = files(style);
-        let ran = btx::run(&files.top, &files.all, &OPTIONS, &Rooms { list: 1 << 16, log: 1 << 16 });
-        scenes(&files, &OPTIONS, &ran)
+        let rooms = Rooms { list: 1 << 16, log: 1 << 16 };
+        let ran = btx::run(&files.top, &files.all, &OPTIONS, &rooms);
+        scenes(&files, &OPTIONS, &rooms, &ran)
     }
 
     fn lines(scene: &Scene) -> Vec<usize> {

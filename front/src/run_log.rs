@@ -18,6 +18,15 @@ const BANNER: &[u8] = concat!("This is BibTeX, Version ", env!("CARGO_PKG_VERSIO
 /// How many lines of a log that has filled its room are printed.
 const MOST_PRINTED: usize = 1000;
 
+/// What a signal ended.
+#[derive(Debug, Clone, Copy)]
+pub enum Interrupted {
+    /// A run: what there is is that of its beginning.
+    Run(Signal),
+    /// The search for where the style stood at the errors of a run that is done.
+    Search(Signal),
+}
+
 /// The log of a run.
 pub struct RunLog<'a> {
     words: &'a Words,
@@ -25,8 +34,8 @@ pub struct RunLog<'a> {
     /// The log's name.
     name: &'a [u8],
     ran: &'a Ran,
-    /// The signal that ended a longer run.
-    signal: Option<Signal>,
+    /// What a signal ended, if one came.
+    interrupted: Option<Interrupted>,
     /// Where the style stood at its errors.
     scenes: Scenes,
 }
@@ -38,15 +47,16 @@ impl<'a> RunLog<'a> {
         files: &'a Files,
         name: &'a [u8],
         ran: &'a Ran,
-        signal: Option<Signal>,
+        interrupted: Option<Interrupted>,
         scenes: Scenes,
     ) -> Self {
-        RunLog { words, files, name, ran, signal, scenes }
+        RunLog { words, files, name, ran, interrupted, scenes }
     }
 
     /// The log as the library wrote it, with the places in the style.
     fn log(&self) -> Log<'_> {
-        Log::new(&self.ran.log).with_scenes(&self.scenes)
+        let is_interrupted = matches!(self.interrupted, Some(Interrupted::Run(_)));
+        Log::new(&self.ran.log).with_scenes(&self.scenes).interrupted(is_interrupted)
     }
 
     /// The whole log, as it stands in the `.blg`.
@@ -59,19 +69,22 @@ impl<'a> RunLog<'a> {
 
     /// The log in the original's shapes.
     fn shape(&self, part: Part, into: &mut Vec<u8>) {
-        // Memory takes all that is written.
-        let _ = shapes::write(&self.log(), self.files, part, into);
+        shapes::write(&self.log(), self.files, part, self.words.rooms.log, into);
     }
 
     /// What is to be said of a run that was ended, before its messages, and where its style stood.
     fn notes(&self) -> Vec<u8> {
         let megabytes = |room: usize| room as f64 / f64::from(1 << 20);
         let rooms = &self.words.rooms;
-        let mut notes = match (self.signal, self.ran.answer) {
-            (Some(signal), Answer::Done(report)) => format!(
+        let mut notes = match (self.interrupted, self.ran.answer) {
+            (Some(Interrupted::Run(signal)), Answer::Done(report)) => format!(
                 "Interrupted by {}: list and log are those of the first {} steps, and begin what the run would have written.\n",
                 signal.name(),
                 report.steps
+            ),
+            (Some(Interrupted::Search(signal)), Answer::Done(_)) => format!(
+                "Interrupted by {}: the run was done, and list and log are whole; where the style stood is left out.\n",
+                signal.name()
             ),
             (_, Answer::LogFull) => {
                 format!("Ended: the messages fill the log's room of {:.1} MB (-log-room).\n", megabytes(rooms.log))
@@ -85,7 +98,7 @@ impl<'a> RunLog<'a> {
         if matches!(self.ran.answer, Answer::LogFull | Answer::ListFull)
             && let Some(at) = self.scenes.end.as_ref().and_then(End::placed)
         {
-            let _ = shapes::write_place(at, &mut notes);
+            shapes::write_place(at, &mut notes);
         }
         notes
     }

@@ -3,10 +3,10 @@
 //! A log says which built-in function met an error, and for which entry, but not where in the style that was. Who finds that out hands it in
 //! as [`Scenes`], by the numbers of the messages; without it the line of the last command that executes functions is named.
 
-use std::collections::HashMap;
+use std::collections::BTreeMap;
 
 /// A place in a function of a style.
-#[derive(Debug, Clone, PartialEq, Eq)]
+#[derive(Debug, Clone, PartialEq, Eq, Hash)]
 pub struct Call {
     /// The function, or the command, as it is to be shown: `{..} of FUNCTION {format.names}`, `format.names`, `ITERATE {call.type$}`.
     pub function: Vec<u8>,
@@ -37,6 +37,11 @@ pub struct Scene {
 }
 
 impl Scene {
+    /// The command that is executed.
+    pub fn command(&self) -> &Call {
+        self.callers.last().unwrap_or(&self.at)
+    }
+
     /// The innermost place whose line is known.
     pub fn placed(&self) -> Option<&Call> {
         std::iter::once(&self.at).chain(&self.callers).find(|call| call.line > 0)
@@ -54,9 +59,9 @@ impl End {
 #[derive(Debug, Clone, Default, PartialEq, Eq)]
 pub struct Scenes {
     /// Those of errors.
-    pub errors: HashMap<usize, Scene>,
+    pub errors: BTreeMap<usize, Scene>,
     /// Those of warnings.
-    pub warnings: HashMap<usize, Scene>,
+    pub warnings: BTreeMap<usize, Scene>,
     /// Where the style stood when the run ended before its last command.
     pub end: Option<End>,
 }

@@ -18,9 +18,10 @@ use std::panic::{self, PanicHookInfo};
 use std::process::{self, ExitCode};
 use std::sync::Arc;
 
-const HELP: &str = "\
-  Writes the list of references of JOB.aux to JOB.bbl, and a log to JOB.blg.
-  Styles are found along BSTINPUTS, databases along BIBINPUTS, and both where
+const WRITES: &str = "Writes the list of references of JOB.aux to JOB.bbl, and a log to JOB.blg.\n";
+const EXPLAINS: &str = "Explains what a run of JOB.aux says, and writes nothing.\n";
+
+const HELP: &str = "  Styles are found along BSTINPUTS, databases along BIBINPUTS, and both where
   TeX has its own.
 
 -min-crossrefs=N  how often a parent must be named to be listed by itself (2)
@@ -72,7 +73,10 @@ pub fn main() -> ExitCode {
         printed.map_or_else(|fault| name.unprinted(&fault), |()| Status::Finished)
     };
     match words::read(words.map(OsString::into_vec), explain, jobs_last) {
-        Asked::Help => printed(format!("Usage: {name} [OPTION]... JOB\n{HELP}")),
+        Asked::Help => {
+            let does = if name.is("bibtex-explain") { EXPLAINS } else { WRITES };
+            printed(format!("Usage: {name} [OPTION]... JOB\n{does}{HELP}"))
+        }
         Asked::Version => printed(format!("{name} {} (BibTeX, proved)\n", env!("CARGO_PKG_VERSION"))),
         Asked::Refused(why) => {
             name.say(plain(&why));

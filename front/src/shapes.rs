@@ -7,7 +7,6 @@ use crate::scene::{Call, End};
 use crate::sources::{Sources, Spot};
 use crate::style_text;
 use crate::text::{is_white, split_first};
-use std::io::{self, BufWriter, Write};
 
 /// Which lines are written.
 #[derive(Debug, Clone, Copy, PartialEq, Eq)]
@@ -22,21 +21,31 @@ pub enum Part {
 const MOST_SHOWN: usize = 10_000;
 const LONGEST_SHOWN: usize = 500;
 
-/// Writes a log in the original's shapes.
-pub fn write(log: &Log<'_>, files: &Files, part: Part, out: &mut impl Write) -> io::Result<()> {
-    let out = BufWriter::with_capacity(1 << 16, out);
+/// Writes a log in the original's shapes. The places that errors of a style's execution get from its commands take at most `room` bytes; the further ones are left out, since each
+/// has the style's name again.
+pub fn write(log: &Log<'_>, files: &Files, part: Part, room: usize, out: &mut Vec<u8>) {
     let scene_of_end = log.scene_of_end();
     let (sources, top) = (Sources::new(files), &files.top[..]);
-    let mut shapes = Shapes { sources, top, part, shown: 0, last_lines: None, scene_of_end, out };
-    log.lines().filter(|line| part == Part::Whole || !went_well(line)).try_for_each(|line| shapes.line(&line))?;
-    shapes.out.flush()
+    let is_interrupted = log.is_interrupted;
+    let mut shapes =
+        Shapes { sources, top, part, shown: 0, last_places: None, room, scene_of_end, is_interrupted, out };
+    log.lines().filter(|line| part == Part::Whole || !went_well(line)).for_each(|line| shapes.line(&line));
+}
+
+/// Writes pieces of a line, and its end.
+fn put(out: &mut Vec<u8>, pieces: &[&[u8]]) {
+    pieces.iter().for_each(|piece| out.extend_from_slice(piece));
+    out.push(b'\n');
+}
+
+/// Writes where a style stood: in this line of this file.
+fn put_place(line: usize, file: &[u8], out: &mut Vec<u8>) {
+    put(out, &[b"while executing---line ", line.to_string().as_bytes(), b" of file ", file]);
 }
 
 /// Writes where a style stood.
-pub fn write_place(at: &Call, out: &mut impl Write) -> io::Result<()> {
-    write!(out, "while executing---line {} of file ", at.line)?;
-    out.write_all(&at.file)?;
-    out.write_all(b"\n")
+pub fn write_place(at: &Call, out: &mut Vec<u8>) {
+    put_place(at.line, &at.file, out);
 }
 
 /// Whether a line of a log says that all went well.
@@ -58,59 +67,68 @@ pub fn counted(end: &Ended<'_>) -> Option<String> {
     }
 }
 
-/// The lines of the last commands of a style that execute a function; 0 where there is none.
-#[derive(Debug, Clone, Copy, Default, PartialEq, Eq)]
-pub struct LastLines {
-    execute: usize,
-    iterate: usize,
-    reverse: usize,
+/// The places of the last commands of a style that execute a function, each as it is written; its line is 0 where there is none. A log may have millions of
+/// errors at these places.
+struct LastPlaces {
+    execute: Vec<u8>,
+    iterate: Vec<u8>,
+    reverse: Vec<u8>,
+    /// The later one of the two that execute a function for each entry.
+    of_entries: Vec<u8>,
 }
 
-impl LastLines {
-    /// Those of the style of this name.
-    pub fn new(sources: &mut Sources<'_>, style: &[u8]) -> LastLines {
+impl LastPlaces {
+    /// Those of the job's style.
+    fn new(sources: &mut Sources<'_>) -> LastPlaces {
+        let style = sources.style().map_or(&b""[..], |file| &file.name);
         let (commands, text) = (sources.commands(style), sources.text(style));
         let [execute, iterate, reverse] = ["execute", "iterate", "reverse"].map(|word| {
             let last = commands.iter().rev().find(|command| command.is(word));
             last.zip(text.as_ref()).map_or(0, |(command, text)| text.line_of(command.start))
         });
-        LastLines { execute, iterate, reverse }
+        let [execute, iterate, reverse, of_entries] = [execute, iterate, reverse, iterate.max(reverse)].map(|line| {
+            let mut place = Vec::new();
+            put_place(line, style, &mut place);
+            place
+        });
+        LastPlaces { execute, iterate, reverse, of_entries }
     }
 
-    /// The line of the last command that may have executed this function, with an entry or without one.
-    pub fn line(&self, function: &[u8], has_entry: bool) -> usize {
+    /// The place of the last command that may have executed this function, with an entry or without one.
+    fn of(&self, function: &[u8], has_entry: bool) -> &[u8] {
         match (function, has_entry) {
-            (b"ITERATE", _) => self.iterate,
-            (b"REVERSE", _) => self.reverse,
-            (_, true) => self.iterate.max(self.reverse),
-            (_, false) => self.execute,
+            (b"ITERATE", _) => &self.iterate,
+            (b"REVERSE", _) => &self.reverse,
+            (_, true) => &self.of_entries,
+            (_, false) => &self.execute,
         }
     }
 }
 
 /// Writes the lines of a log.
-struct Shapes<'a, W: Write> {
+struct Shapes<'a, 'o> {
     sources: Sources<'a>,
     top: &'a [u8],
     part: Part,
     shown: usize,
-    last_lines: Option<LastLines>,
+    last_places: Option<LastPlaces>,
+    /// How many bytes the places of the style's commands may still take.
+    room: usize,
     scene_of_end: Option<&'a End>,
-    out: W,
+    is_interrupted: bool,
+    out: &'o mut Vec<u8>,
 }
 
 /// Names at the end of a message stand before a line of their own with its place, as in the original.
 const BEFORE_NAMES: [&[u8]; 4] =
     [b"Case mismatch", b"I couldn't open", b"Already encountered file", b"This database file appears"];
 
-impl<'a, W: Write> Shapes<'a, W> {
-    /// Writes pieces of a line, and its end.
-    fn put(&mut self, pieces: &[&[u8]]) -> io::Result<()> {
-        pieces.iter().try_for_each(|piece| self.out.write_all(piece))?;
-        self.out.write_all(b"\n")
+impl<'a> Shapes<'a, '_> {
+    fn put(&mut self, pieces: &[&[u8]]) {
+        put(self.out, pieces);
     }
 
-    fn line(&mut self, line: &Line<'a>) -> io::Result<()> {
+    fn line(&mut self, line: &Line<'a>) {
         match &line.content {
             Content::Message(message) if message.severity == Severity::Error => self.error(message),
             Content::Message(message) => self.warning(line.bytes, message),
@@ -119,9 +137,9 @@ impl<'a, W: Write> Shapes<'a, W> {
         }
     }
 
-    fn warning(&mut self, line: &[u8], message: &Message<'a>) -> io::Result<()> {
+    fn warning(&mut self, line: &[u8], message: &Message<'a>) {
         if let Place::Line { number, file } = message.place {
-            self.put(&[b"Warning--", message.text])?;
+            self.put(&[b"Warning--", message.text]);
             return self.put(&[b"--line ", number.to_string().as_bytes(), b" of file ", file]);
         }
         if message.text.starts_with(b"you've nested cross references--entry ") {
@@ -130,7 +148,7 @@ impl<'a, W: Write> Shapes<'a, W> {
         self.put(&[line])
     }
 
-    fn error(&mut self, message: &Message<'a>) -> io::Result<()> {
+    fn error(&mut self, message: &Message<'a>) {
         let text = message.text;
         match message.place {
             Place::Execution { function, entry } => return self.executed(message, function, entry),
@@ -154,34 +172,36 @@ impl<'a, W: Write> Shapes<'a, W> {
     }
 
     /// An error while a style was executed.
-    fn executed(&mut self, message: &Message<'a>, function: &[u8], entry: Option<&[u8]>) -> io::Result<()> {
+    fn executed(&mut self, message: &Message<'a>, function: &[u8], entry: Option<&[u8]>) {
         let for_entry = if entry.is_some() { &b" for entry "[..] } else { b"" };
-        self.put(&[message.text, b" (", function, b")", for_entry, entry.unwrap_or(b"")])?;
+        self.put(&[message.text, b" (", function, b")", for_entry, entry.unwrap_or(b"")]);
         if let Some(at) = message.scene.and_then(|scene| scene.placed()) {
-            return write_place(at, &mut self.out);
+            return write_place(at, self.out);
         }
-        let style = self.sources.style().map_or(&b""[..], |file| &file.name);
         let sources = &mut self.sources;
-        let last_lines = self.last_lines.get_or_insert_with(|| LastLines::new(sources, style));
-        let line = last_lines.line(function, entry.is_some());
-        write_place(&Call { function: Vec::new(), file: style.to_vec(), line }, &mut self.out)
+        let last_places = self.last_places.get_or_insert_with(|| LastPlaces::new(sources));
+        let place = last_places.of(function, entry.is_some());
+        if let Some(room) = self.room.checked_sub(place.len()) {
+            self.room = room;
+            self.out.extend_from_slice(place);
+        }
     }
 
     /// An error in a line of a file.
-    fn placed(&mut self, text: &[u8], number: usize, file: &[u8], spot: Option<&Spot<'a>>) -> io::Result<()> {
+    fn placed(&mut self, text: &[u8], number: usize, file: &[u8], spot: Option<&Spot<'a>>) {
         let number = number.to_string();
         let line_end: &[u8] = if BEFORE_NAMES.iter().any(|begin| text.starts_with(begin)) { b"\n" } else { b"" };
-        self.put(&[text, line_end, b"---line ", number.as_bytes(), b" of file ", file])?;
+        self.put(&[text, line_end, b"---line ", number.as_bytes(), b" of file ", file]);
         if file.ends_with(b".bst") && self.costs_a_token(text, spot) {
-            return Ok(());
+            return;
         }
-        self.source_line(spot)?;
+        self.source_line(spot);
         let is_entry = file.ends_with(b".bib") && spot.is_none_or(|spot| is_of_entry(text, spot));
         self.put(&[b"I'm skipping whatever remains of this ", if is_entry { b"entry" } else { b"command" }])
     }
 
     /// The line of a file, up to the place of an error and from there on.
-    fn source_line(&mut self, spot: Option<&Spot<'a>>) -> io::Result<()> {
+    fn source_line(&mut self, spot: Option<&Spot<'a>>) {
         self.shown += 1;
         let Some(spot) = spot.filter(|_| self.shown <= MOST_SHOWN) else { return self.put(&[b" : "]) };
         let Some((before, behind)) = spot.halves() else {
@@ -190,10 +210,12 @@ impl<'a, W: Write> Shapes<'a, W> {
         };
         let before = with_spaces(&before[before.len().saturating_sub(LONGEST_SHOWN)..]);
         let behind = with_spaces(&behind[..behind.len().min(LONGEST_SHOWN)]);
-        self.put(&[b" : ", &before])?;
-        self.put(&[b" : ", &vec![b' '; before.len()], &behind])?;
+        self.put(&[b" : ", &before]);
+        self.put(&[b" : ", &vec![b' '; before.len()], &behind]);
         let is_blank = before.iter().all(|byte| *byte == b' ');
-        if is_blank { self.put(&[b"(Error may have been on previous line)"]) } else { Ok(()) }
+        if is_blank {
+            self.put(&[b"(Error may have been on previous line)"]);
+        }
     }
 
     /// Whether the body of a function goes on behind this mistake.
@@ -208,29 +230,32 @@ impl<'a, W: Write> Shapes<'a, W> {
     }
 
     /// The two entries of a message about a cross-reference stand on two lines.
-    fn crossed(&mut self, text: &[u8], [mark, dashes]: [&[u8]; 2], end: &[u8]) -> io::Result<()> {
+    fn crossed(&mut self, text: &[u8], [mark, dashes]: [&[u8]; 2], end: &[u8]) {
         let parts = split_first(text, b"--entry \"")
             .and_then(|(what, rest)| Some((what, split_first(rest, b"\" refers to entry \"")?)));
         let Some((what, (child, parent))) = parts else { return self.put(&[mark, text]) };
         let parent = split_first(parent, b"\"").map_or(parent, |(name, _)| name);
-        self.put(&[mark, what, dashes, b"entry \"", child, b"\""])?;
+        self.put(&[mark, what, dashes, b"entry \"", child, b"\""]);
         self.put(&[b"refers to entry \"", parent, end])
     }
 
     /// How a run ended, and how many messages there were.
-    fn ended(&mut self, line: &[u8], end: &Ended<'a>) -> io::Result<()> {
+    fn ended(&mut self, line: &[u8], end: &Ended<'a>) {
         if self.part == Part::Whole {
-            self.put(&[line])?;
+            self.put(&[line]);
         }
-        if end.how == b"stopped" {
-            writeln!(self.out, "Sorry---you've exceeded BibTeX's budget of {} steps", end.steps)?;
+        if end.how == b"stopped" && !self.is_interrupted {
+            let steps = end.steps.to_string();
+            self.put(&[b"Sorry---you've exceeded BibTeX's budget of ", steps.as_bytes(), b" steps"]);
         } else if end.how.starts_with(b"limit ") {
-            self.put(&[b"Sorry---you've exceeded BibTeX's ", end.how])?;
+            self.put(&[b"Sorry---you've exceeded BibTeX's ", end.how]);
         }
         if let Some(at) = self.scene_of_end.and_then(End::placed) {
-            write_place(at, &mut self.out)?;
+            write_place(at, self.out);
         }
-        counted(end).map_or(Ok(()), |count| writeln!(self.out, "{count}"))
+        if let Some(count) = counted(end) {
+            self.put(&[count.as_bytes()]);
+        }
     }
 }
 
@@ -258,7 +283,7 @@ mod tests {
 
     fn written(log: &Log<'_>, files: &Files, part: Part) -> String {
         let mut out = Vec::new();
-        write(log, files, part, &mut out).unwrap();
+        write(log, files, part, usize::MAX, &mut out);
         String::from_utf8(out).unwrap()
     }
 

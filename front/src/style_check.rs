@@ -14,8 +14,8 @@ use std::time::Duration;
 /// How many steps the commands of a style may take that is read for its messages: no entry is there.
 const STEPS_OF_READING: u64 = 100_000;
 
-/// The stack of a check.
-const STACK: usize = 1 << 28;
+/// The stack of a check: twice what the call takes at most.
+const STACK: usize = 1 << 21;
 
 /// How many hundredths of a second of the processor a check may take, and how often that is looked at.
 const MOST_TIME: u64 = 800;
@@ -57,14 +57,23 @@ impl StyleCheck {
         StyleCheck { files, log, messages, verdict, found, entries, hints: hints(&bytes) }
     }
 
+    /// The verdict, in a word. A style whose text has mistakes isn't called clean, whatever is said of what could be read of it.
+    pub fn word(&self) -> &'static str {
+        match self.verdict {
+            _ if self.messages > 0 => "mistakes",
+            Some(Verdict::Clean { .. }) => "clean",
+            Some(Verdict::Warnings(_)) => "warnings",
+            Some(Verdict::Incomplete(_)) | None => "incomplete",
+        }
+    }
+
     /// Whether nothing is to be said but hints.
     pub fn is_clean(&self) -> bool {
         self.messages == 0 && matches!(self.verdict, Some(Verdict::Clean { .. }))
     }
 }
 
-/// Checks a style in a thread with a stack of its own, as the checker follows literals as deep as they are nested. A check that takes too many seconds of the processor is given up: its thread
-/// goes on until the program ends.
+/// Checks a style in a thread of its own. A check that takes too many seconds of the processor is given up: its thread goes on until the program ends.
 fn check_within(style: &File, steps: u64) -> Option<Verdict> {
     let (sender, receiver) = mpsc::channel();
     let (name, bytes) = (style.name.clone(), style.bytes.clone().unwrap_or_default());

@@ -4,6 +4,7 @@
 //! command also where the braces above say that a body goes on, since then one of these braces is the mistake; and behind an empty line it
 //! always does, since there the program goes on after a mistake.
 
+use crate::advice;
 use crate::database::Folded;
 use crate::text::{Text, is_white};
 use std::collections::HashSet;
@@ -203,10 +204,23 @@ pub fn nearest_word(word: &[u8]) -> Option<&'static str> {
     differing.min().filter(|(distance, _)| *distance <= 2).map(|(_, command)| command)
 }
 
+/// How many letters of a name, and how many names, are compared.
+const MOST_LETTERS: usize = 64;
+const MOST_NAMES: usize = 20_000;
+
+/// Whether two names may be one but for the spelling, and in how many letters they differ.
+fn differing(left: &[u8], right: &[u8]) -> Option<usize> {
+    let longest = left.len().max(right.len());
+    let most = if longest < 6 { 1 } else { 2 };
+    let may_be = longest <= MOST_LETTERS && longest > 2 && left.len().abs_diff(right.len()) <= most;
+    let (left, right) = (left.to_ascii_lowercase(), right.to_ascii_lowercase());
+    Some(distance(&left, &right)).filter(|differing| may_be && *differing <= most)
+}
+
 /// How many letters are to be put in, taken out or exchanged for others to make one word another.
 fn distance(left: &[u8], right: &[u8]) -> usize {
     let mut row: Vec<usize> = (0..=right.len()).collect();
-    for (index, letter) in left.iter().take(20).enumerate() {
+    for (index, letter) in left.iter().take(MOST_LETTERS).enumerate() {
         let mut diagonal = std::mem::replace(&mut row[0], index + 1);
         for (at, other) in right.iter().enumerate() {
             let exchanged = diagonal + usize::from(letter != other);
@@ -214,7 +228,7 @@ fn distance(left: &[u8], right: &[u8]) -> usize {
             row[at + 1] = exchanged.min(diagonal + 1).min(row[at] + 1);
         }
     }
-    row[right.len()] + left.len().saturating_sub(20)
+    row[right.len()] + left.len().saturating_sub(MOST_LETTERS)
 }
 
 /// Whether the body of a function goes on behind this error, which stands in the command `around`.
@@ -263,6 +277,18 @@ impl<'a> Defined<'a> {
         Defined { names }
     }
 
+    /// This name alone.
+    pub fn one(name: &'a [u8]) -> Defined<'a> {
+        Defined { names: [Folded(name)].into() }
+    }
+
+    /// The name among them, or of a built-in function, that differs least from this one.
+    pub fn nearest(&self, name: &[u8]) -> Option<&'a [u8]> {
+        let built_in = advice::built_in().map(|name| -> &'a [u8] { name });
+        let all = self.names.iter().take(MOST_NAMES).map(|known| -> &'a [u8] { known.0 }).chain(built_in);
+        all.filter_map(|known| Some((differing(name, known)?, known))).min().map(|(_, known)| known)
+    }
+
     /// Whether this name is one of them.
     pub fn has(&self, name: &[u8]) -> bool {
         self.names.contains(&Folded(name))
@@ -309,6 +335,16 @@ fn command_at(text: &[u8], start: usize, is_inside: bool) -> Option<Command<'_>>
         (argument[name.len()] == b'}').then(|| name.trim_ascii())
     });
     Some(Command { word, name, start, balance: 0 })
+}
+
+/// The lines of a text in which a name stands as a token, each once, and how many tokens it is.
+pub fn lines_of_name(text: &Text<'_>, name: &[u8]) -> (Vec<usize>, usize) {
+    let bytes = |token: &Token| &text.bytes[token.start + usize::from(token.kind == Kind::Quoted)..token.end];
+    let is_it = |token: &Token| matches!(token.kind, Kind::Name | Kind::Quoted) && Folded(bytes(token)) == Folded(name);
+    let mut lines: Vec<usize> = Tokens::new(text.bytes).filter(is_it).map(|token| text.line_of(token.start)).collect();
+    let count = lines.len();
+    lines.dedup();
+    (lines, count)
 }
 
 /// Where in its line an error of a style was met, behind the place `from`; None where the line doesn't show it.

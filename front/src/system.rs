@@ -2,7 +2,8 @@
 //! its disk. Beside [`crate::btx`] this is the only module with `unsafe`.
 
 use crate::exit::Status;
-use std::alloc::{Layout, alloc_zeroed};
+use std::alloc::{GlobalAlloc, Layout, System, alloc_zeroed};
+use std::cell::Cell;
 use std::env;
 use std::ffi::{CStr, CString, OsStr, c_char, c_int, c_uint, c_ulong, c_void};
 use std::fs::OpenOptions;
@@ -57,6 +58,7 @@ unsafe extern "C" {
     fn flock(file: c_int, operation: c_int) -> c_int;
     fn fallocate(file: c_int, mode: c_int, offset: i64, len: i64) -> c_int;
     fn close(file: c_int) -> c_int;
+    fn write(file: c_int, bytes: *const c_void, len: usize) -> isize;
     fn atexit(handler: extern "C" fn()) -> c_int;
     fn _exit(status: c_int) -> !;
     fn kill(process: c_int, signal: c_int) -> c_int;
@@ -494,11 +496,66 @@ pub fn lock(file: &impl AsRawFd) -> bool {
     is_locked || io::Error::last_os_error().kind() != io::ErrorKind::WouldBlock
 }
 
+const STANDARD_ERROR: c_int = 2;
+
+/// The memory of a program: the system's, with the sentence that is said where it refuses some. The program ends then with the status of refused memory, but where
+/// that was asked for by [`trying`].
+pub struct Memory(pub &'static str);
+
+thread_local! {
+    static IS_TRYING: Cell<bool> = const { Cell::new(false) };
+}
+
+/// Asks for memory that may be refused.
+pub fn trying<T>(ask: impl FnOnce() -> T) -> T {
+    let was_trying = IS_TRYING.replace(true);
+    let answer = ask();
+    IS_TRYING.set(was_trying);
+    answer
+}
+
+impl Memory {
+    /// The place of memory that was asked for; null only where that was tried.
+    fn given(&self, place: *mut u8) -> *mut u8 {
+        if place.is_null() && !IS_TRYING.get() {
+            // SAFETY: the bytes are those of a text; neither call asks for memory.
+            unsafe {
+                write(STANDARD_ERROR, self.0.as_ptr().cast(), self.0.len());
+                _exit(Status::Memory as c_int)
+            }
+        }
+        place
+    }
+}
+
+// SAFETY: all memory is the system's, and is asked for and given back as the caller does.
+unsafe impl GlobalAlloc for Memory {
+    unsafe fn alloc(&self, layout: Layout) -> *mut u8 {
+        // SAFETY: what is asked of the caller is what the system asks for.
+        self.given(unsafe { System.alloc(layout) })
+    }
+
+    unsafe fn alloc_zeroed(&self, layout: Layout) -> *mut u8 {
+        // SAFETY: as above.
+        self.given(unsafe { System.alloc_zeroed(layout) })
+    }
+
+    unsafe fn realloc(&self, place: *mut u8, layout: Layout, len: usize) -> *mut u8 {
+        // SAFETY: as above.
+        self.given(unsafe { System.realloc(place, layout, len) })
+    }
+
+    unsafe fn dealloc(&self, place: *mut u8, layout: Layout) {
+        // SAFETY: as above.
+        unsafe { System.dealloc(place, layout) }
+    }
+}
+
 /// `len` zeros. As long as they are only read they take no memory. None if memory is refused.
 pub fn zeros(len: usize) -> Option<Vec<u8>> {
     let layout = Layout::array::<u8>(len).ok().filter(|_| len > 0)?;
     // SAFETY: the layout has bytes.
-    let start = unsafe { alloc_zeroed(layout) };
+    let start = trying(|| unsafe { alloc_zeroed(layout) });
     // SAFETY: the bytes were given by the allocator that a vector uses, and are zeros.
     (!start.is_null()).then(|| unsafe { Vec::from_raw_parts(start, len, len) })
 }

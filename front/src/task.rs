@@ -6,7 +6,7 @@ use crate::interrupt::{self, Tries};
 use crate::job::Files;
 use crate::outputs::Outputs;
 use crate::places;
-use crate::run_log::RunLog;
+use crate::run_log::{Interrupted, RunLog};
 use crate::scene::Scenes;
 use crate::system::{Held, Signal};
 use crate::words::Words;
@@ -82,11 +82,11 @@ impl Task {
 
     /// Where the style stood at the errors of a run: the job is run again to find it.
     fn scenes(&self, ran: &Ran) -> Scenes {
-        places::scenes(&self.files, &self.words.options, ran)
+        places::scenes(&self.files, &self.words.options, &self.words.rooms, ran)
     }
 
-    fn run_log<'a>(&'a self, ran: &'a Ran, signal: Option<Signal>, scenes: Scenes) -> RunLog<'a> {
-        RunLog::new(&self.words, &self.files, &self.log, ran, signal, scenes)
+    fn run_log<'a>(&'a self, ran: &'a Ran, interrupted: Option<Interrupted>, scenes: Scenes) -> RunLog<'a> {
+        RunLog::new(&self.words, &self.files, &self.log, ran, interrupted, scenes)
     }
 
     fn say_that_it_takes_long(&self) {
@@ -112,8 +112,8 @@ impl Task {
             self.held.release();
             // The run may be done meanwhile.
             let (ran, run_log) = match self.ran.get() {
-                Some(ran) => (ran, self.run_log(ran, None, Scenes::default())),
-                None => (first, self.run_log(first, Some(signal), self.scenes(first))),
+                Some(ran) => (ran, self.run_log(ran, Some(Interrupted::Search(signal)), Scenes::default())),
+                None => (first, self.run_log(first, Some(Interrupted::Run(signal)), self.scenes(first))),
             };
             let log = run_log.whole();
             self.held.hold_again();

@@ -1,5 +1,7 @@
 //! The text of a file, by bytes and by lines.
 
+use std::io::BufRead;
+
 /// A text, and where its lines begin.
 #[derive(Debug, Clone)]
 pub struct Text<'a> {
@@ -54,8 +56,32 @@ pub fn find(text: &[u8], what: &[u8]) -> Option<usize> {
 
 /// The place of `what` in `text`: the last one.
 pub fn find_last(text: &[u8], what: &[u8]) -> Option<usize> {
-    let last_start = text.len().checked_sub(what.len())?;
-    (0..=last_start).rev().find(|at| text[*at..].starts_with(what))
+    let Some((first, rest)) = what.split_first() else { return Some(text.len()) };
+    let mut starts = &text[..text.len().checked_sub(rest.len())?];
+    loop {
+        let at = last_of(starts, *first)?;
+        if text[at + 1..].starts_with(rest) {
+            return Some(at);
+        }
+        starts = &starts[..at];
+    }
+}
+
+/// The last place of a byte in a text. Of 32 bytes the processor compares many at once.
+fn last_of(text: &[u8], byte: u8) -> Option<usize> {
+    let (head, chunks) = text.as_rchunks::<32>();
+    let has_it = |chunk: &[u8; 32]| chunk.iter().fold(0, |found, other| found | u8::from(*other == byte)) != 0;
+    let behind = chunks.iter().rposition(has_it).map_or(0, |index| 32 * (index + 1));
+    text[..head.len() + behind].iter().rposition(|other| *other == byte)
+}
+
+/// The first line of a text, without its end, and the lines behind it.
+pub fn split_line(text: &[u8]) -> (&[u8], &[u8]) {
+    let mut behind = text;
+    // The standard library's reader of lines is what looks for a byte in many at a time; no reading of a slice fails.
+    let taken = behind.skip_until(b'\n').unwrap_or(text.len());
+    let line = &text[..taken];
+    (line.strip_suffix(b"\n").unwrap_or(line), behind)
 }
 
 /// What stands before the first `what` in `text`, and what behind it.
@@ -94,6 +120,7 @@ mod tests {
     fn texts_are_found() {
         assert_eq!(find(b"abcabc", b"bc"), Some(1));
         assert_eq!(find_last(b"abcabc", b"bc"), Some(4));
+        assert_eq!([find_last(b"ab", b"abc"), find_last(b"", b"a"), find_last(b"ab", b"")], [None, None, Some(2)]);
         assert_eq!(find(b"aab", b"ab"), Some(1));
         assert_eq!(find(b"ab", b"abc"), None);
         assert_eq!(find(b"ac", b"b"), None);
@@ -101,5 +128,29 @@ mod tests {
         assert_eq!(find(b"xa", b"ab"), None);
         assert_eq!(split_first(b"k=v=w", b"="), Some((&b"k"[..], &b"v=w"[..])));
         assert_eq!(split_last(b"k=v=w", b"="), Some((&b"k=v"[..], &b"w"[..])));
+    }
+
+    #[test]
+    fn the_last_place_is_found_wherever_it_is() {
+        for length in 0..100 {
+            for place in 0..length {
+                let mut text = vec![b'.'; length];
+                text[place] = b'x';
+                assert_eq!(find_last(&text, b"x"), Some(place));
+                assert_eq!(find_last(&text, b"x."), Some(place).filter(|place| place + 1 < length));
+                text[0] = b'x';
+                assert_eq!(find_last(&text, b"x"), Some(place));
+            }
+            assert_eq!(find_last(&vec![b'.'; length], b"x"), None);
+        }
+        assert_eq!(find_last(&[b'x'; 80], b"xy"), None);
+    }
+
+    #[test]
+    fn lines_are_split_off() {
+        assert_eq!(split_line(b"a\r\n\nb"), (&b"a\r"[..], &b"\nb"[..]));
+        assert_eq!(split_line(b"\nb"), (&b""[..], &b"b"[..]));
+        assert_eq!(split_line(b"b"), (&b"b"[..], &b""[..]));
+        assert_eq!(split_line(b""), (&b""[..], &b""[..]));
     }
 }

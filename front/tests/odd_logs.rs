@@ -212,7 +212,7 @@ fn messages(log: &Log<'_>) -> usize {
 
 fn shaped(log: &Log<'_>, files: &Files) -> Vec<u8> {
     let mut out = Vec::new();
-    shapes::write(log, files, Part::Whole, &mut out).unwrap();
+    shapes::write(log, files, Part::Whole, usize::MAX, &mut out);
     out
 }
 

@@ -14,8 +14,10 @@ OF_SOURCES = ("tests/", "crates/", ".ci/", "docs/book/", "library/", "python/", 
 
 
 def anchors(path):
-    """The names that headings have in a link: small letters, without signs, with hyphens for spaces."""
-    for line in path.read_text(encoding="utf-8").split("\n"):
+    """The names that headings have in a link: small letters, without signs, with hyphens for spaces; and the names that a text gives to a place."""
+    text = path.read_text(encoding="utf-8")
+    yield from re.findall(r'<a id="([\w-]+)"></a>', text)
+    for line in text.split("\n"):
         if line.startswith("#"):
             yield re.sub(r"[^\w -]", "", line.lstrip("# ").lower()).replace(" ", "-")
 

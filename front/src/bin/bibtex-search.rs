@@ -1,6 +1,10 @@
 //! `bibtex-search`: see `bibtex_front::search_program`.
 
+use bibtex_front::system::Memory;
 use std::process::ExitCode;
+
+#[global_allocator]
+static MEMORY: Memory = Memory("bibtex-search: out of memory\n");
 
 fn main() -> ExitCode {
     bibtex_front::search_program::main()

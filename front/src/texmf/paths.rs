@@ -5,6 +5,12 @@ use super::variables::Variables;
 /// How deep values may hold values with braces in them. TeX's own are two deep.
 const DEEPEST: usize = 6;
 
+/// How deep braces may stand in braces; a deeper `{` is a byte like any other. How many elements an element stands for at most, and how many bytes are written for them; the rest
+/// of the element is left out.
+const DEEPEST_BRACES: usize = 100;
+const MOST_TEXTS: usize = 10_000;
+const MOST_WRITTEN: usize = 10_000_000;
+
 /// A path with `:` between its elements, where it has `;` as in a file for another system.
 pub fn with_colons(path: &[u8]) -> Vec<u8> {
     path.iter().map(|byte| if *byte == b';' { b':' } else { *byte }).collect()
@@ -47,7 +53,7 @@ fn elements(path: &[u8]) -> Vec<&[u8]> {
 
 /// The elements that one stands for. What a variable gives may have braces again.
 fn element_written_out(element: &[u8], variables: &Variables, deepest: usize) -> Vec<Vec<u8>> {
-    let texts = Braces { rest: element }.texts().into_iter();
+    let texts = Braces { rest: element, deepest: DEEPEST_BRACES, room: MOST_WRITTEN }.texts().into_iter();
     texts
         .flat_map(|text| {
             let expansion = variables.written_out(&text);
@@ -55,17 +61,32 @@ fn element_written_out(element: &[u8], variables: &Variables, deepest: usize) ->
                 return vec![expansion];
             }
             let parts = elements(&expansion).into_iter();
-            parts.flat_map(|part| element_written_out(part, variables, deepest - 1)).collect()
+            parts.flat_map(|part| element_written_out(part, variables, deepest - 1)).take(MOST_TEXTS).collect()
         })
+        .take(MOST_TEXTS)
         .collect()
 }
 
 /// A text with braces that is read.
 struct Braces<'a> {
     rest: &'a [u8],
+    /// How much deeper braces may stand.
+    deepest: usize,
+    /// How many bytes may be written.
+    room: usize,
 }
 
 impl Braces<'_> {
+    /// Takes room for these bytes; where there is none, all that follows is left out.
+    fn has_room(&mut self, bytes: usize) -> bool {
+        let has_room = bytes <= self.room;
+        self.room = if has_room { self.room - bytes } else { 0 };
+        if !has_room {
+            self.rest = b"";
+        }
+        has_room
+    }
+
     /// The texts that the text up to a `}` stands for: `a{b,c}d` is `abd` and `acd`.
     fn texts(&mut self) -> Vec<Vec<u8>> {
         let (mut texts, mut begun) = (Vec::new(), vec![Vec::new()]);
@@ -73,13 +94,14 @@ impl Braces<'_> {
             self.rest = rest;
             match first {
                 b',' | b':' => texts.append(&mut std::mem::replace(&mut begun, vec![Vec::new()])),
-                b'{' => {
+                b'{' if self.deepest > 0 => {
+                    self.deepest -= 1;
                     let inner = self.texts();
+                    self.deepest += 1;
                     self.rest = self.rest.get(1..).unwrap_or_default();
-                    begun = begun
-                        .iter()
-                        .flat_map(|text| inner.iter().map(move |more| [&text[..], more].concat()))
-                        .collect();
+                    if self.has_room(length_of(&begun) * inner.len() + length_of(&inner) * begun.len()) {
+                        begun = joined(&begun, &inner);
+                    }
                 }
                 b'$' if rest.starts_with(b"{") => {
                     let (name, rest) =
@@ -87,12 +109,26 @@ impl Braces<'_> {
                     begun.iter_mut().for_each(|text| text.extend([b"$", name].concat()));
                     self.rest = rest;
                 }
-                byte => begun.iter_mut().for_each(|text| text.push(*byte)),
+                byte => {
+                    if self.has_room(begun.len()) {
+                        begun.iter_mut().for_each(|text| text.push(*byte));
+                    }
+                }
             }
         }
         texts.append(&mut begun);
         texts
     }
+}
+
+/// How many bytes these texts have, with one more for each.
+fn length_of(texts: &[Vec<u8>]) -> usize {
+    texts.iter().map(|text| text.len() + 1).sum()
+}
+
+/// Each of these texts with each of those behind it.
+fn joined(texts: &[Vec<u8>], behind: &[Vec<u8>]) -> Vec<Vec<u8>> {
+    texts.iter().flat_map(|text| behind.iter().map(move |more| [&text[..], more].concat())).collect()
 }
 
 #[cfg(test)]
@@ -124,6 +160,14 @@ mod tests {
             assert_eq!(path(text), wanted, "{text}");
         }
         assert!(path("$ROUND").starts_with(":/x"));
+    }
+
+    #[test]
+    fn very_many_braces_end() {
+        let many = path(&("/".to_string() + &"{a,b}".repeat(10_000)));
+        assert!(many.split(':').count() <= MOST_TEXTS);
+        assert!(path(&"{".repeat(50_000)).len() < 50_000);
+        assert_eq!(path(&("{".repeat(50) + "a,b" + &"}".repeat(50) + "c")), "ac:bc");
     }
 
     #[test]

@@ -1,4 +1,4 @@
-# Documents of more classes and packages, as README lists them: of each list that LaTeX asks for bibtex-search makes the original's, with its status.
+# Documents of more classes and packages, as contrib/README.md lists them: of each list that LaTeX asks for bibtex-search makes the original's, with its status.
 
 # write_works: a database with a parent, a name with a Jr, an accent, a string and a month; and two chapters.
 write_works() {

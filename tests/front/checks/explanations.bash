@@ -47,16 +47,56 @@ Error--\"A\" is not an integer while executing + for entry k
     for @misc{k}, which begins at $2d.bib:1
     \`+\` takes NUMBER NUMBER, pushed in this order
     what to do: push the operands in the order in which the function takes them; a field that may be missing goes through \`empty\$\` or \`missing\$\` first
-Error--\"D\" is not an integer while executing + for entry two
-    in {..} of FUNCTION {misc}, $2s.bst:3; called from misc, $2s.bst:3; ITERATE {call.type\$}, $2s.bst:7
-    on the stack: 1, \"D\"
-    for @misc{two}, which begins at $2d.bib:5
 Warning--empty title in bare
     for @misc{bare}, which begins at $2d.bib:6
+(1 more error is like \`Error--\"A\" is not an integer while executing + for entry k\` in line 3 of the style; for two)
 Ended: finished, warnings 4, errors 8, steps 36
 (There were 8 error messages)
+    what to do: mend the style's text first, $2s.bst:4: errors of its execution may follow from that
 "
 }
+
+# What is wrong at the place of an error, as far as the style's text shows it.
+begin explained_kinds
+use_style 'INTEGERS { n } STRINGS { s }
+FUNCTION {text.of} { duplicate$ empty$ { "" } '"'skip\$"' if$ }
+FUNCTION {f} { #1 '"'s"' := pop$ title #0 = pop$
+n s := note text.of "x" *
+pop$ pop$ }
+ITERATE {f}'
+sed -i 's/ENTRY { *title/ENTRY { note title/; s/ENTRY {title/ENTRY {note title/' s.bst
+run_search -explain job
+wants_status 2
+wants_words "$folder/stdout" '`s` is a string (STRINGS), and `#1` is an integer; write `int.to.str$` before `'"'s"'`'
+wants_words "$folder/stdout" 'a string and an integer are never equal: `title` is a field, and `#0` is a number; ask by `title empty$`'
+wants_words "$folder/stdout" "write a ' before the variable: \`'s\`"
+end
+
+# One EXECUTE without an entry: what follows from that is counted.
+begin explained_without_an_entry
+use_style 'FUNCTION {f} { title write$ title write$ cite$ write$ "x" }
+EXECUTE {f}'
+run_search -explain job
+wants_status 2
+wants_words "$folder/stdout" 'there is no current entry: take EXECUTE {f} in line 2 out, or run its function by ITERATE or REVERSE'
+[ "$(grep -c '^Error--' "$folder/stdout")" -eq 1 ] || complaints+=("printed was $(cat "$folder/stdout")")
+grep -q '^([0-9]* more errors follow from `Error--You can.t mess with entries here while executing title` in line 1 of the style)$' "$folder/stdout" || complaints+=("printed was $(cat "$folder/stdout")")
+end
+
+# A misspelt function is named once, with the name that is near.
+begin explained_misspelt
+use_style 'FUNCTION {field.or.nul} { pop$ }
+FUNCTION {f} { title field.or.null
+title field.or.null title field.or.null }
+ITERATE {f}'
+run_search -explain job
+wants_status 2
+wants_words "$folder/stdout" 'is it field.or.nul?'
+wants_words "$folder/stdout" 'field.or.null stands at 3 places: lines 2, 3'
+[ "$(grep -c 'is an unknown function--' "$folder/stdout")" -eq 1 ] || complaints+=('it is said more than once')
+wants_words "$folder/stdout" '(2 more errors follow from that)'
+wants_words "$folder/stdout" "mend the style's text first, s.bst:2"
+end
 
 begin explained
 write_explained
@@ -153,7 +193,7 @@ begin explained_operands
 write_operands
 run_search -explain -terse job
 wants_words "$folder/stdout" "is there a \`'\` before the variable?"
-[ "$(grep -c 'push the operands in the order' "$folder/stdout")" -eq 1 ] || complaints+=('advice is given more than once')
+[ "$(grep -c "what to do: write a ' before the variable: .'left" "$folder/stdout")" -eq 1 ] || complaints+=('advice is given more than once')
 end
 
 # A loop that makes a string too long: the loop is named first.

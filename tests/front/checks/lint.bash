@@ -70,7 +70,47 @@ echo 'EXECUTE {article}' >>clean.bst
 run_lint clean.bst
 wants_status 2
 grep -q 'needs a current entry, and ' "$folder/stdout" || complaints+=("printed is $(cat "$folder/stdout")")
-wants_line_of_output '    do: run the function by ITERATE or REVERSE, not by EXECUTE'
+wants_line_of_output '    do: there is no current entry: take EXECUTE {article} in line 14 out, or run its function by ITERATE or REVERSE'
+wants_line_of_output '    run by: EXECUTE {article} (line 14) > article (line 7) > output.title (line 4)'
+end
+
+# What the notes and the text say together: the line with a mark, what a variable is declared as, which function let a field through.
+begin lint_of_kinds
+# with_body BODY: a clean style, but for the body of a function that its entries run.
+with_body() {
+    write_clean
+    sed -i 's/^FUNCTION {article}/INTEGERS { n } STRINGS { s }\n\nFUNCTION {assigns}\n{ '"$1"' }\n\n&/; s/^{ output.title }/{ assigns output.title }/' clean.bst
+    run_lint clean.bst
+    wants_status 2
+}
+with_body "n 's :="
+wants_line_of_output 'clean.bst:9: in assigns: `:=` takes VALUE '"'VARIABLE: \`s\` is a string (STRINGS), and \`n\` is an integer"
+wants_line_of_output '    do: write `int.to.str$` before `'"'s\`: it makes a string of a number"
+grep -A1 -xF "    clean.bst:9: { n 's := }" "$folder/stdout" | grep -qx '                        ^' || complaints+=('the mark is missing')
+with_body 's s :='
+wants_line_of_output "    do: write a ' before the variable: \`'s\`"
+with_body 'title #0 = pop$'
+wants_line_of_output 'clean.bst:9: in assigns: `=` compares two strings or two numbers: a string and an integer are never equal: `title` is a field, and `#0` is a number'
+end
+
+begin lint_of_a_function_that_lets_a_field_through
+write_clean
+sed -i 's/^FUNCTION {article}/FUNCTION {text.of}\n{ duplicate$ empty$ { "" } '"'skip\$"' if$ }\n\nFUNCTION {sorts} { "x" title text.of * write$ }\n\n&/' clean.bst
+sed -i 's/^{ output.title }/{ sorts }/' clean.bst
+run_lint clean.bst
+wants_status 2
+wants_line_of_output '    do: `text.of` (line 6) is run on `title` just before: let it leave one string, and nothing else, where the field is missing'
+wants_line_of_output 'clean.bst:7: in text.of: the branches of this `if$` leave different numbers of literals: the first 1, the second 0'
+head -n 1 "$folder/stdout" | grep -q 'the branches of this' || complaints+=("the cause isn't first in $(cat "$folder/stdout")")
+end
+
+begin lint_of_a_misspelt_function
+write_clean
+sed -i 's/^FUNCTION {article}/FUNCTION {output.tile} { skip$ }\n\nFUNCTION {article}/; s/^{ output.title }/{ output.titel output.titel }/' clean.bst
+run_lint clean.bst
+wants_status 2
+grep -qE '^    is it output.ti(t)?le\?$' "$folder/stdout" || complaints+=("printed is $(cat "$folder/stdout")")
+[ "$(grep -c 'is an unknown function--' "$folder/stdout")" -eq 1 ] || complaints+=('it is said more than once')
 end
 
 begin lint_of_literals_left
@@ -105,7 +145,7 @@ write_clean
 sed -i 's/^READ/INTEGERS { zero } STRINGS { s }\n\nFUNCTION {not.used} { "x" '"'"'s := zero pop$ }\n\nREAD/' clean.bst
 run_lint clean.bst
 wants_status 0
-wants_line_of_output 'clean.bst:11: hint: the integer zero is always 0'
+wants_line_of_output 'clean.bst:11: hint: the integer zero is always 0: nothing assigns to it'
 wants_line_of_output 'clean.bst:11: hint: the variable s is assigned, and its value never used'
 wants_line_of_output 'clean.bst:13: hint: the function not.used is never used'
 end
@@ -150,13 +190,66 @@ run_lint --entry clean.bst
 wants_line_of_output '    possible only: no entry that was tried shows it'
 end
 
+# A variable that is given a number once is a constant.
+begin lint_of_a_constant
+write_clean
+sed -i 's/^READ/INTEGERS { before.all }\n\nFUNCTION {constants} { #0 '"'before.all"' := before.all pop$ }\n\nREAD/' clean.bst
+echo 'EXECUTE {constants}' >>clean.bst
+run_lint --line clean.bst
+wants_status 0
+wants_output 'clean.bst: clean, literals 3, bodies 4, messages 0, hints 0
+'
+end
+
 begin lint_of_an_endless_loop
 write_clean
 sed -i 's/^READ/INTEGERS { left }\n\nFUNCTION {turns} { #1 '"'left"' := { left #0 > } { newline$ } while$ }\n\nREAD/' clean.bst
 echo 'EXECUTE {turns}' >>clean.bst
 run_lint clean.bst
 wants_status 0
-wants_line_of_output 'clean.bst:13: hint: the body of this loop never changes left, which its test reads: does the loop end?'
+wants_line_of_output 'clean.bst:13: hint: clean says nothing of loops: does this loop end? Its body (line 13) never changes left, which its test reads'
+[[ $(tail -n 1 "$folder/stdout") == *'clean says nothing of loops'* ]] || complaints+=("it isn't the last line of $(cat "$folder/stdout")")
+end
+
+# The lines of the counter are missing, while the test's variable counts down.
+begin lint_of_a_loop_that_does_not_count
+write_clean
+cat >>clean.bst <<'END'
+
+INTEGERS { left at }
+
+FUNCTION {turns}
+{ #3 'left :=
+  #1 'at :=
+  { left #0 > }
+  { at int.to.str$ write$
+    left #1 - 'left :=
+  }
+  while$
+}
+
+EXECUTE {turns}
+END
+run_lint clean.bst
+wants_status 0
+wants_line_of_output 'clean.bst:20: hint: clean says nothing of loops: does this loop count? Its body (lines 21-24) uses at and never changes it'
+end
+
+# A style whose text has mistakes is never called clean, in no form.
+begin lint_of_mistakes
+write_clean
+sed -i 's/title write\$/title nosuch write$/' clean.bst
+run_lint --line clean.bst
+wants_status 2
+wants_output 'clean.bst: mistakes, messages 1, hints 0
+'
+run_lint --json clean.bst
+wants_status 2
+grep -q '"verdict": "mistakes", "messages": \[' "$folder/stdout" || complaints+=("printed is $(cat "$folder/stdout")")
+run_lint clean.bst
+wants_status 2
+wants_line_of_output 'clean.bst: mistakes in its text (1 message): mend these first; no warning in what could be read of it'
+! grep -q clean: "$folder/stdout" || complaints+=('it is called clean')
 end
 
 begin lint_as_json
@@ -169,7 +262,7 @@ python3 - "$folder/stdout" <<'END' || complaints+=('the JSON is another')
 import json, sys
 clean, faulty = json.load(open(sys.argv[1]))
 assert clean == {"style": "clean.bst", "verdict": "clean", "literals": 3, "bodies": 4, "types": ["article"], "messages": [], "warnings": [], "hints": []}, clean
-assert faulty["verdict"] == "warnings" and faulty["messages"] == ["Error--nosuch is an unknown function--line 4 of file faulty.bst"], faulty
+assert faulty["verdict"] == "mistakes" and faulty["messages"] == ["Error--nosuch is an unknown function--line 4 of file faulty.bst"], faulty
 assert [place["line"] for place in faulty["warnings"][0]["places"]] == [4, 7], faulty
 assert faulty["warnings"][0]["executed"] == "write$" and faulty["warnings"][0]["missing"] == "title", faulty
 END
@@ -214,6 +307,12 @@ run_lint --job job
 wants_status 2
 grep -q '^    in FUNCTION {f}, s.bst:1; called from ITERATE {f}, s.bst:1$' "$folder/stdout" || complaints+=("printed is $(cat "$folder/stdout")")
 [ ! -e job.blg ] || complaints+=('a log is written')
+for words in '--json --job job' '--job job --line' '--job job s'; do
+    run_lint $words
+    wants_status 1
+    grep -q 'takes no other option and no style' "$folder/stderr" || complaints+=("$words: $(cat "$folder/stderr")")
+    [ ! -s "$folder/stdout" ] || complaints+=("$words: it prints $(head -n 3 "$folder/stdout")")
+done
 end
 
 # Anything is a style: an answer comes in any case.

@@ -341,6 +341,28 @@ for kilobytes in 3000 5000 8000 12000 20000 40000 80000; do
 done
 end
 
+# However little memory there is, one sentence says so; but before the program begins, where the system can't load it, or the standard library has no memory for its alternative stack.
+begin least_memory
+echo '@misc{k}' >d.bib
+for called in bibtex-search bibtex-lint bibtex-confined; do
+    ln -sf "$search" "$room/bibtex-lint"
+    case $called in
+    bibtex-lint) words=("$room/bibtex-lint" s) ;;
+    *) words=("$programs/$called" job) ;;
+    esac
+    for kilobytes in $(seq 2400 150 6000); do
+        status=0
+        (
+            ulimit -v "$kilobytes"
+            BIBTEX_PROGRAM=$program LD_LIBRARY_PATH=$libraries exec "${words[@]}" </dev/null
+        ) >"$folder/stdout" 2>"$folder/stderr" || status=$?
+        grep -q 'alternative stack' "$folder/stderr" && continue
+        [ "$status" -ne 134 ] && [ "$status" -ne 139 ] || complaints+=("$called with $kilobytes KB: the exit status is $status")
+        grep -qE 'memory allocation|panicked|backtrace|failed to spawn' "$folder/stderr" && complaints+=("$called with $kilobytes KB: $(head -n 3 "$folder/stderr")")
+    done
+done
+end
+
 # Who may read and write the outputs is what the system says of new files, and of old ones what it was; links stay links.
 begin modes_of_the_outputs
 umask 027

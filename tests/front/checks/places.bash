@@ -117,10 +117,21 @@ end
 
 # The first hundred errors have their places, also where a style logs lines that look like errors.
 begin places_of_many_errors
+use_style "FUNCTION {f} {
+$(for n in $(seq 150); do echo 'title #1 + pop$'; done)
+} ITERATE {f}"
+run_search -explain job
+wants_status 2
+[ "$(grep -c '^    in FUNCTION {f}, s.bst:[0-9]*; called from ITERATE {f}, s.bst:152$' "$folder/stdout")" -eq 100 ] || complaints+=('not 100 places are shown')
+end
+
+# Errors of one kind at one place are shown once, and counted; the end is shown as well.
+begin places_of_errors_that_repeat
 use_style 'FUNCTION {f} { { #1 } { title #1 + pop$ } while$ } ITERATE {f}'
 run_search -explain -budget=2000 job
 wants_status 4
-[ "$(grep -c '^    in {\.\.} of FUNCTION {f}, s.bst:1; called from f, s.bst:1; ITERATE {f}, s.bst:1$' "$folder/stdout")" -ge 100 ] || complaints+=('fewer than 100 places are shown')
+[ "$(grep -c '^    in {\.\.} of FUNCTION {f}, s.bst:1; called from f, s.bst:1; ITERATE {f}, s.bst:1$' "$folder/stdout")" -eq 2 ] || complaints+=('the place is shown more than once')
+grep -q '^([0-9]* more errors are like `Error--".*" is not an integer while executing + for entry k` in line 1 of the style; for k)$' "$folder/stdout" || complaints+=("printed was $(tail -n 5 "$folder/stdout")")
 end
 
 begin errors_that_a_style_invents

@@ -1,0 +1,250 @@
+//! What stands at a place of a style's code: the token there, those before it, and what a style declares a name as. It is read from the text, as a person would; so it may be silent.
+
+use crate::advice;
+use crate::database::Folded;
+use crate::notes;
+use crate::style_text::{Kind, Token, Tokens, commands};
+use crate::text::Text;
+use std::collections::HashMap;
+
+/// What a style declares a name as.
+#[derive(Debug, Clone, Copy, PartialEq, Eq)]
+pub enum Declared {
+    Field,
+    /// An integer or a string; whether each entry has its own.
+    Integer {
+        is_of_entry: bool,
+    },
+    Text {
+        is_of_entry: bool,
+    },
+    /// A function, and the line of its name.
+    Function {
+        line: usize,
+    },
+}
+
+impl Declared {
+    /// In words, for a variable or a field.
+    pub fn text(self) -> &'static str {
+        match self {
+            Declared::Field => "a field",
+            Declared::Integer { is_of_entry: false } => "an integer (INTEGERS)",
+            Declared::Integer { is_of_entry: true } => "an integer of each entry (ENTRY)",
+            Declared::Text { is_of_entry: false } => "a string (STRINGS)",
+            Declared::Text { is_of_entry: true } => "a string of each entry (ENTRY)",
+            Declared::Function { .. } => "a function",
+        }
+    }
+}
+
+/// A style's code.
+#[derive(Debug, Clone)]
+pub struct Code<'a> {
+    pub text: Text<'a>,
+    tokens: Vec<Token>,
+    declared: HashMap<Folded<'a>, Declared>,
+}
+
+/// The names that commands declare, with what each of them is.
+fn declared<'a>(text: &Text<'a>) -> HashMap<Folded<'a>, Declared> {
+    let commands = commands(text.bytes);
+    let ends = commands.iter().skip(1).map(|next| next.start).chain([text.bytes.len()]);
+    let mut found = HashMap::new();
+    for (command, end) in commands.iter().zip(ends) {
+        let begin = command.start + command.word.len();
+        let mut closed = 0;
+        for token in Tokens::new(&text.bytes[begin..end]) {
+            let sort = match closed {
+                _ if command.is("function") => Declared::Function { line: text.line_of(begin + token.start) },
+                _ if command.is("integers") => Declared::Integer { is_of_entry: false },
+                _ if command.is("strings") => Declared::Text { is_of_entry: false },
+                0 if command.is("entry") => Declared::Field,
+                1 if command.is("entry") => Declared::Integer { is_of_entry: true },
+                2 if command.is("entry") => Declared::Text { is_of_entry: true },
+                _ => break,
+            };
+            match token.kind {
+                Kind::Close if command.is("entry") => closed += 1,
+                Kind::Close => break,
+                Kind::Name => drop(found.insert(Folded(&text.bytes[begin + token.start..begin + token.end]), sort)),
+                _ => {}
+            }
+        }
+    }
+    found
+}
+
+impl<'a> Code<'a> {
+    pub fn new(bytes: &'a [u8]) -> Code<'a> {
+        let text = Text::new(bytes);
+        Code { declared: declared(&text), tokens: Tokens::new(bytes).collect(), text }
+    }
+
+    /// What a style declares a name as.
+    pub fn declared(&self, name: &[u8]) -> Option<Declared> {
+        self.declared.get(&Folded(name)).copied()
+    }
+
+    fn of(&self, index: usize) -> &'a [u8] {
+        &self.text.bytes[self.tokens[index].start..self.tokens[index].end]
+    }
+
+    /// The number of a token in its braces, where a function in braces counts once.
+    fn number_of(&self, index: usize) -> usize {
+        let (mut depth, mut number) = (0, 0);
+        for token in self.tokens[..index].iter().rev() {
+            match token.kind {
+                Kind::Close => depth += 1,
+                Kind::Open if depth == 0 => break,
+                Kind::Open => depth -= 1,
+                _ => {}
+            }
+            number += usize::from(depth == 0);
+        }
+        number
+    }
+
+    /// The token of this text in a line: the one of that number in its braces, or else the first.
+    fn index(&self, line: usize, text: &[u8], number: Option<usize>) -> Option<usize> {
+        let (start, end) = self.text.span(line);
+        let first = self.tokens.partition_point(|token| token.start < start);
+        let behind = self.tokens.partition_point(|token| token.start < end);
+        let is_it = |index: &usize| Folded(self.of(*index)) == Folded(text);
+        let all: Vec<usize> = (first..behind).filter(is_it).take(MOST_OF_LINE).collect();
+        let of_number = all.iter().find(|_| all.len() > 1 && number.is_some());
+        let exact = of_number.and_then(|_| all.iter().find(|index| Some(self.number_of(**index)) == number));
+        exact.or(all.first()).copied()
+    }
+
+    /// A place of the code, as the library notes it.
+    pub fn place(&self, spot: &notes::Spot, text: &[u8]) -> Option<CodePlace<'_, 'a>> {
+        self.place_in(spot.call.line, text, spot.token.map(|(_, number)| number))
+    }
+
+    /// A place of the code, by its line, its token, and the number of that token in its braces.
+    pub fn place_in(&self, line: usize, text: &[u8], number: Option<usize>) -> Option<CodePlace<'_, 'a>> {
+        self.index(line, text, number).map(|index| CodePlace { code: self, index })
+    }
+}
+
+/// Among how many tokens of one text in a line a place is looked for.
+const MOST_OF_LINE: usize = 50;
+
+/// How many tokens before a place are looked at for the field that is there.
+const MOST_FUNCTIONS: usize = 5;
+
+/// A token of a style's code.
+#[derive(Debug, Clone, Copy)]
+pub struct CodePlace<'c, 'a> {
+    code: &'c Code<'a>,
+    index: usize,
+}
+
+/// What leaves an operand, as far as the text shows it.
+#[derive(Debug, Clone, Copy, PartialEq, Eq)]
+pub enum Left<'a> {
+    Number(&'a [u8]),
+    Text(&'a [u8]),
+    Field(&'a [u8]),
+}
+
+impl<'a> CodePlace<'_, 'a> {
+    /// Where it stands in its line.
+    pub fn mark(self) -> usize {
+        let start = self.code.tokens[self.index].start;
+        start - self.code.text.span(self.code.text.line_of(start)).0
+    }
+
+    /// The token `back` tokens before it, in the same braces.
+    fn before(self, back: usize) -> Option<(Kind, &'a [u8])> {
+        let first = self.index.checked_sub(back)?;
+        let is_brace = |token: &Token| matches!(token.kind, Kind::Open | Kind::Close);
+        let is_apart = self.code.tokens[first..self.index].iter().any(is_brace);
+        (!is_apart).then(|| (self.code.tokens[first].kind, self.code.of(first)))
+    }
+
+    /// The variable to which a `:=` here assigns, and what it is declared as.
+    pub fn variable(self) -> Option<(&'a [u8], Declared)> {
+        let (kind, name) = self.before(1)?;
+        let name = (kind == Kind::Quoted).then(|| &name[1..])?;
+        Some((name, self.code.declared(name)?))
+    }
+
+    /// The literal, variable or field that the token `back` tokens before is.
+    pub fn value(self, back: usize) -> Option<Left<'a>> {
+        let (kind, name) = self.before(back)?;
+        match (kind, self.code.declared(name)) {
+            (Kind::Integer, _) | (Kind::Name, Some(Declared::Integer { .. })) => Some(Left::Number(name)),
+            (Kind::Text, _) | (Kind::Name, Some(Declared::Text { .. })) => Some(Left::Text(name)),
+            (Kind::Name, Some(Declared::Field)) => Some(Left::Field(name)),
+            _ => None,
+        }
+    }
+
+    /// The variable that stands directly before without a quote.
+    pub fn variable_itself(self) -> Option<Left<'a>> {
+        self.value(1).filter(|_| self.before(1).is_some_and(|(kind, _)| kind == Kind::Name))
+    }
+
+    /// What the token `back` tokens before leaves.
+    pub fn left_by(self, back: usize) -> Option<Left<'a>> {
+        if let Some(value) = self.value(back) {
+            return Some(value);
+        }
+        let (kind, name) = self.before(back)?;
+        match (kind, self.code.declared(name)) {
+            (Kind::Name, None) if advice::leaves_number(name) => Some(Left::Number(name)),
+            (Kind::Name, None) if advice::leaves_text(name) => Some(Left::Text(name)),
+            _ => None,
+        }
+    }
+
+    /// The function of the style that is run before on a field, directly or with others of the style between: its name, its line, and the field.
+    pub fn function_before(self) -> Option<(&'a [u8], usize, &'a [u8])> {
+        let mut found = None;
+        for back in 1..=MOST_FUNCTIONS {
+            let (Kind::Name, name) = self.before(back)? else { return None };
+            match (self.code.declared(name), found) {
+                (Some(Declared::Function { line }), _) => found = Some((name, line)),
+                (Some(Declared::Field), Some((function, line))) => return Some((function, line, name)),
+                _ => return None,
+            }
+        }
+        None
+    }
+}
+
+#[cfg(test)]
+mod tests {
+    use super::*;
+
+    const STYLE: &str = "ENTRY {year title}{n}{label}\nINTEGERS {i}\nSTRINGS {s}\nFUNCTION {h.i} {} FUNCTION {f.g}\n{ i 'label := { \"a\" * } pop$\n\
+        year f.g h.i * title * year #0 = s 's := }\n";
+
+    #[test]
+    fn names_are_declared() {
+        let code = Code::new(STYLE.as_bytes());
+        assert_eq!(code.declared(b"YEAR"), Some(Declared::Field));
+        assert_eq!(code.declared(b"n"), Some(Declared::Integer { is_of_entry: true }));
+        assert_eq!(code.declared(b"label"), Some(Declared::Text { is_of_entry: true }));
+        assert_eq!(code.declared(b"s"), Some(Declared::Text { is_of_entry: false }));
+        assert_eq!(code.declared(b"f.g"), Some(Declared::Function { line: 4 }));
+        assert_eq!(code.declared(b"pop$"), None);
+    }
+
+    #[test]
+    fn tokens_before_a_place_are_seen() {
+        let code = Code::new(STYLE.as_bytes());
+        let assigned = code.place_in(5, b":=", Some(2)).unwrap();
+        assert_eq!(assigned.variable(), Some((&b"label"[..], Declared::Text { is_of_entry: true })));
+        assert_eq!((assigned.left_by(2), assigned.mark()), (Some(Left::Number(b"i")), 11));
+        let joined = |number| code.place_in(6, b"*", Some(number)).unwrap();
+        assert_eq!(joined(8).function_before(), Some((&b"f.g"[..], 4, &b"year"[..])));
+        assert_eq!((joined(8).mark(), joined(10).mark(), joined(99).mark()), (13, 21, 13));
+        assert_eq!(joined(10).function_before(), None);
+        let compared = code.place_in(6, b"=", None).unwrap();
+        assert_eq!((compared.left_by(1), compared.left_by(2)), (Some(Left::Number(b"#0")), Some(Left::Field(b"year"))));
+        assert!(code.place_in(1, b"=", None).is_none());
+    }
+}

@@ -1,0 +1,144 @@
+//! What a style's text says of a wrong operand: what a variable is declared as, what is compared, and through which function a missing field came.
+
+use crate::code_places::{Code, CodePlace, Declared, Left};
+use crate::database::Folded;
+use crate::scene::Scene;
+use crate::terminal::plain;
+
+/// What is wrong, and what to do about it.
+pub type Said = (String, String);
+
+/// What is said of a `:=` that gets a value of another kind than its variable's.
+pub fn assigned(place: CodePlace<'_, '_>) -> Option<Said> {
+    let (name, declared) = place.variable()?;
+    let (name, sort) = (plain(name), declared.text());
+    let given = match place.left_by(2) {
+        Some(Left::Number(given)) => Some((plain(given), "an integer")),
+        Some(Left::Text(given) | Left::Field(given)) => Some((plain(given), "a string")),
+        None => None,
+    };
+    match declared {
+        Declared::Text { .. } => {
+            let given = given.filter(|(_, kind)| *kind == "an integer");
+            let what =
+                given.map_or("what it gets may be none".to_string(), |(given, kind)| format!("`{given}` is {kind}"));
+            let advice = format!("write `int.to.str$` before `'{name}`: it makes a string of a number");
+            Some((format!("`{name}` is {sort}, and {what}"), advice))
+        }
+        Declared::Integer { .. } => {
+            let given = given.filter(|(_, kind)| *kind == "a string");
+            let what =
+                given.map_or("what it gets may be none".to_string(), |(given, kind)| format!("`{given}` is {kind}"));
+            let advice = "assign it to a variable that is declared as a string: no function makes a number of digits";
+            Some((format!("`{name}` is {sort}, and {what}"), advice.to_string()))
+        }
+        Declared::Field | Declared::Function { .. } => {
+            let advice = "assign to a name that INTEGERS, STRINGS or ENTRY declares as a variable";
+            Some((format!("`{name}` is {sort}, and no variable"), advice.to_string()))
+        }
+    }
+}
+
+/// What is said of a `=` that gets a string and an integer.
+pub fn compared(place: CodePlace<'_, '_>) -> Option<Said> {
+    const NEVER: &str = "a string and an integer are never equal";
+    let (left, right) = (place.value(2)?, place.value(1)?);
+    match (left, right) {
+        (Left::Field(field), Left::Number(number)) | (Left::Number(number), Left::Field(field)) => {
+            let (field, number) = (plain(field), plain(number));
+            let what = format!("{NEVER}: `{field}` is a field, and `{number}` is a number");
+            Some((what, format!("ask by `{field} empty$` whether the entry has it, or compare it with a string")))
+        }
+        (Left::Text(text), Left::Number(number)) | (Left::Number(number), Left::Text(text)) => {
+            let what = format!("{NEVER}: `{}` is a string, and `{}` is a number", plain(text), plain(number));
+            Some((what, "compare two numbers or two strings; `int.to.str$` makes a string of a number".to_string()))
+        }
+        _ => None,
+    }
+}
+
+/// What to do where a field may be missing that a function of the style was run on just before.
+pub fn let_through(place: CodePlace<'_, '_>, field: Option<&[u8]>) -> Option<String> {
+    let (function, line, of) = place.function_before()?;
+    let is_it = field.is_none_or(|field| Folded(field) == Folded(of));
+    let (function, of) = (plain(function), plain(of));
+    let leaves = format!("`{function}` (line {line}) is run on `{of}` just before: let it leave one string");
+    is_it.then(|| format!("{leaves}, and nothing else, where the field is missing"))
+}
+
+/// What to do about an error of an execution, where the text at its place says more than the message.
+pub fn advice_at(code: &Code<'_>, scene: &Scene, message: &[u8], function: &[u8]) -> Option<String> {
+    if message == b"You can't mess with entries here" {
+        let command = scene.callers.last().filter(|call| call.function.starts_with(b"EXECUTE "))?;
+        return Some(without_entry(&plain(&command.function), command.line));
+    }
+    let place = code.place_in(scene.at.line, function, None)?;
+    let said = match function {
+        b":=" if message.ends_with(b" is not a function") => {
+            let (Left::Number(name) | Left::Text(name)) = place.variable_itself()? else { return None };
+            return Some(format!("write a ' before the variable: `'{}`", plain(name)));
+        }
+        b":=" if message.starts_with(b"missing field ") => return None,
+        b":=" => assigned(place),
+        b"=" => compared(place),
+        _ if message == b"missing field is not a string" => return let_through(place, None),
+        _ => None,
+    };
+    said.map(|(what, advice)| format!("{what}; {advice}"))
+}
+
+/// What to do about a use of an entry in a command that has none.
+pub fn without_entry(command: &str, line: usize) -> String {
+    format!("there is no current entry: take {command} in line {line} out, or run its function by ITERATE or REVERSE")
+}
+
+#[cfg(test)]
+mod tests {
+    use super::*;
+
+    const STYLE: &str = "ENTRY {year}{n}{label}\nSTRINGS {s}\nFUNCTION {f.g} {}\nFUNCTION {h}\n{ n 'label :=\n\"a\" 'n :=\n year #0 =\n s n =\n\
+        year f.g \"x\" write$ *\n year f.g *\n 's 'f.g :=\n s label := }\n";
+
+    fn said(line: usize, text: &[u8], by: fn(CodePlace<'_, '_>) -> Option<Said>) -> (String, String) {
+        by(Code::new(STYLE.as_bytes()).place_in(line, text, None).unwrap()).unwrap_or_default()
+    }
+
+    #[test]
+    fn kinds_are_said() {
+        let rows = [
+            (
+                said(5, b":=", assigned),
+                "`label` is a string of each entry (ENTRY), and `n` is an integer",
+                "write `int.to.str$` before `'label`",
+            ),
+            (
+                said(6, b":=", assigned),
+                "`n` is an integer of each entry (ENTRY), and `\"a\"` is a string",
+                "assign it to a variable that is declared as a string",
+            ),
+            (
+                said(7, b"=", compared),
+                "a string and an integer are never equal: `year` is a field, and `#0` is a number",
+                "ask by `year empty$`",
+            ),
+            (
+                said(8, b"=", compared),
+                "a string and an integer are never equal: `s` is a string, and `n` is a number",
+                "compare two",
+            ),
+            (said(11, b":=", assigned), "`f.g` is a function, and no variable", "assign to a name"),
+        ];
+        for ((what, advice), wanted, begin) in rows {
+            assert_eq!(what, wanted);
+            assert!(advice.starts_with(begin), "{advice}");
+        }
+    }
+
+    #[test]
+    fn functions_before_are_named() {
+        let code = Code::new(STYLE.as_bytes());
+        let at = |line| let_through(code.place_in(line, b"*", None).unwrap(), Some(b"year"));
+        let wanted = "`f.g` (line 3) is run on `year` just before: let it leave one string, and nothing else, where the field is missing";
+        assert_eq!((at(9), at(10).as_deref()), (None, Some(wanted)));
+    }
+}

@@ -1,0 +1,132 @@
+//! Errors of an execution that repeat: of one kind, at one place of the style. The first is explained, and the others are counted.
+
+use crate::advice::{self, Section};
+use crate::log::{Message, Place, Severity};
+use crate::scene::{Call, Scene};
+use crate::terminal::plain;
+use std::collections::HashMap;
+
+/// For how many entries it is said that an error repeats for them.
+const MOST_ENTRIES: usize = 8;
+
+/// The errors of one kind.
+#[derive(Debug, Clone)]
+struct Repeated<'a> {
+    /// The line of the log of the first, and its place in the style.
+    first: &'a [u8],
+    place: Option<&'a Call>,
+    /// How many there are behind the first, and for which entries.
+    count: u64,
+    entries: Vec<&'a [u8]>,
+    /// How many errors of the same EXECUTE stand behind one that has no entry.
+    following: u64,
+}
+
+/// The kind of an error: its row of the advice, the function that met it, and the place.
+type Sort<'a> = (usize, &'a [u8], Option<&'a Call>);
+
+/// The errors of an execution so far.
+#[derive(Debug, Clone, Default)]
+pub struct Repeats<'a> {
+    by_sort: HashMap<Sort<'a>, usize>,
+    /// The commands that met an error since they have no entry, with that error.
+    by_command: HashMap<&'a Call, usize>,
+    all: Vec<Repeated<'a>>,
+}
+
+impl<'a> Repeats<'a> {
+    /// Whether an error of a style's code was met before at the same place, or follows from one; then it is counted. Those that a value of a database makes never are. Where the style's text
+    /// `has_mistakes`, its places don't matter.
+    pub fn has(&mut self, line: &'a [u8], message: &Message<'a>, has_mistakes: bool) -> bool {
+        let Place::Execution { function, entry } = message.place else { return false };
+        let advice = advice::find(&[Section::Execution], message.text);
+        let Some(advice) = advice.filter(|advice| message.severity == Severity::Error && advice.is_of_code()) else {
+            return false;
+        };
+        let command = message.scene.map(Scene::command).filter(|call| call.function.starts_with(b"EXECUTE "));
+        if let Some(first) =
+            command.and_then(|command| self.by_command.get(command)).and_then(|at| self.all.get_mut(*at))
+        {
+            first.following += 1;
+            return true;
+        }
+        let (next, place) = (self.all.len(), message.scene.map(|scene| &scene.at));
+        let sort = (advice.number, function, place.filter(|_| !has_mistakes));
+        let at = *self.by_sort.entry(sort).or_insert(next);
+        if let Some(known) = self.all.get_mut(at) {
+            known.add(entry);
+            return true;
+        }
+        // (the places of later errors may not be known)
+        self.by_sort.entry((advice.number, function, None)).or_insert(next);
+        self.all.push(Repeated { first: line, place, count: 0, entries: Vec::new(), following: 0 });
+        if let Some(command) = command.filter(|_| message.text == b"You can't mess with entries here") {
+            self.by_command.insert(command, next);
+        }
+        false
+    }
+
+    /// Whether no error of a style's code was met.
+    pub fn is_empty(&self) -> bool {
+        self.all.is_empty()
+    }
+
+    /// What is said of those that weren't printed, for each kind; once.
+    pub fn texts(&mut self) -> Vec<String> {
+        std::mem::take(&mut self.all).iter().flat_map(Repeated::texts).collect()
+    }
+}
+
+impl<'a> Repeated<'a> {
+    /// Counts one more, for this entry.
+    fn add(&mut self, entry: Option<&'a [u8]>) {
+        self.count += 1;
+        let is_new = |entry: &&[u8]| self.entries.len() <= MOST_ENTRIES && !self.entries.contains(entry);
+        let new = entry.filter(is_new);
+        self.entries.extend(new);
+    }
+
+    fn texts(&self) -> Vec<String> {
+        let count = |count: u64, one: &str, more: &str| match count {
+            0 => None,
+            1 => Some(format!("1 more error {one}")),
+            count => Some(format!("{count} more errors {more}")),
+        };
+        let line = self
+            .place
+            .filter(|call| call.line > 0)
+            .map_or(String::new(), |call| format!(" in line {} of the style", call.line));
+        let first = format!("`{}`{line}", plain(self.first));
+        let mut names: Vec<String> = self.entries.iter().take(MOST_ENTRIES).map(|entry| plain(entry)).collect();
+        if self.entries.len() > MOST_ENTRIES {
+            names.push("..".to_string());
+        }
+        let names = if names.is_empty() { String::new() } else { format!("; for {}", names.join(", ")) };
+        let like = count(self.count, "is", "are").map(|text| format!("({text} like {first}{names})"));
+        let follows = count(self.following, "follows", "follow").map(|text| format!("({text} from {first})"));
+        like.into_iter().chain(follows).collect()
+    }
+}
+
+#[cfg(test)]
+mod tests {
+    use super::*;
+    use crate::log::{Content, Log};
+
+    #[test]
+    fn errors_of_code_are_counted() {
+        let log = b"Error--1 is not a string while executing := for entry a\nError--2 is not a string while executing := for entry b\n\
+            Error--2 is not a string while executing * for entry b\nError--Too many commas in name 1 of \"x\" while executing format.name$ for entry a\n\
+            Error--Too many commas in name 1 of \"x\" while executing format.name$ for entry b\nError--3 is not a string while executing := for entry b\n";
+        let mut repeats = Repeats::default();
+        let mut had = Vec::new();
+        for line in Log::new(log).lines() {
+            let Content::Message(message) = line.content else { panic!() };
+            had.push(repeats.has(line.bytes, &message, false));
+        }
+        assert_eq!(had, [false, true, false, false, false, true]);
+        let wanted = "(2 more errors are like `Error--1 is not a string while executing := for entry a`; for b)";
+        assert_eq!(repeats.texts(), [wanted]);
+        assert!(repeats.texts().is_empty());
+    }
+}
