@@ -44,6 +44,12 @@ run_program() {
     timeout 60 "$program" "$@" </dev/null >"$folder/stdout" 2>"$folder/stderr" || status=$?
 }
 
+# run_failing REASON FILE: runs the job where this file can't be opened for this reason; `fail_open` is the library of tests/fail_open.c.
+run_failing() {
+    status=0
+    timeout 60 env LD_PRELOAD="$fail_open" FAIL_REASON="$1" FAIL_OPEN="$2" "$program" job </dev/null >"$folder/stdout" 2>"$folder/stderr" || status=$?
+}
+
 # wants_status N: the exit status was N.
 wants_status() {
     [ "$status" -eq "$1" ] || complaints+=("the exit status is $status, not $1")

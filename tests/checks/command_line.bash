@@ -36,6 +36,12 @@ is_hinted yes -version
 is_hinted yes job -terse
 is_hinted no --nope job
 is_hinted no -x job
+is_hinted no -ters job
+is_hinted no --nope job-terse
+is_hinted yes --nope -version
+is_hinted no -min-crossref job
+is_hinted no -versio
+is_hinted no --terse=yes job
 is_hinted no --nope -- -terse
 is_hinted no
 
@@ -46,6 +52,23 @@ refuses one_hyphen "unexpected argument '-t'" -terse job
 refuses one_hyphen_and_value "unexpected argument '-m'" -min-crossrefs=3 job
 refuses terse_with_a_value "unexpected value 'yes'" --terse=yes job
 refuses bytes_that_are_no_text 'invalid UTF-8' $'\xff'
+
+# says TEXT WORD..: these words are refused, and this text is all that is said.
+says() {
+    begin "mistake_$((passed + failed))"
+    run_program "${@:2}"
+    wants_status 1
+    wants_output ''
+    wants_error "$1"
+    end
+}
+
+more=$'\nFor more information, try \'--help\'.\n'
+says $'error: unexpected argument \'--nope\' found\n\n  tip: to pass \'--nope\' as a value, use \'-- --nope\'\n\nUsage: bibtex [OPTIONS] <JOB>\n'"$more" --nope job
+says $'error: the following required arguments were not provided:\n  <JOB>\n\nUsage: bibtex <JOB>\n'"$more"
+says $'error: invalid value \'19\' for \'--line <N>\': 19 is not in 20..=1000\n'"$more" --line 19 job
+says $'error: invalid UTF-8 was detected in one or more arguments\n' $'\xff'
+says $'error: unexpected argument \'-t\' found\n\n  tip: to pass \'-t\' as a value, use \'-- -t\'\n\nUsage: bibtex [OPTIONS] <JOB>\n'"$more$hint"$'\n' -terse job
 
 # Each option of a number is refused one past the ends of its range, where it is no number, without a value, and twice.
 # refuses_numbers OPTION LEAST GREATEST
@@ -86,14 +109,13 @@ wants_status 0
 cmp -s "$folder/help" "$folder/stdout" || complaints+=('-h prints something else than --help')
 end
 
-# The version is a line with the program's name and a number; a job beside it isn't run.
+# The version is a line with the program's name and the number of the last release; a job beside it isn't run.
 for word in --version -V; do
     begin "version_by_$word"
     run_program "$word" job
     wants_status 0
     wants_error ''
     wants_files d.bib job.aux s.bst
-    [ "$(wc -l <"$folder/stdout")" -eq 1 ] || complaints+=('the version is not one line')
-    grep -qxE 'bibtex [0-9]+(\.[0-9]+)+' "$folder/stdout" || complaints+=("the version is $(printf '%q' "$(cat "$folder/stdout")")")
+    wants_output "bibtex $(grep -om 1 '^## [0-9][0-9.]*' "$here/../CHANGELOG.md" | cut -c 4-)"$'\n'
     end
 done

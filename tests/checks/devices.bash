@@ -1,6 +1,8 @@
 # Files and outputs that fail.
 
 device_error=$'bibtex: device error\n'
+fail_open=$room/fail_open.so
+gcc -O2 -Wall -Werror -shared -fPIC -o "$fail_open" "$here/fail_open.c" -ldl
 
 begin no_folder
 run_program --dir nowhere job
@@ -73,6 +75,33 @@ wants_text job.bbl $'a\n'
 wants_text job.blg "$first_log"
 end
 
+# The log is stored before it is printed: it stands in its file while the reader of standard output takes nothing.
+begin log_stored_before_it_is_printed
+use_style 'FUNCTION {g} {"0123456789" duplicate$ * duplicate$ * duplicate$ * duplicate$ * warning$} FUNCTION {f} {g g g g g g g g}
+FUNCTION {h} {f f f f f f f f} EXECUTE {h} EXECUTE {h} EXECUTE {h} EXECUTE {h} EXECUTE {h} EXECUTE {h} EXECUTE {h} EXECUTE {h}'
+status=0
+timeout 60 python3 - "$program" >"$folder/stdout" 2>"$folder/stderr" <<'EOF' || status=$?
+import subprocess, sys, time
+
+running = subprocess.Popen([sys.argv[1], "job"], stdin=subprocess.DEVNULL, stdout=subprocess.PIPE)
+log = b""
+for _ in range(200):
+    time.sleep(0.05)
+    try:
+        log = open("job.blg", "rb").read()
+    except FileNotFoundError:
+        continue
+    if b"\nEnded: " in log:
+        break
+print("stored" if b"\nEnded: " in log else "not stored", "running" if running.poll() is None else "ended")
+print(running.communicate()[0] == open("job.blg", "rb").read())
+sys.exit(running.returncode)
+EOF
+wants_status 0
+wants_error ''
+wants_output $'stored running\nTrue\n'
+end
+
 # Both fail: one fault is reported.
 begin two_failures
 ln -s /dev/full job.bbl
@@ -81,6 +110,71 @@ run_program job
 wants_status 6
 wants_output "${first_log%Ended*}"
 wants_error "$device_error"
+end
+
+# Memory is refused for the log's file, and standard output takes no byte: the first of both faults counts.
+begin log_without_memory_and_output
+status=0
+timeout 60 env LD_PRELOAD="$fail_open" FAIL_REASON=ENOMEM FAIL_OPEN=job.blg "$program" job </dev/null >/dev/full 2>"$folder/stderr" || status=$?
+wants_status 5
+wants_error $'bibtex: out of memory\n'
+wants_text job.bbl $'a\n'
+end
+
+# Memory is refused for the log's file: it is printed all the same. Where it is for the list's file, nothing is.
+begin log_without_memory
+run_failing ENOMEM job.blg
+wants_status 5
+wants_output "$first_log"
+wants_error $'bibtex: out of memory\n'
+wants_text job.bbl $'a\n'
+end
+
+begin list_without_memory
+run_failing ENOMEM job.bbl
+wants_status 5
+wants_output ''
+wants_error $'bibtex: out of memory\n'
+wants_files d.bib job.aux s.bst
+end
+
+# moves_in VARIABLES: with these variables of tests/fail_open.c the job does what it does without them.
+moves_in() {
+    run_with() {
+        status=0
+        timeout 60 env LD_PRELOAD="$fail_open" "$@" "$program" job </dev/null >"$folder/stdout" 2>"$folder/stderr" || status=$?
+    }
+    begin "moves_in_$(printf '%s' "$*" | tr -c 'A-Za-z0-9' _)"
+    use_style 'FUNCTION {f} {"a" write$ newline$ "b " write$} EXECUTE {f} EXECUTE {f}'
+    printf '@comment{%s}\n@misc{k, title = {T}}\n' "$(letters 3000 x)" >d.bib
+    run_with "$@"
+    wants_found 0 $'a\nb a\nb\n' 'Ended: finished, warnings 0, errors 0, steps 12'
+    end
+}
+
+# A reading or a writing may take a part of what it is asked for, and a signal may interrupt a reading: it is gone on with.
+moves_in FAIL_SHORT=yes
+moves_in FAIL_READ=first FAIL_REASON=EINTR
+
+# A signal interrupts the writing of the log.
+begin interrupted_log
+use_style ''
+status=0
+timeout 60 env LD_PRELOAD="$fail_open" FAIL_WRITE=first FAIL_REASON=EINTR "$program" job </dev/null >"$folder/stdout" 2>"$folder/stderr" || status=$?
+wants_found 0 '' 'Ended: finished, warnings 0, errors 0, steps 0'
+end
+
+# A database may come through a pipe, piece by piece.
+begin database_from_a_pipe
+mkfifo e.bib
+timeout 60 bash -c "{ printf '@misc{k, ti'; sleep 0.2; printf 'tle = {P}}\\n'; } >e.bib" &
+use_style 'FUNCTION {f} {title write$ newline$} ITERATE {f}'
+printf '\\citation{k}\n\\bibdata{e}\n\\bibstyle{s}\n' >job.aux
+run_program job
+kill $! 2>/dev/null || true
+wait $! || true
+wants_job 0 $'P\n' "${found_log/d.bib/e.bib}Ended: finished, warnings 0, errors 0, steps 4
+"
 end
 
 # A job that ends at a limit, and whose log can't be created: the device's fault gives the status.

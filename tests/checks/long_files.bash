@@ -83,3 +83,18 @@ Ended: finished, warnings 1, errors 0, steps 4"
 truncate -s 2147483648 d.bib
 within 5000000 job
 is_too_long "$found_log"
+
+# So is a style, and a top file: it is one line of the byte 0, behind what stands there.
+begin greatest_style
+lines=$(wc -l <s.bst)
+truncate -s 2147483647 s.bst
+within 5000000 job
+wants_found 2 $'a\n' "Error--I was expecting a command--line $((lines + 1)) of file s.bst
+Ended: finished, warnings 0, errors 1, steps 4"
+end
+
+begin greatest_top_file
+truncate -s 2147483647 job.aux
+within 5000000 job
+wants_found 0 $'a\n' 'Ended: finished, warnings 0, errors 0, steps 4'
+end

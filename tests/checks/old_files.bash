@@ -7,6 +7,9 @@ old_log='a log of an earlier run, with its last line
 Ended: finished, warnings 0, errors 0, steps 4711
 '
 
+fail_open=$room/fail_open.so
+gcc -O2 -Wall -Werror -shared -fPIC -o "$fail_open" "$here/fail_open.c" -ldl
+
 # leave_old_files: an earlier run left a list and a log.
 leave_old_files() {
     printf '%s' "$old_list" >job.bbl
@@ -54,6 +57,29 @@ begin old_list_of_a_stopped_run
 leave_old_files
 goes 4 --budget 0
 
+# Memory is refused before anything is written.
+begin old_list_goes_where_memory_is_refused
+leave_old_files
+run_failing ENOMEM s.bst
+wants_status 5
+wants_text job.bbl ''
+end
+
+# What leads to an old list by a link is emptied and written there.
+begin old_list_behind_a_link
+printf '%s' "$old_list" >kept.bbl
+ln -s kept.bbl job.bbl
+run_program job
+wants_status 0
+wants_text kept.bbl $'a\n'
+[ -L job.bbl ] || complaints+=('the link was replaced')
+end
+
+begin old_list_of_a_run_that_meets_a_limit
+leave_old_files
+use_style 'FUNCTION {f} {{#1} {#7} while$} EXECUTE {f}'
+goes 3
+
 # A database can be opened and not be read.
 begin old_list_goes_at_a_fault
 leave_old_files
@@ -63,9 +89,6 @@ goes 6
 
 # The device doesn't empty the list's file: nothing is written over what an earlier run left, and that is a device error, also at the end of a
 # run that writes nothing.
-fail_open=$room/fail_open.so
-gcc -O2 -Wall -Werror -shared -fPIC -o "$fail_open" "$here/fail_open.c" -ldl
-
 # run_unemptied: runs the job where no file can be emptied.
 run_unemptied() {
     status=0
@@ -155,17 +178,40 @@ wants_text kept.blg "$first_log"
 [ -L job.blg ] || complaints+=('the link was replaced')
 end
 
-# The run is killed while it writes: no old log stands beside the new list.
+# The list can't be opened: what an earlier run left stays, its log too.
+begin old_log_beside_a_list_that_cannot_be_opened
+leave_old_files
+rm job.bbl
+mkdir job.bbl
+run_program job
+wants_status 6
+wants_text job.blg "$old_log"
+end
+
+# kill_while_it_writes: runs a job that writes lines without end, and kills it when the list has some of them.
+kill_while_it_writes() {
+    use_style 'FUNCTION {f} {{#1} {"a" write$ newline$} while$} EXECUTE {f}'
+    "$program" --budget 1000000000000 job </dev/null >/dev/null 2>&1 &
+    for _ in $(seq 100); do
+        [ "$(head -c 1 job.bbl 2>/dev/null)" = a ] && [ "$(stat -c %s job.bbl)" -gt 100 ] && break
+        sleep 0.05
+    done
+    kill -KILL $!
+    wait $! 2>/dev/null || true
+}
+
+# The run is killed while it writes: no old log stands beside the new list, be it behind a link.
+begin no_old_log_behind_a_link
+leave_old_files
+mv job.blg kept.blg
+ln -s kept.blg job.blg
+kill_while_it_writes
+wants_text kept.blg ''
+end
+
 begin no_old_log_beside_a_new_list
 leave_old_files
-use_style 'FUNCTION {f} {{#1} {"a" write$ newline$} while$} EXECUTE {f}'
-"$program" --budget 1000000000000 job </dev/null >/dev/null 2>&1 &
-for _ in $(seq 100); do
-    [ "$(head -c 1 job.bbl)" = a ] && [ "$(stat -c %s job.bbl)" -gt 100 ] && break
-    sleep 0.05
-done
-kill -KILL $!
-wait $! 2>/dev/null || true
+kill_while_it_writes
 wants_text job.blg ''
 [ "$(head -c 2 job.bbl)" = a ] || complaints+=('the list is not begun anew')
 end
@@ -182,13 +228,6 @@ end
 
 # In a fresh folder a log isn't made before the run ends.
 begin no_log_before_the_end
-use_style 'FUNCTION {f} {{#1} {"a" write$ newline$} while$} EXECUTE {f}'
-"$program" --budget 1000000000000 job </dev/null >/dev/null 2>&1 &
-for _ in $(seq 100); do
-    [ "$(stat -c %s job.bbl 2>/dev/null || echo 0)" -gt 100 ] && break
-    sleep 0.05
-done
-kill -KILL $!
-wait $! 2>/dev/null || true
+kill_while_it_writes
 wants_files d.bib job.aux job.bbl s.bst
 end

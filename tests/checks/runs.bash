@@ -20,6 +20,17 @@ run_program job.aux
 wants_first_run
 end
 
+# Files are found behind links.
+begin behind_links
+mkdir kept
+mv d.bib job.aux s.bst kept
+ln -s kept/* .
+run_program job
+wants_status 0
+wants_output "$first_log"
+wants_text job.bbl $'a\n'
+end
+
 # Outputs of an earlier run are replaced whole.
 begin again
 printf 'something longer than what is written now\n' | tee job.bbl >job.blg
@@ -32,12 +43,15 @@ run_program --budget 4 job
 wants_first_run
 end
 
-begin in_a_folder
-cd ..
-run_program --dir work job
-cd work
-wants_first_run
-end
+for name in work ./work work/ "$PWD"; do
+    begin "in_a_folder_$((passed + failed))"
+    cd ..
+    [[ $name != /* ]] || name=$PWD/work
+    run_program --dir "$name" job
+    cd work
+    wants_first_run
+    end
+done
 
 # Only a last `.aux` isn't of the name of the outputs.
 begin ending_twice
@@ -49,6 +63,74 @@ wants_error ''
 wants_text job.aux.bbl $'a\n'
 wants_text job.aux.blg "${first_log/job.aux/job.aux.aux}"
 wants_files d.bib job.aux.aux job.aux.bbl job.aux.blg s.bst
+end
+
+begin ending_alone
+mv job.aux .aux
+run_program .aux
+wants_status 0
+wants_output "${first_log/job.aux/.aux}"
+wants_error ''
+wants_text .bbl $'a\n'
+wants_text .blg "${first_log/job.aux/.aux}"
+end
+
+# Behind `--` a job may begin with a hyphen; and its name may lead into a folder.
+begin job_with_a_hyphen_in_front
+mv -- job.aux -terse.aux
+run_program -- -terse
+wants_status 0
+wants_output "${first_log/job.aux/-terse.aux}"
+wants_text ./-terse.bbl $'a\n'
+end
+
+begin job_in_a_folder_below
+mkdir sub
+mv job.aux sub
+run_program sub/job
+wants_status 0
+wants_output "${first_log/job.aux/sub/job.aux}"
+wants_text sub/job.bbl $'a\n'
+wants_text sub/job.blg "${first_log/job.aux/sub/job.aux}"
+end
+
+# Only these four letters in small are the ending.
+for ending in AUX bbl tex bib au; do
+    begin "ending_in_$ending"
+    mv job.aux "job.$ending.aux"
+    run_program "job.$ending"
+    wants_status 0
+    wants_output "${first_log/job.aux/job.$ending.aux}"
+    wants_text "job.$ending.bbl" $'a\n'
+    end
+done
+
+# Each file stands in the folder, whatever it is called: a name with a `/` in front leads nowhere else.
+begin name_with_a_slash_in_front
+mv d.bib e.bib
+printf '\\citation{k}\n\\bibdata{%s/e}\n\\bibstyle{s}\n' "$PWD" >job.aux
+run_program job
+wants_status 2
+grep -qx "Error--I couldn't open database file $PWD/e.bib" job.blg || complaints+=("the log is $(cat job.blg)")
+end
+
+# An empty folder is the root folder.
+begin empty_folder
+mv job.aux "$folder"
+run_program --dir '' "${folder#/}/job"
+wants_status 2
+wants_text "$folder/job.bbl" ''
+grep -qx "The top-level auxiliary file: ${folder#/}/job.aux" "$folder/job.blg" || complaints+=("the log is $(cat "$folder/job.blg")")
+end
+
+# White at the ends of a path is a part of it.
+begin folder_with_white_at_its_ends
+cd ..
+mv work ' work '
+run_program --dir ' work ' job
+mv ' work ' work
+cd work
+wants_first_run
 end
 
 for budget in 0 2 3; do

@@ -3,12 +3,6 @@
 fail_open=$room/fail_open.so
 gcc -O2 -Wall -Werror -shared -fPIC -o "$fail_open" "$here/fail_open.c" -ldl
 
-# run_failing REASON FILE: runs the job where this file can't be opened for this reason.
-run_failing() {
-    status=0
-    timeout 60 env LD_PRELOAD="$fail_open" FAIL_REASON="$1" FAIL_OPEN="$2" "$program" job </dev/null >"$folder/stdout" 2>"$folder/stderr" || status=$?
-}
-
 # include_file: the first line of the job's .aux file includes another one.
 include_file() {
     printf '\\citation{nosuch}\n' >c.aux
@@ -78,8 +72,8 @@ for cause in links_in_a_circle a_path_through_a_file a_long_name a_socket; do
     done
 done
 
-# A device that fails, or goes away, while the job runs; a network folder that another machine changed; no descriptor left.
-for reason in EIO ENXIO ENODEV ESTALE EMFILE ENFILE; do
+# A device that fails, or goes away, while the job runs; a network folder that another machine changed; no descriptor left; a file that may not be read.
+for reason in EIO ENXIO ENODEV ESTALE EMFILE ENFILE EACCES EPERM; do
     for file in d.bib s.bst c.aux job.aux; do
         begin "${file//./_}_lost_by_$reason"
         [ "$file" != c.aux ] || include_file
@@ -87,6 +81,56 @@ for reason in EIO ENXIO ENODEV ESTALE EMFILE ENFILE; do
         wants_run_without "$file"
         end
     done
+done
+
+# The same for each error number of the system but for those of a signal (EINTR), which is tried again, and of want of memory (ENOMEM).
+error_numbers=$(python3 -c 'import errno; print(*sorted(set(errno.errorcode) - {errno.EINTR, errno.ENOMEM}))')
+
+begin lost_by_each_error
+for number in $error_numbers; do
+    run_failing "$number" d.bib
+    before=${#complaints[@]}
+    wants_run_without d.bib
+    [ ${#complaints[@]} -eq "$before" ] || complaints+=("so at error $number")
+done
+end
+
+# failing_by_each_error NAME OUTPUT VARIABLE..: with these variables, and each of these errors, a device's fault ends the run.
+failing_by_each_error() {
+    begin "$1"
+    for number in $error_numbers; do
+        status=0
+        timeout 60 env LD_PRELOAD="$fail_open" "${@:3}" FAIL_REASON="$number" "$program" job </dev/null >"$folder/stdout" 2>"$folder/stderr" || status=$?
+        before=${#complaints[@]}
+        wants_status 6
+        wants_output "$2"
+        wants_error $'bibtex: device error\n'
+        [ ${#complaints[@]} -eq "$before" ] || complaints+=("so at error $number")
+    done
+    end
+}
+
+failing_by_each_error list_fails_by_each_error '' FAIL_OPEN=job.bbl
+failing_by_each_error log_fails_by_each_error "$first_log" FAIL_OPEN=job.blg
+failing_by_each_error reading_fails_by_each_error '' FAIL_READ=each
+# What is an invalid input to the system (EINVAL) has no length: it is taken for emptied.
+error_numbers=$(printf '%s\n' $error_numbers | grep -vx 22 | tr '\n' ' ')
+failing_by_each_error emptying_fails_by_each_error "$found_log" FAIL_EMPTY=yes
+failing_by_each_error writing_fails_by_each_error "$found_log" FAIL_WRITE=first
+
+# Files are opened for reading alone, and outputs for writing alone: nothing else need be allowed.
+for file in d.bib s.bst job.aux; do
+    begin "${file//./_}_may_only_be_read"
+    FAIL_ACCESS=write run_failing EROFS "$file"
+    wants_job 0 $'a\n' "$first_log"
+    end
+done
+for file in job.bbl job.blg; do
+    begin "${file//./_}_may_only_be_written"
+    printf 'old\n' >"$file"
+    FAIL_ACCESS=read run_failing EACCES "$file"
+    wants_job 0 $'a\n' "$first_log"
+    end
 done
 
 # Where memory is refused for the opening, that is a fault: nothing is said of the file.

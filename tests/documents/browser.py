@@ -3,7 +3,8 @@
     python3 tests/documents/browser.py
 
 It needs docs/book/out (`make book`) and Debian's chromium; where that isn't there, a line says so, and only the structure of the HTML is looked at. pdftotext shows
-the printed pages, where it is there. A browser that gives no answer within PATIENCE seconds is one failure. The last line is 'N passed, M failed'."""
+the printed pages, where it is there, and how many of them the core takes and all that has to be believed. A browser that gives no answer within PATIENCE seconds, or doesn't print
+the book within PATIENCE_OF_PRINTING, is one failure. The last line is 'N passed, M failed'."""
 
 import html
 import json
@@ -22,8 +23,12 @@ WIDTHS = (1280, 768, 390)
 MOST_BYTES = 3_000_000
 # How many seconds the browser may take for one page: it takes some ten on a machine of its own.
 PATIENCE = 600
+# And for printing the book, which takes a minute or two, on a machine that does many other things.
+PATIENCE_OF_PRINTING = 1800
 # How many milliseconds a page of a few words takes at most until it is seen, on a machine that isn't busy.
 IDLE_PAINT = 150
+# How many pages of A4 the core may take at most.
+MOST_PAGES_OF_THE_CORE = 12
 # What is asked of a page in the browser: a name, and an expression in which `page` is its window and `all` answers what a selector finds.
 ASKED = {
     "nothing is wider than the page": "page.document.documentElement.scrollWidth <= page.innerWidth",
@@ -31,6 +36,7 @@ ASKED = {
     "code is nearly as large as text": "all('p code').slice(0, 300).every((it) => parseFloat(style(it).fontSize) >= 0.8 * parseFloat(style(it.parentElement).fontSize))",
     "comments in code don't hang": "all('pre .c').every((it) => style(it).textIndent === '0px')",
     "names in the first column of tables are whole": "all('.wide td:first-child > span > code').every((it) => it.getClientRects().length === 1)",
+    "options are whole": "all('code.whole').every((it) => it.getClientRects().length <= 1)",
     "questions stand out": "all('.asked td:first-child').every((it) => style(it).fontWeight >= 600)",
     "all that can be clicked can be reached by keyboard": "all('a, input').every((it) => it.tabIndex === 0) && !all('[tabindex]').length",
     "definitions that aren't seen aren't drawn": "all('section').every((it) => style(it).contentVisibility === 'auto' || page.innerWidth >= 1184)",
@@ -95,12 +101,12 @@ def browser():
     return next((found for found in map(shutil.which, ("chromium", "chromium-browser", "google-chrome")) if found), None)
 
 
-def run(program, room, *words):
+def run(program, room, *words, patience=PATIENCE):
     flags = ["--headless", "--no-sandbox", "--disable-gpu", "--hide-scrollbars", "--no-first-run", f"--user-data-dir={room}/profile", "--allow-file-access-from-files"]
     try:
-        return subprocess.run([program, *flags, *words], capture_output=True, text=True, errors="replace", timeout=PATIENCE, env={**os.environ, "HOME": str(room)})
+        return subprocess.run([program, *flags, *words], capture_output=True, text=True, errors="replace", timeout=patience, env={**os.environ, "HOME": str(room)})
     except subprocess.TimeoutExpired:
-        return subprocess.CompletedProcess(words, 1, "", f"no answer within {PATIENCE} seconds")
+        return subprocess.CompletedProcess(words, 1, "", f"no answer within {patience} seconds")
 
 
 def asked_of(program, room, asked, frames, *flags):
@@ -183,15 +189,33 @@ def check_print(checks, program, room, is_busy):
     if not shutil.which("pdftotext"):
         print("left out: pages on paper (there is no pdftotext)")
         return
-    run(program, room, f"--print-to-pdf={room}/book.pdf", "--no-pdf-header-footer", (OUT / PAGES[0]).as_uri())
+    run(program, room, f"--print-to-pdf={room}/book.pdf", "--no-pdf-header-footer", (OUT / PAGES[0]).as_uri(), patience=PATIENCE_OF_PRINTING)
     if is_busy and not (room / "book.pdf").is_file():
-        print(f"left out: pages on paper (they weren't printed within {PATIENCE} seconds)")
+        print(f"left out: pages on paper (they weren't printed within {PATIENCE_OF_PRINTING} seconds)")
         return
     pages = subprocess.run(["pdftotext", "-layout", f"{room}/book.pdf", "-"], capture_output=True, text=True).stdout.split("\f")
     checks.check(len(pages) > 50, f"the book has {len(pages)} pages on paper")
     numbered = sum(bool(re.search(rf"(?m)^\s*{number}\s*$", page)) for number, page in enumerate(pages, 1))
     checks.check(numbered >= len(pages) - 2, f"{numbered} of {len(pages)} pages have their number")
     checks.check(sum("the book of definitions" in page for page in pages) >= len(pages) - 2, "pages have no running head")
+    check_core(checks, pages)
+
+
+def check_core(checks, pages):
+    """How many pages the core takes, and all that has to be believed: as many as the book's first page says, and the core not more than it may."""
+    book = (OUT / PAGES[0]).read_text(encoding="utf-8")
+    heads = [html.unescape(re.sub("<[^>]*>", "", head)) for head in re.findall(r'<h2 id="ch\d+">(.*?)</h2>', book)]
+    starts = [next((number for number, page in enumerate(pages) if re.search(rf"(?m)^\s*{re.escape(head)}\s*$", page)), None) for head in heads]
+    first_behind = book.count('<div class="dense">')
+    said = [int(number) for number in re.findall(r"(\d+) pages on paper", book)]
+    if len(said) != 2 or None in (starts[0], starts[1], starts[first_behind]):
+        checks.check(False, f"the first page says {said} for the pages of the core and of all that has to be believed; chapters begin at {starts}")
+        return
+    core, believed = starts[1] - starts[0], starts[first_behind] - starts[0]
+    print(f"on paper: {len(pages)} pages, of which the core takes {core}, and all that has to be believed {believed}")
+    checks.check(core <= MOST_PAGES_OF_THE_CORE, f"the core takes {core} pages on paper, and at most {MOST_PAGES_OF_THE_CORE} are wanted")
+    checks.check(said[0] - 1 <= core <= said[0], f"the book's first page says that the core takes {said[0]} pages on paper, and it takes {core} (docs/book/believed.py)")
+    checks.check(said[1] - 2 <= believed <= said[1], f"the book's first page says that what has to be believed takes {said[1]} pages on paper, and it takes {believed} (docs/book/believed.py)")
 
 
 def main():

@@ -4,7 +4,7 @@
 
 It reads README.md and the .md files of docs/, .ci/, crates/, tests/, examples/, contrib/, library/, python/ and lua/. A table says what its columns hold by their heads. Each
 failure is a line; the last line is 'N passed, M failed', of citations, and the exit status is 0 only where M is 0. The user's reference also has the
-words that people search for, and README the right sizes; and where there is `rt`, README names the kit that `rt version` prints among those that the program is
+words that people search for, README is short and has the right sizes; and where there is `rt`, README names the kit that `rt version` prints among those that the program is
 proved with.
 
 Each crate has a README with the parts that one looks for. It names each wrong body of its crate, and its examples of Rattle are lines of the file that it
@@ -35,6 +35,8 @@ NAME = re.compile(r"[A-Za-z_]\w*(?:-\w+)*")
 CITED = re.compile(r"[A-Za-z_][\w-]*(?:::[A-Za-z_][\w-]*)*(?:\.antt)?")
 # Words that people search for in the user's reference.
 REFERENCE = ROOT / "docs/RULES.md"
+# README is a page and a half of small type: what an author writes for his editor, and the figures, stand in it.
+MOST_WORDS_OF_README = 1300
 SEARCHED = ["bibliography", "whitespace", "natbib", "biblatex", "Unicode", "Windows"]
 # The heads of columns that name calls, clauses or definitions, and of those that name wrong bodies.
 OF_NAMES = re.compile(r"public call|carried by|definitions?|rests on|clause|law|function|call")
@@ -293,6 +295,12 @@ def lines_of(folder, ending):
     return sum(path.read_bytes().count(b"\n") for path in files)
 
 
+def is_short():
+    """Whether README isn't longer than it may be."""
+    words = len((ROOT / "README.md").read_text(encoding="utf-8").split())
+    yield f"README.md: it has {words} words, and at most {MOST_WORDS_OF_README} are wanted", words <= MOST_WORDS_OF_README
+
+
 def wrong_sizes():
     """Of the lines of code, definitions and proofs that README says: what is wrong with each, or None where it is right within a twentieth."""
     said = re.search(r"([\d,]+) lines of code, ([\d,]+) of definitions \([^)]*\) and ([\d,]+) of proofs", (ROOT / "README.md").read_text(encoding="utf-8"))
@@ -323,7 +331,7 @@ def main():
             passed, failed = passed + (wrong is None), failed + (wrong is not None)
             if wrong:
                 print(f"{path.relative_to(ROOT)}, line {number}: `{cited}`: {wrong}")
-    for message, is_right in (*unnamed_bodies(), *missing_parts(), *examples(), *changes(), *recipes(), *names(), *gate_numbers()):
+    for message, is_right in (*unnamed_bodies(), *missing_parts(), *examples(), *changes(), *recipes(), *names(), *gate_numbers(), *is_short()):
         passed, failed = passed + is_right, failed + (not is_right)
         if not is_right:
             print(message)

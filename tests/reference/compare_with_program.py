@@ -1,5 +1,5 @@
-"""Runs of the proved program beside runs of the reference, over the worked jobs, and over jobs and programs of 50 tokens that are
-made from a seed.
+"""Runs of the proved program beside runs of the reference, over the worked jobs, over those that go through all of something
+(systematic_jobs.py), and over jobs and programs of 50 tokens that are made from a seed.
 
     python3 compare_with_program.py [--jobs N] [--programs N] [--seed N] PROGRAM
 
@@ -14,6 +14,7 @@ import tempfile
 
 from product import Options, run
 from random_jobs import random_jobs, random_programs, worked_jobs
+from systematic_jobs import systematic_jobs
 
 
 def words_of(options):
@@ -71,7 +72,7 @@ def main():
     print(f"the seed is {arguments.seed}", flush=True)
     results = []
     made = random_jobs(arguments.jobs, arguments.seed), random_programs(arguments.programs, arguments.seed)
-    for files, given in itertools.chain(worked_jobs(), *made):
+    for files, given in itertools.chain(worked_jobs(), systematic_jobs(), *made):
         results.append(compare(arguments.program, files, given))
     print(f"{results.count(True)} passed, {results.count(False)} failed")
     return results.count(False)

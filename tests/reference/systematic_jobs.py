@@ -1,0 +1,317 @@
+"""Jobs that go through all of something: each byte at each place of the files, each built-in function with operands of each kind, each command before READ,
+each name that is defined from the beginning, sizes around those that something may end at, children with their parents, and all short texts
+over some pieces. What they give isn't written out: the built program is compared with the reference over them, as over jobs that
+are made from a seed (compare_with_program.py).
+
+    python3 systematic_jobs.py        how large each job is, and how the reference's log of it ends
+"""
+
+import itertools
+
+from product import Options, run
+from styles import BUILT_IN
+from worked_jobs import AUX, DECLARED, Job, citing, files_of
+
+# One byte of each kind stands often: digits and letters behave alike.
+BYTES = [bytes([byte]) for byte in range(256)]
+# What a literal string of a style may have: no quote and no line feed.
+LITERAL = [byte for byte in BYTES if byte not in (b'"', b"\n")]
+# Literals of each kind. The entry has no title.
+KINDS = [b"#1", b'"a"', b"'skip$", b"title"]
+FIRST_NAMES = [*BUILT_IN, b"crossref", b"sort.key$", b"entry.max$", b"global.max$", b"misc", b"title", b"Crossref", b"SKIP$"]
+SHOW = b'FUNCTION {f} {cite$ write$ "=" write$ title missing$ {"-"} {title} if$ write$ newline$} ITERATE {f}'
+
+
+def lines(texts):
+    return b"\n".join(texts) + b"\n"
+
+
+def style(name, body, command=b"ITERATE", **more):
+    return Job(name, b"FUNCTION {f} {" + body + b"}\n" + command + b" {f}", **more)
+
+
+# ---- each byte ----
+
+def bytes_of_aux():
+    """In a command, before and behind it, in each argument and behind it."""
+    shapes = [b"%s\\citation{a}", b"\\cita%stion{b}", b"\\citation%s{c}", b"\\citation{d%se}", b"\\citation{f}%s", b"\\citation{%s}", b"\\@input{g%s.aux}",
+              b"\\@input{h.au%sx}", b"\\bibdata%s{i}"]
+    for shape in shapes:
+        text = lines(shape % byte for byte in BYTES) + AUX
+        yield Job("each byte in " + shape.decode(), aux=text, database=b"@misc{a}@misc{b}@misc{c}@misc{f}", text=SHOW)
+    # Of these only the first line counts.
+    for byte in BYTES:
+        name = b"x%sy" % byte
+        yield Job(f"byte {byte[0]} in names of files", aux=b"\\citation{k}\n\\bibdata{%s}\n\\bibstyle{%s}\n" % (name, name), text=SHOW,
+                  others={b"x.bib": b"@misc{k,title={X}}", b"y.bib": b"@misc{k,title={Y}}", b"x.bst": DECLARED + SHOW, b"y.bst": DECLARED + SHOW})
+
+
+def bytes_of_databases():
+    """At each place of an item."""
+    shapes = [b"@%smisc{k,title={A}}", b"@mi%ssc{k,title={A}}", b"@misc%s{k,title={A}}", b"@misc{%sk,title={A}}", b"@misc{k%s,title={A}}", b"@misc(k%s,title={A})",
+              b"@misc{k,%stitle={A}}", b"@misc{k,ti%stle={A}}", b"@misc{k,title%s={A}}", b"@misc{k,title=%s{A}}", b"@misc{k,title={A%sB}}",
+              b'@misc{k,title="A%sB"}', b"@misc{k,title=s%s}", b"@misc{k,title=1%s2}", b"@misc{k,title={A}%s}", b"@misc{k,title={A}#%s{B}}", b"@misc{k,title={%s}}"]
+    for shape in shapes:
+        database = b"@string{s={S}}@string{sx={T}}\n" + lines(shape.replace(b"k", b"k%d." % byte[0]) % byte for byte in BYTES)
+        yield Job("each byte in " + shape.decode(), aux=citing(b"*"), database=database, text=SHOW)
+
+
+def bytes_of_styles():
+    """At each place of a command, each behind an empty line, so that the next is read whatever is wrong."""
+    shapes = [b"%sEXECUTE {f}", b"EXE%sCUTE {f}", b"EXECUTE%s{f}", b"EXECUTE {%sf}", b"EXECUTE {f%s}", b"EXECUTE {f}%s", b"INTEGERS {j%d.%sk%d}", b"ENTRY {l%d.%sm%d}{}{}", b"FUNCTION {g%d%s} {}",
+              b"FUNCTION {h%d} {#1%s pop$}", b'FUNCTION {l%d} {"a"%s pop$}', b"FUNCTION {m%d} {skip$%s skip$}", b"FUNCTION {n%d} {'skip$%s pop$}", b"FUNCTION {o%d} {#%s1 pop$}",
+              b"FUNCTION {p%d} {%s}", b'FUNCTION {q%d} {"%s" pop$}']
+    for shape in shapes:
+        text = b'FUNCTION {f} {"F" top$}\n\n' + b"\n\n".join(shape.replace(b"%d", b"%d" % byte[0]) % byte for byte in BYTES)
+        yield Job("each byte in " + shape.decode(), text)
+    for shape in (b'MACRO {m%d%s} {"M"}', b'MACRO {m%d}%s {"M"}', b'MACRO {m%d} {"M%s "}', b'MACRO {m%d} {%s"M"}'):
+        text = DECLARED.replace(b"READ ", b"\n\n") + b"\n\n".join(shape.replace(b"%d", b"%d" % byte[0]) % byte for byte in BYTES) + b"\n\nREAD "
+        yield Job("each byte in " + shape.decode(), SHOW, declared=text, aux=citing(b"*"), database=lines(b"@misc{k%d,title=m%d}" % (byte[0], byte[0]) for byte in BYTES))
+
+
+def bytes_of_strings():
+    """What each function on strings gives where the byte stands in its string."""
+    text = [b'"%s" purify$', b'"{\\a %s}" purify$', b'"{\\%s b}" purify$', b'"%s" width$ int.to.str$', b'"{\\a%s}" width$ int.to.str$', b'"{\\%s x}" width$ int.to.str$', b'"A%sB" "l" change.case$',
+            b'"a%sb" "u" change.case$', b'"A:%sB" "t" change.case$', b'"{\\%sA}" "l" change.case$', b'"{\\i%sA}" "u" change.case$', b'"Ab" "%s" change.case$', b'"a%s" add.period$',
+            b'"a%s}" add.period$', b'"{%s" text.length$ int.to.str$', b'"a%sb" #2 text.prefix$', b'"%s" empty$ int.to.str$', b'"A%sand B" num.names$ int.to.str$',
+            b'"A and%sB" num.names$ int.to.str$', b'"A a%sd B" num.names$ int.to.str$', b'"A%sB C" #1 "{ff }{vv }{ll}{ jj}" format.name$', b'"%sx Y" #1 "{vv}" format.name$',
+            b'"A B,%s" #1 "{ff}{ll}" format.name$', b'"%sa B" #1 "{f}" format.name$', b'"Ann Bo" #1 "{f%s}" format.name$', b'"Ann Bo" #1 "{%sf}" format.name$', b'"Ann Bo" #1 "%s" format.name$',
+            b'"Ann Bo C" #1 "{f{%s}}" format.name$', b'"%s" chr.to.int$ int.to.str$', b'"%s" write$ newline$ ""']
+    for shape in text:
+        for utf8 in (False, True):
+            body = b"\n".join(shape % byte + b" write$ newline$" for byte in LITERAL)
+            yield style(f"each byte in {shape.decode()}, read as {'UTF-8' if utf8 else 'bytes'}", body, b"EXECUTE", options={"utf8": utf8})
+    yield style("each code", b" ".join(b"#%d int.to.chr$ top$" % code for code in range(-130, 260)), b"EXECUTE")
+
+
+def bytes_of_lines():
+    """Where a line is broken if the byte stands in it."""
+    shapes = [b"aaa%s" + b"b" * 20, b"a" * 19 + b"%sb", b"a" * 20 + b"%sb", b"a" * 21 + b"%sb", b"aa%s" + b"b" * 20, b"a" * 18 + b"%s", b"a" * 25 + b"%s", b"a" * 21 + b"%s%s" + b"b"]
+    for shape in shapes:
+        body = b"\n".join(b'"' + shape.replace(b"%s", byte) + b'" write$ newline$' for byte in LITERAL)
+        yield style("each byte in a line of " + shape.decode(), body, b"EXECUTE", options={"line": 20})
+
+
+# ---- each function, command and name ----
+
+def operands(name, kinds, command):
+    """Each built-in function with three operands of these kinds in each order, and with fewer, and what it leaves."""
+    for function in BUILT_IN:
+        cases = [b" ".join(case) + b" " + function + b" stack$" for number in range(4) for case in itertools.product(kinds, repeat=number)]
+        yield style(f"{function.decode()} {name}", b"\n".join(cases), command, options={"budget": 10_000})
+
+
+def commands_early():
+    for words in itertools.permutations([b"ENTRY {title}{}{}", b"READ", b"EXECUTE {skip$}"]):
+        yield Job("commands in another order", declared=b"\n\n".join(words), text=b"\n\nSORT\n\nITERATE {cite$}\n\nREVERSE {cite$}\n\nMACRO {m} {\"M\"}\n\nREAD\n\nENTRY {}{}{}")
+    yield Job("commands before READ", declared=b"ENTRY {title}{}{}\n\nSORT\n\nITERATE {cite$}\n\nREVERSE {cite$}\n\nEXECUTE {skip$}\n\nsort\n\nMACRO {m} {\"M\"}\n\nREAD\n\n")
+    for command in (b"EXECUTE", b"ITERATE", b"REVERSE"):
+        yield style("literals left of " + command.decode(), b"#1 \"a\" 'skip$ {} 'title 'sort.key$ 'entry.max$ title", command)
+        for name in FIRST_NAMES:
+            yield Job(f"{command.decode()} of {name.decode()}", command + b" {" + name + b"}")
+
+
+def names_twice():
+    for shape in (b"ENTRY {%s}{}{}", b"ENTRY {}{%s}{}", b"ENTRY {}{}{%s}", b"INTEGERS {%s}", b"STRINGS {%s}", b"FUNCTION {%s} {}", b'MACRO {%s} {"M"}'):
+        for name in FIRST_NAMES:
+            yield Job(f"another {name.decode()} by {shape.decode()}", declared=b"%s\n\nENTRY {title}{}{}\n\nFUNCTION {misc}{}\n\nREAD\n\n" % (shape % name), text=SHOW)
+
+
+def widths():
+    """Texts of 1 to 30 words, at each of some lengths of a line."""
+    text = b" ".join(b"%s" % (b"w" * (1 + place * 7 % 11)) for place in range(60))
+    for line in (20, 21, 22, 30, 79, 80, 1000):
+        body = b"\n".join(b'"' + text[:end] + b'" write$ newline$' for end in range(1, len(text), 7))
+        yield style(f"lines of {line}", body, b"EXECUTE", options={"line": line})
+
+
+# ---- each size ----
+
+SIZES = [0, 1, 2, 3, 4, 9, 19, 20, 21, 99, 255, 256, 257, 1000]
+# The reference takes long for names of more tokens.
+MOST_TOKENS = 300
+
+
+def sizes_of_strings(size):
+    """Strings, names, tokens and braces, this number of them."""
+    deep, tokens = b"{" * size + b"A: B" + b"}" * size, b" ".join(b"Ab%d" % place for place in range(size))
+    names = b" and ".join(b"N%d" % place for place in range(size))
+    many = b"#%d" % size
+    texts = [deep, b"a" + deep + b": C", b" " * size, b"x" * size, b"x" * size + b" y", b"{\\a" + deep + b"} B", tokens, tokens + b", Jr, A", names, b"A, " * (size % 30) + b"B",
+             b"-".join(b"Cd" for _ in range(size)), b"a~" * size + b"B", b"\xc3\x89" * size]
+    functions = [b"purify$", b'"t" change.case$', b'"u" change.case$', b"text.length$ int.to.str$", b"width$ int.to.str$", b"num.names$ int.to.str$", b"add.period$", b"empty$ int.to.str$",
+                 many + b" text.prefix$", b"#2 " + many + b" substring$", b"#-2 " + many + b" substring$", many + b" #3 substring$", b"#-" + many[1:] + b" #3 substring$",
+                 b'#1 "{ff~}{vv~}{ll}{, jj}" format.name$', b'#1 "{f.~}{l}" format.name$', many + b' "{ll}" format.name$', b"'s := s", b"'es := es"]
+    for function in functions:
+        if size > MOST_TOKENS and b"format" in function:
+            continue
+        body = b"\n".join(b'"%s" %s write$ newline$' % (text, function) for text in texts)
+        yield Job(f"strings of {size}: {function.decode()}", b"STRINGS {s} FUNCTION {f} {" + body + b"} ITERATE {f}", declared=DECLARED.replace(b"{} F", b"{es} F"),
+                  options={"utf8": size % 2 == 1, "entry_max": 250, "global_max": 256})
+
+
+def sizes_of_jobs(size):
+    """Lines, messages, entries, fields, strings, functions and variables, this number of them."""
+    empty, many = b"\n" * size, range(size)
+    yield Job(f"{size} empty lines before each error", b"bogus", aux=empty + b"\\citation{k, j}\n" + AUX, database=empty + b"@misc{k,,}" + DECLARED, declared=empty + DECLARED)
+    yield style(f"{size} warnings and errors", b'"w" warning$ + pop$ ' * size, b"EXECUTE")
+    yield Job(f"{size} entries", SHOW, aux=citing(b"*"), database=lines(b"@misc{k%d,title={T%d}}" % (place, place) for place in many))
+    yield Job(f"{size} keys", SHOW, aux=citing(b",".join(b"k%d" % place for place in many)), database=b"@misc{k1,title={T}}")
+    yield Job(f"{size} children", SHOW, aux=citing(b",".join(b"k%d" % place for place in range(size + 1))), options={"min_crossrefs": 20},
+              database=lines(b"@misc{k%d,crossref={p}}" % place for place in many) + b"@misc{p,title={P}}@misc{k%d,title={}}" % size)
+    yield Job(f"{size} parts and strings", SHOW, database=lines(b"@string{s%d=%s{%d }}" % (place, b"s%d # " % (place - 1) if place else b"", place) for place in range(min(size, 100)))
+              + b"@misc{k,title=" + b" # ".join([b'"x"', *(b"s%d" % place for place in range(min(size, 100)))]) + b"}")
+    yield Job(f"{size} preambles", b"EXECUTE {preamble$} FUNCTION {g} {preamble$ write$ newline$} EXECUTE {g}", database=b"".join(b'@preamble{"p%d " # {q}}' % place for place in many))
+    names = b" ".join(b"n%d" % place for place in many)
+    yield Job(f"{size} names of each kind", b"INTEGERS {" + names.replace(b"n", b"i") + b"} STRINGS {" + names.replace(b"n", b"s") + b"} "
+              + b" ".join(b'FUNCTION {f%d} {#%d \'i%d := "x%d" \'s%d := n%d top$ e%d top$ i%d s%d}' % ((place,) * 9) for place in many)
+              + b" FUNCTION {g} {" + b" ".join(b"f%d top$ top$" % place for place in many) + b"} ITERATE {g}",
+              declared=b"ENTRY {" + names + b"}{" + names.replace(b"n", b"e") + b"}{} FUNCTION {misc}{} READ ",
+              database=b"@misc{k" + b"".join(b",n%d={v%d}" % (place, place) for place in many) + b"}")
+    yield Job(f"{size} steps of a loop", b"INTEGERS {i} FUNCTION {f} {#%d 'i := {i #0 >} {i #1 - 'i := i int.to.str$ write$ \" \" write$} while$} EXECUTE {f}" % size)
+    yield Job(f"{size} nameless functions round one another", b"FUNCTION {f} {" + b"{" * size + b"#1" + b"}" * size + b" pop$} EXECUTE {f}")
+
+
+def parents():
+    """A child and its parent, each with a field that is missing, empty or there, in each order, cited or not, in a chain."""
+    fields = [b"", b",title={}", b",title={ }", b",title={T}"]
+    for of_child, of_parent, least in itertools.product(fields, fields, (0, 1, 2)):
+        child, parent, further = b"@misc{k%s,crossref={P}}" % of_child, b"@misc{p%s,crossref={q}}" % of_parent, b"@misc{q,title={Q}}"
+        for number, order in enumerate(itertools.permutations([child, parent, further])):
+            for keys in (b"k", b"k,p", b"p,k", b"*", b"p,*,k", b"k,q"):
+                if (number + least + len(keys)) % 3 == 0:
+                    yield Job(f"parents {number}: {of_child.decode()}, {of_parent.decode()}, {keys.decode()}, {least}",
+                              SHOW + b' FUNCTION {g} {crossref missing$ {"-"} {crossref} if$ top$} ITERATE {g}', aux=citing(keys), database=lines(order), options={"min_crossrefs": least})
+
+
+# ---- all short texts over some pieces ----
+
+
+def texts_of(pieces, most):
+    """All sequences of up to `most` of the pieces, joined."""
+    for number in range(most + 1):
+        for chosen in itertools.product(pieces, repeat=number):
+            yield b"".join(chosen)
+
+
+def in_groups(texts, size=400):
+    """The texts in lists, so that no job has more than some steps."""
+    texts = iter(texts)
+    while group := list(itertools.islice(texts, size)):
+        yield group
+
+
+def short_aux_files():
+    pieces = [b"{", b"}", b",", b" ", b"a", b"A", b"*", b".aux", b".bib", b".bst", b"%"]
+    lines_of = {command: lines(b"\\" + command + b"{" + text for text in texts_of(pieces, 3)) for command in (b"citation", b"@input")}
+    for command, text in lines_of.items():
+        yield Job("short lines of " + command.decode(), aux=text + AUX, others={b"a.aux": b"\\citation{inner}\n", b"A.aux": b"", b".aux": b"\\citation{none}\n"}, database=b"@misc{a}@misc{inner}", text=SHOW)
+    others = {b"a.bib": b"@misc{k,title={a}}", b"A.bib": b"@misc{j,title={A}}", b".bib": b"@misc{k,title={none}}", b"a.bst": DECLARED + SHOW, b".bst": DECLARED + SHOW}
+    for text in texts_of(pieces, 2):
+        aux = b"\\citation{*}\n\\bibdata{%s}\n\\bibstyle{%s}\n\\bibdata{d}\n\\bibstyle{s}\n" % (text, text)
+        yield Job(f"names of files, {text.decode()}", aux=aux, others=others, text=SHOW)
+
+
+def short_databases():
+    pieces = [b"@", b"misc", b"string", b"preamble", b"{", b"}", b"(", b")", b"k", b",", b"title", b"=", b'"a"', b"{b }", b"s", b"#", b"1", b" "]
+    for front in (b"", b"@misc{k", b"@misc(k", b"@misc{k,title", b"@misc{k,title=", b"@misc{k,title={b}", b"@string{s=", b'@string{s="x"}@misc{k,title=s'):
+        for group in in_groups(texts_of(pieces, 2 if front else 3)):
+            yield Job("short databases behind " + front.decode(), aux=citing(b"*"), database=lines(front + text for text in group), text=SHOW)
+
+
+def short_styles():
+    pieces = [b"FUNCTION ", b"INTEGERS ", b"EXECUTE ", b"MACRO ", b"READ ", b"{", b"}", b"f", b"#1", b'"a"', b"'skip$", b"skip$ ", b"%", b"\n", b"=", b" "]
+    for front in (b"", b"FUNCTION {f} {", b"EXECUTE {", b"STRINGS {"):
+        for group in in_groups(texts_of(pieces, 3 if not front else 2)):
+            yield Job("short styles behind " + front.decode(), b"\n\n" + b"\n\n".join(front + text for text in group))
+    for text in texts_of(pieces, 2):
+        yield Job(f"a style that is {text.decode()}", declared=text)
+
+
+def short_bodies():
+    """All bodies of up to three tokens, and what they leave."""
+    tokens = [b"#0 ", b"#1 ", b'"a" ', b'"t" ', b"'skip$ ", b"title ", b"'s ", b"s ", b"'es ", b"{#0} ", b"+ ", b"= ", b"* ", b":= ", b"swap$ ", b"duplicate$ ", b"pop$ ", b"if$ ", b"while$ ", b"missing$ ",
+              b"empty$ ", b"substring$ "]
+    for command in (b"ITERATE", b"EXECUTE"):
+        for number, group in enumerate(in_groups(texts_of(tokens, 3), 600)):
+            if command == b"ITERATE" or number % 4 == 0:
+                yield Job(f"short bodies, {command.decode()} {number}", b"STRINGS {s} FUNCTION {f} {" + b"stack$\n".join(group) + b"} " + command + b" {f}", declared=DECLARED.replace(b"{} F", b"{es} F"),
+                          options={"budget": 50_000})
+
+
+def short_strings():
+    pieces = [b"A", b"b", b"{", b"}", b"\\", b"i ", b":", b" ", b"ss", b"'", b"1", b"-", b".", b"\xc3\x89"]
+    functions = [b"purify$", b'"t" change.case$', b'"u" change.case$', b"text.length$ int.to.str$", b"width$ int.to.str$", b"add.period$", b"#2 text.prefix$", b"#-2 #2 substring$"]
+    for function in functions:
+        for group in in_groups(texts_of(pieces, 3), 1000):
+            yield style(f"short strings, {function.decode()}", b"\n".join(b'"%s" %s write$ newline$' % (text, function) for text in group), b"EXECUTE", options={"utf8": function.startswith(b"text")})
+
+
+def short_names():
+    pieces = [b"A", b"Bo", b"c", b"{\\'d}", b"{e}", b",", b" ", b"~", b"-", b" and ", b"1"]
+    for format_text in (b"{ff|}{vv|}{ll|}{jj|}", b"{f.}{ l}"):
+        for group in in_groups(texts_of(pieces, 4 if b"v" in format_text else 3), 1000):
+            yield style(f"short names, {format_text.decode()}", b"\n".join(b'"%s" #1 "%s" format.name$ write$ newline$' % (text, format_text) for text in group), b"EXECUTE")
+    words = [b"A", b"b", b"Cd", b"{\\oe}", b"e"]
+    for size in (1, 2, 3, 4, 5):
+        names = [between.join(chosen) for chosen in itertools.product(words[:5 if size < 4 else 3], repeat=size) for between in (b" ", b", ")]
+        names += [chosen[0] + b" " + chosen[1] + b", " + b" ".join(chosen[2:]) for chosen in itertools.product(words[:4], repeat=size) if size > 2]
+        for group in in_groups(names, 1000):
+            yield style(f"names of {size} words", b"\n".join(b'"%s" #1 "{ff|}{vv|}{ll|}{jj|}" format.name$ write$ newline$' % name for name in group), b"EXECUTE")
+
+
+def short_formats():
+    pieces = [b"f", b"L", b"v", b"jj", b"x", b"{", b"}", b".", b"~", b" ", b"-"]
+    for group in in_groups((front + text for front in (b"", b"{", b"{f") for text in texts_of(pieces, 3)), 1000):
+        yield style("short formats", b"\n".join(b'"Ann-Bo Cy de la Ee~F" #1 "%s" format.name$ write$ newline$' % text for text in group), b"EXECUTE")
+
+
+def short_lines():
+    pieces = [b"a" * 9, b"bb", b" ", b"\t", b"c" * 21, b'" write$ "']
+    for group in in_groups(texts_of(pieces, 5), 1500):
+        yield style("short lines", b"\n".join(b'"%s" write$ newline$' % text for text in group), b"EXECUTE", options={"line": 20})
+
+
+def all_short():
+    yield from short_aux_files()
+    yield from short_databases()
+    yield from short_styles()
+    yield from short_bodies()
+    yield from short_strings()
+    yield from short_names()
+    yield from short_formats()
+    yield from short_lines()
+
+
+def all_jobs():
+    for size in SIZES:
+        yield from sizes_of_strings(size)
+        yield from sizes_of_jobs(size)
+    yield from parents()
+    yield from all_short()
+    yield from bytes_of_aux()
+    yield from bytes_of_databases()
+    yield from bytes_of_styles()
+    yield from bytes_of_strings()
+    yield from bytes_of_lines()
+    yield from operands("with operands", KINDS, b"ITERATE")
+    yield from operands("without an entry", KINDS[:3], b"EXECUTE")
+    yield from commands_early()
+    yield from names_twice()
+    yield from widths()
+
+
+def systematic_jobs():
+    """The files of each, and its options."""
+    for job in all_jobs():
+        yield files_of(job), job.options
+
+
+def main():
+    for job in all_jobs():
+        product = run(files_of(job), b"job", Options(**job.options))
+        print(f"{job.name[:70]!r}: {sum(map(len, files_of(job).values()))} bytes, a list of {len(product.list)}, {product.log.splitlines()[-1].decode()}")
+
+
+if __name__ == "__main__":
+    main()
