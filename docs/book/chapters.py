@@ -10,6 +10,8 @@ from definitions import CRATES, ROOT, Definition
 
 FILE = pathlib.Path(__file__).with_name("chapters.txt")
 JOBS = ROOT / "tests/reference"
+# The part of the book with what has to be believed. Its first chapter is the core.
+BELIEVED = "What has to be believed"
 ALLOWED = re.compile(r"// allowed: (\d+) (.+?)(?: -- .*)?$")
 
 
@@ -29,6 +31,7 @@ class Section:
 class Chapter:
     def __init__(self, title):
         self.title, self.opening, self.sections, self.number, self.is_from_the_top, self.part = title, [], [], None, False, None
+        self.is_believed = False
 
     @property
     def definitions(self):
@@ -55,7 +58,16 @@ def read(text):
             chapters.append(Chapter(line[2:].strip()))
         elif line.strip() and not line.startswith("//"):
             read_line(chapters[-1], line)
+    mark_believed(chapters)
     return chapters, allowed
+
+
+def mark_believed(chapters):
+    """Which chapters have to be believed: those of the part that says so."""
+    part = None
+    for chapter in chapters:
+        part = chapter.part or part
+        chapter.is_believed = part == BELIEVED
 
 
 def read_line(chapter, line):

@@ -37,6 +37,18 @@ def uses(found):
     return by_word
 
 
+def words_of(found):
+    """The words of the library that some definitions use, each with what it means."""
+    used = uses(found)
+    return [(word, meaning) for word, meaning in meanings().items() if word in used]
+
+
+def headed(word, meaning):
+    """What a word means, behind the word, if the meaning doesn't begin with it."""
+    first = re.match(r"`([^`]+)`", meaning)
+    return meaning if first and word in first[1].split() else f"`{word}`: {meaning}"
+
+
 def has_word(line, word):
     """Whether a line of a definition has a word or a sign by itself."""
     if line.lstrip().startswith("--"):

@@ -3,37 +3,60 @@
 import re
 
 WIDE = 88
+# How wide a field is at most with its comment beside it, and what stands between the two.
+NARROW = 66
+BESIDE = "  -- "
 # More lines than this are a table.
 LONG_TABLE = 12
 # Between the elements of a list.
 ELEMENTS = r" (?=∷ )"
 # Where a long line may be broken, outside parentheses, the loosest sign first; and whether what follows is indented.
-JOINTS = [(r"(?<= in) ", False), (r" (?=else )", True), (r" (?=→ )", True), (r" (?=\|\| |&& )", True), (ELEMENTS, True), (r" (?=\+\+ )", True)]
+TESTS, BOTH = r" (?=\|\| |&& )", r" (?=× )"
+JOINTS = [(r"(?<= in) ", False), (r" (?=else )", True), (r" (?=→ )", True), (r" (?=⊎ )", False), (BOTH, False), (TESTS, True), (ELEMENTS, True), (r" (?=\+\+ )", True)]
+# Tests in parentheses, with what stands before them.
+GROUP = re.compile(r"((?:&& |\|\| )?(?:not )?\()(.*)\)$")
 # A line that its author broke behind such a sign.
 UNFINISHED = re.compile(r"(==|\|\||&&|\+\+|\()$")
+# What is said of a definition by who needs it.
+REACHES = {"believed": "to be believed", "language": "how it is computed", "laws": "only in laws"}
+# What stands behind the core's sections.
+NAMES_ELSEWHERE, WORDS_USED = "What the core names of the chapters behind it", "Words of the library that the core uses"
 CODES = re.compile(r'\(codes ("(?:[^"\\]|\\.)*")\)|codes (?=")')
 
 
 def shown(definition):
     """The lines of a definition as they are printed."""
-    if definition.kind in ("rust", "trait", "contract", "law"):
+    if definition.kind == "rust":
+        return beside(rust_lines(definition.lines))
+    if definition.kind in ("trait", "contract", "law"):
         return rust_lines(definition.lines)
     if definition.kind == "job":
         return definition.lines
     lines, is_table = [], definition.kind == "equations" and len(definition.lines) > LONG_TABLE
-    for line in rejoined(definition.lines):
-        line = re.sub(r"^(\s+)pub ", r"\1", line.replace(" : Type 0 where", " where").replace("Unit {0}", "Unit"))
-        line = CODES.sub(lambda found: found[1] or "", line)
+    for line in map(plain, rejoined(definition.lines)):
         # (the rows of a table stay one line each, and wrap where a page is narrow)
         lines += [line] if is_table and not line.startswith(" ") else broken(line, re.match(r"\s*", line)[0])
     return aligned(lines) if definition.kind == "equations" else lines
+
+
+def plain(line):
+    """A line without what only the checker needs."""
+    line = re.sub(r"^(\s+)pub ", r"\1", line.replace(" : Type 0 where", " where").replace("Unit {0}", "Unit"))
+    return CODES.sub(lambda found: found[1] or "", line)
+
+
+def is_whole(definition):
+    """Whether all of a definition's text is printed, but for spaces and ends of lines."""
+    printed, source = "".join(shown(definition)), "".join(map(plain, rejoined(definition.lines)))
+    return definition.kind not in ("equations", "record", "data") or re.sub(r"\s", "", printed) == re.sub(r"\s", "", source)
 
 
 def rejoined(lines):
     """Lines of which each that ends within parentheses or behind a sign that joins has its rest again, so that it is broken at its own joints."""
     found = []
     for line in lines:
-        if found and UNFINISHED.search(found[-1]) and not found[-1].lstrip().startswith("--") and "record {" not in found[-1]:
+        is_code = found and not found[-1].lstrip().startswith("--") and "record {" not in found[-1]
+        if is_code and (UNFINISHED.search(found[-1]) or line.lstrip().startswith(("|| ", "&& ")) and not is_outside(found[-1])):
             found[-1] += " " + line.strip()
         else:
             found.append(line)
@@ -51,6 +74,18 @@ def rust_lines(lines):
             found.append(f"{pad}-- {without_brackets(text.lstrip('/ '))}")
         else:
             found += broken(line, pad) if "ensures" in text or "requires" in text or "→" in text else [line]
+    return found
+
+
+def beside(lines):
+    """The lines of a type of the program, with a short comment behind its field and no longer above it."""
+    found = []
+    for line in lines:
+        above = found[-1].strip() if found else ""
+        if above.startswith("-- ") and not line.lstrip().startswith("-- ") and len(line) + len(above) + len(BESIDE) < NARROW:
+            found[-1] = line + BESIDE + above[3:]
+        else:
+            found.append(line)
     return found
 
 
@@ -72,8 +107,20 @@ def broken(line, pad):
             if joint == ELEMENTS and all(len(part.split()) < 3 for part in parts):
                 return [pad + line for line in filled(parts, WIDE - len(pad))]
             inner = "    " if is_indented and not text.startswith(("if ", "else ", "∷ ")) else ""
-            return [pad + parts[0]] + [pad + inner + part for part in parts[1:]]
-    return [line]
+            parts = filled(parts, WIDE - len(pad) - len(inner)) if joint == BOTH else parts
+            return [pad + parts[0]] + [line for part in parts[1:] for line in group(part, pad + inner)]
+    return group(text, pad)
+
+
+def group(text, pad):
+    """A line of tests in parentheses, as many on each line as it has room for."""
+    found = GROUP.match(text)
+    places = [joint.start() for joint in re.finditer(TESTS, found[2]) if is_outside(found[2][:joint.start()])] if found and is_outside(found[2]) else []
+    if len(pad) + len(text) <= WIDE or not places:
+        return [pad + text]
+    parts = [found[2][start:end].strip() for start, end in zip([0, *places], [*places, len(found[2])])]
+    lines = filled(parts, WIDE - len(pad) - len(found[1]) - 1)
+    return [pad + found[1] + lines[0]] + [f"{pad}    {line}" for line in lines[1:-1] + [lines[-1] + ")"]]
 
 
 def fields_of(text):
@@ -88,7 +135,7 @@ def fields_of(text):
 
 
 def filled(parts, width):
-    """The parts of a list of single words, as many on each line as it has room for."""
+    """Some parts of a line, such as those of a list of single words, as many on each line as it has room for."""
     lines = parts[:1]
     for part in parts[1:]:
         if len(lines[-1]) + 1 + len(part) <= width:
@@ -148,9 +195,14 @@ def head_of(definition):
 
 
 def what_it_is(definition):
-    """What a definition is to a reader: a part of the language, or of a law about it."""
+    """What a definition is to a reader: what has to be believed, a part of the language, or of a law about it."""
     kinds = {"contract": "the contract of a call", "law": "a law", "trait": "what a file source or an output promises", "rust": "a type of the program"}
-    return kinds.get(definition.kind) or {"language": "language", "laws": "only in laws"}[definition.reach]
+    return kinds.get(definition.kind) or REACHES[reach_of(definition)]
+
+
+def reach_of(definition):
+    """What the colour beside a definition says: whether it has to be believed."""
+    return "believed" if definition.is_believed else definition.reach
 
 
 def renamed_in(definition):
@@ -179,3 +231,27 @@ def users_of(definition):
 def uses_elsewhere(definition):
     """What a definition uses of other files, in reading order."""
     return sorted((it for it in definition.uses if it.place and it.module != definition.module), key=lambda it: it.place)
+
+
+def is_core(chapter):
+    """Whether a chapter is the core: the first one."""
+    return chapter.number == 1
+
+
+def names_elsewhere(chapter):
+    """What the definitions of a chapter name of other chapters, in reading order."""
+    own = chapter.definitions
+    return sorted({it for definition in own for it in definition.uses if it.place and it not in own}, key=lambda it: it.place)
+
+
+def sentence_of(definition):
+    """The first sentence of a definition's comment."""
+    return re.split(r"(?<=[a-z`)]\.) (?=[A-Z`])", prose(definition.comment))[0]
+
+
+def headings_of(chapter, signs):
+    """The headings of a chapter: of each its anchor, its title and its number, if it has one."""
+    sections = [(f"s{section.number}", section.title, section.number) for section in chapter.sections]
+    if not is_core(chapter):
+        return sections
+    return [(signs.anchor, signs.title, ""), *sections, ("core-names", NAMES_ELSEWHERE, ""), ("core-words", WORDS_USED, "")]

@@ -25,6 +25,7 @@ import differences
 import examples
 import functions
 import glossary
+import layout
 import links
 import reach
 import rules
@@ -58,14 +59,18 @@ class Book:
         self.passed, self.wrong, self.examples, self.rules = 0, [], {}, rules.headings()
         self.by_id = {name: it for it in self.found for name in (it.id, it.id.removesuffix("-type"))}
         self.first = Front("notation.md", "How to read this book", "notation")
+        self.signs = Front("signs.md", "The notation in short", links.heading_id("The notation in short"))
         self.last = Front("appendix.md", "The notation, sign by sign, questions and words", "appendix")
 
     @property
     def summary(self):
-        """What has to be believed, in numbers."""
-        believed, others = self.reach.believed, [it for it in self.found if not it.is_believed]
-        return (f"{len(believed):,} definitions of {reach.lines_in(believed):,} lines have to be believed: those that `run` says with what it writes. "
-                f"{len(others):,} more, of {reach.lines_in(others):,} lines, say the same as a program would, and laws and worked examples.")
+        """What there is to read, in numbers. tests/documents/browser.py counts the pages on paper."""
+        all_of_it, others = self.reach.believed, [it for it in self.found if not it.is_believed]
+        heart = believed.heart_of(believed.definitions_of(self.reach.relation))
+        return (f"This book says which bytes BibTeX writes for a job. Its [core](#ch1) is {counted(heart, ' of ')}, {believed.PAGES_OF_THE_CORE} pages on paper, "
+                f"and needs no other page to be understood. All that has to be believed is {counted(all_of_it, ' of ')}, {believed.PAGES} pages on paper. "
+                "Most questions about the program are answered before these pages, by [the rules in words](#rules). "
+                f"{len(others):,} more definitions, of {reach.lines_in(others):,} lines, say the same as a program would, and are laws and worked examples: nobody has to read them.")
 
     # ---- checks ----
 
@@ -86,6 +91,7 @@ class Book:
     def check_all(self):
         for it in self.found:
             self.check(not it.unknown, f"{where(it)}: unknown names in `{it.name}`: {', '.join(sorted(it.unknown))}")
+            self.check(layout.is_whole(it), f"{where(it)}: not all of `{it.name}` is printed")
             self.check(it not in self.lost, f"{where(it)}: `{it.module}` stands in no chapter, and `{it.name}` belongs into the book")
         silent = [f"{where(it)}: `{it.name}` has no comment" for it in self.found if not it.comment]
         self.check_few("definitions without a comment", silent, len(self.found))
@@ -165,12 +171,14 @@ class Book:
 
     def check_links(self):
         """The definitions that the front matter and the openings of chapters name, and the words that the front matter explains."""
-        texts = {front.file: "\n".join(front.blocks) for front in (self.first, self.last)}
+        texts = {front.file: "\n".join(front.blocks) for front in (self.first, self.signs, self.last)}
         texts |= {f"chapters.txt, `{chapter.title}`": " ".join(chapter.opening) for chapter in self.chapters}
         found = [(place, name) for place, text in texts.items() for name in links.named_in(text)]
         found += [(file, name) for file in ("terms.txt", "questions.txt") for row in links.rows(file) for name in row.names]
         for place, name in found:
-            self.check(links.key(name) in self.by_id, f"{place}: the book has no definition `{name}`")
+            it = self.by_id.get(links.key(name))
+            self.check(it, f"{place}: the book has no definition `{name}`")
+            self.check(place != "questions.txt" or not it or is_believed(it), f"{place}: nobody has to believe `{name}`, so no question leads there")
         comments = " ".join(" ".join(it.comment) for it in self.found).lower()
         for row in links.rows("terms.txt"):
             self.check(row.word.split()[0].lower() in comments, f"terms.txt: no comment uses the word `{row.word}`")
@@ -183,6 +191,9 @@ class Book:
             numbers = [int(number.replace(",", "")) for number in found.groups()] if found else []
             is_right = len(numbers) == 2 and all(abs(number - size) * 20 <= size for number, size in zip(numbers, sizes))
             self.check(is_right, f"{name}: it says {numbers} for the definitions that have to be believed and their lines, and there are {sizes}")
+        said = re.search(r"core takes (\d+) pages on paper, and all that has to be believed (\d+)", (chapters.ROOT / "README.md").read_text(encoding="utf-8"))
+        pages = (str(believed.PAGES_OF_THE_CORE), str(believed.PAGES))
+        self.check(said and said.groups() == pages, f"README.md: it doesn't say that the core takes {pages[0]} pages on paper, and all that has to be believed {pages[1]}")
 
     # ---- what is printed ----
 
@@ -208,9 +219,14 @@ class Book:
             print(f"{(OUT / name).relative_to(chapters.ROOT)}: {len(made) / 1e6:.1f} MB")
 
 
-def counted(found):
+def is_believed(it):
+    """Whether a definition, or a contract, stands among what has to be believed."""
+    return it.is_believed or it.kind == "contract"
+
+
+def counted(found, between=", "):
     """The number of some definitions and of their lines, in words."""
-    return f"{len(found):,} definitions, {reach.lines_in(found):,} lines"
+    return f"{len(found):,} definitions{between}{reach.lines_in(found):,} lines"
 
 
 def with_comments(found):

@@ -8,6 +8,8 @@ import re
 NAMED = ("function", "command")
 # Code in a line, in its marks.
 CODE = r"(`[^`]+`)"
+# An option, with its value, which is never broken at its hyphens.
+OPTION = re.compile(r"--?[a-z][\w-]*(?: [\w./]+)?$")
 FILE = pathlib.Path(__file__).resolve().parents[2] / "docs/RULES.md"
 
 
@@ -36,7 +38,7 @@ def headings():
 def as_markdown():
     """The rules with anchors."""
     text = re.sub(r"(?m)^(##+) (.+)$", lambda found: f"{found[1]} {found[2]} {{#{anchor(found[2])} .unnumbered}}", source())
-    return "# The rules in words {.unnumbered}\n\n" + text
+    return "# The rules in words {#rules .unnumbered}\n\n" + text
 
 
 # ---- HTML ----
@@ -58,7 +60,11 @@ def inline(text):
     text = re.sub(r"\*\*([^*]+)\*\*", r"<b>\1</b>", text)
     text = re.sub(r"(?<!\w)\*([^*]+)\*(?!\w)", r"<i>\1</i>", text)
     text = re.sub(r"\[((?:[^\]<]|<[^>]*>)+)\]\((#[\w.'-]+)\)", r'<a href="\2">\1</a>', text)
-    return re.sub("\0(\\d+)\0", lambda found: f"<code>{codes[int(found[1])]}</code>", text)
+    return re.sub("\0(\\d+)\0", lambda found: code(codes[int(found[1])]), text)
+
+
+def code(shown):
+    return f'<code class="whole">{shown}</code>' if OPTION.match(shown) else f"<code>{shown}</code>"
 
 
 def table(lines):

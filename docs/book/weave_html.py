@@ -21,6 +21,8 @@ SCRIPT = pathlib.Path(__file__).with_name("book.js")
 # The pages, and the chapter that is a page of its own.
 BOOK, WORKED_EXAMPLES = "book.html", "worked.html"
 WORKED = "Worked examples"
+# A text in quotes of so many characters at most stays on one line.
+WHOLE = 12
 # The signs of the library that a stranger looks up.
 LINKED_SIGN = re.compile(r"\+\+|&&|\|\||[≡≢×⊎∷⊥ℕℤ↔≤]")
 
@@ -42,9 +44,9 @@ def word_id(word):
 def linked(word, definition, is_head):
     """A word of a definition's text, as a link to what it means."""
     if word.startswith('"'):
-        return f'<span class="q">{html.escape(word, quote=False)}</span>'
+        return f'<span class="{"q k" if len(word) <= WHOLE else "q"}">{html.escape(word, quote=False)}</span>'
     first, _, rest = word.partition(".")
-    if first in KEYWORDS and not rest:
+    if first in KEYWORDS and not rest and (definition.kind, first) != ("rust", "Type"):
         return f"<b>{word}</b>"
     if is_head:
         return f'<span class="n">{html.escape(word)}</span>'
@@ -71,14 +73,21 @@ def code_line(line, definition):
     body = line.lstrip()
     pad = len(line) - len(body)
     if body.startswith("--"):
-        return f'<span class="l c" style="--i:{pad}">{" " * pad}<span class="h">-- </span>{text(body[2:].strip())}</span>'
+        return f'<span class="l c"{indented(pad)}><span class="h">{" " * pad}-- </span>{text(body[2:].strip())}</span>'
+    body, _, said = body.partition(layout.BESIDE) if definition.kind == "rust" else (body, "", "")
     parts, at = [], 0
     for found in TOKEN.finditer(body) if definition.kind != "job" else []:
         is_head = pad == 0 and found[0] == definition.name and definition.kind not in ("row", "trait", "contract", "law", "rust") and (
             found.start() == 0 or body[:found.start()].strip() in ("record", "data"))
         parts += [signs(body[at:found.start()]), linked(found[0], definition, is_head)]
         at = found.end()
-    return f'<span class="l" style="--i:{pad}">{" " * pad}{"".join(parts)}{signs(body[at:])}</span>'
+    beside = f'{layout.BESIDE}<span class="c">{text(said)}</span>' if said else ""
+    return f'<span class="l"{indented(pad)}>{" " * pad}{"".join(parts)}{signs(body[at:])}{beside}</span>'
+
+
+def indented(pad):
+    """Says how far a line of code is indented, if it is."""
+    return f' style="--i:{pad}"' if pad else ""
 
 
 def code(definition):
@@ -102,7 +111,7 @@ def definition_html(it):
     foot += [text(f"`{written}` is {what}") + references([target]) for written, what, target in layout.renamed_in(it)]
     foot += [f"uses {references(uses, 99)}"] * bool(uses) + [f"used in {references(users)}"] * bool(users)
     heading = f"<h4>{text(it.heading[0].upper() + it.heading[1:])}</h4>" if it.heading else ""
-    return (f'{heading}<section id="{it.id}" class="{it.reach}"><p><a class="number" href="#{it.id}">{it.number}</a> {comment}</p>{differences.sign_html(it.id)}{code(it)}'
+    return (f'{heading}<section id="{it.id}" class="{layout.reach_of(it)}"><p><a class="number" href="#{it.id}">{it.number}</a> {comment}</p>{differences.sign_html(it.id)}{code(it)}'
             f'<footer>{" · ".join(foot)}</footer><aside>{margin}</aside></section>')
 
 
@@ -116,10 +125,10 @@ def example_html(example, said, known):
 def functions_html(by_id):
     """The table of the functions of styles, with a number, a sentence, the operands and an example for each."""
     rows = "".join(f'<tr id="function-{it.number}"><td><a href="#function-{it.number}">{it.number}</a></td><td><a href="#{rules.row_anchor(it.name.strip("`"))}">{text(it.name)}</a></td>'
-                   f"<td>{text(it.operands)}</td><td>{text(it.does)}{': ' + text(it.errors) if it.errors else ''}</td><td>{text(it.default)}</td><td>{text(it.example)}</td></tr>"
+                   f"<td>{text(it.operands)}</td><td>{text(it.does)}{'. <i>Errors:</i> ' + text(it.errors) if it.errors else ''}</td><td>{text(it.default)}</td><td>{text(it.example)}</td></tr>"
                    for it in functions.table(by_id))
-    return ('<p>The 37 functions of styles. Operands are named from the top: I an integer, S a string, F a function, M a string or a missing field, L any literal.</p>'
-            f'<div class="wide"><table><tr><th></th><th>function</th><th>operands</th><th>what it does, and its own errors</th><th>default</th><th>example</th></tr>{rows}</table></div>')
+    return ('<div class="functions"><p>The 37 functions of styles. Operands are named from the top: I an integer, S a string, F a function, M a string or a missing field, L any literal.</p>'
+            f'<div class="wide"><table><tr><th></th><th>function</th><th>operands</th><th>what it does, and errors of its own</th><th>default</th><th>example</th></tr>{rows}</table></div></div>')
 
 
 def section_html(section, examples, known, by_id):
@@ -139,11 +148,22 @@ def section_html(section, examples, known, by_id):
     return "\n".join(out)
 
 
-def chapter_html(chapter, examples, by_id):
-    opening, known = text(links.linked(" ".join(chapter.opening), by_id)), set()
+def chapter_html(chapter, book):
+    """A chapter; one that has to be believed is dense on paper, and the core has with it all that its reader needs."""
+    opening, known = text(links.linked(" ".join(chapter.opening), book.by_id)), set()
     part = f'<p class="part">{text(chapter.part)}</p>' if chapter.part else ""
-    return (f'{part}<h2 id="ch{chapter.number}">{chapter.number}. {text(chapter.title)}</h2><p class="opening">{opening}</p>'
-            + "\n".join(section_html(section, examples, known, by_id) for section in chapter.sections))
+    sections = "\n".join(section_html(section, book.examples, known, book.by_id) for section in chapter.sections)
+    signs_, names = (notation_html(book.signs, book, 3), names_html(chapter)) if layout.is_core(chapter) else ("", "")
+    made = f'<h2 id="ch{chapter.number}">{chapter.number}. {text(chapter.title)}</h2><p class="opening">{opening}</p>{signs_}{sections}{names}'
+    return part + (f'<div class="dense">{made}</div>' if chapter.is_believed else made)
+
+
+def names_html(chapter):
+    """What the core names of the chapters behind it and of the library, each with its sentence, so that it can be read alone."""
+    rows = "".join(f'<li><a href="#{it.id}"><code>{html.escape(it.name)}</code></a> {it.number}: {text(layout.sentence_of(it))}</li>' for it in layout.names_elsewhere(chapter))
+    words = "".join(f"<li>{text(glossary.headed(word, meaning))}</li>" for word, meaning in glossary.words_of(chapter.definitions))
+    return (f'<h3 id="core-names">{layout.NAMES_ELSEWHERE}</h3><ul class="names">{rows}</ul>'
+            f'<h3 id="core-words">{layout.WORDS_USED}</h3><ul class="names">{words}</ul>')
 
 
 def contents_html(book):
@@ -153,10 +173,10 @@ def contents_html(book):
     first, last = ("".join(item(links.heading_id(block[3:]), block[3:]) for block in front.blocks if block.startswith("## ")) for front in (book.first, book.last))
     words = "".join(item(rules.anchor(heading), heading) for level, heading in re.findall(r"(?m)^(##+) (.+)$", rules.source()) if level == "##")
     chapters_ = "".join(f'{f"</ul><h3>{text(chapter.part)}</h3><ul>" if chapter.part else ""}<li><a href="#ch{chapter.number}">{chapter.number} {text(chapter.title)}</a><ul>'
-                        + "".join(item(f"s{section.number}", section.title, section.number) for section in chapter.sections) + "</ul></li>" for chapter in book.chapters)
+                        + "".join(item(anchor, title, number) for anchor, title, number in layout.headings_of(chapter, book.signs)) + "</ul></li>" for chapter in book.chapters)
     return (f'<nav id="contents"><h2>Contents</h2><ul><li><a href="#{book.first.anchor}">{book.first.title}</a><ul>{first}</ul></li>'
             f'<li><a href="#rules">The rules in words</a><ul>{words}</ul></li><li><a href="#differences">{differences.TITLE}</a></li>{chapters_}</ul><h3>Beside the chapters</h3><ul><li><a href="#{book.last.anchor}">{book.last.title}</a><ul>{last}</ul></li><li><a href="#index">Index</a></li></ul></nav>'
-            '<p class="tools"><label>Find a name <input type="search" id="find" list="names" placeholder="substring$, ITERATE, is_wanted"></label>'
+            '<p class="tools"><label>Find a name <input type="search" id="find" placeholder="substring$, ITERATE, is_wanted"></label>'
             '<output for="find" id="met"></output> <a href="#contents">Contents</a></p>')
 
 
@@ -220,9 +240,9 @@ def code_use(use):
     return " <code>" + html.escape(line, quote=False) + "</code>"
 
 
-def notation_html(front, book):
+def notation_html(front, book, level=2):
     """A chapter of the book's own words: its paragraphs, lists and headings, the definitions that it shows, and the tables."""
-    by_id, out = book.by_id, [f'<h2 id="{front.anchor}">{front.title}</h2>']
+    by_id, out = book.by_id, [f'<h{level} id="{front.anchor}">{front.title}</h{level}>']
     for block in front.blocks:
         if block.startswith("## "):
             out.append(f'<h3 id="{links.heading_id(block[3:])}">{text(block[3:])}</h3>')
@@ -271,10 +291,10 @@ def book_html(book):
     worked = [chapter for chapter in book.chapters if chapter.title == WORKED]
     body = [f'<h1>{title}</h1><p class="opening">{text(book.summary)}</p>', contents_html(book),
             notation_html(book.first, book), rules.as_html(followers(book.sections), differences.sign_html), differences.as_html()]
-    body += [chapter_html(chapter, book.examples, book.by_id) for chapter in book.chapters if chapter not in worked]
+    body += [chapter_html(chapter, book) for chapter in book.chapters if chapter not in worked]
     body = "\n".join(body) + notation_html(book.last, book) + index_html(book.found)
     examples = (f'<h1>{title}: worked examples</h1><p class="opening"><a href="{BOOK}">The book</a></p>'
-                + "\n".join(chapter_html(chapter, book.examples, book.by_id) for chapter in worked))
+                + "\n".join(chapter_html(chapter, book) for chapter in worked))
     ids = [set(re.findall(r' id="([^"]+)"', page)) for page in (body, examples)]
     return {BOOK: page_html(title, across(body, *ids, WORKED_EXAMPLES), SCRIPT.read_text(encoding="utf-8")),
             WORKED_EXAMPLES: page_html(f"{title}: worked examples", across(examples, *ids[::-1], BOOK))}

@@ -74,8 +74,8 @@ def definition_markdown(it):
 
 def functions_markdown(by_id):
     """The table of the functions of styles."""
-    rows = "".join(f"| {it.number} | {it.name} | {it.operands} | {it.does}{': ' + it.errors if it.errors else ''} | {it.default} | {it.example} |\n" for it in functions.table(by_id))
-    return f"| | function | operands | what it does, and its own errors | default | example |\n|---|---|---|---|---|---|\n{rows}"
+    rows = "".join(f"| {it.number} | {it.name} | {it.operands} | {it.does}{'. Errors: ' + it.errors if it.errors else ''} | {it.default} | {it.example} |\n" for it in functions.table(by_id))
+    return f"| | function | operands | what it does, and errors of its own | default | example |\n|---|---|---|---|---|---|\n{rows}"
 
 
 def section_markdown(section, examples, known, by_id):
@@ -96,11 +96,21 @@ def section_markdown(section, examples, known, by_id):
     return "\n".join(out)
 
 
-def chapter_markdown(chapter, examples, by_id):
+def chapter_markdown(chapter, book):
     known = set()
-    sections = "\n".join(section_markdown(section, examples, known, by_id) for section in chapter.sections)
+    sections = "\n".join(section_markdown(section, book.examples, known, book.by_id) for section in chapter.sections)
     part = f"# {chapter.part} {{.unnumbered}}\n\n" if chapter.part else ""
-    return f"{part}# {chapter.number}. {chapter.title} {{.unnumbered}}\n\n{links.linked(' '.join(chapter.opening), by_id, True)}\n\n{sections}"
+    signs, names = (notation_markdown(book.signs, book, 2), names_markdown(chapter)) if layout.is_core(chapter) else ("", "")
+    opening = links.linked(" ".join(chapter.opening), book.by_id, True)
+    return f"{part}# {chapter.number}. {chapter.title} {{#ch{chapter.number} .unnumbered}}\n\n{opening}\n\n{signs}\n{sections}\n{names}"
+
+
+def names_markdown(chapter):
+    """What the core names of the chapters behind it and of the library, each with its sentence, so that it can be read alone."""
+    rows = "\n".join(f"- {references([it])}: {layout.sentence_of(it)}" for it in layout.names_elsewhere(chapter))
+    words = "\n".join(f"- {glossary.headed(word, meaning)}" for word, meaning in glossary.words_of(chapter.definitions))
+    return (f"## {layout.NAMES_ELSEWHERE} {{#core-names .unnumbered}}\n\n{rows}\n\n"
+            f"## {layout.WORDS_USED} {{#core-words .unnumbered}}\n\n{words}\n")
 
 
 def words_markdown(found):
@@ -125,8 +135,8 @@ def manuals_markdown(sections):
                      for (manual, number), found in manuals.followers(sections)) + "\n"
 
 
-def notation_markdown(front, book):
-    by_id, out = book.by_id, [f"# {front.title} {{#{front.anchor} .unnumbered}}\n"]
+def notation_markdown(front, book, level=1):
+    by_id, out = book.by_id, [f"{'#' * level} {front.title} {{#{front.anchor} .unnumbered}}\n"]
     for block in front.blocks:
         if block.startswith("## "):
             out.append(f"## {block[3:]} {{#{links.heading_id(block[3:])} .unnumbered}}\n")
@@ -165,5 +175,5 @@ def without_mathematics(text):
 def book_markdown(book):
     """The whole book."""
     parts = [HEAD, book.summary + "\n", notation_markdown(book.first, book), rules.as_markdown(), differences.as_markdown()]
-    parts += [chapter_markdown(chapter, book.examples, book.by_id) for chapter in book.chapters] + [notation_markdown(book.last, book), index_markdown(book.found)]
+    parts += [chapter_markdown(chapter, book) for chapter in book.chapters] + [notation_markdown(book.last, book), index_markdown(book.found)]
     return without_mathematics("\n".join(parts))
