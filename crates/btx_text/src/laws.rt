@@ -5,7 +5,7 @@ ghost use Rattle.std.specs.List.{All, filter, list_any, range_with_len};
 ghost use Rattle.btx_text.specs.declared.byte_class.Class.{Class};
 ghost use Rattle.btx_text.specs.declared.element_kind.TextMode.{TextMode};
 ghost use Rattle.btx_text.specs.declared.element_kind.TextMode.TheVariants.{Bytes, Utf8};
-ghost use Rattle.btx_text.specs.language.Class.{begins_name, class_of, is_name_byte};
+ghost use Rattle.btx_text.specs.language.Class.{begins_name, class_of, is_alpha, is_name_byte, is_sep, is_white};
 ghost use Rattle.btx_text.specs.laws.Class.{is_of_class};
 ghost use Rattle.btx_text.specs.language.Elements.{Element, elements_of};
 ghost use Rattle.btx_text.specs.laws.Elements.{IsDivision, is_wide};
@@ -15,6 +15,13 @@ ghost use Rattle.btx_text.specs.language.Sequences.{is_sequence};
 /// Each byte is of exactly one of the five classes.
 pub fn one_class()
     ensures { (b : ℕ) (class : Class) → IsTrue (is_of_class class b) ↔ (class ≡ class_of b) }
+{}
+
+/// Of the 256 bytes, the whitespace is tab, carriage return and space, the separators are `-` and `~`, and the letters are the 52 and each byte from 128 up.
+pub fn classes_of_bytes()
+    ensures white { filter is_white (range_with_len 0 256) ≡ codes "\t\r " }
+    ensures separators { filter is_sep (range_with_len 0 256) ≡ codes "-~" }
+    ensures letters { filter is_alpha (range_with_len 0 256) ≡ codes "ABCDEFGHIJKLMNOPQRSTUVWXYZabcdefghijklmnopqrstuvwxyz" ++ range_with_len 128 128 }
 {}
 
 /// Of the 256 bytes, those that can't stand in a name are the first 33, up to the space, and ten signs; so byte 127 can, and each from 128 up. Of those
