@@ -7,14 +7,16 @@ import shutil
 import subprocess
 import sys
 import tempfile
-from typing import NamedTuple
+from typing import NamedTuple, Optional
 
 from make_job import MONTHS, TYPES, make_job
 
 HERE = pathlib.Path(__file__).resolve().parent
 EXAMPLES = HERE.parents[1] / "examples"
 ARTICLE, PLAIN, ALPHA, LONG = "article", "plain", "alpha", "jurabib"
-START, READING_ALONE, MESSAGES = "start", "reading", "messages"
+START, READING_ALONE, MESSAGES, TYPICAL = "start", "reading", "messages", "typical"
+# A normal paper: so many citations of a database that its author has kept for years.
+CITATIONS_OF_TYPICAL, ENTRIES_OF_TYPICAL = 30, 3_000
 # In the job MESSAGES the database has a mistake for each ten entries.
 ENTRIES_A_MISTAKE = 10
 MOST_ENTRIES_OF_REFERENCE = 1_000
@@ -61,14 +63,15 @@ def add_mistakes(database):
 
 
 class Job(NamedTuple):
-    """`more` is put behind the style's text."""
+    """`more` is put behind the style's text. Without a number of citations all entries are cited."""
     name: str
     style: str
     entries: int
     more: str = ""
+    citations: Optional[int] = None
 
     def write(self, folder, seed):
-        make_job(folder, self.entries, self.style, seed)
+        make_job(folder, self.entries, self.style, seed, self.citations)
         there = folder / f"{self.style}.bst"
         if self.style in (READING_ALONE, MESSAGES):
             there.write_text(READING)
@@ -82,7 +85,9 @@ class Job(NamedTuple):
 
 def all_jobs(styles, sizes):
     known = [READING_ALONE, MESSAGES] + styles
-    yield Job(START, PLAIN if PLAIN in known else known[-1], 1)
+    short = PLAIN if PLAIN in known else known[-1]
+    yield Job(START, short, 1)
+    yield Job(TYPICAL, short, ENTRIES_OF_TYPICAL, citations=CITATIONS_OF_TYPICAL)
     for style in known:
         for size in sizes:
             yield Job(style, style, size)

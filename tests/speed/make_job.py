@@ -1,6 +1,6 @@
-"""A large job from a seed: an `.aux` file that cites everything, and a database whose entries have ten fields each.
+"""A large job from a seed: an `.aux` file that cites everything, or only so many entries, and a database whose entries have ten fields each.
 
-    python3 make_job.py [--seed N] [--style NAME] ENTRIES FOLDER
+    python3 make_job.py [--seed N] [--style NAME] [--cited N] ENTRIES FOLDER
 
 writes `job.aux` and `works.bib` into FOLDER. The same numbers give the same bytes."""
 
@@ -88,10 +88,10 @@ class Maker:
                 yield key, self.entry(key, kind, kind)
 
 
-def make_job(folder, entries, style, seed=1):
+def make_job(folder, entries, style, seed=1, citations=None):
     maker = Maker(seed)
     keys, texts = zip(*maker.entries(entries))
-    cited = maker.random.sample(keys, len(keys))
+    cited = maker.random.sample(keys, len(keys))[:citations]
     aux = "".join("\\citation{%s}\n" % key for key in cited) + "\\bibdata{works}\n\\bibstyle{%s}\n" % style
     folder = pathlib.Path(folder)
     folder.mkdir(parents=True, exist_ok=True)
@@ -103,10 +103,11 @@ def main():
     parser = argparse.ArgumentParser()
     parser.add_argument("--seed", type=int, default=1)
     parser.add_argument("--style", default="plain")
+    parser.add_argument("--cited", type=int, help="how many of the entries are cited: all, if it isn't given")
     parser.add_argument("entries", type=int)
     parser.add_argument("folder")
     arguments = parser.parse_args()
-    make_job(arguments.folder, arguments.entries, arguments.style, arguments.seed)
+    make_job(arguments.folder, arguments.entries, arguments.style, arguments.seed, arguments.cited)
 
 
 if __name__ == "__main__":

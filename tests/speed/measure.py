@@ -19,7 +19,7 @@ import tempfile
 from typing import NamedTuple, Optional
 
 import jobs
-from jobs import ALPHA, ARTICLE, LONG, MESSAGES, PLAIN, READING_ALONE
+from jobs import ALPHA, ARTICLE, ENTRIES_OF_TYPICAL, LONG, MESSAGES, PLAIN, READING_ALONE, TYPICAL
 
 HERE = pathlib.Path(__file__).resolve().parent
 PROGRAM = pathlib.Path(os.environ.get("BIBTEX_PROGRAM") or HERE.parents[1] / "crates/bibtex/out/bibtex")
@@ -34,11 +34,11 @@ MOST_GROWTH = 1.05
 # The original on the jobs of seed 1: instructions and MB. The bars where it isn't installed.
 RECORDED = {("article", 10_000): (2_565_800_000, 13.2), ("plain", 10_000): (2_359_200_000, 18.2),
             ("alpha", 10_000): (2_642_000_000, 28.0), ("jurabib", 10_000): (6_698_600_000, 39.0)}
-# What the program is to take at 10,000 entries at most, as a share of what the original takes.
+# What the program is to take at 10,000 entries at most, and in the typical job, as a share of what the original takes.
 AIMED_SIZE = 10_000
-INSTRUCTIONS_AIMED = {PLAIN: 0.40, ALPHA: 0.40, LONG: 0.40, ARTICLE: 0.40, READING_ALONE: 0.15, MESSAGES: 0.15}
+INSTRUCTIONS_AIMED = {TYPICAL: 0.10, PLAIN: 0.40, ALPHA: 0.40, LONG: 0.40, ARTICLE: 0.40, READING_ALONE: 0.15, MESSAGES: 0.15}
 SECONDS_AIMED = 0.50
-MEMORY_AIMED = {PLAIN: 0.75, ALPHA: 0.60, LONG: 0.50, ARTICLE: 0.85}
+MEMORY_AIMED = {TYPICAL: 0.50, PLAIN: 0.75, ALPHA: 0.60, LONG: 0.50, ARTICLE: 0.85}
 INSTRUCTIONS, SECONDS, MEMORY = "instructions", "processor seconds", "memory"
 # Those of them that aren't met yet, or on a busy machine aren't met each time: bars only where they are asked for.
 NOT_MET = {(name, SECONDS) for name in INSTRUCTIONS_AIMED}
@@ -231,7 +231,7 @@ def share(figure, program, original):
 def print_shares(measured, bars, are_aims):
     """The bars of shares: those that are met, or those that are still aims."""
     for job, figures in measured.items():
-        if job.entries != AIMED_SIZE or job.name not in INSTRUCTIONS_AIMED:
+        if job.name not in INSTRUCTIONS_AIMED or job.entries != (ENTRIES_OF_TYPICAL if job.name == TYPICAL else AIMED_SIZE):
             continue
         program, original = figures["program"], figures.get("original")
         for what, figure, most in shares_of(job):
