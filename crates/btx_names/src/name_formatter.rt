@@ -17,8 +17,8 @@ use std::alloc::{AllocError, Global};
 // How many formats are kept at most. A style mostly has fewer.
 const MOST_FORMATS: usize = 16;
 
-// How many bytes a list of names has at most that is kept.
-const LONGEST_LIST: usize = 65_536;
+// How many bytes a list of names has at most that is kept: as many as a string may have, so that no list is read from its start for each of its names.
+const LONGEST_LIST: usize = GREATEST_STRING;
 
 /// Puts names in formats. It keeps the latest names with their lists and tokens, and some formats as they were read, since a style mostly asks for
 /// the names of one list, time and again and in a few formats. No answer depends on what is kept.
