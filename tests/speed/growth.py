@@ -69,6 +69,10 @@ def print_bars(measured, start, bars):
     for jobs in measured:
         smaller, larger = ((job, figures["program"]) for job, figures in jobs)
         shape = smaller[0].shape
+        if shape.most:
+            figures = larger[1]
+            bars.judge(f"{shape.name}, instructions for {larger[0].entries:,} {shape.unit}", figures.failure or figures.instructions, shape.most, millions)
+            continue
         what = f"{shape.name}, growth from {smaller[0].entries:,} to {larger[0].entries:,} {shape.unit}"
         found = growth(smaller, larger, start["program"])
         bars.judge(what, found, MOST_GROWTH, lambda exponent: f"exponent {exponent:.3f}")

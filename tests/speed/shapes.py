@@ -1,4 +1,4 @@
-"""Jobs that are large in one way each. Their style executes nothing, so that reading is all they take; but for the last three, which format one name.
+"""Jobs that are large in one way each. Their style executes nothing, so that reading is all they take; but for the last four, which format names.
 
     python3 shapes.py NAME SIZE FOLDER
 
@@ -6,17 +6,19 @@ writes such a job into FOLDER. All numbers in a text have the same length, so th
 
 import argparse
 import pathlib
-from typing import Callable, NamedTuple
+from typing import Callable, NamedTuple, Optional
 
 from jobs import READING
 
 
 class Shape(NamedTuple):
-    """`make` gives the files of a job for a size; a size counts the `unit`."""
+    """`make` gives the files of a job for a size; a size counts the `unit`. Where the job grows faster than its size, `most` is how many instructions
+    the larger one may take."""
     name: str
     unit: str
     sizes: tuple
     make: Callable
+    most: Optional[int] = None
 
     def jobs(self):
         return [ShapedJob(self, size) for size in self.sizes]
@@ -36,10 +38,10 @@ class ShapedJob(NamedTuple):
 SHAPES = {}
 
 
-def shape(unit, *sizes):
+def shape(unit, *sizes, most=None):
     """Adds the function's shape, under its name."""
     def add(make):
-        SHAPES[make.__name__] = Shape(make.__name__, unit, sizes, make)
+        SHAPES[make.__name__] = Shape(make.__name__, unit, sizes, make, most)
         return make
     return add
 
@@ -187,6 +189,18 @@ def name_with_white_between(size):
 def name_whose_letter_comes_late(size):
     """A token whose letter is its last byte, abbreviated."""
     return name_job(size, "1" + "2" * size + "A C", "{f}")
+
+
+@shape("authors", 400, 4_000, most=250_000_000)
+def authors(size):
+    """One entry with many authors, each of which is formatted once, in their order. For each the list is compared with the one that is kept."""
+    names = " and ".join("First%05d von Last%05d" % (number, number) for number in range(size))
+    loop = """INTEGERS {i last}
+FUNCTION {f} {author num.names$ 'last := #0 'i := {i last <} {i #1 + 'i := author i "{ff~}{vv~}{ll}" format.name$ pop$} while$}
+ITERATE {f}
+"""
+    files = database_job("@article{k, author = {%s}}\n" % names, ["k"])
+    return {**files, "reading.bst": files["reading.bst"] + loop}
 
 
 # ---- the command ----
