@@ -1,6 +1,7 @@
 -- What is done for a job, and the report that it answers.
-use Rattle.std.proofs.Common.{◌≡◌, ◌∙◌, ℕ, List, [], ◌∷◌, Bool, true, Option, Some, Result, Ok, Err, IfOk, IsErrAnd, OnOk, MatchBool, ap, subst, sym}
+use Rattle.std.proofs.Common.{◌≡◌, ◌∙◌, ℕ, List, [], ◌∷◌, Bool, true, Option, Some, Result, Ok, Err, IfOk, IsErrAnd, OnErr, OnOk, MatchBool, ap, subst, sym}
 use Rattle.std.specs.Io.KnownBytes.{Keeps}
+use Rattle.btx_text.specs.language.Counts.{Change}
 use Rattle.btx_aux.specs.language.Files.{Files}
 use Rattle.btx_aux.specs.language.Answers.{FinderAnswer}
 use Rattle.btx_aux.proofs.AnswerLemmas.{files_agree, files_answered}
@@ -26,15 +27,18 @@ ended_untouched contents ran before written after finished untouched finishes ke
   where
     stays : (after ≡ written) × (finished ≡ Ok tt)
     stays =
-        subst (λ (keeps : Bool). MatchBool keeps ((after ≡ written) × (finished ≡ Ok tt)) (OnOk finished (Keeps (received_by contents written) (contents after.file)))) kept finishes
+        subst (λ (keeps : Bool). MatchBool keeps ((after ≡ written) × (finished ≡ Ok tt))
+        (OnOk finished (Keeps (received_by contents written) (contents after.file)) × OnErr finished (Keeps (contents written.file) (contents after.file)))) kept finishes
 
 -- ---- what is done, by the values that stand for the job's own
 
-pub lists_from : {W : Type 0} (content : Option Files) (given : Given) (contents : W → Held) (settings : Settings) (here there after : ListFile W) (before log : Held) (answer : Result Report RunFault)
-    → here ≡ there → before ≡ Some [] → ListsJob content given contents settings here after (before, log) answer → ListsJob content given contents settings there after (Some [], log) answer
-lists_from content given contents settings here there after before log answer is none h =
-    subst (λ (list : ListFile _). ListsJob content given contents settings list after (Some [], log) answer) is
-    (subst (λ (before : Held). ListsJob content given contents settings here after (before, log) answer) none h)
+pub lists_from : {W : Type 0} (content : Option Files) (given : Given) (contents : W → Held) (settings : Settings) (found : Change)
+    (here there after : ListFile W) (before log : Held) (logged : Change) (answer : Result Report RunFault)
+    → here ≡ there → before ≡ Some [] → ListsJob content given contents settings found here after (before, log) logged answer
+    → ListsJob content given contents settings found there after (Some [], log) logged answer
+lists_from content given contents settings found here there after before log logged answer is none h =
+    subst (λ (list : ListFile _). ListsJob content given contents settings found list after (Some [], log) logged answer) is
+    (subst (λ (before : Held). ListsJob content given contents settings found here after (before, log) logged answer) none h)
 
 -- the file is closed, and the log handed on
 pub closes_and_hands : {W : Type 0} (settings : Settings) (path text log : List ℕ) (here file : W) (before mid after : Done W) (answer : Result (Unit {0}) RunFault)
@@ -65,14 +69,15 @@ opens_and_empties settings path file before mid after is_path opened empties =
     subst (λ path. WereDone before after (OpenedList (list_path settings) (Ok file) ∷ EmptiedLog path ∷ [])) is_path
     (one_after_another before mid after (OpenedList (list_path settings) (Ok file) ∷ []) (EmptiedLog path ∷ []) opened empties)
 
-pub does_with : {W : Type 0} (here there : Option Files) (given given' : Given) (contents : W → Held) (settings : Settings) (path : List ℕ) (file : W) (before after : Done W) (answer : Result Report RunFault)
+pub does_with : {W : Type 0} (here there : Option Files) (given given' : Given) (contents : W → Held) (settings : Settings) (found : Change) (path : List ℕ) (file : W)
+    (before after : Done W) (answer : Result Report RunFault)
     → here ≡ there → given.0 ≡ given'.0 → given.1 ≡ given'.1 → path ≡ log_path settings
-    → DoesWith here given contents settings path file before after answer → DoesWith there given' contents settings (log_path settings) file before after answer
-does_with here there given given' contents settings path file before after answer is first last is_path h =
-    subst (λ (it : List FinderAnswer). DoesWith there (given'.0, it) contents settings (log_path settings) file before after answer) last
-    (subst (λ (it : List FinderAnswer). DoesWith there (it, given.1) contents settings (log_path settings) file before after answer) first
-    (subst (λ (content : Option Files). DoesWith content given contents settings (log_path settings) file before after answer) is
-    (subst (λ path. DoesWith here given contents settings path file before after answer) is_path h)))
+    → DoesWith here given contents settings found path file before after answer → DoesWith there given' contents settings found (log_path settings) file before after answer
+does_with here there given given' contents settings found path file before after answer is first last is_path h =
+    subst (λ (it : List FinderAnswer). DoesWith there (given'.0, it) contents settings found (log_path settings) file before after answer) last
+    (subst (λ (it : List FinderAnswer). DoesWith there (it, given.1) contents settings found (log_path settings) file before after answer) first
+    (subst (λ (content : Option Files). DoesWith content given contents settings found (log_path settings) file before after answer) is
+    (subst (λ path. DoesWith here given contents settings found path file before after answer) is_path h)))
 
 -- ---- the report
 
@@ -89,7 +94,7 @@ of_some settings given before after (Err fault) h = tt
 of_some settings given before after (Ok report) h = record { files = files_answered h.answers; is = (h.completes (files_answered h.answers) (files_agree h.answers h.once)).report_is }
 
 -- what holds of the report of a run holds of the report of the job that was done with it
-pub report_of_job : {W : Type 0} (content : Option Files) (given : Given) (contents : W → Held) (settings : Settings) (path : List ℕ) (file : W) (before after : Done W) (answer : Result Report RunFault)
-    (P : Report → Type 0) (h : DoesWith content given contents settings path file before after answer) → IfOk h.lists.ran P → IfOk answer P
-report_of_job content given contents settings path file before after answer P h holds =
+pub report_of_job : {W : Type 0} (content : Option Files) (given : Given) (contents : W → Held) (settings : Settings) (found : Change) (path : List ℕ) (file : W)
+    (before after : Done W) (answer : Result Report RunFault) (P : Report → Type 0) (h : DoesWith content given contents settings found path file before after answer) → IfOk h.lists.ran P → IfOk answer P
+report_of_job content given contents settings found path file before after answer P h holds =
     ok_before P h.listed (both_done h.stored h.printed) answer h.first (ok_before P h.lists.ran h.lists.finished h.listed h.lists.first holds)

@@ -43,10 +43,10 @@ pub record RunEnds {W : Type 0} (files : Option Files) (given : Given) (contents
   pub reports : WereDone done after (reporting answer)
   pub ends : end ≡ exit_of answer
 
--- the settings that were read are run; a refusal, or a text that was asked for, is printed
+-- the settings that were read are run; a refusal, or a text that was asked for, is printed, and no file is asked for
 abbrev pub IsAnswered : {W : Type 0} → Option Files → Given → (W → Held) → List ℕ → Result Settings Refusal → Done W → Done W → Exit → Type 0
 IsAnswered files given contents hint (Ok settings) before after end = RunEnds files given contents settings before after end
-IsAnswered files given contents hint (Err refusal) before after end = IsReported hint refusal before after end
+IsAnswered files given contents hint (Err refusal) before after end = (given.1 ≡ given.0) × IsReported hint refusal before after end
 
 -- the words of a command line, the program's name first, come to this end: the job of their settings is done, once, and nothing else is, or they
 -- are refused as they are read; a mistake is reported with this hint
@@ -77,11 +77,11 @@ IsUnread OutOfMemory before after end = WereDone before after (ReportedFault run
 IsUnread _ before after end =
     WereDone before after (ReportedText (codes "error: invalid UTF-8 was detected in one or more arguments\n") [] ∷ []) × (end ≡ exit.Refused)
 
--- words that were read come to the end of their command line; of others the reason is reported, and nothing else is done
+-- words that were read come to the end of their command line; of others the reason is reported, no file is asked for, and nothing else is done
 abbrev pub EndsFor : {W : Type 0} → Option Files → Given → (W → Held) → Words → Done W → Done W → Exit → Type 0
 EndsFor files given contents (Ok words) before after end =
     ComesTo files given contents (map (λ word. string_bytes word) words.items) (hint_of words.items) before after end
-EndsFor files given contents (Err error) before after end = IsUnread (error_kind error) before after end
+EndsFor files given contents (Err error) before after end = (given.1 ≡ given.0) × IsUnread (error_kind error) before after end
 
 -- The whole program, over a system of these files, lists' files of these contents, and this answer on the words of the command line: the words are
 -- read, they come to their end, and the exit status is that end's. `given` are the answers on files that were given before the program, and those that

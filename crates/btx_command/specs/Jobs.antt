@@ -6,7 +6,9 @@ use Rattle.btx_aux.specs.language.Files.{Files}
 use Rattle.btx_machine.specs.language.KeepingStep.{Received, AtFault}
 use Rattle.btx_machine.specs.language.Product.{log_of}
 use Rattle.btx_machine.specs.declared.report.Report.{Report}
+use Rattle.btx_text.specs.language.Counts.{Change}
 use Rattle.btx_run.specs.language.Answered.{CompletesAsAnswered, FailsAsAnswered, Given}
+use Rattle.btx_run.specs.language.RunFaults.{CountsOfRun}
 use Rattle.btx_core.specs.refinement.ComputedProduct.{product, product_with}
 use Rattle.btx_run.specs.declared.run_fault.RunFault.{RunFault}
 use Rattle.btx_run.specs.declared.run_fault.RunFault.TheVariants.{Memory}
@@ -52,25 +54,28 @@ pub record HandsLog {W : Type 0} (settings : Settings) (path log : List ℕ) (be
   pub first : answer ≡ both_done stored printed
 
 -- A job's list is written, over this change of its file: the job is run, and then the list's file is ended, also after a fault. The first
--- fault is answered. Where there is no top file, the list's file isn't touched.
-pub record ListsJob {W : Type 0} (content : Option Files) (given : Given) (contents : W → Held) (settings : Settings) (before after : ListFile W)
-    (log : Held × Held) (answer : Result Report RunFault) : Type 0 where
+-- fault is answered; that of the run is the device's exactly where, by the failures of the finder, the list's file and the log, one call of one of the three
+-- failed. Where there is no top file, the list's file isn't touched.
+pub record ListsJob {W : Type 0} (content : Option Files) (given : Given) (contents : W → Held) (settings : Settings) (found : Change) (before after : ListFile W)
+    (log : Held × Held) (logged : Change) (answer : Result Report RunFault) : Type 0 where
   pub ran : Result Report RunFault
   pub written : ListFile W
   pub finished : Result (Unit {0}) RunFault
   pub runs : RunsJob content given settings (received_by contents before, log.0) (received_by contents written, log.1) ran
+  pub counts : CountsOfRun ran found (before.failures, written.failures) logged
   pub finishes : FinishesList contents ran written after finished
   pub untouched : keeps_old ran ≡ true → after ≡ before
   pub first : answer ≡ first_fault ran finished
 
--- A job is done with its list's file, which was opened: its list is written, over a finder of this content, and the file is closed; then the log that
--- was kept is handed on to the file of this path, also after a fault. Nothing else is done. The first fault is answered.
-pub record DoesWith {W : Type 0} (content : Option Files) (given : Given) (contents : W → Held) (settings : Settings) (path : List ℕ) (file : W) (before after : Done W)
-    (answer : Result Report RunFault) : Type 0 where
+-- A job is done with its list's file, which was opened: its list is written, over a finder of this content and these failures, and the file is closed; then
+-- the log that was kept is handed on to the file of this path, also after a fault. Nothing else is done. The first fault is answered.
+pub record DoesWith {W : Type 0} (content : Option Files) (given : Given) (contents : W → Held) (settings : Settings) (found : Change) (path : List ℕ) (file : W)
+    (before after : Done W) (answer : Result Report RunFault) : Type 0 where
   pub listed : Result Report RunFault
   pub list : ListFile W
   pub log : List ℕ
-  pub lists : ListsJob content given contents settings (unwritten file) list (Some [], Some log) listed
+  pub logged : Change
+  pub lists : ListsJob content given contents settings found (unwritten file) list (Some [], Some log) logged listed
   pub stored : Result (Unit {0}) RunFault
   pub printed : Result (Unit {0}) RunFault
   pub does : WereDone before after (ClosedList list.file ∷ StoredLog path log stored ∷ Printed (printed_log settings log) printed ∷ [])
@@ -84,6 +89,6 @@ pub data DoesJob {W : Type 0} (files : Option Files) (given : Given) (contents :
   HasNoMemory : after ≡ before → given.1 ≡ given.0 → answer ≡ Err Memory → DoesJob files given contents settings before after answer
   HasNoList : (fault : RunFault) → WereDone before after (OpenedList (list_path settings) (Err fault) ∷ []) → given.1 ≡ given.0 → answer ≡ Err fault
       → DoesJob files given contents settings before after answer
-  HasList : (file : W) (ready : Done W) → WereDone before ready (OpenedList (list_path settings) (Ok file) ∷ EmptiedLog (log_path settings) ∷ [])
-      → DoesWith (option_map (folder_files settings.directory.now) files) given contents settings (log_path settings) file ready after answer
+  HasList : (found : Change) (file : W) (ready : Done W) → WereDone before ready (OpenedList (list_path settings) (Ok file) ∷ EmptiedLog (log_path settings) ∷ [])
+      → DoesWith (option_map (folder_files settings.directory.now) files) given contents settings found (log_path settings) file ready after answer
       → DoesJob files given contents settings before after answer

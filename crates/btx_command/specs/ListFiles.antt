@@ -1,5 +1,5 @@
 -- The file of the list of references, over the run and at its end.
-use Rattle.std.specs.Prelude.{◌≡◌, ℕ, Bool, true, false, List, [], Option, Result, Ok, Err, OnOk, MatchBool, if◌then◌else◌}
+use Rattle.std.specs.Prelude.{◌≡◌, ℕ, Bool, true, false, List, [], Option, Result, Ok, Err, OnErr, OnOk, MatchBool, if◌then◌else◌}
 use Rattle.std.specs.Io.KnownBytes.{Keeps}
 use Rattle.std.specs.Option.{option_map}
 use Rattle.btx_text.specs.refinement.Counts.{no_failures}
@@ -36,7 +36,8 @@ keeps_old (Ok report) = is_without_top_file report.end
 keeps_old (Err fault) = false
 
 -- At the end of a run its list's file stays as it is where there is no top file; else it holds what it received in this run and nothing else,
--- or it couldn't be emptied, which is reported.
+-- or it couldn't be emptied, which is reported, and holds what it held.
 abbrev pub FinishesList : {W : Type 0} → (W → Held) → Result Report RunFault → ListFile W → ListFile W → Result (Unit {0}) RunFault → Type 0
 FinishesList contents answer old new result =
-    MatchBool (keeps_old answer) ((new ≡ old) × (result ≡ Ok tt)) (OnOk result (Keeps (received_by contents old) (contents new.file)))
+    MatchBool (keeps_old answer) ((new ≡ old) × (result ≡ Ok tt))
+    (OnOk result (Keeps (received_by contents old) (contents new.file)) × OnErr result (Keeps (contents old.file) (contents new.file)))

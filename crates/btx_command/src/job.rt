@@ -83,7 +83,7 @@ fn list_job<F: Finder, W: EmptiedFile, L: Sink>(
     list: &mut ListFile<W>,
     log: &mut L,
 ) -> Result<Report, RunFault>
-    ensures { ListsJob (F.content finder.old) (F.answers finder.old, F.answers finder.new) W.contents settings.now list.old list.new (L.received log.old, L.received log.new) result }
+    ensures { ListsJob (F.content finder.old) (F.answers finder.old, F.answers finder.new) W.contents settings.now (F.failures finder.old, F.failures finder.new) list.old list.new (L.received log.old, L.received log.new) (L.failures log.old, L.failures log.new) result }
 {
     let ran = run_over(alloc, settings, finder, list, log);
     let finished = list.finish(&ran);
@@ -100,7 +100,7 @@ fn do_job<F: Finder, O: Outputs>(
     outputs: &mut O,
     log_path: &str,
 ) -> Result<Report, RunFault>
-    ensures { DoesWith (F.content finder.old) (F.answers finder.old, F.answers finder.new) O.List.contents settings.now log_path.now file (O.acts outputs.old) (O.acts outputs.new) result }
+    ensures { DoesWith (F.content finder.old) (F.answers finder.old, F.answers finder.new) O.List.contents settings.now (F.failures finder.old, F.failures finder.new) log_path.now file (O.acts outputs.old) (O.acts outputs.new) result }
 {
     let mut log = Over::new(Vec::new(alloc));
     let mut list = ListFile::new(file);

@@ -1,5 +1,5 @@
 //! The file of the list of references, which keeps what an earlier run left until something is known of this one.
-ghost use Rattle.std.specs.Prelude.{◌≡◌, true, [], Some, OnOk, OnErr, Err, IfErr, IfOk, ◌≤◌, length};
+ghost use Rattle.std.specs.Prelude.{◌≡◌, true, [], Some, OnOk, OnErr, Ok, Err, IfErr, IfOk, ◌≤◌, length};
 ghost use Rattle.std.specs.IoError.{error_kind};
 ghost use Rattle.std.specs.declared.io.ErrorKind.TheVariants.{InvalidInput};
 ghost use Rattle.std.specs.Io.{WritesAtMost};
@@ -59,6 +59,7 @@ impl<W: EmptiedFile> ListFile<W> {
     fn empty(&mut self) -> io::Result<()>
         ensures received { Keeps (received_by W.contents self.old) (received_by W.contents self.new) }
         ensures emptied { OnOk result (self.new.is_emptied ≡ true) }
+        ensures kept { OnErr result (Keeps (W.contents self.old.file) (W.contents self.new.file)) }
         ensures failures { self.new.failures ≡ self.old.failures }
     {
         if !self.is_emptied {
@@ -142,6 +143,8 @@ impl<F: Write> Write for SystemFile<F> {
 // What it means that a file was cut to no bytes, or that it couldn't be: it has nothing to throw away, if that is an invalid input to it.
 fn emptied(answer: io::Result<()>) -> io::Result<()>
     ensures emptied { OnOk result (IfErr answer (λ error. error_kind error ≡ InvalidInput)) }
+    ensures nothing { IfErr answer (λ error. error_kind error ≡ InvalidInput → result ≡ Ok tt) }
+    ensures well { answer ≡ Ok tt → result ≡ Ok tt }
     ensures same { IfErr result (λ error. answer ≡ Err error) }
 {
     match answer {

@@ -7,6 +7,7 @@ returns g c = record {
   written = c.run_over-ran.new.bbl;
   finished = c.finish-finished.result;
   runs = c.run_over-ran.ensures.runs;
+  counts = c.run_over-ran.ensures.counts;
   finishes = c.finish-finished.ensures;
   untouched =
       ended_untouched g.W.Write.contents c.run_over-ran.result c.args.list.now c.run_over-ran.new.bbl c.finish-finished.new.self c.finish-finished.result
