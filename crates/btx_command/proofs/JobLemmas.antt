@@ -1,7 +1,8 @@
 -- What is done for a job, and the report that it answers.
-use Rattle.std.proofs.Common.{◌≡◌, ◌∙◌, ℕ, List, [], ◌∷◌, Bool, true, Option, Some, Result, Ok, Err, IfOk, IsErrAnd, OnErr, OnOk, MatchBool, ap, subst, sym}
-use Rattle.std.specs.Io.KnownBytes.{Keeps}
+use Rattle.std.proofs.Common.{◌≡◌, ◌∙◌, ℕ, List, [], ◌∷◌, Bool, true, Option, Some, Result, Ok, Err, IfOk, IsErrAnd, MatchBool, ap, subst, sym}
+use Rattle.btx_text.specs.declared.failures.Failures.{Failures}
 use Rattle.btx_text.specs.language.Counts.{Change}
+use Rattle.btx_text.specs.refinement.Counts.{no_failures}
 use Rattle.btx_aux.specs.language.Files.{Files}
 use Rattle.btx_aux.specs.language.Answers.{FinderAnswer}
 use Rattle.btx_aux.proofs.AnswerLemmas.{files_agree, files_answered}
@@ -10,7 +11,7 @@ use Rattle.btx_run.specs.language.Answered.{CompletesAsAnswered, Given}
 use Rattle.btx_run.specs.declared.run_fault.RunFault.{RunFault}
 use Rattle.btx_command.specs.Acts.{ClosedList, WereDone, Done, EmptiedLog, OpenedList, Printed, StoredLog}
 use Rattle.btx_command.specs.Jobs.{DoesWith, HandsLog, IsReportOfSome, ListsJob, both_done}
-use Rattle.btx_command.specs.ListFiles.{FinishesList, Held, keeps_old, received_by}
+use Rattle.btx_command.specs.ListFiles.{FinishesList, Held, IsEmptied, keeps_old}
 use Rattle.btx_command.specs.Paths.{list_path, log_path}
 use Rattle.btx_command.specs.Printing.{printed_log}
 use Rattle.btx_command.specs.Status.{first_fault}
@@ -27,18 +28,18 @@ ended_untouched contents ran before written after finished untouched finishes ke
   where
     stays : (after ≡ written) × (finished ≡ Ok tt)
     stays =
-        subst (λ (keeps : Bool). MatchBool keeps ((after ≡ written) × (finished ≡ Ok tt))
-        (OnOk finished (Keeps (received_by contents written) (contents after.file)) × OnErr finished (Keeps (contents written.file) (contents after.file)))) kept finishes
+        subst (λ (keeps : Bool). MatchBool keeps ((after ≡ written) × (finished ≡ Ok tt)) (IsEmptied contents written after finished)) kept finishes
 
 -- ---- what is done, by the values that stand for the job's own
 
 pub lists_from : {W : Type 0} (content : Option Files) (given : Given) (contents : W → Held) (settings : Settings) (found : Change)
-    (here there after : ListFile W) (before log : Held) (logged : Change) (answer : Result Report RunFault)
-    → here ≡ there → before ≡ Some [] → ListsJob content given contents settings found here after (before, log) logged answer
-    → ListsJob content given contents settings found there after (Some [], log) logged answer
-lists_from content given contents settings found here there after before log logged answer is none h =
-    subst (λ (list : ListFile _). ListsJob content given contents settings found list after (Some [], log) logged answer) is
-    (subst (λ (before : Held). ListsJob content given contents settings found here after (before, log) logged answer) none h)
+    (here there after : ListFile W) (before log : Held) (first logged : Failures) (answer : Result Report RunFault)
+    → here ≡ there → before ≡ Some [] → first ≡ no_failures → ListsJob content given contents settings found here after (before, log) (first, logged) answer
+    → ListsJob content given contents settings found there after (Some [], log) (no_failures, logged) answer
+lists_from content given contents settings found here there after before log first logged answer is none begins h =
+    subst (λ (list : ListFile _). ListsJob content given contents settings found list after (Some [], log) (no_failures, logged) answer) is
+    (subst (λ (before : Held). ListsJob content given contents settings found here after (before, log) (no_failures, logged) answer) none
+    (subst (λ (first : Failures). ListsJob content given contents settings found here after (before, log) (first, logged) answer) begins h))
 
 -- the file is closed, and the log handed on
 pub closes_and_hands : {W : Type 0} (settings : Settings) (path text log : List ℕ) (here file : W) (before mid after : Done W) (answer : Result (Unit {0}) RunFault)

@@ -6,7 +6,9 @@ use Rattle.btx_aux.specs.language.Files.{Files}
 use Rattle.btx_machine.specs.language.KeepingStep.{Received, AtFault}
 use Rattle.btx_machine.specs.language.Product.{log_of}
 use Rattle.btx_machine.specs.declared.report.Report.{Report}
+use Rattle.btx_text.specs.declared.failures.Failures.{Failures}
 use Rattle.btx_text.specs.language.Counts.{Change}
+use Rattle.btx_text.specs.refinement.Counts.{no_failures}
 use Rattle.btx_run.specs.language.Answered.{CompletesAsAnswered, FailsAsAnswered, Given}
 use Rattle.btx_run.specs.language.RunFaults.{CountsOfRun}
 use Rattle.btx_core.specs.refinement.ComputedProduct.{product, product_with}
@@ -74,8 +76,8 @@ pub record DoesWith {W : Type 0} (content : Option Files) (given : Given) (conte
   pub listed : Result Report RunFault
   pub list : ListFile W
   pub log : List ℕ
-  pub logged : Change
-  pub lists : ListsJob content given contents settings found (unwritten file) list (Some [], Some log) logged listed
+  pub logged : Failures
+  pub lists : ListsJob content given contents settings found (unwritten file) list (Some [], Some log) (no_failures, logged) listed
   pub stored : Result (Unit {0}) RunFault
   pub printed : Result (Unit {0}) RunFault
   pub does : WereDone before after (ClosedList list.file ∷ StoredLog path log stored ∷ Printed (printed_log settings log) printed ∷ [])

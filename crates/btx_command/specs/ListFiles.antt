@@ -35,9 +35,15 @@ abbrev pub keeps_old : Result Report RunFault → Bool
 keeps_old (Ok report) = is_without_top_file report.end
 keeps_old (Err fault) = false
 
+-- What an earlier run left is thrown away: the file holds what it received in this run and nothing else. If that fails, it holds what it held. It is no
+-- write of the run: whether one failed stays what it was.
+pub record IsEmptied {W : Type 0} (contents : W → Held) (old new : ListFile W) (result : Result (Unit {0}) RunFault) : Type 0 where
+  pub emptied : OnOk result (Keeps (received_by contents old) (contents new.file))
+  pub kept : OnErr result (Keeps (contents old.file) (contents new.file))
+  pub failures : new.failures ≡ old.failures
+
 -- At the end of a run its list's file stays as it is where there is no top file; else it holds what it received in this run and nothing else,
 -- or it couldn't be emptied, which is reported, and holds what it held.
 abbrev pub FinishesList : {W : Type 0} → (W → Held) → Result Report RunFault → ListFile W → ListFile W → Result (Unit {0}) RunFault → Type 0
 FinishesList contents answer old new result =
-    MatchBool (keeps_old answer) ((new ≡ old) × (result ≡ Ok tt))
-    (OnOk result (Keeps (received_by contents old) (contents new.file)) × OnErr result (Keeps (contents old.file) (contents new.file)))
+    MatchBool (keeps_old answer) ((new ≡ old) × (result ≡ Ok tt)) (IsEmptied contents old new result)
