@@ -26,7 +26,7 @@ const HELP: &str = "\
 --job JOB        explain instead where JOB's style stands at each error, as
                  bibtex-explain does
 --steps=N        how many steps a check may take (2000000)
---help           print this and exit
+-h, --help       print this and exit
 --version        print the version and exit
 
 Exit status: 0 all are clean; 1 the words are refused, or a style isn't found;
@@ -83,7 +83,7 @@ fn read_words(words: impl Iterator<Item = Vec<u8>>) -> Asked {
             b"line" => how.form = Form::Line,
             b"json" => how.form = Form::Json,
             b"entry" => how.has_entries = true,
-            b"help" => return Asked::Help,
+            b"help" | b"h" => return Asked::Help,
             b"version" => return Asked::Version,
             b"job" => match words.next() {
                 Some(word) => job = Some(word),
@@ -210,6 +210,7 @@ mod tests {
         assert_eq!(asked(&["--entry", "plain"]), check(Form::People, STEPS, true, "plain"));
         assert_eq!(asked(&["--job", "paper"]), Asked::Job(b"paper".to_vec()));
         assert_eq!(asked(&["--help", "x"]), Asked::Help);
+        assert_eq!(asked(&["-h"]), Asked::Help);
         for refused in
             [&["--job"][..], &[], &["--nosuch", "plain"], &["--steps=x", "plain"], &["--json", "--job", "paper"]]
         {

@@ -32,6 +32,18 @@ ITERATE {call.type$}
 END
 }
 
+begin lint_help
+for word in -h --help -help; do
+    run_lint "$word"
+    wants_status 0
+    wants_error ''
+    wants_words "$folder/stdout" 'Usage: '
+    for option in --line --json --entry --job --steps -h --help --version; do
+        wants_words "$folder/stdout" "$option"
+    done
+done
+end
+
 begin lint_of_a_clean_style
 write_clean
 run_lint clean.bst

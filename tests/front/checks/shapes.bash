@@ -182,7 +182,7 @@ wants_status 2
 [ "$(stat -c %s job.blg)" -lt 150000000 ] || complaints+=("the log has $(stat -c %s job.blg) bytes")
 end
 
-# Vim's `:make` reads what is printed: the error format that its users have for BibTeX finds the same places as with the original.
+# Vim's `:make` reads what is printed: the error format that its users have for BibTeX finds the same places as with the original, and our own each message.
 if there_is vim "what vim's :make finds"; then
     # made_by PROGRAM: the list of errors that vim has after it called the program.
     made_by() {
@@ -203,5 +203,26 @@ if there_is vim "what vim's :make finds"; then
         made_by bibtex | sort >wanted
         sort found | comm -23 wanted - | grep . >lost && complaints+=("vim finds with the original also $(cat lost)")
     fi
+    end
+
+    begin vim_compiler
+    printf '%s\n' '\citation{a,A,b,nokey}' '\@input{missing.aux}' '\bibdata{d,nofile}' '\bibstyle{s}' >job.aux
+    printf '%s\n' 'ENTRY {title} {} {}' 'FUNCTION {misc} {title #1 + pop$}' 'FUNCTION {f} {nosuch}' 'READ' 'ITERATE {call.type$}' >s.bst
+    printf '%s\n' '@misc{a, title = {T}}' '@misc{b, title = {T} author = {A}}' '@misc{b, title = foo}' >d.bib
+    ln -s "$search" bibtex-search
+    PATH=$PWD:$PATH LD_LIBRARY_PATH=$libraries vim -u NONE -N -es -i NONE --cmd 'set nomore' --cmd "set runtimepath^=$sources/contrib/vim" \
+        -c 'edit job.aux' -c 'compiler bibtex-search' -c 'silent make!' \
+        -c 'call writefile(map(getqflist(), "v:val.valid . \" \" . bufname(v:val.bufnr) . \":\" . v:val.lnum . \":\" . v:val.type . \":\" . v:val.text"), "quickfix")' \
+        -c 'qa!' </dev/null >/dev/null 2>&1 || true
+    wants_text quickfix "1 job.aux:1:E:Case mismatch error between cite keys a and A
+1 job.aux:2:E:I couldn't open auxiliary file missing.aux
+1 job.aux:3:E:I couldn't open database file nofile.bib
+1 s.bst:3:E:nosuch is an unknown function
+1 d.bib:2:E:I was expecting a , or a }
+1 d.bib:3:E:Repeated entry
+1 job.aux:0:W:I didn't find a database entry for \"nokey\"
+1 s.bst:2:E:\"T\" is not an integer (+) for entry a
+1 s.bst:2:E:\"T\" is not an integer (+) for entry b
+"
     end
 fi
