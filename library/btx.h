@@ -83,8 +83,9 @@ typedef struct {
 
 /* Writes the names of the files that the job needs and of which nothing was said, each with a byte 10, as many bytes as there is room for in `names`,
    and in `*names_len` how many bytes there are in all. A name ends in .aux, .bst or .bib. Find each file, hand it in or say that it isn't there, and
-   call again; when no name comes any more, run. The first names are the top file's alone. Answers BTX_DONE; or BTX_ENDS, with no name, where the run
-   ends with its .aux files: there is no top file, or they meet a limit; or BTX_MEMORY: then nothing was written. */
+   call again; when no name comes any more, run: what the job writes doesn't depend on other files, and btx_run doesn't answer BTX_ASKS. The first names
+   are the top file's alone. Answers BTX_DONE; or BTX_ENDS, with no name, where the run ends with its .aux files: there is no top file, or they meet a
+   limit; or BTX_MEMORY: then nothing was written. */
 uint32_t btx_needs(const unsigned char *job, size_t job_len, const btx_file *files, size_t files_len,
                    unsigned char *names, size_t names_room, size_t *names_len);
 

@@ -1,7 +1,7 @@
+pub mod AnswersLemmas
 pub mod CheckLemmas
 pub mod FullLemmas
 pub mod HandedLemmas
 pub mod IndexLemmas
 pub mod NeedsLemmas
 pub mod OutcomeLemmas
-pub mod SettledLemmas

@@ -1,20 +1,13 @@
 -- A job that needs no other file.
-use Rattle.std.proofs.Common.{arith, not, ◌≡◌, ◌⊎◌, inl, inr, ℕ, ◌+◌, nat_lt, Bool, true, false, List, [], ◌∷◌, ◌++◌, Option, None, Some, if◌then◌else◌, refl, sym, ap, ◌∙◌, subst}
-use Rattle.std.specs.Prelude.{Result, Ok, Err, IfOk}
-use Rattle.std.proofs.Math.ListN.{replicate}
-use Rattle.std.proofs.lemmas.List.{length-replicate}
+use Rattle.std.proofs.Common.{arith, not, ◌≡◌, ℕ, Bool, true, false, List, [], ◌∷◌, ◌++◌, Option, None, Some, if◌then◌else◌, refl, sym, ap, ◌∙◌}
 use Rattle.std.specs.List.{AllByRecursion, flat_map}
-use Rattle.std.specs.Prelude.{codes}
 use Rattle.std.specs.Str.{bytes_eq}
 use Rattle.std.proofs.lemmas.Slice.Eq.{bytes_eq-Decides}
-use Rattle.btx_text.specs.declared.fault.Fault.{Fault}
-use Rattle.btx_text.specs.language.Limits.{greatest_file, is_too_long}
 use Rattle.btx_text.specs.language.LogLines.{Line}
 use Rattle.btx_aux.specs.declared.end.End.{End}
 use Rattle.btx_aux.specs.declared.end.End.TheVariants as end
 use Rattle.btx_aux.specs.language.Files.{Files}
 use Rattle.btx_aux.specs.language.Job.{AuxJob}
-use Rattle.btx_aux.specs.language.Names.{with_ending}
 use Rattle.btx_machine.specs.language.Product.{Product, log_of}
 use Rattle.btx_machine.specs.language.Saying.{ended_line}
 use Rattle.btx_core.specs.declared.found.FilesRead.{FilesRead}
@@ -22,14 +15,12 @@ use Rattle.btx_core.specs.declared.options.Options.{Options}
 use Rattle.btx_core.specs.language.Files.Counts.{counts_of}
 use Rattle.btx_core.specs.language.Files.Found.{NamedFile, file_at}
 use Rattle.btx_core.specs.language.Files.Databases.{databases_logged, files_found}
-use Rattle.btx_core.specs.refinement.Files.Readings.{Logged, after_job, behind, job_named, reading_of, style_named, style_read}
+use Rattle.btx_core.specs.refinement.Files.Readings.{Logged, after_job, behind, reading_of, style_named, style_read}
 use Rattle.btx_core.specs.refinement.ComputedProduct.{product, product_of_files, product_with}
 use Rattle.btx_c.specs.declared.handed.BtxFile.{BtxFile}
-use Rattle.btx_c.specs.declared.needs.Needs.{Needs}
-use Rattle.btx_c.specs.Handed.{OtherFiles, beside, file_in, is_known, known}
-use Rattle.btx_c.specs.Needs.{AsksNothing, NeedsAnother, NeedsNoOther, empty_files, is_absent, line_for, lines_for, lines_named, no_files}
-use Rattle.btx_c.proofs.HandedLemmas.{beside_known, known_same, same_or_other}
-use Rattle.btx_c.proofs.SettledLemmas.{IsTooLong, SameOrTooLong, settled}
+use Rattle.btx_c.specs.Handed.{beside, is_known, known}
+use Rattle.btx_c.specs.Needs.{EndsWithAuxFiles, NeedsAnother, NeedsNoOther, ReadsAuxFiles, SaysAlways, empty_files, is_absent, line_for, lines_for, lines_named, no_files}
+use Rattle.btx_c.proofs.HandedLemmas.{beside_known, known_same}
 
 -- ---- lines
 
@@ -50,29 +41,6 @@ lines_none files [] none = tt
 lines_none files (name ∷ names) none =
     let parts = parts_none (line_for files name) (lines_for files names) none in
     (line_none files name parts.0, lines_none files names parts.1)
-
--- ---- the `.aux` files
-
--- a text that is too long to be read
-pub long_text : List ℕ
-long_text = replicate (greatest_file + 1) 0
-
-long : is_too_long long_text ≡ true
-unfolding long_text
-long = of_length (greatest_file + 1) refl where
-  of_length : (n : ℕ) → nat_lt greatest_file n ≡ true → is_too_long (replicate n 0) ≡ true
-  of_length n is = rw (length-replicate {A = ℕ} n 0) is
-
--- files that are all too long to be read
-abbrev pub all_too_long : OtherFiles
-all_too_long = ([], Some long_text)
-
-blocked : (files : List BtxFile) (others : Files) → SameOrTooLong (beside files (file_in all_too_long)) (beside files others)
-blocked files others name = by_case (same_or_other files (file_in all_too_long) others name) where
-  by_case : (beside files others name ≡ beside files (file_in all_too_long) name) ⊎ (beside files (file_in all_too_long) name ≡ file_in all_too_long name)
-      → (beside files others name ≡ beside files (file_in all_too_long) name) ⊎ IsTooLong (beside files (file_in all_too_long) name)
-  by_case (inl same) = inl same
-  by_case (inr other) = inr (subst IsTooLong (sym other) long)
 
 -- ---- the run
 
@@ -118,12 +86,12 @@ module _ (files : List BtxFile) (others : Files) where
     by_case (Some None) is none = rw (beside_known files others name None is, beside_known files no_files name None is) (read-absent job name)
     by_case (Some (Some bytes)) is none = all_said (parts_none (line_for files name) (lines_for files job.databases) none)
 
-  after-same : (job : AuxJob) (ending : End) → ending ≡ end.Whole → lines_named files job.style job.databases ≡ [] → after_job (beside files others) job ending ≡ after_job (beside files no_files) job ending
+  after-same : (job : AuxJob) (ending : End) → (ending ≡ end.Whole → lines_named files job.style job.databases ≡ []) → after_job (beside files others) job ending ≡ after_job (beside files no_files) job ending
   unfolding after_job
-  after-same job end.Whole whole none = named-same job job.style none
-  after-same job end.TooManyOpen whole none = refl
-  after-same job end.TopMissing whole none = refl
-  after-same job end.FileLimit whole none = refl
+  after-same job end.Whole none = named-same job job.style (none refl)
+  after-same job end.TooManyOpen none = refl
+  after-same job end.TopMissing none = refl
+  after-same job end.FileLimit none = refl
 
 -- the product of what the reading of the files gives
 abbrev made : AuxJob → Logged FilesRead → Options → ℕ → Product
@@ -131,33 +99,30 @@ made job read options budget =
     let rest = product_of_files job read.gives options (counts_of read.lines) budget in
     record rest { log_so_far = flat_map (λ (line : Line). ended_line line.text) read.lines ++ rest.log_so_far }
 
--- a job whose `.aux` files were read to their end, although all other files are too long
-module _ (files : List BtxFile) (name : List ℕ) (job : AuxJob) (is : job ≡ job_named (beside files (file_in all_too_long)) name) (whole : job.ending ≡ end.Whole) where
-  job-is : (others : Files) → job_named (beside files others) name ≡ job
-  job-is others =
-      settled (beside files (file_in all_too_long)) (beside files others) (with_ending (codes ".aux") name) (blocked files others) (subst (λ (job : AuxJob). job.ending ≡ end.Whole) is whole)
-      ∙ sym is
-
+-- a job whose `.aux` files say this, whatever other files there are
+module _ (files : List BtxFile) (name : List ℕ) (job : AuxJob) (says : SaysAlways files name job) where
   reading-is : (others : Files) → reading_of (beside files others) name ≡ behind job.log (after_job (beside files others) job job.ending)
-  reading-is others = ap (λ (job : AuxJob). behind job.log (after_job (beside files others) job job.ending)) (job-is others)
+  reading-is others = ap (λ (job : AuxJob). behind job.log (after_job (beside files others) job job.ending)) (sym (says others))
 
   product-is : (others : Files) (options : Options) (budget : ℕ) → product_with (beside files others) name options budget ≡ made job (behind job.log (after_job (beside files others) job job.ending)) options budget
   product-is others options budget =
-      ap (λ (job : AuxJob). made job (reading_of (beside files others) name) options budget) (job-is others)
+      ap (λ (job : AuxJob). made job (reading_of (beside files others) name) options budget) (sym (says others))
       ∙ ap (λ (read : Logged FilesRead). made job read options budget) (reading-is others)
 
-  -- needs no other file if there are no lines for its style and its databases
-  pub needs_no_other : lines_named files job.style job.databases ≡ [] → NeedsNoOther files name
+  -- needs no other file if its reading isn't whole, or if there are no lines for its style and its databases
+  pub needs_no_other : (job.ending ≡ end.Whole → lines_named files job.style job.databases ≡ []) → NeedsNoOther files name
   needs_no_other none others options budget =
       product-is others options budget
-      ∙ ap (λ (rest : Logged FilesRead). made job (behind job.log rest) options budget) (after-same files others job job.ending whole none)
+      ∙ ap (λ (rest : Logged FilesRead). made job (behind job.log rest) options budget) (after-same files others job job.ending none)
       ∙ sym (product-is no_files options budget)
 
-pub complete_of : (files : List BtxFile) (name : List ℕ) (job : AuxJob) (result : Result Needs Fault) → job ≡ job_named (beside files (file_in all_too_long)) name
-    → IfOk result (λ needs. AsksNothing needs → job.ending ≡ end.Whole) → IfOk result (λ needs. AsksNothing needs → lines_named files job.style job.databases ≡ [])
-    → IfOk result (λ needs. AsksNothing needs → NeedsNoOther files name)
-complete_of files name job (Ok needs) is whole named = λ none. needs_no_other files name job is (whole none) (named none)
-complete_of files name job (Err fault) is whole named = tt
+  -- ends with them if its reading isn't whole
+  pub ends_with : (job.ending ≡ end.Whole → ⊥) → EndsWithAuxFiles files name
+  ends_with ends others whole = ends (ap (λ (job : AuxJob). job.ending) (says others) ∙ whole)
+
+  -- reads them to their ends if its reading is whole
+  pub reads_whole : job.ending ≡ end.Whole → ReadsAuxFiles files name
+  reads_whole whole others = ap (λ (job : AuxJob). job.ending) (sym (says others)) ∙ whole
 
 -- ---- a job that needs another file
 

@@ -1,7 +1,9 @@
 -- The files that a caller hands in, and others of which nothing was said.
-use Rattle.std.specs.Prelude.{ℕ, Bool, List, [], ◌∷◌, Option, None, Some, is_some, if◌then◌else◌}
+use Rattle.std.specs.Prelude.{ℕ, ◌<◌, ◌^◌, Bool, List, [], ◌∷◌, Option, None, Some, IfSome, is_some, length, if◌then◌else◌}
+use Rattle.std.specs.List.{AllByRecursion}
 use Rattle.std.specs.Option.{option_or}
 use Rattle.std.specs.Str.{bytes_eq}
+use Rattle.btx_aux.specs.language.Answers.{FinderAnswer}
 use Rattle.btx_aux.specs.language.Files.{Files}
 use Rattle.btx_aux.specs.refinement.Pairs.{first_file}
 use Rattle.btx_c.specs.declared.handed.BtxFile.{BtxFile}
@@ -31,3 +33,7 @@ file_in others name = option_or (first_file others.0 name) others.1
 abbrev pub beside : List BtxFile → Files → Files
 beside [] others name = others name
 beside (file ∷ files) others name = if bytes_eq file.name.now name then bytes_in file else beside files others name
+
+-- the text of each answer was held in memory, so it is shorter than 2 ^ 64 bytes
+abbrev pub WereHeld : List FinderAnswer → Type 0
+WereHeld answers = AllByRecursion (λ (given : FinderAnswer). IfSome given.bytes (λ text. length text < 2 ^ 64)) answers

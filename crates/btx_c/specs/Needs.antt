@@ -3,13 +3,14 @@ use Rattle.std.specs.Prelude.{◌≡◌, ℕ, Bool, true, false, List, [], ◌�
 use Rattle.std.specs.List.{flat_map}
 use Rattle.btx_aux.specs.declared.end.End.TheVariants.{Whole}
 use Rattle.btx_aux.specs.language.Files.{Files, file_of}
+use Rattle.btx_aux.specs.language.Job.{AuxJob}
 use Rattle.btx_core.specs.declared.options.Options.{Options}
 use Rattle.btx_core.specs.refinement.Files.Readings.{job_named}
 use Rattle.btx_core.specs.refinement.ComputedProduct.{product_with}
 use Rattle.btx_c.specs.declared.handed.BtxFile.{BtxFile}
 use Rattle.btx_c.specs.declared.needs.Needs.{Needs}
 use Rattle.btx_c.specs.declared.needs.Needs.TheVariants.{Ends, Names}
-use Rattle.btx_c.specs.Handed.{OtherFiles, beside, file_in, is_known, known}
+use Rattle.btx_c.specs.Handed.{beside, is_known, known}
 
 -- no files
 abbrev pub no_files : Files
@@ -36,9 +37,18 @@ pub record NeedsAnother (files : List BtxFile) (job : List ℕ) : Type 0 where
 abbrev pub NeverAsks : Type 0
 NeverAsks = (files : List BtxFile) (job : List ℕ) → NeedsNoOther files job → NeedsAnother files job → ⊥
 
--- the run ends with the job's `.aux` files, since their reading isn't whole: there is no top file, too many files are open, or one is too long
-abbrev pub EndsWithAuxFiles : List BtxFile → OtherFiles → List ℕ → Type 0
-EndsWithAuxFiles files others job = (job_named (beside files (file_in others)) job).ending ≡ Whole → ⊥
+-- the run ends with the job's `.aux` files, since their reading isn't whole, whatever other files there are: there is no top file, too many files are
+-- open, or one is too long
+abbrev pub EndsWithAuxFiles : List BtxFile → List ℕ → Type 0
+EndsWithAuxFiles files job = (others : Files) → (job_named (beside files others) job).ending ≡ Whole → ⊥
+
+-- the job's `.aux` files are read to their ends, whatever other files there are
+abbrev pub ReadsAuxFiles : List BtxFile → List ℕ → Type 0
+ReadsAuxFiles files job = (others : Files) → (job_named (beside files others) job).ending ≡ Whole
+
+-- the job's `.aux` files say this, whatever other files there are
+abbrev pub SaysAlways : List BtxFile → List ℕ → AuxJob → Type 0
+SaysAlways files name job = (others : Files) → job ≡ job_named (beside files others) name
 
 -- no file is asked for
 abbrev pub AsksNothing : Needs → Type 0

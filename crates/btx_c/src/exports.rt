@@ -2,7 +2,7 @@
 ghost use Rattle.std.specs.Prelude.{◌≡◌, ◌<◌, ◌≤◌, ◌⊎◌, length};
 ghost use Rattle.btx_c.specs.Checks.{SaidClean};
 ghost use Rattle.btx_c.specs.Handed.{OtherFiles};
-ghost use Rattle.btx_c.specs.Needs.{EndsWithAuxFiles, NeedsAnother, NeedsNoOther};
+ghost use Rattle.btx_c.specs.Needs.{EndsWithAuxFiles, NeedsAnother, NeedsNoOther, ReadsAuxFiles};
 ghost use Rattle.btx_c.specs.Options.{IsInRange};
 ghost use Rattle.btx_c.specs.Outcomes.{Broke, Overflows, Ran, Wrote, filled};
 
@@ -55,7 +55,6 @@ pub extern "C" fn btx_needs(
     names: &mut [u8],
     names_len: &mut usize,
 ) -> u32
-    ghost others: { OtherFiles }
     ensures answers { (result ≡ DONE) ⊎ ((result ≡ MEMORY) ⊎ (result ≡ ENDS)) }
     ensures names { result ≡ DONE → Wrote names_len.new (names.old, names.new) }
     ensures none { result ≡ ENDS → (names.new ≡ names.old) × (names_len.new ≡ 0) }
@@ -63,9 +62,11 @@ pub extern "C" fn btx_needs(
 
     // If no name is written, the job needs no other file, whatever others there are.
     ensures complete { result ≡ DONE → names_len.new ≡ 0 → NeedsNoOther files.now job.now }
+    ensures ended { result ≡ ENDS → NeedsNoOther files.now job.now }
 
-    // The run ends with its `.aux` files only if their reading does, whatever other files there are.
-    ensures ends { result ≡ ENDS → EndsWithAuxFiles files.now others job.now }
+    // The run ends with its `.aux` files only if their reading does, whatever other files there are; and it goes on only if that is whole.
+    ensures ends { result ≡ ENDS → EndsWithAuxFiles files.now job.now }
+    ensures whole { result ≡ DONE → names_len.new ≡ 0 → ReadsAuxFiles files.now job.now }
 {
     match needed(alloc, job, files) {
         Ok(Needs::Names(asked)) => {

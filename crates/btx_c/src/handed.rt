@@ -5,9 +5,10 @@ ghost use Rattle.btx_aux.specs.language.Files.{file_of};
 ghost use Rattle.btx_c.specs.Handed.{OtherFiles, beside, bytes_in, file_in, known};
 ghost use Rattle.btx_c.specs.Known.{known_of};
 
+use crate::answers::Answers;
 use crate::index::Index;
 use crate::others::Others;
-use btx_aux::{FetchFault, Finder, History};
+use btx_aux::{FetchFault, Finder};
 use btx_text::Failures;
 use std::alloc::Global;
 
@@ -52,7 +53,8 @@ impl<'a> BtxFile<'a> {
 pub struct Handed<'i, 'f> {
     index: &'i Index<'f>,
     others: Others,
-    history: History,
+    /// What it has answered.
+    pub answers: Answers,
     /// How often it was asked for a file of which nothing was said, and whether it was at the last fetch.
     pub failures: Failures,
 }
@@ -63,12 +65,13 @@ impl<'i, 'f> Handed<'i, 'f> {
         ghost others: { OtherFiles }
         ensures files { result.index.now ≡ index.now }
         ensures others { result.others.files ≡ others }
+        ensures answers { result.answers ≡ [] }
         ensures failures { result.failures ≡ no_failures }
     {
         Handed {
             index,
             others: Others::any(),
-            history: History::new(alloc),
+            answers: Answers::none(alloc),
             failures: Failures::none(),
         }
     }
@@ -110,7 +113,7 @@ fn copy(index: &Index<'_>, name: &[u8], into: &mut Vec<u8>) -> Result<bool, Fetc
 impl<'i, 'f> Finder for Handed<'i, 'f> {
     ghost content = { λ finder. Some (beside finder.index.now (file_in finder.others.files)) };
 
-    ghost answers = { λ finder. finder.history };
+    ghost answers = { λ finder. finder.answers };
 
     ghost failures = { λ finder. finder.failures };
 
@@ -125,7 +128,7 @@ impl<'i, 'f> Finder for Handed<'i, 'f> {
         self.failures
             .note(matches!(answer, Err(FetchFault::Device)));
         let found = answer?;
-        if self.history.note(alloc, name, found, into).is_err() {
+        if self.answers.note(alloc, name, found, into).is_err() {
             into.clear();
             return Err(FetchFault::Memory);
         }

@@ -2,6 +2,7 @@
 //! caller's memory: no call keeps what it was given, and none hands out memory of its own. So no call depends on another one, in any thread.
 #![tactic(auto)]
 
+pub mod answers;
 pub mod cause;
 pub mod checked;
 pub mod exports;

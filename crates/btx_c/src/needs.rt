@@ -4,8 +4,8 @@ ghost use Rattle.btx_text.specs.refinement.Counts.{no_failures};
 ghost use Rattle.btx_aux.specs.language.Files.{file_of};
 ghost use Rattle.btx_aux.specs.declared.end.End.TheVariants.{Whole};
 ghost use Rattle.btx_aux.specs.refinement.Entries.{texts_of};
-ghost use Rattle.btx_c.specs.Handed.{OtherFiles, beside};
-ghost use Rattle.btx_c.specs.Needs.{AsksNothing, EndsWithAuxFiles, NeedsNoOther, line_for, lines_for, lines_named, no_files};
+ghost use Rattle.btx_c.specs.Handed.{beside};
+ghost use Rattle.btx_c.specs.Needs.{AsksNothing, EndsWithAuxFiles, NeedsNoOther, ReadsAuxFiles, SaysAlways, line_for, lines_for, lines_named, no_files};
 
 use crate::handed::{BtxFile, Handed, Known, fill};
 use crate::index::Index;
@@ -60,37 +60,27 @@ fn unknown_named(alloc: Global, job: &AuxJob, index: &Index<'_>) -> Result<Vec<u
     Ok(asked)
 }
 
-// Answers what the job `name` needs, whose `.aux` files are known: `job` is what they say.
-fn after_aux_files(
-    alloc: Global,
-    name: &[u8],
-    job: &AuxJob,
-    index: &Index<'_>,
-) -> Result<Needs, Fault>
-    ghost others: { OtherFiles }
+// Answers what a job needs whose `.aux` files were read: `job` is what they say.
+fn after_aux_files(alloc: Global, job: &AuxJob, index: &Index<'_>) -> Result<Needs, AllocError>
     ensures whole { IfOk result (λ needs. AsksNothing needs → job.now.ending ≡ Whole) }
     ensures named { IfOk result (λ needs. AsksNothing needs → lines_named index.now job.now.style job.now.databases ≡ []) }
-    ensures ends { result ≡ Ok Needs.Ends → EndsWithAuxFiles index.now others name.now }
+    ensures ends { IfOk result (λ needs. needs ≡ Needs.Ends → job.now.ending ≡ Whole → ⊥) }
 {
     match job.end() {
         End::Whole => Ok(Needs::Names(unknown_named(alloc, job, index)?)),
-        End::TooManyOpen | End::TopMissing | End::FileLimit => read_to_end(alloc, name, index),
+        End::TooManyOpen | End::TopMissing | End::FileLimit => Ok(Needs::Ends),
     }
 }
 
-// Answers that the job `name` ends with its `.aux` files, whatever others there are, where a reading of them has ended so. That a second reading is
-// whole is the device's fault, since both have the same files.
-fn read_to_end(alloc: Global, name: &[u8], index: &Index<'_>) -> Result<Needs, Fault>
-    ghost others: { OtherFiles }
-    ensures nothing { IfOk result (λ needs. needs ≡ Needs.Ends) }
-    ensures ends { OnOk result (EndsWithAuxFiles index.now others name.now) }
+// Reads the `.aux` files of the job `name`. It is the device's fault if one of them is a file of which nothing was said; else they say the same
+// whatever other files there are.
+fn read_handed(alloc: Global, name: &[u8], index: &Index<'_>) -> Result<AuxJob, Fault>
+    ensures { IfOk result (λ job. SaysAlways index.now name.now job) }
 {
     let mut finder = Handed::new(alloc, &*index);
     let job = read_job(alloc, &mut finder, name)?;
-    match job.end() {
-        End::Whole => Err(Fault::Device),
-        End::TooManyOpen | End::TopMissing | End::FileLimit => Ok(Needs::Ends),
-    }
+    finder.answers.were_held();
+    Ok(job)
 }
 
 // Files that were handed in, as a finder that goes on as if there were no others, and keeps the names of those that it was asked for.
@@ -153,7 +143,7 @@ impl<'i, 'f> Finder for Asking<'i, 'f> {
 // That a second reading asks for none is the device's fault, since both have the same files.
 fn unknown_aux_files(alloc: Global, name: &[u8], index: &Index<'_>) -> Result<Needs, Fault>
     ensures some { IfOk result (λ needs. AsksNothing needs → ⊥) }
-    ensures names { result ≡ Ok Needs.Ends → ⊥ }
+    ensures names { IfOk result (λ needs. needs ≡ Needs.Ends → ⊥) }
 {
     let mut finder = Asking {
         index: &*index,
@@ -170,14 +160,14 @@ fn unknown_aux_files(alloc: Global, name: &[u8], index: &Index<'_>) -> Result<Ne
 /// Answers what the job `name` needs beyond `files`: the `.aux` files of which nothing was said, as long as there are such, and else the style and
 /// the databases.
 pub fn needed(alloc: Global, name: &[u8], files: &[BtxFile<'_>]) -> Result<Needs, Fault>
-    ghost others: { OtherFiles }
     ensures complete { IfOk result (λ needs. AsksNothing needs → NeedsNoOther files.now name.now) }
-    ensures ends { result ≡ Ok Needs.Ends → EndsWithAuxFiles files.now others name.now }
+    ensures whole { IfOk result (λ needs. AsksNothing needs → ReadsAuxFiles files.now name.now) }
+    ensures ended { IfOk result (λ needs. needs ≡ Needs.Ends → NeedsNoOther files.now name.now) }
+    ensures ends { IfOk result (λ needs. needs ≡ Needs.Ends → EndsWithAuxFiles files.now name.now) }
 {
     let index = Index::new(alloc, &*files)?;
-    let mut finder = Handed::new(alloc, &index);
-    match read_job(alloc, &mut finder, name) {
-        Ok(job) => after_aux_files(alloc, name, &job, &index),
+    match read_handed(alloc, name, &index) {
+        Ok(job) => Ok(after_aux_files(alloc, &job, &index)?),
         Err(Fault::Device) => unknown_aux_files(alloc, name, &index),
         Err(fault) => Err(fault),
     }
