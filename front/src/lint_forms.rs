@@ -60,7 +60,7 @@ fn write_verdict(path: &str, check: &StyleCheck, out: &mut impl Write) -> io::Re
         Some(Verdict::Warnings(_)) => writeln!(out, "{path}: warnings: {}", verdict(&check.found)),
         _ => writeln!(
             out,
-            "{path}: incomplete: the check didn't come to its end: it took too long (--steps=N), or the style goes too deep"
+            "{path}: incomplete: the check didn't come to its end: it took too long (--steps=N), the style goes too deep, or there was too little memory"
         ),
     }
 }
