@@ -1,7 +1,7 @@
 """Jobs that go through all of something: each byte at each place of the files, each built-in function with operands of each kind, each command before READ,
-each name that is defined from the beginning, sizes around those that something may end at, children with their parents, and all short texts
-over some pieces. What they give isn't written out: the built program is compared with the reference over them, as over jobs that
-are made from a seed (compare_with_program.py).
+each name that is defined from the beginning, sizes around those that something may end at, children with their parents, files that end at each place, what
+stands behind each mistake, and all short texts over some pieces; and what systematic_texts.py has. What they give isn't written out: the built program is
+compared with the reference over them, as over jobs that are made from a seed (compare_with_program.py).
 
     python3 systematic_jobs.py        how large each job is, and how the reference's log of it ends
 """
@@ -10,6 +10,7 @@ import itertools
 
 from product import Options, run
 from styles import BUILT_IN
+from systematic_texts import all_texts, in_groups, style, texts_of
 from worked_jobs import AUX, DECLARED, Job, citing, files_of
 
 # One byte of each kind stands often: digits and letters behave alike.
@@ -26,8 +27,15 @@ def lines(texts):
     return b"\n".join(texts) + b"\n"
 
 
-def style(name, body, command=b"ITERATE", **more):
-    return Job(name, b"FUNCTION {f} {" + body + b"}\n" + command + b" {f}", **more)
+def each_a_database(name, texts, first=b""):
+    """Each text is a database of its own, so that the next is read whatever is open at its end; `k` is another key in each."""
+    others = {b"x%d.bib" % place: text.replace(b"k", b"k%d." % place) for place, text in enumerate(texts)}
+    return Job(name, SHOW, aux=b"\\citation{*}\n\\bibdata{" + b",".join((b"d", *others)) + b"}\n\\bibstyle{s}\n", database=first, others=others)
+
+
+def apart(texts):
+    """Pieces of a style one behind another. What one leaves open is closed, and what is wrong in it ends with an empty line."""
+    return b"".join(text + b"\n}}}}\n\n" for text in texts)
 
 
 # ---- each byte ----
@@ -35,7 +43,10 @@ def style(name, body, command=b"ITERATE", **more):
 def bytes_of_aux():
     """In a command, before and behind it, in each argument and behind it."""
     shapes = [b"%s\\citation{a}", b"\\cita%stion{b}", b"\\citation%s{c}", b"\\citation{d%se}", b"\\citation{f}%s", b"\\citation{%s}", b"\\@input{g%s.aux}",
-              b"\\@input{h.au%sx}", b"\\bibdata%s{i}"]
+              b"\\@input{h.au%sx}"]
+    # Another of these commands is logged, so it is seen which are known.
+    for command in (b"\\bibdata", b"\\bibstyle", b"\\@input"):
+        shapes += [b"%s" + command + b"{i}", command[:4] + b"%s" + command[4:] + b"{i}", command + b"%s{i}", command + b"{i}%s", command + b"{%s}", command + b"{i%sj}"]
     for shape in shapes:
         text = lines(shape % byte for byte in BYTES) + AUX
         yield Job("each byte in " + shape.decode(), aux=text, database=b"@misc{a}@misc{b}@misc{c}@misc{f}", text=SHOW)
@@ -52,20 +63,19 @@ def bytes_of_databases():
               b"@misc{k,%stitle={A}}", b"@misc{k,ti%stle={A}}", b"@misc{k,title%s={A}}", b"@misc{k,title=%s{A}}", b"@misc{k,title={A%sB}}",
               b'@misc{k,title="A%sB"}', b"@misc{k,title=s%s}", b"@misc{k,title=1%s2}", b"@misc{k,title={A}%s}", b"@misc{k,title={A}#%s{B}}", b"@misc{k,title={%s}}"]
     for shape in shapes:
-        database = b"@string{s={S}}@string{sx={T}}\n" + lines(shape.replace(b"k", b"k%d." % byte[0]) % byte for byte in BYTES)
-        yield Job("each byte in " + shape.decode(), aux=citing(b"*"), database=database, text=SHOW)
+        yield each_a_database("each byte in " + shape.decode(), (shape % byte for byte in BYTES), b"@string{s={S}}@string{sx={T}}")
 
 
 def bytes_of_styles():
-    """At each place of a command, each behind an empty line, so that the next is read whatever is wrong."""
+    """At each place of a command."""
     shapes = [b"%sEXECUTE {f}", b"EXE%sCUTE {f}", b"EXECUTE%s{f}", b"EXECUTE {%sf}", b"EXECUTE {f%s}", b"EXECUTE {f}%s", b"INTEGERS {j%d.%sk%d}", b"ENTRY {l%d.%sm%d}{}{}", b"FUNCTION {g%d%s} {}",
               b"FUNCTION {h%d} {#1%s pop$}", b'FUNCTION {l%d} {"a"%s pop$}', b"FUNCTION {m%d} {skip$%s skip$}", b"FUNCTION {n%d} {'skip$%s pop$}", b"FUNCTION {o%d} {#%s1 pop$}",
               b"FUNCTION {p%d} {%s}", b'FUNCTION {q%d} {"%s" pop$}']
     for shape in shapes:
-        text = b'FUNCTION {f} {"F" top$}\n\n' + b"\n\n".join(shape.replace(b"%d", b"%d" % byte[0]) % byte for byte in BYTES)
+        text = b'FUNCTION {f} {"F" top$}\n\n' + apart(shape.replace(b"%d", b"%d" % byte[0]) % byte for byte in BYTES)
         yield Job("each byte in " + shape.decode(), text)
     for shape in (b'MACRO {m%d%s} {"M"}', b'MACRO {m%d}%s {"M"}', b'MACRO {m%d} {"M%s "}', b'MACRO {m%d} {%s"M"}'):
-        text = DECLARED.replace(b"READ ", b"\n\n") + b"\n\n".join(shape.replace(b"%d", b"%d" % byte[0]) % byte for byte in BYTES) + b"\n\nREAD "
+        text = DECLARED.replace(b"READ ", b"\n\n") + apart(shape.replace(b"%d", b"%d" % byte[0]) % byte for byte in BYTES) + b"READ "
         yield Job("each byte in " + shape.decode(), SHOW, declared=text, aux=citing(b"*"), database=lines(b"@misc{k%d,title=m%d}" % (byte[0], byte[0]) for byte in BYTES))
 
 
@@ -92,7 +102,54 @@ def bytes_of_lines():
         yield style("each byte in a line of " + shape.decode(), body, b"EXECUTE", options={"line": 20})
 
 
+# ---- files that end early, and what stands behind a mistake ----
+
+ALL_OF_AUX = b"\\relax\n\\citation{a, b}\n\\citation{c,C} \n \\citation{d}\n\\citation{e}x\n\\@input{none.aux}\n\\@input{x}\n\\bibdata{d}\n\\bibstyle{s}\n\\citation{*}\n\\citation{f}"
+ALL_OF_DATABASES = (b'text @comment{x} @preamble{"P" # {q } # s}\n@STRING(T # = s)@string{ t = {T} # s # "u{"}" }\n@Misc { k , title = {A {b} c} # t # 12 ,\n title = "B" ,'
+                    b' other = {o},crossref={p},}\n@book(j , title=zz )@misc{l,title={}}@other{m title={}}')
+ALL_OF_STYLES = (b"INTEGERS { i j } STRINGS {s}%c\nMACRO {m}{\"M x\"}FUNCTION {f} { #-12 'i := \"a b\" 's := {i #0 <} {i #1 + 'i := s write$} while$ } % x {\n"
+                 b"FUNCTION {misc} {'skip$ {f} if$}\nITERATE {f}\n\nEXECUTE { f } REVERSE{f} SORT")
+BEHIND_MISTAKES = [b"", b" ", b"\t", b"\r", b"\x0c", b"%", b"% x", b" % x", b"x", b"}", b"{}", b"EXECUTE {h}", b"FUNCTION {h}", b'"']
+MISTAKES = [b"bogus", b"1", b"EXECUTE h", b"EXECUTE {nosuch}", b"EXECUTE {1}", b"EXECUTE {h x}", b"FUNCTION {skip$} {}", b'FUNCTION {g} {"a', b"INTEGERS {x%d,", b'MACRO {m} {"M"}', b"READ",
+            b"ENTRY {}{}{}", b"{", b"STRINGS {y%d 1}", b"FUNCTION {g} x", b"FUNCTION {g", b"SORT x"]
+
+
+def files_cut_short():
+    """Each beginning of an .aux file, of a database and of a style, with and without white at its end."""
+    for end in (b"", b" ", b" \n\t"):
+        others = {b"p%d.aux" % place: ALL_OF_AUX[:place] + end for place in range(len(ALL_OF_AUX) + 1)}
+        yield Job(f"beginnings of an .aux file, and {end!r}", aux=AUX + lines(b"\\@input{%s}" % name for name in others), others=others, text=SHOW)
+        others = {b"p%d.bib" % place: ALL_OF_DATABASES[:place].replace(b" k ", b" k%d " % place).replace(b"(j ", b"(j%d " % place) + end
+                  for place in range(len(ALL_OF_DATABASES) + 1)}
+        yield Job(f"beginnings of a database, and {end!r}", aux=b"\\citation{*}\n\\bibdata{" + b",".join(others) + b"}\n\\bibstyle{s}\n", others=others,
+                  declared=b"FUNCTION {book}{}" + DECLARED, text=SHOW + b" FUNCTION {g} {preamble$ write$ newline$} EXECUTE {g}")
+        for place in range(len(ALL_OF_STYLES) + 1):
+            yield Job(f"a style's first {place} bytes, and {end!r}", ALL_OF_STYLES[:place] + end)
+            if not end and place < 60:
+                yield Job(f"the first {place} bytes of what is declared", declared=(b"ENTRY { title } { n } { t }" + DECLARED.replace(b"ENTRY {title}{}{}", b""))[:place])
+
+
+def behind_mistakes():
+    """Each mistake in a command with each line below it: where reading goes on, before READ and behind it."""
+    pairs = [mistake.replace(b"%d", b"%d" % place) + b"\n" + below for mistake in MISTAKES for place, below in enumerate(BEHIND_MISTAKES)]
+    for behind in (b"\nnone\n\nnone\n\n", b"\n\nnone\n \nnone\n\n"):
+        texts = b"".join(pair + behind for pair in pairs)
+        declared = b'MACRO {m} {"M"} FUNCTION {h} {}\n\n'
+        yield Job("behind each mistake", texts, declared=declared + DECLARED)
+        yield Job("behind each mistake before READ", texts, declared=declared + texts + DECLARED)
+
+
 # ---- each function, command and name ----
+
+def entries_and_commands():
+    """Each command over up to three entries, where something is left on the stack, missing or logged."""
+    bodies = [b"#1", b'"a" #2', b"+", b"cite$", b"title", b"'skip$ cite$", b"cite$ 'sort.key$ :=", b"title 'sort.key$ := sort.key$", b'"w" warning$ cite$ top$', b"#1 {cite$} {} if$", b"call.type$", b"misc",
+              b"n #1 + 'n := n top$", b"t cite$ * 't := t top$", b"missing$", b"crossref", b"i #1 + 'i := i"]
+    for body, number in itertools.product(bodies, range(4)):
+        database = b"".join(b"@%s{%s,title={%s}}" % item for item in ((b"misc", b"b", b"B"), (b"other", b"C", b""), (b"misc", b"a", b"A"))[:number])
+        yield Job(f"{number} entries, {body.decode()}", b"INTEGERS {i} FUNCTION {f} {" + body + b"} ITERATE {f} SORT REVERSE {f} EXECUTE {f} ITERATE {f}", aux=citing(b"*"), database=database,
+                  declared=b"ENTRY {title}{n}{t} FUNCTION {misc} {cite$ write$} READ ")
+
 
 def operands(name, kinds, command):
     """Each built-in function with three operands of these kinds in each order, and with fewer, and what it leaves."""
@@ -184,21 +241,18 @@ def parents():
                               SHOW + b' FUNCTION {g} {crossref missing$ {"-"} {crossref} if$ top$} ITERATE {g}', aux=citing(keys), database=lines(order), options={"min_crossrefs": least})
 
 
+def children_of_one():
+    """Up to three children that spell their parent in up to two ways, its entry before, between, behind or not there, with a field missing, empty or there."""
+    child, parents = b"@misc{c%d%s,crossref={%s}}", [b"", b"@misc{p,title={T}}", b"@misc{P,title={}}", b"@misc{p,crossref={Q}}@misc{q,title={U}}"]
+    for number in (1, 2, 3):
+        for spelled, parent, place, least in itertools.product(itertools.product((b"p", b"P"), repeat=number), parents, range(number + 1), (number, number + 1)):
+            entries = [child % (i, (b"", b",title={}", b",title={S}")[(i + place) % 3], name) for i, name in enumerate(spelled)]
+            keys = (b"c2,c1,c0", b"c0,c1,c2,Q", b"c1,P,c0,c2", b"*")[(number + place + len(parent) + least) % 4]
+            yield Job(f"{number} children, {spelled}, {parent.decode()}, {place}, {keys.decode()}, {least}", SHOW + b' FUNCTION {g} {crossref missing$ {"-"} {crossref} if$ top$} ITERATE {g}',
+                      aux=citing(keys), database=lines(entries[:place] + [parent] + entries[place:]), options={"min_crossrefs": least})
+
+
 # ---- all short texts over some pieces ----
-
-
-def texts_of(pieces, most):
-    """All sequences of up to `most` of the pieces, joined."""
-    for number in range(most + 1):
-        for chosen in itertools.product(pieces, repeat=number):
-            yield b"".join(chosen)
-
-
-def in_groups(texts, size=400):
-    """The texts in lists, so that no job has more than some steps."""
-    texts = iter(texts)
-    while group := list(itertools.islice(texts, size)):
-        yield group
 
 
 def short_aux_files():
@@ -213,17 +267,24 @@ def short_aux_files():
 
 
 def short_databases():
-    pieces = [b"@", b"misc", b"string", b"preamble", b"{", b"}", b"(", b")", b"k", b",", b"title", b"=", b'"a"', b"{b }", b"s", b"#", b"1", b" "]
-    for front in (b"", b"@misc{k", b"@misc(k", b"@misc{k,title", b"@misc{k,title=", b"@misc{k,title={b}", b"@string{s=", b'@string{s="x"}@misc{k,title=s'):
+    pieces = [b"@", b"misc", b"string", b"preamble", b"{", b"}", b"(", b")", b"k", b",", b"title", b"=", b'"a"', b"{b }", b"s", b"S", b"#", b"1", b" ", b'"']
+    for front in (b"", b"@misc{k", b"@misc(k", b"@misc{k,title", b"@misc{k,title=", b"@misc{k,title={b}", b"@string{s=", b'@string{s="x"}@misc{k,title=s',
+                  b"@string{s={x}}@string{s=", b"@comment", b"@preamble{", b"@misc{k,title={a}}@misc{", b"@misc{k,title={a},"):
         for group in in_groups(texts_of(pieces, 2 if front else 3)):
-            yield Job("short databases behind " + front.decode(), aux=citing(b"*"), database=lines(front + text for text in group), text=SHOW)
+            yield each_a_database("short databases behind " + front.decode(), (front + text for text in group))
 
 
 def short_styles():
     pieces = [b"FUNCTION ", b"INTEGERS ", b"EXECUTE ", b"MACRO ", b"READ ", b"{", b"}", b"f", b"#1", b'"a"', b"'skip$", b"skip$ ", b"%", b"\n", b"=", b" "]
-    for front in (b"", b"FUNCTION {f} {", b"EXECUTE {", b"STRINGS {"):
+    fronts = (b"", b"FUNCTION {f} {", b"EXECUTE {", b"STRINGS {", b"MACRO {m", b"MACRO {m}", b'MACRO {m} {"M"', b"FUNCTION {f", b"FUNCTION {skip$", b"FUNCTION {g}", b"EXECUTE {f", b"INTEGERS {i")
+    for front in fronts:
         for group in in_groups(texts_of(pieces, 3 if not front else 2)):
-            yield Job("short styles behind " + front.decode(), b"\n\n" + b"\n\n".join(front + text for text in group))
+            text = apart(front + text for text in group)
+            yield Job("short styles behind " + front.decode(), b"\n\n" + text)
+            if front:
+                yield Job("short styles before READ behind " + front.decode(), declared=b'MACRO {m} {"N"} FUNCTION {f} {}\n\n' + text + DECLARED)
+    for front in (b"ENTRY {a", b"ENTRY {a}{b", b"ENTRY {a}{b}{c"):
+        yield Job("short styles behind " + front.decode(), declared=apart(front + b"%d" % place + text for place, text in enumerate(texts_of(pieces, 2))) + DECLARED)
     for text in texts_of(pieces, 2):
         yield Job(f"a style that is {text.decode()}", declared=text)
 
@@ -288,7 +349,12 @@ def all_jobs():
         yield from sizes_of_strings(size)
         yield from sizes_of_jobs(size)
     yield from parents()
+    yield from children_of_one()
     yield from all_short()
+    yield from all_texts()
+    yield from files_cut_short()
+    yield from behind_mistakes()
+    yield from entries_and_commands()
     yield from bytes_of_aux()
     yield from bytes_of_databases()
     yield from bytes_of_styles()
