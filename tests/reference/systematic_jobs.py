@@ -269,7 +269,7 @@ def short_aux_files():
 def short_databases():
     pieces = [b"@", b"misc", b"string", b"preamble", b"{", b"}", b"(", b")", b"k", b",", b"title", b"=", b'"a"', b"{b }", b"s", b"S", b"#", b"1", b" ", b'"']
     for front in (b"", b"@misc{k", b"@misc(k", b"@misc{k,title", b"@misc{k,title=", b"@misc{k,title={b}", b"@string{s=", b'@string{s="x"}@misc{k,title=s',
-                  b"@string{s={x}}@string{s=", b"@comment", b"@preamble{", b"@misc{k,title={a}}@misc{", b"@misc{k,title={a},"):
+                  b"@string{s={x}}@string{s=", b"@string{s=s#", b"@misc{k,title=s#", b"@comment", b"@preamble{", b"@misc{k,title={a}}@misc{", b"@misc{k,title={a},"):
         for group in in_groups(texts_of(pieces, 2 if front else 3)):
             yield each_a_database("short databases behind " + front.decode(), (front + text for text in group))
 

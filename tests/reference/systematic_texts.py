@@ -78,6 +78,10 @@ def titles():
         yield from calls("titles behind a colon", b'"A:%sC: D" "t" change.case$', texts_of([b":", b" ", b"\r", b"{}", b"B"], 4 - utf8), options={"utf8": utf8})
 
 
+def conversions():
+    yield from calls("conversions", b'"Ab: Cd" "%s" change.case$', texts_of([b"t", b"l", b"u", b"T", b"x", b" ", b"{"], 3))
+
+
 def special_characters():
     """Insides of a special character by each function, alone, in braces and as a name's token."""
     pieces = [b"\\", b"o", b"oe", b"i", b"AA", b"x", b"'", b" ", b"{", b"}", b"1", b"-", b"E"]
@@ -149,6 +153,7 @@ def all_texts():
     yield from integers_as_written()
     yield from ends_of_sentences()
     yield from titles()
+    yield from conversions()
     yield from special_characters()
     yield from lists_of_names()
     yield from short_tokens()
