@@ -105,16 +105,18 @@ impl<'a> Code<'a> {
         number
     }
 
-    /// The token of this text in a line: the one of that number in its braces, or else the first.
+    /// The token of this text in a line, where there is one alone: else the one alone that has that number in its braces.
     fn index(&self, line: usize, text: &[u8], number: Option<usize>) -> Option<usize> {
         let (start, end) = self.text.span(line);
         let first = self.tokens.partition_point(|token| token.start < start);
         let behind = self.tokens.partition_point(|token| token.start < end);
         let is_it = |index: &usize| Folded(self.of(*index)) == Folded(text);
-        let all: Vec<usize> = (first..behind).filter(is_it).take(MOST_OF_LINE).collect();
-        let of_number = all.iter().find(|_| all.len() > 1 && number.is_some());
-        let exact = of_number.and_then(|_| all.iter().find(|index| Some(self.number_of(**index)) == number));
-        exact.or(all.first()).copied()
+        let all: Vec<usize> = (first..behind).filter(is_it).take(MOST_OF_LINE + 1).collect();
+        if let [only] = all[..] {
+            return Some(only);
+        }
+        let mut of_number = all.iter().filter(|index| Some(self.number_of(**index)) == number);
+        of_number.next().filter(|_| all.len() <= MOST_OF_LINE && of_number.next().is_none()).copied()
     }
 
     /// A place of the code, as the library notes it.
@@ -128,7 +130,7 @@ impl<'a> Code<'a> {
     }
 }
 
-/// Among how many tokens of one text in a line a place is looked for.
+/// Among how many tokens of one text in a line a place is looked for at most.
 const MOST_OF_LINE: usize = 50;
 
 /// How many tokens before a place are looked at for the field that is there.

@@ -23,7 +23,7 @@ pub enum Shown {
 /// How much work a search takes, in steps of styles: some two seconds of a processor. So the answer is the same each time.
 const WORK: u64 = 80_000_000;
 
-/// What it takes to read a byte of a style, and a step whose place is noted, in steps.
+/// What it takes to read a byte of a job, and a step whose place is noted, in steps.
 const WORK_OF_BYTE: u64 = 2;
 const WORK_OF_NOTED_STEP: u64 = 7;
 
@@ -31,8 +31,9 @@ const WORK_OF_NOTED_STEP: u64 = 7;
 const STEPS_OF_MANY: u64 = 8_000_000;
 const STEPS_OF_FEW: u64 = 300_000;
 
-/// How many cases are tried in one run.
+/// How many cases are tried in one run, and how many fields they have at most together, unless there is one case.
 const CASES_OF_RUN: usize = 400;
+const FIELDS_OF_RUN: usize = 100_000;
 
 /// How many runs of cases by chance may find nothing, one after the other.
 const MOST_FRUITLESS: u32 = 12;
@@ -167,33 +168,33 @@ impl Maker {
         Case { entries: vec![entry], is_crossed: false }
     }
 
-    /// What the warnings themselves say: the fields that are given, and the others or none of them.
-    fn said(&self, warnings: &[&Warning]) -> Vec<Case> {
-        let mut cases = vec![Case::default()];
-        for warning in warnings {
-            let is_given = |name: &Vec<u8>| !warning.blank.contains(name) && Some(name) != warning.missing.as_ref();
-            let types = warning.types.iter().take(MOST_TYPES);
-            for kind in types.map(|kind| if kind.is_empty() { UNKNOWN_TYPE } else { kind }) {
-                cases.push(Maker::of_one(Maker::entry(kind, &warning.given)));
-                cases.push(Maker::of_one(Maker::entry(kind, self.fields.iter().filter(|name| is_given(name)))));
-            }
-        }
-        cases
+    /// How many cases are made for one run.
+    fn cases_of_run(&self) -> usize {
+        (FIELDS_OF_RUN / self.fields.len().max(1)).clamp(1, CASES_OF_RUN)
+    }
+
+    /// What a warning itself says: the fields that are given, and the others or none of them.
+    fn said<'b>(&'b self, warning: &'b Warning) -> impl Iterator<Item = Case> + 'b {
+        let is_given = |name: &&Vec<u8>| !warning.blank.contains(*name) && Some(*name) != warning.missing.as_ref();
+        let types = warning.types.iter().take(MOST_TYPES);
+        let kinds = types.map(|kind| if kind.is_empty() { UNKNOWN_TYPE } else { kind });
+        kinds.flat_map(move |kind| {
+            let given = Maker::entry(kind, &warning.given);
+            let most = Maker::entry(kind, self.fields.iter().filter(is_given));
+            [given, most].map(Maker::of_one)
+        })
     }
 
     /// Entries of each type with few fields or nearly all.
-    fn plain(&self) -> Vec<Case> {
-        let mut cases = Vec::new();
-        for kind in &self.types {
-            let mut add = |fields: Vec<&Vec<u8>>| cases.push(Maker::of_one(Maker::entry(kind, fields)));
-            add(Vec::new());
-            add(self.fields.iter().collect());
-            for field in &self.fields {
-                add(vec![field]);
-                add(self.fields.iter().filter(|name| *name != field).collect());
-            }
-        }
-        cases
+    fn plain(&self) -> impl Iterator<Item = Case> + '_ {
+        let ends = |kind| [Maker::entry(kind, []), Maker::entry(kind, &self.fields)];
+        let each = move |kind| {
+            self.fields.iter().flat_map(move |field| {
+                let others = self.fields.iter().filter(move |name| *name != field);
+                [Maker::entry(kind, [field]), Maker::entry(kind, others)]
+            })
+        };
+        self.types.iter().flat_map(move |kind| ends(kind).into_iter().chain(each(kind))).map(Maker::of_one)
     }
 
     /// An entry by chance.
@@ -214,7 +215,7 @@ impl Maker {
 
     fn cases_by_chance(&mut self) -> Vec<Case> {
         let mut cases = Vec::new();
-        for number in 0..CASES_OF_RUN {
+        for number in 0..self.cases_of_run() {
             let count = if number % 4 == 0 { 2 } else { 1 };
             let entries = (0..count).map(|_| self.by_chance()).collect();
             cases.push(Case { entries, is_crossed: number % 8 == 0 });
@@ -273,17 +274,17 @@ impl Search<'_> {
         self.done.get() < self.most / 4 * 3
     }
 
-    /// Adds the work of `runs` runs of `steps` steps each.
-    fn add_work(&self, runs: u64, steps: u64) {
-        let bytes = self.style.bytes.as_ref().map_or(0, Vec::len) as u64;
-        self.done.set(self.done.get() + runs * (steps + WORK_OF_BYTE * bytes));
+    /// Adds the work of `runs` runs of a job, of `steps` steps each.
+    fn add_work(&self, files: &Files, runs: u64, steps: u64) {
+        let bytes: usize = files.all.iter().map(|file| file.bytes.as_ref().map_or(0, Vec::len)).sum();
+        self.done.set(self.done.get() + runs * (steps + WORK_OF_BYTE * bytes as u64));
     }
 
     /// The log of a run of at most this many steps, and the steps that it took.
     fn run(&self, files: &Files, options: &Options) -> (Vec<u8>, u64) {
         let ran = btx::run(&files.top, &files.all, options, &ROOMS);
         let steps = if let Answer::Done(report) = ran.answer { report.steps } else { options.budget };
-        self.add_work(1, steps);
+        self.add_work(files, 1, steps);
         (ran.log, steps)
     }
 
@@ -312,7 +313,7 @@ impl Search<'_> {
         }
         let noted = btx::notes(&files.top, &files.all, &options, MOST_EVENTS).unwrap_or_default();
         let events = errors.len().min(MOST_EVENTS as usize) as u64;
-        self.add_work(events + 2, WORK_OF_NOTED_STEP * steps);
+        self.add_work(&files, events + 2, WORK_OF_NOTED_STEP * steps);
         let mut found = Vec::new();
         for note in notes::read(&noted, &self.style.name) {
             let of_note: Vec<&Logged<'_>> =
@@ -422,11 +423,19 @@ impl Search<'_> {
         types.push(UNKNOWN_TYPE.to_vec());
         let mut maker = Maker { types, fields: names_of_fields(text), numbers: Numbers(88_172_645_463_325_252) };
         let mut found: Vec<Found> = vec![None; warnings.len()];
-        let said = maker.said(warnings);
-        self.try_each(said.iter().collect(), warnings, &mut found);
-        for cases in maker.plain().chunks(CASES_OF_RUN) {
-            self.try_many(cases, warnings, &mut found);
+        self.try_each(&[&Case::default()], warnings, &mut found);
+        for case in warnings.iter().flat_map(|warning| maker.said(warning)) {
+            self.try_each(&[&case], warnings, &mut found);
         }
+        let mut plain = maker.plain();
+        while self.may_search() && found.iter().any(Option::is_none) {
+            let cases: Vec<Case> = plain.by_ref().take(maker.cases_of_run()).collect();
+            if cases.is_empty() {
+                break;
+            }
+            self.try_many(&cases, warnings, &mut found);
+        }
+        drop(plain);
         let mut fruitless = 0;
         while self.may_search() && fruitless < MOST_FRUITLESS {
             let before = found.iter().flatten().count();
@@ -445,12 +454,12 @@ impl Search<'_> {
             .map(|(warning, _)| *warning)
             .collect();
         if !open.is_empty() && self.may_search() {
-            self.try_each(self.promising(cases, &open), warnings, found);
+            self.try_each(&self.promising(cases, &open), warnings, found);
         }
     }
 
-    fn try_each(&self, cases: Vec<&Case>, warnings: &[&Warning], found: &mut [Found]) {
-        for case in cases {
+    fn try_each(&self, cases: &[&Case], warnings: &[&Warning], found: &mut [Found]) {
+        for &case in cases {
             if !self.may_search() || found.iter().all(Option::is_some) {
                 return;
             }

@@ -49,18 +49,27 @@ pub fn write_for_people(check: &StyleCheck, terminal: &Terminal, out: &mut impl 
 fn write_verdict(path: &str, check: &StyleCheck, out: &mut impl Write) -> io::Result<()> {
     match &check.verdict {
         _ if check.messages > 0 => write_mistakes(path, check, out),
+        _ if !check.is_read => writeln!(
+            out,
+            "{path}: incomplete: its text wasn't read to its end, so mistakes may stand in the rest of it"
+        ),
         Some(Verdict::Clean { literals, bodies, types }) => {
             writeln!(
                 out,
                 "{path}: clean: no run of it logs a fault of its own (at most {literals} literals, {bodies} bodies)"
             )?;
-            let types: String = types.iter().map(|name| format!("{}, ", plain(name))).collect();
-            writeln!(out, "    for entries of the types {types}and of all that it doesn't know")
+            let types: Vec<String> = types.iter().map(|name| plain(name)).collect();
+            match types.is_empty() {
+                true => writeln!(out, "    for entries of the types that it doesn't know"),
+                false => {
+                    writeln!(out, "    for entries of the types {}, and of all that it doesn't know", types.join(", "))
+                }
+            }
         }
         Some(Verdict::Warnings(_)) => writeln!(out, "{path}: warnings: {}", verdict(&check.found)),
         _ => writeln!(
             out,
-            "{path}: incomplete: the check didn't come to its end: it took too long (--steps=N), the style goes too deep, or there was too little memory"
+            "{path}: incomplete: the check didn't come to its end: it took too long (--steps=N), the style goes too deep or leaves too many literals, or there was too little memory"
         ),
     }
 }

@@ -30,7 +30,8 @@ const HELP: &str = "\
 --version        print the version and exit
 
 Exit status: 0 all are clean; 1 the words are refused, or a style isn't found;
-2 there are messages or warnings; 3 a check didn't come to its end.
+2 there are messages or warnings; 3 a check didn't come to its end; 5 memory
+was refused; 6 what is found couldn't be printed.
 ";
 
 /// How many steps a check may take.

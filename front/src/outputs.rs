@@ -191,7 +191,10 @@ impl Outputs {
             return Err(failure);
         }
         let (list_name, log_name) = (outputs.list.name.clone(), outputs.log.name.clone());
-        outputs.log.write(log).map_err(|fault| Failure::unwritten(&log_name, &fault))?;
+        if let Err(fault) = outputs.log.write(log) {
+            outputs.list.leave();
+            return Err(Failure::unwritten(&log_name, &fault));
+        }
         outputs.list.write(list).map_err(|fault| Failure::unwritten(&list_name, &fault))
     }
 }

@@ -54,11 +54,10 @@ impl<'a> Repeats<'a> {
         let sort = (advice.number, function, place.filter(|_| !has_mistakes));
         let at = *self.by_sort.entry(sort).or_insert(next);
         if let Some(known) = self.all.get_mut(at) {
-            known.add(entry);
+            known.add(entry, place);
             return true;
         }
-        // (the places of later errors may not be known)
-        self.by_sort.entry((advice.number, function, None)).or_insert(next);
+        // (those whose places aren't known are of a kind of their own: they may stand anywhere)
         self.all.push(Repeated { first: line, place, count: 0, entries: Vec::new(), following: 0 });
         if let Some(command) = command.filter(|_| message.text == b"You can't mess with entries here") {
             self.by_command.insert(command, next);
@@ -78,9 +77,10 @@ impl<'a> Repeats<'a> {
 }
 
 impl<'a> Repeated<'a> {
-    /// Counts one more, for this entry.
-    fn add(&mut self, entry: Option<&'a [u8]>) {
+    /// Counts one more, for this entry. No line is said where they aren't all at one place, or aren't known to be.
+    fn add(&mut self, entry: Option<&'a [u8]>, place: Option<&'a Call>) {
         self.count += 1;
+        self.place = self.place.filter(|first| Some(*first) == place);
         let is_new = |entry: &&[u8]| self.entries.len() <= MOST_ENTRIES && !self.entries.contains(entry);
         let new = entry.filter(is_new);
         self.entries.extend(new);

@@ -1,12 +1,15 @@
 //! What can be said of a style before any document uses it: what is wrong in its text, whether the proved checker calls it clean, and hints.
 
 use crate::btx::{self, Answer, Options, Rooms, Verdict};
+use crate::code_places::{Code, Declared};
 use crate::hints::{Hint, hints};
 use crate::job::{File, Files};
 use crate::lint_entry::{Shown, entries};
 use crate::lint_warnings::{Warnings, read};
 use crate::log::{Content, Log, Place};
+use crate::style_text::{Kind, Token, Tokens, commands};
 use std::fs;
+use std::path::Path;
 use std::sync::mpsc::{self, RecvTimeoutError};
 use std::thread;
 use std::time::Duration;
@@ -32,6 +35,8 @@ pub struct StyleCheck {
     pub log: Vec<u8>,
     /// How many messages these are.
     pub messages: usize,
+    /// Whether its text was read to its end: a long log may stand before a mistake.
+    pub is_read: bool,
     /// None where memory was refused, or the style is too long.
     pub verdict: Option<Verdict>,
     /// Where it may go wrong, if it isn't clean.
@@ -53,14 +58,16 @@ impl StyleCheck {
         };
         let entries = has_entries.then(|| entries(&style, &found.shown()));
         let files = job_of(style);
-        let (log, messages) = messages_of(&files);
-        StyleCheck { files, log, messages, verdict, found, entries, hints: hints(&bytes) }
+        let text = messages_of(&files);
+        let Messages { log, count: messages, is_whole: is_read } = text;
+        StyleCheck { files, log, messages, is_read, verdict, found, entries, hints: hints(&bytes) }
     }
 
     /// The verdict, in a word. A style whose text has mistakes isn't called clean, whatever is said of what could be read of it.
     pub fn word(&self) -> &'static str {
         match self.verdict {
             _ if self.messages > 0 => "mistakes",
+            _ if !self.is_read => "incomplete",
             Some(Verdict::Clean { .. }) => "clean",
             Some(Verdict::Warnings(_)) => "warnings",
             Some(Verdict::Incomplete(_)) | None => "incomplete",
@@ -69,31 +76,35 @@ impl StyleCheck {
 
     /// Whether nothing is to be said but hints.
     pub fn is_clean(&self) -> bool {
-        self.messages == 0 && matches!(self.verdict, Some(Verdict::Clean { .. }))
+        self.word() == "clean"
     }
 }
 
 /// Checks a style in a thread of its own. A check that takes too many seconds of the processor is given up: its thread goes on until the program ends.
 fn check_within(style: &File, steps: u64) -> Option<Verdict> {
+    let (begins, begun) = mpsc::channel();
     let (sender, receiver) = mpsc::channel();
     let (name, bytes) = (style.name.clone(), style.bytes.clone().unwrap_or_default());
-    let check = move || drop(sender.send(btx::check(&name, &bytes, steps)));
+    let check = move || {
+        drop(begins.send(fs::read_link("/proc/thread-self").unwrap_or_default()));
+        drop(sender.send(btx::check(&name, &bytes, steps)));
+    };
     thread::Builder::new().stack_size(STACK).spawn(check).ok()?;
-    let began = processor_time();
+    let thread = begun.recv().ok()?;
     loop {
         match receiver.recv_timeout(TURN) {
             Ok(verdict) => return verdict,
-            Err(RecvTimeoutError::Timeout) if processor_time().saturating_sub(began) < MOST_TIME => {}
+            Err(RecvTimeoutError::Timeout) if processor_time(&thread) < MOST_TIME => {}
             Err(_) => return None,
         }
     }
 }
 
-/// How many hundredths of a second of the processor this program has taken; 0 where the system doesn't say.
-fn processor_time() -> u64 {
-    let stat = fs::read_to_string("/proc/self/stat").unwrap_or_default();
+/// How many hundredths of a second of the processor a thread has taken, by its folder in `/proc`; 0 where the system doesn't say.
+fn processor_time(thread: &Path) -> u64 {
+    let stat = fs::read_to_string(Path::new("/proc").join(thread).join("stat")).unwrap_or_default();
     let fields = stat.rsplit(')').next().unwrap_or_default().split_whitespace();
-    // (behind the program's name: those of the program itself, and those of the system for it)
+    // (behind the program's name: those of the thread itself, and those of the system for it)
     fields.skip(11).take(2).filter_map(|field| field.parse::<u64>().ok()).sum()
 }
 
@@ -112,8 +123,50 @@ fn job_of(style: File) -> Files {
     Files { top: b"job.aux".to_vec(), all: vec![file(b"job.aux", top), style, database] }
 }
 
-/// The messages on a style's text, as lines of a log, and how many there are.
-fn messages_of(files: &Files) -> (Vec<u8>, usize) {
+/// The messages on a style's text, as lines of a log, how many there are, and whether the text was read to its end.
+struct Messages {
+    log: Vec<u8>,
+    count: usize,
+    is_whole: bool,
+}
+
+/// A style's text without the functions that it executes behind READ: so a run of it reads it to its end, whatever they do.
+fn without_executions(text: &[u8]) -> Vec<u8> {
+    let code = Code::new(text);
+    let is_function =
+        |name: &[u8]| name.ends_with(b"$") || matches!(code.declared(name), Some(Declared::Function { .. }));
+    let mut rest = text.to_vec();
+    for command in commands(text).iter().skip_while(|command| !command.is("read")) {
+        let begin = command.start + command.word.len();
+        let argument: Vec<Token> = Tokens::new(&text[begin..]).take(3).collect();
+        let [Token { kind: Kind::Open, .. }, Token { kind: Kind::Name, .. }, close @ Token { kind: Kind::Close, .. }] =
+            argument[..]
+        else {
+            continue;
+        };
+        if command.is("execute") && command.name.is_some_and(is_function) {
+            let executed = &mut rest[command.start..begin + close.end];
+            executed.iter_mut().filter(|byte| **byte != b'\n').for_each(|byte| *byte = b' ');
+        }
+    }
+    rest
+}
+
+/// The messages on a style's text, by a run without an entry; where what it executes doesn't come to its end, by another run without that.
+fn messages_of(files: &Files) -> Messages {
+    let messages = messages_by(files);
+    if messages.is_whole {
+        return messages;
+    }
+    let mut files = files.clone();
+    for file in files.all.iter_mut().filter(|file| file.name.ends_with(b".bst")) {
+        file.bytes = file.bytes.as_deref().map(without_executions);
+    }
+    messages_by(&files)
+}
+
+/// The messages on a style's text by a run of this job.
+fn messages_by(files: &Files) -> Messages {
     let options = Options {
         budget: STEPS_OF_READING,
         min_crossrefs: 2,
@@ -125,7 +178,13 @@ fn messages_of(files: &Files) -> (Vec<u8>, usize) {
     let ran = btx::run(&files.top, &files.all, &options, &Rooms { list: ROOM, log: ROOM });
     let is_of_text = |content: &Content<'_>| matches!(content, Content::Message(message) if matches!(message.place, Place::Line { file, .. } if file.ends_with(b".bst")));
     let log = Log::new(&ran.log);
-    let lines: Vec<&[u8]> = log.lines().filter(|line| is_of_text(&line.content)).map(|line| line.bytes).collect();
-    debug_assert!(ran.answer != Answer::Memory || lines.is_empty());
-    (lines.iter().flat_map(|line| [line, &b"\n"[..]]).collect::<Vec<_>>().concat(), lines.len())
+    // (a text that the style warns of may look like such a line, and isn't counted as an error)
+    let (is_whole, errors) = match ran.answer {
+        Answer::Done(report) => (report.has_finished(), usize::try_from(report.errors).unwrap_or(usize::MAX)),
+        _ => (false, usize::MAX),
+    };
+    let lines = log.lines().filter(|line| is_of_text(&line.content)).map(|line| line.bytes).take(errors);
+    let lines: Vec<&[u8]> = lines.collect();
+    let log = lines.iter().flat_map(|line| [line, &b"\n"[..]]).collect::<Vec<_>>().concat();
+    Messages { log, count: lines.len(), is_whole }
 }

@@ -360,3 +360,45 @@ for name in 'my style' 'a}b' $'tab\tbed' 'one,two'; do
     rm "$name.bst"
 done
 end
+
+# A mistake below commands of many steps is found; a text that the style warns of is none.
+begin lint_of_a_hidden_mistake
+hide() {
+    printf 'ENTRY{}{}{}\nINTEGERS{i}\nFUNCTION {f} { #0 '"'"'i := { i #%s < } { i #1 + '"'"'i := } while$ }\nREAD\nEXECUTE {f}\nnosuch\n' "$1" >hidden.bst
+}
+for rounds in 30000 3000000; do
+    hide $rounds
+    run_lint --line hidden.bst
+    wants_status 2
+    grep -qx 'hidden.bst: mistakes, messages 1, hints 0' "$folder/stdout" || complaints+=("behind $rounds rounds it prints $(cat "$folder/stdout")")
+done
+printf 'ENTRY{}{}{}\nFUNCTION {f} { "x" #10 int.to.chr$ * "Error--nosuch is an unknown function--line 3 of file forged.bst" * warning$ }\nREAD\nEXECUTE {f}\n' >forged.bst
+run_lint --line forged.bst
+grep -q 'messages 0' "$folder/stdout" || complaints+=("of a forged mistake it prints $(cat "$folder/stdout")")
+end
+
+# Where a line has the same token twice, no mark and no words are of the other one.
+begin lint_of_a_token_twice
+write_style_of_twice() {
+    printf 'ENTRY{year}{}{}\nINTEGERS{j}\nSTRINGS{s}\nFUNCTION {book} { year empty$ { #1 '"'"'j := } { #1 '"'"'s := } if$ j pop$ s pop$ }\nREAD\nITERATE {call.type$}\n' >twice.bst
+}
+write_style_of_twice
+run_lint twice.bst
+wants_status 2
+grep -q '`j`' "$folder/stdout" && complaints+=("it speaks of the other variable: $(cat "$folder/stdout")")
+grep -q '^ *^$' "$folder/stdout" && complaints+=('it marks one of two tokens')
+grep -q '^twice.bst:4: in book: `:=` takes' "$folder/stdout" || complaints+=("printed is $(cat "$folder/stdout")")
+end
+
+# A clean style has nothing to show, however many fields it has; and no style's verdict depends on one before it.
+begin lint_of_many_fields
+{
+    printf 'ENTRY{'
+    for n in $(seq 600); do printf 'f%d ' "$n"; done
+    printf '}{}{}\n'
+    for n in $(seq 40); do printf 'FUNCTION {t%d} { skip$ }\n' "$n"; done
+    printf 'READ\nITERATE {call.type$}\n'
+} >fields.bst
+(ulimit -v 400000; LD_LIBRARY_PATH=$libraries exec timeout -k 5 "$seconds" "$room/bibtex-lint" --line --entry fields.bst) </dev/null >"$folder/stdout" 2>"$folder/stderr"
+grep -q '^fields.bst: clean' "$folder/stdout" || complaints+=("printed is $(cat "$folder/stdout" "$folder/stderr")")
+end

@@ -129,6 +129,14 @@ for kind in pipe endless; do
 done
 seconds=60
 
+# A new job whose log can't be written leaves no empty list, which LaTeX would take for one.
+begin new_list_beside_a_log_that_cannot_be_written
+put full job.blg
+run_search job
+wants_status 6
+wants_files d.bib job.aux job.blg s.bst
+end
+
 # What another user may not read or write.
 if another_user; then
     begin folder_of_another
