@@ -202,7 +202,8 @@ def check_print(checks, program, room, is_busy):
 
 
 def check_core(checks, pages):
-    """How many pages the core takes, and all that has to be believed: as many as the book's first page says, and the core not more than it may."""
+    """How many pages the core takes, and all that has to be believed: what the book's first page says, within a tenth and one, since a page holds more or less by
+    the fonts of a machine; and the core not more than it may."""
     book = (OUT / PAGES[0]).read_text(encoding="utf-8")
     heads = [html.unescape(re.sub("<[^>]*>", "", head)) for head in re.findall(r'<h2 id="ch\d+">(.*?)</h2>', book)]
     starts = [next((number for number, page in enumerate(pages) if re.search(rf"(?m)^\s*{re.escape(head)}\s*$", page)), None) for head in heads]
@@ -214,8 +215,9 @@ def check_core(checks, pages):
     core, believed = starts[1] - starts[0], starts[first_behind] - starts[0]
     print(f"on paper: {len(pages)} pages, of which the core takes {core}, and all that has to be believed {believed}")
     checks.check(core <= MOST_PAGES_OF_THE_CORE, f"the core takes {core} pages on paper, and at most {MOST_PAGES_OF_THE_CORE} are wanted")
-    checks.check(said[0] - 1 <= core <= said[0], f"the book's first page says that the core takes {said[0]} pages on paper, and it takes {core} (docs/book/believed.py)")
-    checks.check(said[1] - 2 <= believed <= said[1], f"the book's first page says that what has to be believed takes {said[1]} pages on paper, and it takes {believed} (docs/book/believed.py)")
+    is_so = lambda number, pages: abs(pages - number) <= 1 + number // 10
+    checks.check(is_so(said[0], core), f"the book's first page says that the core takes {said[0]} pages on paper, and it takes {core} (docs/book/believed.py)")
+    checks.check(is_so(said[1], believed), f"the book's first page says that what has to be believed takes {said[1]} pages on paper, and it takes {believed} (docs/book/believed.py)")
 
 
 def main():
