@@ -243,7 +243,8 @@ mod tests {
         assert_eq!((assigned.left_by(2), assigned.mark()), (Some(Left::Number(b"i")), 11));
         let joined = |number| code.place_in(6, b"*", Some(number)).unwrap();
         assert_eq!(joined(8).function_before(), Some((&b"f.g"[..], 4, &b"year"[..])));
-        assert_eq!((joined(8).mark(), joined(10).mark(), joined(99).mark()), (13, 21, 13));
+        assert_eq!((joined(8).mark(), joined(10).mark()), (13, 21));
+        assert!(code.place_in(6, b"*", Some(99)).is_none() && code.place_in(6, b"*", None).is_none());
         assert_eq!(joined(10).function_before(), None);
         let compared = code.place_in(6, b"=", None).unwrap();
         assert_eq!((compared.left_by(1), compared.left_by(2)), (Some(Left::Number(b"#0")), Some(Left::Field(b"year"))));

@@ -1,6 +1,5 @@
 //! `bibtex-lint`: what can be said of styles before any document uses them. `bibtex-search` is this program where it is called so.
 
-use crate::btx::Verdict;
 use crate::exit::{Failure, Name, Status};
 use crate::job::{File, read_file};
 use crate::kpathsea::Format;
@@ -92,6 +91,9 @@ fn read_words(words: impl Iterator<Item = Vec<u8>>) -> Asked {
             },
             _ => match steps_of(option) {
                 Some(number) => how.steps = number,
+                None if option.starts_with(b"steps=") => {
+                    return Asked::Refused(format!("--steps takes a number from 0 to {}", u64::MAX));
+                }
                 None => return Asked::Refused(format!("I don't know the option {}", plain(&word))),
             },
         }
@@ -183,11 +185,10 @@ fn find(search: &Search, name: &[u8]) -> Option<File> {
 }
 
 fn status_of(check: &StyleCheck) -> Status {
-    match check.verdict {
-        _ if check.messages > 0 => Status::Errors,
-        Some(Verdict::Clean { .. }) => Status::Finished,
-        Some(Verdict::Warnings(_)) => Status::Errors,
-        Some(Verdict::Incomplete(_)) | None => Status::Limit,
+    match check.word() {
+        "clean" => Status::Finished,
+        "incomplete" => Status::Limit,
+        _ => Status::Errors,
     }
 }
 

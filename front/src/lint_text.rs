@@ -170,6 +170,11 @@ fn what_of_place(warning: &Warning, next: &str, takes: Option<&str>) -> String {
             format!("`{next}` takes {takes}, and the field `{}` may be missing here", plain(field))
         }
         (Some(field), None) => format!("the field `{}` may be missing for `{next}`", plain(field)),
+        (None, Some(takes)) if takes.split(' ').all(|operand| operand == "VALUE") => {
+            format!(
+                "`{next}` takes {takes}, of any kind: there may be too few literals on the stack, or more than a run may have"
+            )
+        }
         (None, Some(takes)) => {
             format!("`{next}` takes {takes}: one of these may be missing on the stack, or be of another kind")
         }
@@ -451,6 +456,9 @@ pub fn verdict(found: &Warnings) -> String {
     let shown = found.shown();
     let (places, causes) = (shown.len(), groups(&shown).len());
     let plural = |count: usize, word: &str| format!("{count} {word}{}", if count == 1 { "" } else { "s" });
+    if places == 0 {
+        return "no place of it is known: it may leave more literals than a run may have".to_string();
+    }
     let counted = if causes == places {
         plural(places, "place")
     } else {
