@@ -1,5 +1,6 @@
 -- What is kept and logged along databases is what is known and logged of them.
-use Rattle.std.proofs.Common.{◌≡◌, ℕ, zero, suc, ◌+◌, ◌<◌, arith, Bool, true, false, if◌then◌else◌, List, [], ◌∷◌, ◌++◌, drop, get_or, length, Option, None, Some, is_some, refl, sym, ap, subst, ◌∙◌, append_assoc}
+use Rattle.std.proofs.Common.{◌≡◌, ℕ, zero, suc, ◌+◌, ◌<◌, arith, Bool, true, false, if◌then◌else◌, List, [], ◌∷◌, ◌++◌, drop, get_or, length, Option, None}
+use Rattle.std.proofs.Common.{Some, is_some, refl, sym, ap, subst, ◌∙◌, append_assoc}
 use Rattle.std.proofs.lemmas.List.{at_drop_more}
 use Rattle.btx_bib.specs.declared.databases.Source.{Source}
 use Rattle.btx_bib.specs.declared.end.End.TheVariants.{FileLimit}
@@ -8,7 +9,8 @@ use Rattle.btx_bib.specs.declared.grammar.commands.Wanted.{Wanted as Next}
 use Rattle.btx_bib.specs.declared.grammar.commands.Wanted.TheVariants.{Item}
 use Rattle.btx_bib.specs.declared.grammar.slip.Slip.TheVariants.{Repeated}
 use Rattle.btx_bib.specs.declared.message.Message.{Message}
-use Rattle.btx_bib.specs.language.Grammar.Items.{Event, Comment, Preamble, Definition, Entry, FieldOf, End, Wrong, Placed, Step, events_from, is_repeated, next_step, expected_step}
+use Rattle.btx_bib.specs.language.Grammar.Items.{Event, Comment, Preamble, Definition, Entry, FieldOf, End, Wrong, Placed, Step, events_from, is_repeated}
+use Rattle.btx_bib.specs.language.Grammar.Items.{next_step, expected_step}
 use Rattle.btx_bib.specs.language.Known.{Known, known_after, after_event, with_current_stored, goes_on, keeping, stored_in}
 use Rattle.btx_bib.specs.laws.Known.{after_all}
 use Rattle.btx_bib.specs.language.Stored.{entry_with_key}
@@ -18,7 +20,8 @@ use Rattle.btx_bib.specs.refinement.Gatherings.{closed, events_with, is_kept, ke
 use Rattle.btx_bib.specs.refinement.Sources.{source_database, source_databases}
 use Rattle.btx_bib.specs.refinement.Readings.{kept_by_all, kept_one, messages_of_all, messages_of_one}
 use Rattle.btx_bib.proofs.ApartLemmas.{known_all, known_one, messages_from_all, messages_along, messages_one}
-use Rattle.btx_bib.proofs.GrammarLemmas.LengthLemmas.{events-none, events-some, events-less, left}
+use Rattle.btx_bib.proofs.GrammarLemmas.LengthLemmas.{events-none, events-some, events-less}
+use Rattle.btx_bib.specs.refinement.Grammar.Reads.{left}
 use Rattle.btx_bib.proofs.GatheringLemmas.{ended-along, ended-logged, none-along, none-logged, turn-along, turn-logged}
 use Rattle.btx_bib.proofs.KeptLemmas.{IsFresh, Sound, closed-kept, closed-sound, event-kept, event-said, event-sound, kept_of, stored-kept}
 use Rattle.btx_text.specs.language.Limits.{is_too_long}
@@ -26,20 +29,23 @@ use Rattle.btx_bib.specs.refinement.Grammar.Items.{known_step}
 
 -- ---- one source, and the others
 
-module _ (wanted : Request) (sources : List Source) (place : ℕ) (d : Source) (before now : Gathering) (within : place < length sources) (is : now ≡ kept_one wanted before (source_database (get_or sources place d))) where
+module _ (wanted : Request) (sources : List Source) (place : ℕ) (d : Source) (before now : Gathering) (within : place < length sources)
+    (is : now ≡ kept_one wanted before (source_database (get_or sources place d))) where
   pub all-next : kept_by_all wanted now (source_databases (drop (place + 1) sources)) ≡ kept_by_all wanted before (source_databases (drop place sources))
   all-next =
       ap (λ (k : Gathering). kept_by_all wanted k (source_databases (drop (place + 1) sources))) is
       ∙ sym (at_drop_more (λ (ss : List Source). kept_by_all wanted before (source_databases ss)) sources place d within)
 
   pub all-logged-next : (messages messages' : List Message) → messages' ≡ messages ++ messages_of_one wanted before (source_database (get_or sources place d))
-      → messages' ++ messages_of_all wanted now (source_databases (drop (place + 1) sources)) ≡ messages ++ messages_of_all wanted before (source_databases (drop place sources))
+      → messages' ++ messages_of_all wanted now (source_databases (drop (place + 1) sources)) ≡ messages
+      ++ messages_of_all wanted before (source_databases (drop place sources))
   all-logged-next messages messages' logs =
       let one = messages_of_one wanted before (source_database (get_or sources place d)) in
       ap (λ (ms : List Message). ms ++ messages_of_all wanted now (source_databases (drop (place + 1) sources))) logs
       ∙ append_assoc messages one (messages_of_all wanted now (source_databases (drop (place + 1) sources)))
       ∙ ap (λ (k : Gathering). messages ++ (one ++ messages_of_all wanted k (source_databases (drop (place + 1) sources)))) is
-      ∙ ap (λ (ms : List Message). messages ++ ms) (sym (at_drop_more (λ (ss : List Source). messages_of_all wanted before (source_databases ss)) sources place d within))
+      ∙ ap (λ (ms : List Message). messages ++ ms)
+      (sym (at_drop_more (λ (ss : List Source). messages_of_all wanted before (source_databases ss)) sources place d within))
 
 -- ---- repeated entries
 
@@ -54,7 +60,8 @@ repeated-same f g same (Wrong slip) = refl
 
 -- by whether it is repeated, an event stays or is wrong
 abbrev by_repeated : Step → Bool → Option Step
-by_repeated step b = let got : Event × Next = if b then (Wrong Repeated, Item) else (step.event, step.wanted) in Some (record { event = got.0; wanted = got.1; rest = step.rest })
+by_repeated step b = let got : Event × Next = if b then (Wrong Repeated, Item) else (step.event, step.wanted) in
+    Some (record { event = got.0; wanted = got.1; rest = step.rest })
 
 next-same : (f g : List ℕ → Bool) → ((key : List ℕ) → f key ≡ g key) → (w : Next) (s : List ℕ) → next_step f w s ≡ next_step g w s
 next-same f g same w s = at (expected_step w s) where
@@ -69,7 +76,8 @@ next-fresh f w s step e = by_step (expected_step w s) e where
   by_step (Some read) e = at (is_repeated f read.event) refl e where
     at : (b : Bool) → is_repeated f read.event ≡ b → by_repeated read b ≡ Some step → is_repeated f step.event ≡ false
     at true is h = let same : step ≡ record { event = Wrong Repeated; wanted = Item; rest = read.rest } = cc in ap (λ (x : Step). is_repeated f x.event) same
-    at false is h = let same : step ≡ record { event = read.event; wanted = read.wanted; rest = read.rest } = cc in ap (λ (x : Step). is_repeated f x.event) same ∙ is
+    at false is h = let same : step ≡ record { event = read.event; wanted = read.wanted; rest = read.rest } = cc in
+        ap (λ (x : Step). is_repeated f x.event) same ∙ is
 
 module _ (wanted : Request) where
   -- ---- at a limit nothing more is known or logged
@@ -84,7 +92,8 @@ module _ (wanted : Request) where
   logged-ended : (database : Database) (known : Known) (events : List Placed) → goes_on known.ending ≡ false → messages_along wanted database known events ≡ []
   logged-ended database known [] ended = refl
   logged-ended database known (p ∷ ps) ended =
-      ap (λ (b : Bool). (if b then event_messages wanted database known p.event p.rest else []) ++ messages_along wanted database (known_after wanted known p.event) ps) ended
+      ap (λ (b : Bool). (if b then event_messages wanted database known p.event p.rest else [])
+      ++ messages_along wanted database (known_after wanted known p.event) ps) ended
       ∙ ap (λ (k : Known). messages_along wanted database k ps) (next-ended known p.event ended)
       ∙ logged-ended database known ps ended
 
@@ -97,35 +106,43 @@ module _ (wanted : Request) where
     -- what is kept and logged of a text is what is known and logged of it
     abbrev Agrees : Known → Next → List ℕ → Type 0
     Agrees known w s =
-        (kept_along wanted (kept_of wanted known) (events_with wanted (kept_of wanted known) w s) ≡ kept_of wanted (after_all wanted known (known_events known w s))) ×
-        (kept_messages wanted database (kept_of wanted known) (events_with wanted (kept_of wanted known) w s) ≡ messages_along wanted database known (known_events known w s)) ×
+        (kept_along wanted (kept_of wanted known) (events_with wanted (kept_of wanted known) w s)
+        ≡ kept_of wanted (after_all wanted known (known_events known w s))) ×
+        (kept_messages wanted database (kept_of wanted known) (events_with wanted (kept_of wanted known) w s)
+        ≡ messages_along wanted database known (known_events known w s)) ×
         Sound wanted (after_all wanted known (known_events known w s))
 
     ended-agrees : (known : Known) (w : Next) (s : List ℕ) → Sound wanted known → goes_on known.ending ≡ false → Agrees known w s
     ended-agrees known w s sound ended = (
-      ended-along wanted (kept_of wanted known) (events_with wanted (kept_of wanted known) w s) ended ∙ ap (kept_of wanted) (sym (all-ended known (known_events known w s) ended)),
-      ended-logged wanted database (kept_of wanted known) (events_with wanted (kept_of wanted known) w s) ended ∙ sym (logged-ended database known (known_events known w s) ended),
+      ended-along wanted (kept_of wanted known) (events_with wanted (kept_of wanted known) w s) ended
+          ∙ ap (kept_of wanted) (sym (all-ended known (known_events known w s) ended)),
+      ended-logged wanted database (kept_of wanted known) (events_with wanted (kept_of wanted known) w s) ended
+          ∙ sym (logged-ended database known (known_events known w s) ended),
       subst (Sound wanted) (sym (all-ended known (known_events known w s) ended)) sound,
     )
 
     abbrev stored : Known → List ℕ → Bool
     stored known key = is_some (entry_with_key (stored_in known) key)
 
-    step-agrees : (known : Known) (w : Next) (s : List ℕ) (o : Option Step) → next_step (stored known) w s ≡ o → Sound wanted known → goes_on known.ending ≡ true
+    step-agrees : (known : Known) (w : Next) (s : List ℕ) (o : Option Step) → next_step (stored known) w s ≡ o → Sound wanted known
+        → goes_on known.ending ≡ true
         → ((q : Known) (v : Next) (t : List ℕ) → left v (length t) < left w (length s) → Sound wanted q → Agrees q v t) → Agrees known w s
     step-agrees known w s None e sound whole others =
-        let kept : next_step (is_kept (kept_of wanted known)) w s ≡ None = next-same (is_kept (kept_of wanted known)) (stored known) (λ key. stored-kept wanted known key sound) w s ∙ e in
+        let kept : next_step (is_kept (kept_of wanted known)) w s ≡ None =
+        next-same (is_kept (kept_of wanted known)) (stored known) (λ key. stored-kept wanted known key sound) w s ∙ e in
         let none : known_events known w s ≡ [] = events-none (keeping wanted) known w s e in (
           none-along wanted (kept_of wanted known) w s kept ∙ ap (λ (es : List Placed). kept_of wanted (after_all wanted known es)) (sym none),
           none-logged wanted (kept_of wanted known) w s database kept ∙ ap (messages_along wanted database known) (sym none),
           subst (λ (es : List Placed). Sound wanted (after_all wanted known es)) (sym none) sound,
         )
     step-agrees known w s (Some step) e sound whole others =
-        let kept : next_step (is_kept (kept_of wanted known)) w s ≡ Some step = next-same (is_kept (kept_of wanted known)) (stored known) (λ key. stored-kept wanted known key sound) w s ∙ e in
+        let kept : next_step (is_kept (kept_of wanted known)) w s ≡ Some step =
+        next-same (is_kept (kept_of wanted known)) (stored known) (λ key. stored-kept wanted known key sound) w s ∙ e in
         let fresh : IsFresh wanted known step.event = next-fresh (stored known) w s step e in
         let next : Known = after_event wanted known step.event in
         let same : kept_of wanted next ≡ kept_after wanted (kept_of wanted known) step.event = sym (event-kept wanted known step.event sound fresh) in
-        let rest : Agrees next step.wanted step.rest = others next step.wanted step.rest (events-less (stored known) w s step e) (event-sound wanted known step.event sound fresh) in
+        let rest : Agrees next step.wanted step.rest = others next step.wanted step.rest (events-less (stored known) w s step e)
+        (event-sound wanted known step.event sound fresh) in
         let goes : next ≡ known_after wanted known step.event = ap (λ (b : Bool). if b then after_event wanted known step.event else known) (sym whole) in
         let some = sym (events-some (keeping wanted) known w s step e) in
         let all : after_all wanted next (known_events next step.wanted step.rest) ≡ after_all wanted known (known_events known w s) =
@@ -133,10 +150,12 @@ module _ (wanted : Request) where
         let said = event_messages wanted database known step.event step.rest in (
           sym (turn-along wanted (kept_of wanted known) w s step (kept_of wanted next) whole kept same) ∙ rest.0 ∙ ap (kept_of wanted) all,
           sym (turn-logged wanted (kept_of wanted known) w s step (kept_of wanted next) whole kept same database)
-              ∙ ap (λ (ms : List Message). ms ++ kept_messages wanted database (kept_of wanted next) (events_with wanted (kept_of wanted next) step.wanted step.rest)) (event-said wanted database known step.event step.rest sound fresh)
+              ∙ ap (λ (ms : List Message). ms ++ kept_messages wanted database (kept_of wanted next)
+              (events_with wanted (kept_of wanted next) step.wanted step.rest)) (event-said wanted database known step.event step.rest sound fresh)
               ∙ ap (λ (ms : List Message). said ++ ms) rest.1
               ∙ ap (λ (k : Known). said ++ messages_along wanted database k (known_events k step.wanted step.rest)) goes
-              ∙ ap (λ (b : Bool). (if b then said else []) ++ messages_along wanted database (known_after wanted known step.event) (known_events (known_after wanted known step.event) step.wanted step.rest)) (sym whole)
+              ∙ ap (λ (b : Bool). (if b then said else []) ++ messages_along wanted database (known_after wanted known step.event)
+              (known_events (known_after wanted known step.event) step.wanted step.rest)) (sym whole)
               ∙ ap (messages_along wanted database known) some,
           subst (Sound wanted) all rest.2,
         )
@@ -144,7 +163,8 @@ module _ (wanted : Request) where
     agrees-within : (m : ℕ) (known : Known) (w : Next) (s : List ℕ) → left w (length s) < m → Sound wanted known → Agrees known w s
     agrees-within zero known w s lt sound = absurd (omega arith)
     agrees-within (suc m) known w s lt sound = at (goes_on known.ending) refl (λ q v t less also. agrees-within m q v t (omega arith) also) where
-      at : (b : Bool) → goes_on known.ending ≡ b → ((q : Known) (v : Next) (t : List ℕ) → left v (length t) < left w (length s) → Sound wanted q → Agrees q v t) → Agrees known w s
+      at : (b : Bool) → goes_on known.ending ≡ b → ((q : Known) (v : Next) (t : List ℕ) → left v (length t) < left w (length s) → Sound wanted q → Agrees q v t)
+          → Agrees known w s
       at true whole others = step-agrees known w s (next_step (stored known) w s) refl sound whole others
       at false ended others = ended-agrees known w s sound ended
 
@@ -158,29 +178,37 @@ module _ (wanted : Request) where
       along : Agrees known Item database.text
       along = agrees known Item database.text sound
 
-      at : (b long : Bool) → (if b then (if long then record (kept_of wanted known) { ending = FileLimit } else closed wanted (kept_along wanted (kept_of wanted known) (events_with wanted (kept_of wanted known) Item database.text))) else kept_of wanted known)
-          ≡ kept_of wanted (if b then (if long then record known { ending = FileLimit } else with_current_stored (after_all wanted known (known_events known Item database.text))) else known)
+      at : (b long : Bool) → (if b then (if long then record (kept_of wanted known) { ending = FileLimit } else closed wanted
+          (kept_along wanted (kept_of wanted known) (events_with wanted (kept_of wanted known) Item database.text))) else kept_of wanted known)
+          ≡ kept_of wanted (if b then (if long then record known { ending = FileLimit } else with_current_stored
+          (after_all wanted known (known_events known Item database.text))) else known)
       at false long = refl
       at true true = refl
       at true false = ap (closed wanted) along.0 ∙ closed-kept wanted (after_all wanted known (known_events known Item database.text)) along.2
 
     pub one-logged : (known : Known) → Sound wanted known → messages_of_one wanted (kept_of wanted known) database ≡ messages_one wanted known database
-    one-logged known sound = ap (λ (ms : List Message). if goes_on known.ending then (if is_too_long database.text then [] else ms) else []) (agrees known Item database.text sound).1
+    one-logged known sound = ap (λ (ms : List Message). if goes_on known.ending then (if is_too_long database.text then [] else ms) else [])
+        (agrees known Item database.text sound).1
 
     pub one-sound : (known : Known) → Sound wanted known → Sound wanted (known_one wanted known database)
     one-sound known sound = at (goes_on known.ending) (is_too_long database.text) where
-      at : (b long : Bool) → Sound wanted (if b then (if long then record known { ending = FileLimit } else with_current_stored (after_all wanted known (known_events known Item database.text))) else known)
+      at : (b long : Bool) → Sound wanted
+          (if b then (if long then record known { ending = FileLimit } else with_current_stored
+          (after_all wanted known (known_events known Item database.text))) else known)
       at false long = sound
       at true true = sound
       at true false = closed-sound wanted (after_all wanted known (known_events known Item database.text)) (agrees known Item database.text sound).2
 
   -- ---- all databases
 
-  pub all-kept : (databases : List Database) (known : Known) → Sound wanted known → kept_by_all wanted (kept_of wanted known) databases ≡ kept_of wanted (known_all wanted known databases)
+  pub all-kept : (databases : List Database) (known : Known) → Sound wanted known → kept_by_all wanted (kept_of wanted known) databases
+      ≡ kept_of wanted (known_all wanted known databases)
   all-kept [] known sound = refl
-  all-kept (d ∷ ds) known sound = ap (λ (k : Gathering). kept_by_all wanted k ds) (one-kept d known sound) ∙ all-kept ds (known_one wanted known d) (one-sound d known sound)
+  all-kept (d ∷ ds) known sound = ap (λ (k : Gathering). kept_by_all wanted k ds) (one-kept d known sound)
+      ∙ all-kept ds (known_one wanted known d) (one-sound d known sound)
 
-  pub all-logged : (databases : List Database) (known : Known) → Sound wanted known → messages_of_all wanted (kept_of wanted known) databases ≡ messages_from_all wanted known databases
+  pub all-logged : (databases : List Database) (known : Known) → Sound wanted known → messages_of_all wanted (kept_of wanted known) databases
+      ≡ messages_from_all wanted known databases
   all-logged [] known sound = refl
   all-logged (d ∷ ds) known sound =
       ap (λ (ms : List Message). ms ++ messages_of_all wanted (kept_one wanted (kept_of wanted known) d) ds) (one-logged d known sound)

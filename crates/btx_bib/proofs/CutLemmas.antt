@@ -1,5 +1,6 @@
 -- A database that is cut in two where no item is open gives the same.
-use Rattle.std.proofs.Common.{◌≡◌, ◌≤◌, ◌+◌, ◌⊎◌, inl, inr, is_some, ℕ, zero, suc, nat_lt, arith, Bool, true, false, if◌then◌else◌, List, [], ◌∷◌, ◌++◌, map, fold, length, Option, None, Some, Ok, Err, refl, sym, ap, subst, ◌∙◌, append-nil}
+use Rattle.std.proofs.Common.{◌≡◌, ◌≤◌, ◌+◌, ◌⊎◌, inl, inr, is_some, ℕ, zero, suc, nat_lt, arith, Bool, true, false, if◌then◌else◌, List, [], ◌∷◌, ◌++◌, map}
+use Rattle.std.proofs.Common.{fold, length, Option, None, Some, Ok, Err, refl, sym, ap, subst, ◌∙◌, append-nil}
 use Rattle.std.specs.Option.{option_map}
 use Rattle.std.proofs.lemmas.Bool.Decides.{nat_tests}
 use Rattle.std.proofs.lemmas.Grind.{fold-append}
@@ -17,7 +18,8 @@ use Rattle.btx_bib.specs.declared.grammar.value_ends.Ends.TheVariants.{Kept, Tri
 use Rattle.btx_bib.specs.declared.message.Message.{Message}
 use Rattle.btx_bib.specs.language.Grammar.Tokens.{Parsed, followed_by, name_at, open_at, sign_at, key_at}
 use Rattle.btx_bib.specs.language.Grammar.Fields.{Field}
-use Rattle.btx_bib.specs.language.Grammar.Items.{Event, Comment, Preamble, Definition, Entry, FieldOf, End as Close, Wrong, Placed, Step, Keeping, head_of, head_at, command_of, step_by, behind_at, expected_step, is_repeated, next_step, events_within, events_from}
+use Rattle.btx_bib.specs.language.Grammar.Items.{Event, Comment, Preamble, Definition, Entry, FieldOf, End as Close, Wrong, Placed, Step, Keeping, head_of}
+use Rattle.btx_bib.specs.language.Grammar.Items.{head_at, command_of, step_by, behind_at, expected_step, is_repeated, next_step, events_within, events_from}
 use Rattle.btx_bib.specs.language.Grammar.Values.{Part, Braced, Quoted, Digits, Named, value_at}
 use Rattle.btx_bib.specs.language.Grammar.ValueTexts.{text_of_part, shaped, value_text}
 use Rattle.btx_bib.specs.language.Wanted.{Request}
@@ -81,15 +83,18 @@ alone-field : (wanted : Request) (known : Known) (o : Option Given) (field : Fie
     → after_field wanted known o (record { name = field.name; value = map part_alone field.value }) ≡ after_field wanted known o field
 alone-field wanted known None field = refl
 alone-field wanted known (Some given) field =
-    ap (λ (text : List ℕ). if keeps_field wanted given field.name then if_fits text known (record known { current = Some (with_field given field.name text) }) else known)
+    ap (λ (text : List ℕ). if keeps_field wanted given field.name then if_fits text known (record known { current = Some (with_field given field.name text) })
+    else known)
     (alone-value Trimmed (string_value known.strings) field.value)
 
 alone-event : (wanted : Request) (known : Known) (event : Event) → after_event wanted known (event_alone event) ≡ after_event wanted known event
 alone-event wanted known Comment = refl
 alone-event wanted known (Preamble value) =
-    ap (λ (text : List ℕ). if_fits (known.preamble ++ text) known (record known { preamble = known.preamble ++ text })) (alone-value Kept (string_value known.strings) value)
+    ap (λ (text : List ℕ). if_fits (known.preamble ++ text) known (record known { preamble = known.preamble ++ text }))
+    (alone-value Kept (string_value known.strings) value)
 alone-event wanted known (Definition name value) =
-    ap (λ (text : List ℕ). if_fits text known (record known { strings = defined known.strings name text })) (alone-value Kept (other_value known.strings name) value)
+    ap (λ (text : List ℕ). if_fits text known (record known { strings = defined known.strings name text }))
+    (alone-value Kept (other_value known.strings name) value)
 alone-event wanted known (Entry kind key) = refl
 alone-event wanted known (FieldOf field) = alone-field wanted known known.current field
 alone-event wanted known Close = refl
@@ -105,7 +110,8 @@ alone events = map (λ (placed : Placed). event_alone placed.event) events
 alone-all : (wanted : Request) (known : Known) (events : List Placed) → fold (known_after wanted) known (alone events) ≡ after_all wanted known events
 alone-all wanted known [] = refl
 alone-all wanted known (placed ∷ events) =
-    ap (λ (next : Known). fold (known_after wanted) next (alone events)) (alone-after wanted known placed.event) ∙ alone-all wanted (known_after wanted known placed.event) events
+    ap (λ (next : Known). fold (known_after wanted) next (alone events)) (alone-after wanted known placed.event)
+    ∙ alone-all wanted (known_after wanted known placed.event) events
 
 -- ---- an item's events begin with no field
 
@@ -140,7 +146,8 @@ abbrev ReadNone : Parsed (Event × Next) → Type 0
 ReadNone (Ok got) = BeginsNone got.0.0 got.0.1
 ReadNone (Err wrong) = Unit {0}
 
-followed-none : {A : Type 0} (read : Parsed A) (next : A → List ℕ → Parsed (Event × Next)) → ((a : A) (rest : List ℕ) → ReadNone (next a rest)) → ReadNone (followed_by read next)
+followed-none : {A : Type 0} (read : Parsed A) (next : A → List ℕ → Parsed (Event × Next)) → ((a : A) (rest : List ℕ) → ReadNone (next a rest))
+    → ReadNone (followed_by read next)
 followed-none (Ok got) next h = h got.0 got.1
 followed-none (Err wrong) next h = tt
 
@@ -149,7 +156,9 @@ unfolding head_of
 head-none command.Comment name text = tt
 head-none command.Preamble name text = followed-none (open_at text) _ (λ delimiter behind. followed-none (value_at behind) _ (λ value rest. tt))
 head-none command.Definition name text =
-    followed-none (open_at text) _ (λ delimiter behind. followed-none (name_at behind) _ (λ string behind_name. followed-none (sign_at 61 NoEquals behind_name) _ (λ sign behind_sign. followed-none (value_at behind_sign) _ (λ value rest. tt))))
+    followed-none (open_at text) _ (λ delimiter behind. followed-none (name_at behind) _
+    (λ string behind_name. followed-none (sign_at 61 NoEquals behind_name) _
+    (λ sign behind_sign. followed-none (value_at behind_sign) _ (λ value rest. tt))))
 head-none command.Entry name text = followed-none (open_at text) _ (λ delimiter behind. followed-none (key_at delimiter behind) _ (λ key rest. tt))
 
 head-at-none : (text : List ℕ) → ReadNone (head_at text)
@@ -185,7 +194,8 @@ known-none is_stored (Some step) h = by_test (is_repeated is_stored step.event) 
   by_test false = h
 
 -- the events behind one that isn't a field
-alone-first : (event : Event) (next : Next) (others : List Event) → BeginsNone event next → (WantsNone next → NoFieldFirst others) → NoFieldFirst (event_alone event ∷ others)
+alone-first : (event : Event) (next : Next) (others : List Event) → BeginsNone event next → (WantsNone next → NoFieldFirst others)
+    → NoFieldFirst (event_alone event ∷ others)
 alone-first Comment next others h rest = rest h
 alone-first (Preamble value) next others h rest = rest h
 alone-first (Definition name value) next others h rest = rest h
@@ -194,12 +204,15 @@ alone-first (FieldOf field) next others h rest = absurd h
 alone-first Close next others h rest = rest h
 alone-first (Wrong slip) next others h rest = rest h
 
-within-none : {S : Type 0} (kept : Keeping S) (turns : ℕ) (state : S) (next : Next) (text : List ℕ) → WantsNone next → NoFieldFirst (alone (events_within kept turns state next text))
+within-none : {S : Type 0} (kept : Keeping S) (turns : ℕ) (state : S) (next : Next) (text : List ℕ) → WantsNone next
+    → NoFieldFirst (alone (events_within kept turns state next text))
 unfolding events_within
 within-none kept zero state next text none = tt
 within-none {S} kept (suc turns) state next text none =
-    by_step (next_step (kept.is_stored state) next text) (known-none (kept.is_stored state) (expected_step next text) (step-none next text none)) (within-none kept turns) where
-      by_step : (o : Option Step) → StepNone o → ((state : S) (next : Next) (text : List ℕ) → WantsNone next → NoFieldFirst (alone (events_within kept turns state next text)))
+    by_step (next_step (kept.is_stored state) next text) (known-none (kept.is_stored state) (expected_step next text) (step-none next text none))
+    (within-none kept turns) where
+      by_step : (o : Option Step) → StepNone o
+          → ((state : S) (next : Next) (text : List ℕ) → WantsNone next → NoFieldFirst (alone (events_within kept turns state next text)))
           → NoFieldFirst (alone (events_by kept (events_within kept turns) state o))
       by_step None h later = tt
       by_step (Some step) h later = alone-first step.event step.wanted _ h (λ none. later (kept.after state step.event) step.wanted step.rest none)
@@ -219,43 +232,56 @@ stuck wanted known [] ended = refl
 stuck wanted known (event ∷ events) ended =
     ap (λ (b : Bool). fold (known_after wanted) (if b then after_event wanted known event else known) events) ended ∙ stuck wanted known events ended
 
-closed-fits : (text : List ℕ) (known next : Known) → if_fits text (with_current_stored known) (with_current_stored next) ≡ with_current_stored (if_fits text known next)
+closed-fits : (text : List ℕ) (known next : Known) → if_fits text (with_current_stored known) (with_current_stored next)
+    ≡ with_current_stored (if_fits text known next)
 closed-fits text known next = by_test (nat_lt greatest_string (length text)) where
-  by_test : (b : Bool) → (if b then record (with_current_stored known) { ending = end.StringLimit } else with_current_stored next) ≡ with_current_stored (if b then record known { ending = end.StringLimit } else next)
+  by_test : (b : Bool) → (if b then record (with_current_stored known) { ending = end.StringLimit } else with_current_stored next)
+      ≡ with_current_stored (if b then record known { ending = end.StringLimit } else next)
   by_test true = refl
   by_test false = refl
 
 abbrev Alike : Request → Known → List Event → Type 0
-Alike wanted known events = with_current_stored (fold (known_after wanted) (with_current_stored known) events) ≡ with_current_stored (fold (known_after wanted) known events)
+Alike wanted known events = with_current_stored (fold (known_after wanted) (with_current_stored known) events)
+    ≡ with_current_stored (fold (known_after wanted) known events)
 
 -- a known state at which a reading ends
 alike-stuck : (wanted : Request) (known : Known) (events : List Event) → goes_on known.ending ≡ false → Alike wanted known events
-alike-stuck wanted known events ended = ap with_current_stored (stuck wanted (with_current_stored known) events ended) ∙ closed-closed known ∙ sym (ap with_current_stored (stuck wanted known events ended))
+alike-stuck wanted known events ended = ap with_current_stored (stuck wanted (with_current_stored known) events ended) ∙ closed-closed known
+    ∙ sym (ap with_current_stored (stuck wanted known events ended))
 
 -- an event that does the same before and after the end of an entry
-alike-next : (wanted : Request) (known : Known) (event : Event) (events : List Event) → goes_on known.ending ≡ true → after_event wanted (with_current_stored known) event ≡ with_current_stored (after_event wanted known event)
+alike-next : (wanted : Request) (known : Known) (event : Event) (events : List Event) → goes_on known.ending ≡ true
+    → after_event wanted (with_current_stored known) event ≡ with_current_stored (after_event wanted known event)
     → Alike wanted (after_event wanted known event) events → Alike wanted known (event ∷ events)
 alike-next wanted known event events on same rest =
-    ap (λ (b : Bool). with_current_stored (fold (known_after wanted) (if b then after_event wanted (with_current_stored known) event else with_current_stored known) events)) on
+    ap (λ (b : Bool). with_current_stored
+    (fold (known_after wanted) (if b then after_event wanted (with_current_stored known) event else with_current_stored known) events)) on
     ∙ ap (λ (next : Known). with_current_stored (fold (known_after wanted) next events)) same
     ∙ rest
     ∙ sym (ap (λ (b : Bool). with_current_stored (fold (known_after wanted) (if b then after_event wanted known event else known) events)) on)
 
-alike-entry : (wanted : Request) (known : Known) (kind key : List ℕ) (events : List Event) → goes_on known.ending ≡ true → Alike wanted known (Entry kind key ∷ events)
+alike-entry : (wanted : Request) (known : Known) (kind key : List ℕ) (events : List Event) → goes_on known.ending ≡ true
+    → Alike wanted known (Entry kind key ∷ events)
 alike-entry wanted known kind key events on =
-    ap (λ (b : Bool). with_current_stored (fold (known_after wanted) (if b then after_key wanted (with_current_stored (with_current_stored known)) kind key else with_current_stored known) events)) on
+    ap (λ (b : Bool). with_current_stored
+    (fold (known_after wanted) (if b then after_key wanted (with_current_stored (with_current_stored known)) kind key else with_current_stored known)
+    events)) on
     ∙ ap (λ (next : Known). with_current_stored (fold (known_after wanted) (after_key wanted next kind key) events)) (closed-closed known)
-    ∙ sym (ap (λ (b : Bool). with_current_stored (fold (known_after wanted) (if b then after_key wanted (with_current_stored known) kind key else known) events)) on)
+    ∙ sym (ap (λ (b : Bool). with_current_stored (fold (known_after wanted) (if b then after_key wanted (with_current_stored known) kind key else known)
+    events)) on)
 
-alike-first : (wanted : Request) (event : Event) (events : List Event) → NoFieldFirst (event ∷ events) → (NoFieldFirst events → (known : Known) → Alike wanted known events)
+alike-first : (wanted : Request) (event : Event) (events : List Event) → NoFieldFirst (event ∷ events)
+    → (NoFieldFirst events → (known : Known) → Alike wanted known events)
     → (known : Known) → goes_on known.ending ≡ true → Alike wanted known (event ∷ events)
 alike-first wanted Comment events none rest known on = alike-next wanted known Comment events on refl (rest none known)
 alike-first wanted (Preamble value) events none rest known on =
     let whole = known.preamble ++ value_text Kept (string_value known.strings) value in
-    alike-next wanted known (Preamble value) events on (closed-fits whole known (record known { preamble = whole })) (rest none (after_event wanted known (Preamble value)))
+    alike-next wanted known (Preamble value) events on (closed-fits whole known (record known { preamble = whole }))
+    (rest none (after_event wanted known (Preamble value)))
 alike-first wanted (Definition name value) events none rest known on =
     let text = value_text Kept (other_value known.strings name) value in
-    alike-next wanted known (Definition name value) events on (closed-fits text known (record known { strings = defined known.strings name text })) (rest none (after_event wanted known (Definition name value)))
+    alike-next wanted known (Definition name value) events on (closed-fits text known (record known { strings = defined known.strings name text }))
+    (rest none (after_event wanted known (Definition name value)))
 alike-first wanted (Entry kind key) events none rest known on = alike-entry wanted known kind key events on
 alike-first wanted (FieldOf field) events none rest known on = absurd none
 alike-first wanted Close events none rest known on = alike-next wanted known Close events on refl (rest none known)
@@ -279,7 +305,8 @@ alone-part more (Named string) = refl
 alone-parts : (more : List ℕ) (value : List Part) → map part_alone (map (part_on more) value) ≡ map part_alone value
 alone-parts more [] = refl
 alone-parts more (part ∷ value) =
-    ap (λ (p : Part). p ∷ map part_alone (map (part_on more) value)) (alone-part more part) ∙ ap (λ (ps : List Part). part_alone part ∷ ps) (alone-parts more value)
+    ap (λ (p : Part). p ∷ map part_alone (map (part_on more) value)) (alone-part more part)
+    ∙ ap (λ (ps : List Part). part_alone part ∷ ps) (alone-parts more value)
 
 alone-on : (more : List ℕ) (event : Event) → event_alone (event_on more event) ≡ event_alone event
 alone-on more Comment = refl
@@ -291,7 +318,8 @@ alone-on more Close = refl
 alone-on more (Wrong slip) = refl
 
 after-on : (wanted : Request) (more : List ℕ) (known : Known) (event : Event) → known_after wanted known (event_on more event) ≡ known_after wanted known event
-after-on wanted more known event = sym (alone-after wanted known (event_on more event)) ∙ ap (known_after wanted known) (alone-on more event) ∙ alone-after wanted known event
+after-on wanted more known event = sym (alone-after wanted known (event_on more event)) ∙ ap (known_after wanted known) (alone-on more event)
+    ∙ alone-after wanted known event
 
 alone-behind : (more : List ℕ) (events behind : List Placed) → alone (map (placed_on more) events ++ behind) ≡ alone events ++ alone behind
 alone-behind more [] behind = refl
@@ -305,13 +333,16 @@ after-ended : (wanted : Request) (known : Known) (event : Event) → goes_on kno
 after-ended wanted known event over = ap (λ (b : Bool). if b then after_event wanted known event else known) over
 
 -- after what is neither an entry nor a field
-closed-after : (wanted : Request) (known : Known) (event : Event) → goes_on known.ending ≡ true → after_event wanted (with_current_stored known) event ≡ with_current_stored (after_event wanted known event) → known_after wanted (with_current_stored known) event ≡ with_current_stored (known_after wanted known event)
+closed-after : (wanted : Request) (known : Known) (event : Event) → goes_on known.ending ≡ true → after_event wanted (with_current_stored known) event
+    ≡ with_current_stored (after_event wanted known event) → known_after wanted (with_current_stored known) event
+    ≡ with_current_stored (known_after wanted known event)
 closed-after wanted known event on same =
     ap (λ (b : Bool). if b then after_event wanted (with_current_stored known) event else with_current_stored known) on
     ∙ same
     ∙ sym (ap (λ (b : Bool). with_current_stored (if b then after_event wanted known event else known)) on)
 
-closed-entry : (wanted : Request) (known : Known) (kind key : List ℕ) → goes_on known.ending ≡ true → known_after wanted (with_current_stored known) (Entry kind key) ≡ known_after wanted known (Entry kind key)
+closed-entry : (wanted : Request) (known : Known) (kind key : List ℕ) → goes_on known.ending ≡ true
+    → known_after wanted (with_current_stored known) (Entry kind key) ≡ known_after wanted known (Entry kind key)
 closed-entry wanted known kind key on =
     ap (λ (b : Bool). if b then after_key wanted (with_current_stored (with_current_stored known)) kind key else with_current_stored known) on
     ∙ ap (λ (k : Known). after_key wanted k kind key) (closed-closed known)
@@ -322,37 +353,50 @@ abbrev SameEvents : Request → ℕ → Type 0
 SameEvents wanted turns = (known : Known) (next : Next) (text : List ℕ) → WantsNone next ⊎ (goes_on known.ending ≡ false)
     → events_within (keeping wanted) turns (with_current_stored known) next text ≡ events_within (keeping wanted) turns known next text
 
-events-after : (wanted : Request) (turns : ℕ) (known : Known) (event : Event) (next : Next) (text : List ℕ) → SameEvents wanted turns → goes_on known.ending ≡ true → BeginsNone event next
-    → events_within (keeping wanted) turns (known_after wanted (with_current_stored known) event) next text ≡ events_within (keeping wanted) turns (known_after wanted known event) next text
-events-after wanted turns known (Entry kind key) next text later on none = ap (λ (k : Known). events_within (keeping wanted) turns k next text) (closed-entry wanted known kind key on)
+events-after : (wanted : Request) (turns : ℕ) (known : Known) (event : Event) (next : Next) (text : List ℕ) → SameEvents wanted turns
+    → goes_on known.ending ≡ true → BeginsNone event next
+    → events_within (keeping wanted) turns (known_after wanted (with_current_stored known) event) next text
+    ≡ events_within (keeping wanted) turns (known_after wanted known event) next text
+events-after wanted turns known (Entry kind key) next text later on none = ap (λ (k : Known). events_within (keeping wanted) turns k next text)
+    (closed-entry wanted known kind key on)
 events-after wanted turns known (FieldOf field) next text later on none = absurd none
 events-after wanted turns known Comment next text later on none =
-    ap (λ (k : Known). events_within (keeping wanted) turns k next text) (closed-after wanted known Comment on refl) ∙ later (known_after wanted known Comment) next text (inl none)
+    ap (λ (k : Known). events_within (keeping wanted) turns k next text) (closed-after wanted known Comment on refl)
+    ∙ later (known_after wanted known Comment) next text (inl none)
 events-after wanted turns known (Preamble value) next text later on none =
     let whole = known.preamble ++ value_text Kept (string_value known.strings) value in
-    ap (λ (k : Known). events_within (keeping wanted) turns k next text) (closed-after wanted known (Preamble value) on (closed-fits whole known (record known { preamble = whole })))
+    ap (λ (k : Known). events_within (keeping wanted) turns k next text)
+    (closed-after wanted known (Preamble value) on (closed-fits whole known (record known { preamble = whole })))
     ∙ later (known_after wanted known (Preamble value)) next text (inl none)
 events-after wanted turns known (Definition name value) next text later on none =
     let string = value_text Kept (other_value known.strings name) value in
-    ap (λ (k : Known). events_within (keeping wanted) turns k next text) (closed-after wanted known (Definition name value) on (closed-fits string known (record known { strings = defined known.strings name string })))
+    ap (λ (k : Known). events_within (keeping wanted) turns k next text)
+    (closed-after wanted known (Definition name value) on (closed-fits string known (record known { strings = defined known.strings name string })))
     ∙ later (known_after wanted known (Definition name value)) next text (inl none)
 events-after wanted turns known Close next text later on none =
-    ap (λ (k : Known). events_within (keeping wanted) turns k next text) (closed-after wanted known Close on refl) ∙ later (known_after wanted known Close) next text (inl none)
+    ap (λ (k : Known). events_within (keeping wanted) turns k next text) (closed-after wanted known Close on refl)
+    ∙ later (known_after wanted known Close) next text (inl none)
 events-after wanted turns known (Wrong slip) next text later on none =
-    ap (λ (k : Known). events_within (keeping wanted) turns k next text) (closed-after wanted known (Wrong slip) on refl) ∙ later (known_after wanted known (Wrong slip)) next text (inl none)
+    ap (λ (k : Known). events_within (keeping wanted) turns k next text) (closed-after wanted known (Wrong slip) on refl)
+    ∙ later (known_after wanted known (Wrong slip)) next text (inl none)
 
-events-ended : (wanted : Request) (turns : ℕ) (known : Known) (event : Event) (next : Next) (text : List ℕ) → SameEvents wanted turns → goes_on known.ending ≡ false
-    → events_within (keeping wanted) turns (known_after wanted (with_current_stored known) event) next text ≡ events_within (keeping wanted) turns (known_after wanted known event) next text
+events-ended : (wanted : Request) (turns : ℕ) (known : Known) (event : Event) (next : Next) (text : List ℕ) → SameEvents wanted turns
+    → goes_on known.ending ≡ false
+    → events_within (keeping wanted) turns (known_after wanted (with_current_stored known) event) next text
+    ≡ events_within (keeping wanted) turns (known_after wanted known event) next text
 events-ended wanted turns known event next text later over =
     ap (λ (k : Known). events_within (keeping wanted) turns k next text) (after-ended wanted (with_current_stored known) event over)
     ∙ later known next text (inr over)
     ∙ sym (ap (λ (k : Known). events_within (keeping wanted) turns k next text) (after-ended wanted known event over))
 
-events-behind : (wanted : Request) (turns : ℕ) (known : Known) (event : Event) (next : Next) (text : List ℕ) → SameEvents wanted turns → BeginsNone event next ⊎ (goes_on known.ending ≡ false)
-    → events_within (keeping wanted) turns (known_after wanted (with_current_stored known) event) next text ≡ events_within (keeping wanted) turns (known_after wanted known event) next text
+events-behind : (wanted : Request) (turns : ℕ) (known : Known) (event : Event) (next : Next) (text : List ℕ) → SameEvents wanted turns → BeginsNone event next
+    ⊎ (goes_on known.ending ≡ false)
+    → events_within (keeping wanted) turns (known_after wanted (with_current_stored known) event) next text
+    ≡ events_within (keeping wanted) turns (known_after wanted known event) next text
 events-behind wanted turns known event next text later (inr over) = events-ended wanted turns known event next text later over
 events-behind wanted turns known event next text later (inl none) = by_end (goes_on known.ending) refl where
-  by_end : (b : Bool) → goes_on known.ending ≡ b → events_within (keeping wanted) turns (known_after wanted (with_current_stored known) event) next text ≡ events_within (keeping wanted) turns (known_after wanted known event) next text
+  by_end : (b : Bool) → goes_on known.ending ≡ b → events_within (keeping wanted) turns (known_after wanted (with_current_stored known) event) next text
+      ≡ events_within (keeping wanted) turns (known_after wanted known event) next text
   by_end true on = events-after wanted turns known event next text later on none
   by_end false over = events-ended wanted turns known event next text later over
 
@@ -360,41 +404,54 @@ events-closed : (wanted : Request) (turns : ℕ) → SameEvents wanted turns
 unfolding events_within
 events-closed wanted zero known next text h = refl
 events-closed wanted (suc turns) known next text h =
-    ap (λ (entries : List Given). events_by (keeping wanted) (events_within (keeping wanted) turns) (with_current_stored known) (next_step (λ key. is_some (entry_with_key entries key)) next text)) (append-nil (stored_in known))
+    ap (λ (entries : List Given). events_by (keeping wanted) (events_within (keeping wanted) turns) (with_current_stored known)
+    (next_step (λ key. is_some (entry_with_key entries key)) next text)) (append-nil (stored_in known))
     ∙ by_step (next_step ((keeping wanted).is_stored known) next text) (steps h) (events-closed wanted turns) where
-      steps : WantsNone next ⊎ (goes_on known.ending ≡ false) → StepNone (next_step ((keeping wanted).is_stored known) next text) ⊎ (goes_on known.ending ≡ false)
+      steps : WantsNone next ⊎ (goes_on known.ending ≡ false) → StepNone (next_step ((keeping wanted).is_stored known) next text)
+          ⊎ (goes_on known.ending ≡ false)
       steps (inl none) = inl (known-none ((keeping wanted).is_stored known) (expected_step next text) (step-none next text none))
       steps (inr over) = inr over
 
       by_step : (o : Option Step) → StepNone o ⊎ (goes_on known.ending ≡ false) → SameEvents wanted turns
-          → events_by (keeping wanted) (events_within (keeping wanted) turns) (with_current_stored known) o ≡ events_by (keeping wanted) (events_within (keeping wanted) turns) known o
+          → events_by (keeping wanted) (events_within (keeping wanted) turns) (with_current_stored known) o
+          ≡ events_by (keeping wanted) (events_within (keeping wanted) turns) known o
       by_step None none later = refl
       by_step (Some step) none later =
-          ap (λ (events : List Placed). record { event = step.event; rest = step.rest } ∷ events) (events-behind wanted turns known step.event step.wanted step.rest later none)
+          ap (λ (events : List Placed). record { event = step.event; rest = step.rest } ∷ events)
+          (events-behind wanted turns known step.event step.wanted step.rest later none)
 
-events_from-closed : (wanted : Request) (known : Known) (text : List ℕ) → events_from (keeping wanted) (with_current_stored known) Item text ≡ events_from (keeping wanted) known Item text
+events_from-closed : (wanted : Request) (known : Known) (text : List ℕ) → events_from (keeping wanted) (with_current_stored known) Item text
+    ≡ events_from (keeping wanted) known Item text
 unfolding events_from
 events_from-closed wanted known text = events-closed wanted _ known Item text (inl tt)
 
 -- ---- one database or two
 
-is-read : (wanted : Request) (known : Known) (database : Database) → goes_on known.ending ≡ true → is_too_long database.text ≡ false → known_one wanted known database ≡ with_current_stored (fold (known_after wanted) known (read_in wanted known database))
+is-read : (wanted : Request) (known : Known) (database : Database) → goes_on known.ending ≡ true → is_too_long database.text ≡ false
+    → known_one wanted known database ≡ with_current_stored (fold (known_after wanted) known (read_in wanted known database))
 is-read wanted known database on short =
-    ap (λ (b : Bool). if b then (if is_too_long database.text then record known { ending = end.FileLimit } else with_current_stored (after_all wanted known (database_events wanted known database))) else known) on
-    ∙ ap (λ (b : Bool). if b then record known { ending = end.FileLimit } else with_current_stored (after_all wanted known (database_events wanted known database))) short
+    ap (λ (b : Bool). if b then (if is_too_long database.text then record known { ending = end.FileLimit } else with_current_stored
+    (after_all wanted known (database_events wanted known database))) else known) on
+    ∙ ap (λ (b : Bool). if b then record known { ending = end.FileLimit } else with_current_stored
+    (after_all wanted known (database_events wanted known database))) short
     ∙ ap with_current_stored (sym (alone-all wanted known (database_events wanted known database)))
 
 is-ended : (wanted : Request) (known : Known) (database : Database) → goes_on known.ending ≡ false → known_one wanted known database ≡ known
 is-ended wanted known database ended =
-    ap (λ (b : Bool). if b then (if is_too_long database.text then record known { ending = end.FileLimit } else with_current_stored (after_all wanted known (database_events wanted known database))) else known) ended
+    ap (λ (b : Bool). if b then (if is_too_long database.text then record known { ending = end.FileLimit } else with_current_stored
+    (after_all wanted known (database_events wanted known database))) else known) ended
 
 -- a second database, after what a first one left
 then-read : (wanted : Request) (before : Known) (second : Database) → is_too_long second.text ≡ false
-    → known_one wanted (with_current_stored before) second ≡ with_current_stored (fold (known_after wanted) before (read_in wanted (with_current_stored before) second))
+    → known_one wanted (with_current_stored before) second
+    ≡ with_current_stored (fold (known_after wanted) before (read_in wanted (with_current_stored before) second))
 then-read wanted before second short = by_end (goes_on before.ending) refl where
-  by_end : (b : Bool) → goes_on before.ending ≡ b → known_one wanted (with_current_stored before) second ≡ with_current_stored (fold (known_after wanted) before (read_in wanted (with_current_stored before) second))
-  by_end true on = is-read wanted (with_current_stored before) second on short ∙ alike wanted (read_in wanted (with_current_stored before) second) (read-none wanted (with_current_stored before) second) before
-  by_end false over = is-ended wanted (with_current_stored before) second over ∙ sym (ap with_current_stored (stuck wanted before (read_in wanted (with_current_stored before) second) over))
+  by_end : (b : Bool) → goes_on before.ending ≡ b → known_one wanted (with_current_stored before) second
+      ≡ with_current_stored (fold (known_after wanted) before (read_in wanted (with_current_stored before) second))
+  by_end true on = is-read wanted (with_current_stored before) second on short ∙ alike wanted (read_in wanted (with_current_stored before) second)
+      (read-none wanted (with_current_stored before) second) before
+  by_end false over = is-ended wanted (with_current_stored before) second over
+      ∙ sym (ap with_current_stored (stuck wanted before (read_in wanted (with_current_stored before) second) over))
 
 shorter : (part whole : ℕ) → part ≤ whole → nat_lt greatest_file whole ≡ false → nat_lt greatest_file part ≡ false
 shorter part whole le short = by_test (nat_lt greatest_file part) refl where
@@ -403,22 +460,26 @@ shorter part whole le short = by_test (nat_lt greatest_file part) refl where
   by_test true h = absurd (grind (arith, nat_tests))
 
 -- what is read in the whole is what is read in the first and then what is read in the second
-cut-is-read : (wanted : Request) (known : Known) (whole first second : Database) → IsCutBetweenItems wanted known whole first second → goes_on known.ending ≡ true → is_too_long first.text ≡ false
+cut-is-read : (wanted : Request) (known : Known) (whole first second : Database) → IsCutBetweenItems wanted known whole first second
+    → goes_on known.ending ≡ true → is_too_long first.text ≡ false
     → read_in wanted known whole ≡ read_in wanted known first ++ read_in wanted (known_one wanted known first) second
 cut-is-read wanted known whole first second cut on short =
     let events = database_events wanted known first in
     let middle = after_all wanted known events in
     let behind = events_from (keeping wanted) middle Item second.text in
-    let reading = reading-on second.text (keeping wanted) (after-on wanted second.text) events behind known Item first.text cut.1 (is_reading (keeping wanted) known Item first.text) (is_reading (keeping wanted) middle Item second.text) in
+    let reading = reading-on second.text (keeping wanted) (after-on wanted second.text) events behind known Item first.text cut.1
+    (is_reading (keeping wanted) known Item first.text) (is_reading (keeping wanted) middle Item second.text) in
     let is = one_reading (keeping wanted) (map (placed_on second.text) events ++ behind) known Item (first.text ++ second.text) reading in
-    let left : known_one wanted known first ≡ with_current_stored middle = is-read wanted known first on short ∙ ap with_current_stored (alone-all wanted known events) in
+    let left : known_one wanted known first ≡ with_current_stored middle = is-read wanted known first on short
+    ∙ ap with_current_stored (alone-all wanted known events) in
     ap (λ (text : List ℕ). alone (events_from (keeping wanted) known Item text)) cut.0
     ∙ ap alone (sym is)
     ∙ alone-behind second.text events behind
     ∙ ap (λ (others : List Placed). alone events ++ alone others) (sym (events_from-closed wanted middle second.text))
     ∙ ap (λ (k : Known). alone events ++ read_in wanted k second) (sym left)
 
-cut-reads : (wanted : Request) (known : Known) (whole first second : Database) → IsCutBetweenItems wanted known whole first second → is_too_long whole.text ≡ false
+cut-reads : (wanted : Request) (known : Known) (whole first second : Database) → IsCutBetweenItems wanted known whole first second
+    → is_too_long whole.text ≡ false
     → known_one wanted (known_one wanted known first) second ≡ known_one wanted known whole
 cut-reads wanted known whole first second cut short = by_end (goes_on known.ending) refl where
   long : length whole.text ≡ length first.text + length second.text
@@ -431,20 +492,24 @@ cut-reads wanted known whole first second cut short = by_end (goes_on known.endi
   second-short = shorter (length second.text) (length whole.text) (omega (arith, long)) short
 
   by_end : (b : Bool) → goes_on known.ending ≡ b → known_one wanted (known_one wanted known first) second ≡ known_one wanted known whole
-  by_end false over = ap (λ (k : Known). known_one wanted k second) (is-ended wanted known first over) ∙ is-ended wanted known second over ∙ sym (is-ended wanted known whole over)
+  by_end false over = ap (λ (k : Known). known_one wanted k second) (is-ended wanted known first over) ∙ is-ended wanted known second over
+      ∙ sym (is-ended wanted known whole over)
   by_end true on =
       let before = fold (known_after wanted) known (read_in wanted known first) in
       let left : known_one wanted known first ≡ with_current_stored before = is-read wanted known first on first-short in
       ap (λ (k : Known). known_one wanted k second) left
       ∙ then-read wanted before second second-short
       ∙ ap (λ (k : Known). with_current_stored (fold (known_after wanted) before (read_in wanted k second))) (sym left)
-      ∙ ap with_current_stored (sym (fold-append (known_after wanted) known (read_in wanted known first) (read_in wanted (known_one wanted known first) second)))
-      ∙ ap (λ (events : List Event). with_current_stored (fold (known_after wanted) known events)) (sym (cut-is-read wanted known whole first second cut on first-short))
+      ∙ ap with_current_stored (sym (fold-append (known_after wanted) known (read_in wanted known first)
+      (read_in wanted (known_one wanted known first) second)))
+      ∙ ap (λ (events : List Event). with_current_stored (fold (known_after wanted) known events))
+      (sym (cut-is-read wanted known whole first second cut on first-short))
       ∙ sym (is-read wanted known whole on short)
 
 -- ---- the library
 
-same-by : (ending : End) (wanted : Request) (known : Known) (one other : List Message) → GivesTheSame (library_by ending wanted known one) (library_by ending wanted known other)
+same-by : (ending : End) (wanted : Request) (known : Known) (one other : List Message)
+    → GivesTheSame (library_by ending wanted known one) (library_by ending wanted known other)
 same-by end.Whole wanted known one other = (refl, refl, refl)
 same-by end.FileLimit wanted known one other = (refl, refl, refl)
 same-by end.StringLimit wanted known one other = (refl, refl, refl)
@@ -460,7 +525,8 @@ cut-gives-the-same wanted macros before after whole first second cut short =
     let parts = read_all wanted macros (before ++ first ∷ second ∷ after) in
     let one = read_all wanted macros (before ++ whole ∷ after) in
     let known = known_all wanted start before in
-    let cut_there : IsCutBetweenItems wanted known whole first second = subst (λ (k : Known). IsCutBetweenItems wanted k whole first second) (known-apart wanted macros before) cut in
+    let cut_there : IsCutBetweenItems wanted known whole first second = subst (λ (k : Known). IsCutBetweenItems wanted k whole first second)
+    (known-apart wanted macros before) cut in
     let same : parts.known ≡ one.known =
     known-apart wanted macros (before ++ first ∷ second ∷ after)
     ∙ all-append wanted start before (first ∷ second ∷ after)

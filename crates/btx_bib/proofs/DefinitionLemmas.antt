@@ -1,5 +1,6 @@
 -- The last definition of a name counts.
-use Rattle.std.proofs.Common.{◌≡◌, ℕ, nat_lt, Bool, true, false, ◌||◌, cond, if◌then◌else◌, List, [], ◌∷◌, ◌++◌, fold, length, Option, None, Some, refl, sym, ap, ◌∙◌}
+use Rattle.std.proofs.Common.{◌≡◌, ℕ, nat_lt, Bool, true, false, ◌||◌, cond, if◌then◌else◌, List, [], ◌∷◌, ◌++◌, fold, length, Option, None, Some, refl, sym}
+use Rattle.std.proofs.Common.{ap, ◌∙◌}
 use Rattle.std.specs.Str.{bytes_eq}
 use Rattle.std.specs.Map.{lookup}
 use Rattle.std.proofs.lemmas.Cmp.{nat_list_eq_equiv}
@@ -35,14 +36,16 @@ lookup-own (e ∷ strings) name value = by_test (bytes_eq name e.0) refl (lookup
   by_test true same rest = ap (λ (b : Bool). cond b (Some value) (lookup (bytes_eq name) strings)) same
   by_test false apart rest = ap (λ (b : Bool). cond b (Some e.1) (lookup (bytes_eq name) (insert_entry bytes_eq strings name value))) apart ∙ rest
 
-pub lookup-other : (strings : Strings) (name other value : List ℕ) → bytes_eq name other ≡ false → lookup (bytes_eq name) (insert_entry bytes_eq strings other value) ≡ lookup (bytes_eq name) strings
+pub lookup-other : (strings : Strings) (name other value : List ℕ) → bytes_eq name other ≡ false
+    → lookup (bytes_eq name) (insert_entry bytes_eq strings other value) ≡ lookup (bytes_eq name) strings
 lookup-other [] name other value apart = ap (λ (b : Bool). cond b (Some value) None) apart
 lookup-other (e ∷ strings) name other value apart = by_test (bytes_eq other e.0) refl (lookup-other strings name other value apart) where
   by_test : (b : Bool) → bytes_eq other e.0 ≡ b → lookup (bytes_eq name) (insert_entry bytes_eq strings other value) ≡ lookup (bytes_eq name) strings
       → lookup (bytes_eq name) (if b then (e.0, value) ∷ strings else e ∷ insert_entry bytes_eq strings other value) ≡ lookup (bytes_eq name) (e ∷ strings)
   by_test true same rest =
       let here : bytes_eq name e.0 ≡ false = ap (bytes_eq name) (sym ((bytes_eq-Decides other e.0).0 same)) ∙ apart in
-      ap (λ (b : Bool). cond b (Some value) (lookup (bytes_eq name) strings)) here ∙ sym (ap (λ (b : Bool). cond b (Some e.1) (lookup (bytes_eq name) strings)) here)
+      ap (λ (b : Bool). cond b (Some value) (lookup (bytes_eq name) strings)) here
+      ∙ sym (ap (λ (b : Bool). cond b (Some e.1) (lookup (bytes_eq name) strings)) here)
   by_test false other_there rest = ap (cond (bytes_eq name e.0) (Some e.1)) rest
 
 -- ---- neither of two
@@ -57,7 +60,8 @@ abbrev pub GivesOwn : Type 0
 GivesOwn = (strings : Strings) (name own value : List ℕ) → is_same_key name own ≡ true → string_value (defined strings own value) name ≡ Some value
 
 abbrev pub LeavesOthers : Type 0
-LeavesOthers = (strings : Strings) (name own value : List ℕ) → is_same_key name own ≡ false → string_value (defined strings own value) name ≡ string_value strings name
+LeavesOthers = (strings : Strings) (name own value : List ℕ) → is_same_key name own ≡ false → string_value (defined strings own value) name
+    ≡ string_value strings name
 
 abbrev value_of : Known → List ℕ → Option (List ℕ)
 value_of known name = string_value known.strings name
@@ -65,39 +69,46 @@ value_of known name = string_value known.strings name
 module _ (gives : GivesOwn) (leaves : LeavesOthers) where
   -- ---- one event
 
-  fits-value : (text : List ℕ) (known next : Known) (name : List ℕ) → value_of next name ≡ value_of known name → value_of (if_fits text known next) name ≡ value_of known name
+  fits-value : (text : List ℕ) (known next : Known) (name : List ℕ) → value_of next name ≡ value_of known name → value_of (if_fits text known next) name
+      ≡ value_of known name
   fits-value text known next name same = by_test (nat_lt greatest_string (length text)) where
     by_test : (b : Bool) → value_of (if b then record known { ending = end.StringLimit } else next) name ≡ value_of known name
     by_test true = refl
     by_test false = same
 
-  field-value : (wanted : Request) (known : Known) (current : Option Given) (field : Field) (name : List ℕ) → value_of (after_field wanted known current field) name ≡ value_of known name
+  field-value : (wanted : Request) (known : Known) (current : Option Given) (field : Field) (name : List ℕ)
+      → value_of (after_field wanted known current field) name ≡ value_of known name
   field-value wanted known None field name = refl
   field-value wanted known (Some given) field name = by_test (keeps_field wanted given field.name) where
     text : List ℕ
     text = value_text Trimmed (string_value known.strings) field.value
 
-    by_test : (b : Bool) → value_of (if b then if_fits text known (record known { current = Some (with_field given field.name text) }) else known) name ≡ value_of known name
+    by_test : (b : Bool) → value_of (if b then if_fits text known (record known { current = Some (with_field given field.name text) }) else known) name
+        ≡ value_of known name
     by_test true = fits-value text known (record known { current = Some (with_field given field.name text) }) name refl
     by_test false = refl
 
-  key-value : (known : Known) (kind key name : List ℕ) (b : Bool) → value_of (if b then record known { current = Some (record { kind = kind; key = key; fields = [] }) } else known) name ≡ value_of known name
+  key-value : (known : Known) (kind key name : List ℕ) (b : Bool)
+      → value_of (if b then record known { current = Some (record { kind = kind; key = key; fields = [] }) } else known) name ≡ value_of known name
   key-value known kind key name true = refl
   key-value known kind key name false = refl
 
-  event-value : (wanted : Request) (known : Known) (event : Event) (name : List ℕ) → defines name event ≡ false → value_of (after_event wanted known event) name ≡ value_of known name
+  event-value : (wanted : Request) (known : Known) (event : Event) (name : List ℕ) → defines name event ≡ false → value_of (after_event wanted known event) name
+      ≡ value_of known name
   event-value wanted known Comment name other = refl
   event-value wanted known (Preamble value) name other =
       let whole = known.preamble ++ value_text Kept (string_value known.strings) value in fits-value whole known (record known { preamble = whole }) name refl
   event-value wanted known (Definition own value) name other =
       let text = value_text Kept (other_value known.strings own) value in
       fits-value text known (record known { strings = defined known.strings own text }) name (leaves known.strings name own text other)
-  event-value wanted known (Entry kind key) name other = key-value (with_current_stored known) kind key name (is_wanted wanted (with_current_stored known).stored key)
+  event-value wanted known (Entry kind key) name other =
+      key-value (with_current_stored known) kind key name (is_wanted wanted (with_current_stored known).stored key)
   event-value wanted known (FieldOf field) name other = field-value wanted known known.current field name
   event-value wanted known Close name other = refl
   event-value wanted known (Wrong slip) name other = refl
 
-  next-value : (wanted : Request) (known : Known) (event : Event) (name : List ℕ) → defines name event ≡ false → value_of (known_after wanted known event) name ≡ value_of known name
+  next-value : (wanted : Request) (known : Known) (event : Event) (name : List ℕ) → defines name event ≡ false → value_of (known_after wanted known event) name
+      ≡ value_of known name
   next-value wanted known event name other = by_end (goes_on known.ending) where
     by_end : (b : Bool) → value_of (if b then after_event wanted known event else known) name ≡ value_of known name
     by_end true = event-value wanted known event name other
@@ -124,10 +135,12 @@ module _ (gives : GivesOwn) (leaves : LeavesOthers) where
     by_end false over = sym (ap (λ (k : Known). goes_on k.ending) (stuck wanted known events over)) ∙ on
 
   -- a definition that fits gives its value
-  fitting-value : (known : Known) (name own text : List ℕ) → is_same_key name own ≡ true → goes_on (if_fits text known (record known { strings = defined known.strings own text })).ending ≡ true
+  fitting-value : (known : Known) (name own text : List ℕ) → is_same_key name own ≡ true
+      → goes_on (if_fits text known (record known { strings = defined known.strings own text })).ending ≡ true
       → value_of (if_fits text known (record known { strings = defined known.strings own text })) name ≡ Some text
   fitting-value known name own text same on = by_test (nat_lt greatest_string (length text)) on where
-    by_test : (b : Bool) → goes_on (if b then record known { ending = end.StringLimit } else record known { strings = defined known.strings own text }).ending ≡ true
+    by_test : (b : Bool) → goes_on (if b then record known { ending = end.StringLimit } else record known { strings = defined known.strings own text }).ending
+        ≡ true
         → value_of (if b then record known { ending = end.StringLimit } else record known { strings = defined known.strings own text }) name ≡ Some text
     by_test true over = cc
     by_test false fits = gives known.strings name own text same
@@ -138,10 +151,12 @@ module _ (gives : GivesOwn) (leaves : LeavesOthers) where
       let placed : Placed = record { event = Definition own value; rest = rest } in
       let text = value_text Kept (other_value middle.strings own) value in
       let next = known_after wanted middle placed.event in
-      let split : after_all wanted known (before ++ placed ∷ behind) ≡ after_all wanted next behind = fold-append (λ (k : Known) (p : Placed). known_after wanted k p.event) known before (placed ∷ behind) in
+      let split : after_all wanted known (before ++ placed ∷ behind) ≡ after_all wanted next behind =
+      fold-append (λ (k : Known) (p : Placed). known_after wanted k p.event) known before (placed ∷ behind) in
       let on_next : goes_on next.ending ≡ true = went-on wanted next behind (sym (ap (λ (k : Known). goes_on k.ending) split) ∙ on) in
       let on_middle : goes_on middle.ending ≡ true = went-on wanted middle (placed ∷ []) on_next in
-      let fitted : next ≡ if_fits text middle (record middle { strings = defined middle.strings own text }) = ap (λ (b : Bool). if b then after_event wanted middle placed.event else middle) on_middle in
+      let fitted : next ≡ if_fits text middle (record middle { strings = defined middle.strings own text }) =
+      ap (λ (b : Bool). if b then after_event wanted middle placed.event else middle) on_middle in
       ap (λ (k : Known). value_of k name) split
       ∙ others-keep-theirs wanted next behind name none
       ∙ ap (λ (k : Known). value_of k name) fitted
@@ -149,20 +164,24 @@ module _ (gives : GivesOwn) (leaves : LeavesOthers) where
 
   -- ---- macros
 
-  macro-fits : (known : Known) (macro : List ℕ × List ℕ) → goes_on known.ending ≡ true → with_macro known macro ≡ if_fits (squeezed macro.1) known (record known { strings = defined known.strings macro.0 (squeezed macro.1) })
+  macro-fits : (known : Known) (macro : List ℕ × List ℕ) → goes_on known.ending ≡ true
+      → with_macro known macro ≡ if_fits (squeezed macro.1) known (record known { strings = defined known.strings macro.0 (squeezed macro.1) })
   macro-fits known macro on =
       ap (λ (b : Bool). if b then if_fits (squeezed macro.1) known (record known { strings = defined known.strings macro.0 (squeezed macro.1) }) else known) on
 
-  macro-value : (known : Known) (macro : List ℕ × List ℕ) (name : List ℕ) → is_same_key name macro.0 ≡ false → value_of (with_macro known macro) name ≡ value_of known name
+  macro-value : (known : Known) (macro : List ℕ × List ℕ) (name : List ℕ) → is_same_key name macro.0 ≡ false → value_of (with_macro known macro) name
+      ≡ value_of known name
   macro-value known macro name other = by_end (goes_on known.ending) where
     text : List ℕ
     text = squeezed macro.1
 
-    by_end : (b : Bool) → value_of (if b then if_fits text known (record known { strings = defined known.strings macro.0 text }) else known) name ≡ value_of known name
+    by_end : (b : Bool) → value_of (if b then if_fits text known (record known { strings = defined known.strings macro.0 text }) else known) name
+        ≡ value_of known name
     by_end true = fits-value text known (record known { strings = defined known.strings macro.0 text }) name (leaves known.strings name macro.0 text other)
     by_end false = refl
 
-  macros-value : (known : Known) (macros : List (List ℕ × List ℕ)) (name : List ℕ) → is_macro_in name macros ≡ false → value_of (fold with_macro known macros) name ≡ value_of known name
+  macros-value : (known : Known) (macros : List (List ℕ × List ℕ)) (name : List ℕ) → is_macro_in name macros ≡ false
+      → value_of (fold with_macro known macros) name ≡ value_of known name
   macros-value known [] name none = refl
   macros-value known (macro ∷ macros) name none =
       let neither = or-none (is_same_key name macro.0) (is_macro_in name macros) none in
@@ -171,7 +190,8 @@ module _ (gives : GivesOwn) (leaves : LeavesOthers) where
   macros-stuck : (known : Known) (macros : List (List ℕ × List ℕ)) → goes_on known.ending ≡ false → fold with_macro known macros ≡ known
   macros-stuck known [] over = refl
   macros-stuck known (macro ∷ macros) over =
-      ap (λ (b : Bool). fold with_macro (if b then if_fits (squeezed macro.1) known (record known { strings = defined known.strings macro.0 (squeezed macro.1) }) else known) macros) over
+      ap (λ (b : Bool). fold with_macro (if b then if_fits (squeezed macro.1) known
+      (record known { strings = defined known.strings macro.0 (squeezed macro.1) }) else known) macros) over
       ∙ macros-stuck known macros over
 
   macros-went-on : (known : Known) (macros : List (List ℕ × List ℕ)) → goes_on (fold with_macro known macros).ending ≡ true → goes_on known.ending ≡ true

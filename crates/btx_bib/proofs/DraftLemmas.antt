@@ -5,7 +5,8 @@ use Rattle.btx_bib.specs.declared.draft.Draft.{Draft}
 use Rattle.btx_bib.specs.language.Wanted.{Request}
 use Rattle.btx_bib.specs.refinement.Drafts.{cited_all, cited_at, place_in}
 
-pub cited-next : (wanted : Request) (keys : List Bytes) (place : ℕ) (d : Bytes) (before after : Draft) → place < length keys → after ≡ cited_at wanted (get_or keys place d).items before (place_in before (get_or keys place d).items)
+pub cited-next : (wanted : Request) (keys : List Bytes) (place : ℕ) (d : Bytes) (before after : Draft) → place < length keys
+    → after ≡ cited_at wanted (get_or keys place d).items before (place_in before (get_or keys place d).items)
     → cited_all wanted after (texts_of (drop (place + 1) keys)) ≡ cited_all wanted before (texts_of (drop place keys))
 cited-next wanted keys place d before after within is =
     ap (λ (n : ℕ). cited_all wanted after (texts_of (drop n keys))) (add-one place)

@@ -1,5 +1,6 @@
 -- The list with the cited keys that it begins with: no two of them are equal without case, so each has a place.
-use Rattle.std.proofs.Common.{◌≡◌, ℕ, zero, suc, arith, ◌≤◌, Bool, true, false, if◌then◌else◌, List, [], ◌∷◌, ◌++◌, length, map, take, Option, None, Some, refl, sym, ap, ◌∙◌, subst, append_assoc, append-nil}
+use Rattle.std.proofs.Common.{◌≡◌, ℕ, zero, suc, arith, ◌≤◌, Bool, true, false, if◌then◌else◌, List, [], ◌∷◌, ◌++◌, length, map, take, Option, None, Some, refl}
+use Rattle.std.proofs.Common.{sym, ap, ◌∙◌, subst, append_assoc, append-nil}
 use Rattle.std.specs.Option.{option_map}
 use Rattle.std.specs.List.{AllByRecursion, IsDistinct}
 use Rattle.std.specs.Str.{bytes_eq}
@@ -41,7 +42,8 @@ distinct-first None keys distinct = distinct
 distinct-first (Some place) keys distinct = distinct-take is_same_key place keys distinct
 
 -- a key has no place among those before it
-apart : (before after : List (List ℕ)) (key : List ℕ) → IsDistinct is_same_key (before ++ key ∷ after) → first_place (bytes_eq (folded key)) (map folded before) ≡ None
+apart : (before after : List (List ℕ)) (key : List ℕ) → IsDistinct is_same_key (before ++ key ∷ after) → first_place (bytes_eq (folded key)) (map folded before)
+    ≡ None
 unfolding IsDistinct
 apart [] after key distinct = refl
 apart (other ∷ before) after key distinct =
@@ -53,10 +55,13 @@ apart (other ∷ before) after key distinct =
 
 cited_at-new : (wanted : Request) (before : List (List ℕ)) (key : List ℕ) → cited_at wanted key (listed wanted before) None ≡ listed wanted (before ++ key ∷ [])
 cited_at-new wanted before key =
-    ap (λ (names : List (List ℕ)). record { names = names; slots = map (open_slot wanted true 0) before ++ open_slot wanted true 0 key ∷ [] }) (sym (map-append folded before (key ∷ [])))
-    ∙ ap (λ (slots : List DraftSlot). record { names = map folded (before ++ key ∷ []); slots = slots }) (sym (map-append (open_slot wanted true 0) before (key ∷ [])))
+    ap (λ (names : List (List ℕ)). record { names = names; slots = map (open_slot wanted true 0) before ++ open_slot wanted true 0 key ∷ [] })
+    (sym (map-append folded before (key ∷ [])))
+    ∙ ap (λ (slots : List DraftSlot). record { names = map folded (before ++ key ∷ []); slots = slots })
+    (sym (map-append (open_slot wanted true 0) before (key ∷ [])))
 
-cited-apart : (wanted : Request) (before keys : List (List ℕ)) → IsDistinct is_same_key (before ++ keys) → cited_all wanted (listed wanted before) keys ≡ listed wanted (before ++ keys)
+cited-apart : (wanted : Request) (before keys : List (List ℕ)) → IsDistinct is_same_key (before ++ keys) → cited_all wanted (listed wanted before) keys
+    ≡ listed wanted (before ++ keys)
 cited-apart wanted before [] distinct = ap (listed wanted) (sym (append-nil before))
 cited-apart wanted before (key ∷ keys) distinct =
     let joined = append_assoc before (key ∷ []) keys in
@@ -92,8 +97,10 @@ first-within (Some place) keys cited is =
     let within = length-first place keys in
     omega (arith, same, within)
 
-pub cited-first : (wanted : Request) (names : List (List ℕ)) (slots : List DraftSlot) (cited : List Bytes) → IsDistinct is_same_key wanted.cited → texts_of cited ≡ first_cited wanted.all wanted.cited
-    → names ≡ take (length cited) (map folded wanted.cited) → slots ≡ map (open_slot wanted true 0) (texts_of cited) → record { names = names; slots = slots } ≡ cited_all wanted empty (first_cited wanted.all wanted.cited)
+pub cited-first : (wanted : Request) (names : List (List ℕ)) (slots : List DraftSlot) (cited : List Bytes) → IsDistinct is_same_key wanted.cited
+    → texts_of cited ≡ first_cited wanted.all wanted.cited
+    → names ≡ take (length cited) (map folded wanted.cited) → slots ≡ map (open_slot wanted true 0) (texts_of cited) → record { names = names; slots = slots }
+    ≡ cited_all wanted empty (first_cited wanted.all wanted.cited)
 cited-first wanted names slots cited distinct is named placed =
     let keys = first_cited wanted.all wanted.cited in
     let count = sym (length-map cited (λ (b : Bytes). b.items)) ∙ ap length is in

@@ -20,10 +20,12 @@ module _ (wanted : Request) where
   ended-along kept [] ended = refl
   ended-along kept (p ∷ ps) ended = ap (λ (k : Gathering). kept_along wanted k ps) (ended-next kept p.event ended) ∙ ended-along kept ps ended
 
-  pub ended-logged : (database : Database) (kept : Gathering) (events : List Placed) → goes_on kept.ending ≡ false → kept_messages wanted database kept events ≡ []
+  pub ended-logged : (database : Database) (kept : Gathering) (events : List Placed) → goes_on kept.ending ≡ false → kept_messages wanted database kept events
+      ≡ []
   ended-logged database kept [] ended = refl
   ended-logged database kept (p ∷ ps) ended =
-      ap (λ (b : Bool). (if b then messages_of wanted database kept p.event p.rest else []) ++ kept_messages wanted database (kept_next wanted kept p.event) ps) ended
+      ap (λ (b : Bool). (if b then messages_of wanted database kept p.event p.rest else []) ++ kept_messages wanted database (kept_next wanted kept p.event) ps)
+      ended
       ∙ ap (λ (k : Gathering). kept_messages wanted database k ps) (ended-next kept p.event ended)
       ∙ ended-logged database kept ps ended
 
@@ -37,7 +39,8 @@ module _ (wanted : Request) where
     pub none-logged : (database : Database) → next_step (is_kept kept) w s ≡ None → kept_messages wanted database kept (events_with wanted kept w s) ≡ []
     none-logged database e = ap (kept_messages wanted database kept) (events-none (keeping_kept wanted) kept w s e)
 
-    module _ (step : Step) (after : Gathering) (whole : goes_on kept.ending ≡ true) (e : next_step (is_kept kept) w s ≡ Some step) (is : after ≡ kept_after wanted kept step.event) where
+    module _ (step : Step) (after : Gathering) (whole : goes_on kept.ending ≡ true) (e : next_step (is_kept kept) w s ≡ Some step)
+        (is : after ≡ kept_after wanted kept step.event) where
       next-is : kept_next wanted kept step.event ≡ after
       next-is = ap (λ (b : Bool). if b then kept_after wanted kept step.event else kept) whole ∙ sym is
 
@@ -46,14 +49,21 @@ module _ (wanted : Request) where
           ap (λ (k : Gathering). kept_along wanted k (events_with wanted k step.wanted step.rest)) (sym next-is)
           ∙ ap (kept_along wanted kept) (sym (events-some (keeping_kept wanted) kept w s step e))
 
-      pub turn-logged : (database : Database) → messages_of wanted database kept step.event step.rest ++ kept_messages wanted database after (events_with wanted after step.wanted step.rest) ≡ kept_messages wanted database kept (events_with wanted kept w s)
+      pub turn-logged : (database : Database) → messages_of wanted database kept step.event step.rest
+          ++ kept_messages wanted database after (events_with wanted after step.wanted step.rest)
+          ≡ kept_messages wanted database kept (events_with wanted kept w s)
       turn-logged database =
-          ap (λ (k : Gathering). messages_of wanted database kept step.event step.rest ++ kept_messages wanted database k (events_with wanted k step.wanted step.rest)) (sym next-is)
-          ∙ ap (λ (b : Bool). (if b then messages_of wanted database kept step.event step.rest else []) ++ kept_messages wanted database (kept_next wanted kept step.event) (events_with wanted (kept_next wanted kept step.event) step.wanted step.rest)) (sym whole)
+          ap (λ (k : Gathering). messages_of wanted database kept step.event step.rest
+          ++ kept_messages wanted database k (events_with wanted k step.wanted step.rest)) (sym next-is)
+          ∙ ap (λ (b : Bool). (if b then messages_of wanted database kept step.event step.rest else [])
+          ++ kept_messages wanted database (kept_next wanted kept step.event) (events_with wanted (kept_next wanted kept step.event) step.wanted step.rest))
+          (sym whole)
           ∙ ap (kept_messages wanted database kept) (sym (events-some (keeping_kept wanted) kept w s step e))
 
-      pub turn-messages : (database : Database) (before now : List Message) (rest : List ℕ) → rest ≡ step.rest → now ≡ before ++ messages_of wanted database kept step.event rest
-          → now ++ kept_messages wanted database after (events_with wanted after step.wanted step.rest) ≡ before ++ kept_messages wanted database kept (events_with wanted kept w s)
+      pub turn-messages : (database : Database) (before now : List Message) (rest : List ℕ) → rest ≡ step.rest
+          → now ≡ before ++ messages_of wanted database kept step.event rest
+          → now ++ kept_messages wanted database after (events_with wanted after step.wanted step.rest) ≡ before
+          ++ kept_messages wanted database kept (events_with wanted kept w s)
       turn-messages database before now rest at logs =
           let others = kept_messages wanted database after (events_with wanted after step.wanted step.rest) in
           ap (λ (ms : List Message). ms ++ others) logs

@@ -5,6 +5,7 @@ pub mod ItemLemmas
 pub mod LengthLemmas
 pub mod PlainLemmas
 pub mod PlainByteLemmas
+pub mod PassedLemmas
 pub mod SpellingLemmas
 pub mod SqueezeLemmas
 pub mod TrimLemmas

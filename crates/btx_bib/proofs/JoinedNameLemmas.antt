@@ -1,5 +1,6 @@
 -- Names of two lists, one behind the other: where a name stands, and what the first names of a list are.
-use Rattle.std.proofs.Common.{◌≡◌, ℕ, zero, suc, arith, ◌+◌, ◌≤◌, Bool, true, false, ◌||◌, if◌then◌else◌, List, [], ◌∷◌, ◌++◌, length, map, take, Option, None, Some, refl, sym, ap, ◌∙◌, nat_lt}
+use Rattle.std.proofs.Common.{◌≡◌, ℕ, zero, suc, arith, ◌+◌, ◌≤◌, Bool, true, false, ◌||◌, if◌then◌else◌, List, [], ◌∷◌, ◌++◌, length, map, take, Option, None}
+use Rattle.std.proofs.Common.{Some, refl, sym, ap, ◌∙◌, nat_lt}
 use Rattle.std.specs.Option.{option_map, option_or}
 use Rattle.std.specs.List.{list_any}
 use Rattle.std.proofs.lemmas.Bool.Decides.{nat_tests}
@@ -38,29 +39,34 @@ module _ {T : Type 0} (test : T → Bool) where
   first_place-take (suc count) [] = refl
   first_place-take (suc count) (x ∷ xs) = by_test (test x) (first_place-take count xs) where
     by_test : (b : Bool) → first_place test (take count xs) ≡ place_within count (first_place test xs)
-        → (if b then Some 0 else option_map suc (first_place test (take count xs))) ≡ place_within (suc count) (if b then Some 0 else option_map suc (first_place test xs))
+        → (if b then Some 0 else option_map suc (first_place test (take count xs)))
+        ≡ place_within (suc count) (if b then Some 0 else option_map suc (first_place test xs))
     by_test true rest = rw (below_next count) refl
     by_test false rest = ap (option_map suc) rest ∙ within_next count (first_place test xs)
 
   -- the same, of a list that is the first `count` of another
-  pub place-take : (count : ℕ) (xs names : List T) → take count xs ≡ names → {found : Option ℕ} → found ≡ first_place test xs → place_within count found ≡ first_place test names
+  pub place-take : (count : ℕ) (xs names : List T) → take count xs ≡ names → {found : Option ℕ} → found ≡ first_place test xs → place_within count found
+      ≡ first_place test names
   place-take count xs names is found = ap (place_within count) found ∙ sym (first_place-take count xs) ∙ ap (first_place test) is
 
   behind_none : (n : ℕ) (place : Option ℕ) → n ≡ 0 → place ≡ option_map (λ (p : ℕ). n + p) place
   behind_none n None is = refl
   behind_none n (Some p) is = let same : p ≡ n + p = omega (arith, is) in ap Some same
 
-  behind_next : (n : ℕ) (first second : Option ℕ) → option_map suc (option_or first (option_map (λ (p : ℕ). n + p) second)) ≡ option_or (option_map suc first) (option_map (λ (p : ℕ). suc n + p) second)
+  behind_next : (n : ℕ) (first second : Option ℕ) → option_map suc (option_or first (option_map (λ (p : ℕ). n + p) second))
+      ≡ option_or (option_map suc first) (option_map (λ (p : ℕ). suc n + p) second)
   behind_next n (Some p) second = refl
   behind_next n None None = refl
   behind_next n None (Some p) = let same : suc (n + p) ≡ suc n + p = omega arith in ap Some same
 
   -- where the first stands that passes, in one list behind another
-  pub first_place-append : (xs ys : List T) → first_place test (xs ++ ys) ≡ option_or (first_place test xs) (option_map (λ (p : ℕ). length xs + p) (first_place test ys))
+  pub first_place-append : (xs ys : List T) → first_place test (xs ++ ys)
+      ≡ option_or (first_place test xs) (option_map (λ (p : ℕ). length xs + p) (first_place test ys))
   first_place-append [] ys = behind_none 0 (first_place test ys) refl
   first_place-append (x ∷ xs) ys = by_test (test x) (first_place-append xs ys) where
     by_test : (b : Bool) → first_place test (xs ++ ys) ≡ option_or (first_place test xs) (option_map (λ (p : ℕ). length xs + p) (first_place test ys))
-        → (if b then Some 0 else option_map suc (first_place test (xs ++ ys))) ≡ option_or (if b then Some 0 else option_map suc (first_place test xs)) (option_map (λ (p : ℕ). suc (length xs) + p) (first_place test ys))
+        → (if b then Some 0 else option_map suc (first_place test (xs ++ ys))) ≡ option_or (if b then Some 0 else option_map suc (first_place test xs))
+        (option_map (λ (p : ℕ). suc (length xs) + p) (first_place test ys))
     by_test true rest = refl
     by_test false rest = ap (option_map suc) rest ∙ behind_next (length xs) (first_place test xs) (first_place test ys)
 

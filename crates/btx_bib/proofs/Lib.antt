@@ -13,6 +13,7 @@ pub mod DraftLemmas
 pub mod FirstCitedLemmas
 pub mod StoringLemmas
 pub mod GatheringLemmas
+pub mod PassingLemmas
 pub mod KeptLemmas
 pub mod ApartLemmas
 pub mod AlongLemmas

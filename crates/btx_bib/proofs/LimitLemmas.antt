@@ -20,13 +20,15 @@ use Rattle.btx_bib.specs.laws.Storing.{MacrosGoOn}
 pub macros-go-on : MacrosGoOn
 macros-go-on known own text on = at (goes_on known.ending) (nat_lt greatest_string (length (squeezed text))) on where
   at : (goes long : Bool) → goes ≡ true
-      → goes_on (if goes then (if long then record known { ending = end.StringLimit } else record known { strings = defined known.strings own (squeezed text) }) else known).ending ≡ not long
+      → goes_on (if goes then (if long then record known { ending = end.StringLimit } else record known { strings = defined known.strings own (squeezed text) })
+      else known).ending ≡ not long
   at true true is = refl
   at true false is = on
   at false long is = absurd (false≢true is)
 
 -- the library of an ending at a limit has the messages that it is given
-by_ending : (ending : End) (wanted : Request) (known : Known) (messages : List Message) → goes_on ending ≡ false → (library_by ending wanted known messages).messages ≡ messages
+by_ending : (ending : End) (wanted : Request) (known : Known) (messages : List Message) → goes_on ending ≡ false
+    → (library_by ending wanted known messages).messages ≡ messages
 by_ending end.Whole wanted known messages is = absurd (true≢false is)
 by_ending end.FileLimit wanted known messages is = refl
 by_ending end.StringLimit wanted known messages is = refl
@@ -37,7 +39,8 @@ messages-stay wanted macros databases is =
     by_ending (read_all wanted macros databases).known.ending wanted (read_all wanted macros databases).known (read_all wanted macros databases).messages is
 
 -- once the reading has ended, no database changes it
-ended-stays : (wanted : Request) (databases : List Database) (reading : Reading) → goes_on reading.known.ending ≡ false → fold (read_one wanted) reading databases ≡ reading
+ended-stays : (wanted : Request) (databases : List Database) (reading : Reading) → goes_on reading.known.ending ≡ false
+    → fold (read_one wanted) reading databases ≡ reading
 ended-stays wanted [] reading is = refl
 ended-stays wanted (database ∷ databases) reading is =
     let same : read_one wanted reading database ≡ reading = rw is refl in

@@ -1,5 +1,6 @@
 -- The keys of the list: no two are one, whose case is ignored.
-use Rattle.std.proofs.Common.{◌≡◌, ℕ, Bool, true, false, List, [], ◌∷◌, ◌++◌, map, fold, Option, None, Some, refl, sym, ap, subst, ◌∙◌, append_assoc, append-nil}
+use Rattle.std.proofs.Common.{◌≡◌, ℕ, Bool, true, false, List, [], ◌∷◌, ◌++◌, map, fold, Option, None, Some, refl, sym, ap, subst, ◌∙◌, append_assoc}
+use Rattle.std.proofs.Common.{append-nil}
 use Rattle.std.specs.Str.{bytes_eq}
 use Rattle.std.specs.List.{flat_map, AllByRecursion, IsDistinct}
 use Rattle.btx_text.specs.language.Keys.{folded}
@@ -30,7 +31,8 @@ names-append : (xs ys : List Slot) → lower_keys (xs ++ ys) ≡ lower_keys xs +
 names-append [] ys = refl
 names-append (x ∷ xs) ys = ap (λ (rest : List (List ℕ)). folded x.key ∷ rest) (names-append xs ys)
 
-names-passed : (judge : List Slot → Slot → Slot) → ((slots : List Slot) (slot : Slot) → (judge slots slot).key ≡ slot.key) → (slots done : List Slot) → lower_keys (passed judge done slots) ≡ lower_keys (done ++ slots)
+names-passed : (judge : List Slot → Slot → Slot) → ((slots : List Slot) (slot : Slot) → (judge slots slot).key ≡ slot.key) → (slots done : List Slot)
+    → lower_keys (passed judge done slots) ≡ lower_keys (done ++ slots)
 names-passed judge keeps [] done = ap lower_keys (sym (append-nil done))
 names-passed judge keeps (slot ∷ slots) done =
     let judged = judge (done ++ slot ∷ slots) slot in
@@ -45,7 +47,8 @@ names-after slots = names-passed checked key-checked (after_first slots) [] ∙ 
 
 -- ---- keys that differ
 
-apart-folded : (key : List ℕ) (keys : List (List ℕ)) → AllByRecursion (λ (other : List ℕ). is_same_key key other ≡ false) keys → AllByRecursion (λ (other : List ℕ). bytes_eq (folded key) other ≡ false) (map folded keys)
+apart-folded : (key : List ℕ) (keys : List (List ℕ)) → AllByRecursion (λ (other : List ℕ). is_same_key key other ≡ false) keys
+    → AllByRecursion (λ (other : List ℕ). bytes_eq (folded key) other ≡ false) (map folded keys)
 apart-folded key [] h = tt
 apart-folded key (other ∷ keys) h = (h.0, apart-folded key keys h.1)
 
@@ -58,11 +61,13 @@ distinct-folded (key ∷ keys) h = (apart-folded key keys h.0, distinct-folded k
 abbrev kept : List Slot → List (List ℕ)
 kept slots = map (λ (entry : Entry). entry.key) (flat_map entry_at slots)
 
-apart-kept : (key : List ℕ) (slots : List Slot) → AllByRecursion (λ (other : List ℕ). bytes_eq (folded key) other ≡ false) (lower_keys slots) → AllByRecursion (λ (other : List ℕ). is_same_key key other ≡ false) (kept slots)
+apart-kept : (key : List ℕ) (slots : List Slot) → AllByRecursion (λ (other : List ℕ). bytes_eq (folded key) other ≡ false) (lower_keys slots)
+    → AllByRecursion (λ (other : List ℕ). is_same_key key other ≡ false) (kept slots)
 apart-kept key [] h = tt
 apart-kept key (slot ∷ slots) h = by_body slot.stays slot.body (apart-kept key slots h.1) where
   by_body : (enough : Bool) (body : Option Body) → AllByRecursion (λ (other : List ℕ). is_same_key key other ≡ false) (kept slots)
-      → AllByRecursion (λ (other : List ℕ). is_same_key key other ≡ false) (map (λ (entry : Entry). entry.key) (entry_by slot.key enough body ++ flat_map entry_at slots))
+      → AllByRecursion (λ (other : List ℕ). is_same_key key other ≡ false)
+      (map (λ (entry : Entry). entry.key) (entry_by slot.key enough body ++ flat_map entry_at slots))
   by_body enough None rest = rest
   by_body true (Some body) rest = (h.0, rest)
   by_body false (Some body) rest = rest
@@ -71,7 +76,8 @@ distinct-kept : (slots : List Slot) → IsDistinct bytes_eq (lower_keys slots) �
 unfolding IsDistinct
 distinct-kept [] h = tt
 distinct-kept (slot ∷ slots) h = by_body slot.stays slot.body (apart-kept slot.key slots h.0) (distinct-kept slots h.1) where
-  by_body : (enough : Bool) (body : Option Body) → AllByRecursion (λ (other : List ℕ). is_same_key slot.key other ≡ false) (kept slots) → IsDistinct is_same_key (kept slots)
+  by_body : (enough : Bool) (body : Option Body) → AllByRecursion (λ (other : List ℕ). is_same_key slot.key other ≡ false) (kept slots)
+      → IsDistinct is_same_key (kept slots)
       → IsDistinct is_same_key (map (λ (entry : Entry). entry.key) (entry_by slot.key enough body ++ flat_map entry_at slots))
   by_body enough None apart rest = rest
   by_body true (Some body) apart rest = (apart, rest)
@@ -86,14 +92,17 @@ distinct-keys wanted stored =
 
 pub distinct-names : (wanted : Request) (stored : List Given) → IsDistinct bytes_eq (lower_keys (after_second (after_first (slots_of wanted stored))))
 distinct-names wanted stored =
-    let named : map folded (list_keys wanted stored) ≡ lower_keys (slots_of wanted stored) = names-listing wanted stored (list_keys wanted stored) ∙ ap lower_keys (slots-listing wanted stored) in
-    subst (λ (names : List (List ℕ)). IsDistinct bytes_eq names) (named ∙ sym (names-after (slots_of wanted stored))) (distinct-folded (list_keys wanted stored) (distinct-keys wanted stored))
+    let named : map folded (list_keys wanted stored) ≡ lower_keys (slots_of wanted stored) = names-listing wanted stored (list_keys wanted stored)
+    ∙ ap lower_keys (slots-listing wanted stored) in
+    subst (λ (names : List (List ℕ)). IsDistinct bytes_eq names) (named ∙ sym (names-after (slots_of wanted stored)))
+    (distinct-folded (list_keys wanted stored) (distinct-keys wanted stored))
 
 distinct-entries : (wanted : Request) (stored : List Given) → IsDistinct is_same_key (map (λ (entry : Entry). entry.key) (entries_of (slots_of wanted stored)))
 unfolding entries_of
 distinct-entries wanted stored = distinct-kept (after_second (after_first (slots_of wanted stored))) (distinct-names wanted stored)
 
-distinct-library : (ending : End) (wanted : Request) (known : Known) (messages : List Message) → IsDistinct is_same_key (list_of (library_by ending wanted known messages))
+distinct-library : (ending : End) (wanted : Request) (known : Known) (messages : List Message)
+    → IsDistinct is_same_key (list_of (library_by ending wanted known messages))
 distinct-library end.Whole wanted known messages = distinct-entries wanted known.stored
 distinct-library end.FileLimit wanted known messages = distinct-none
 distinct-library end.StringLimit wanted known messages = distinct-none

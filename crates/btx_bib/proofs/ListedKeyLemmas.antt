@@ -45,7 +45,8 @@ or_false false = refl
 
 pub is_any_key-append : (xs ys : List (List ℕ)) (key : List ℕ) → is_any_key (xs ++ ys) key ≡ (is_any_key xs key || is_any_key ys key)
 is_any_key-append [] ys key = refl
-is_any_key-append (x ∷ xs) ys key = ap (λ (b : Bool). is_same_key key x || b) (is_any_key-append xs ys key) ∙ sym (or_or (is_same_key key x) (is_any_key xs key) (is_any_key ys key))
+is_any_key-append (x ∷ xs) ys key = ap (λ (b : Bool). is_same_key key x || b) (is_any_key-append xs ys key)
+    ∙ sym (or_or (is_same_key key x) (is_any_key xs key) (is_any_key ys key))
 
 -- a key that is there adds nothing
 there_already : (there same : Bool) → (same ≡ true → there ≡ true) → there ≡ (there || same)
@@ -88,7 +89,8 @@ distinct-none = tt
 abbrev pub changed_key : (List ℕ → DraftSlot) → (DraftSlot → DraftSlot) → List ℕ → List ℕ → DraftSlot
 changed_key f change key k = if is_same_key key k then change (f k) else f k
 
-pub unchanged : (f : List ℕ → DraftSlot) (change : DraftSlot → DraftSlot) (key : List ℕ) (keys : List (List ℕ)) → AllByRecursion (λ (k : List ℕ). is_same_key key k ≡ false) keys → map f keys ≡ map (changed_key f change key) keys
+pub unchanged : (f : List ℕ → DraftSlot) (change : DraftSlot → DraftSlot) (key : List ℕ) (keys : List (List ℕ))
+    → AllByRecursion (λ (k : List ℕ). is_same_key key k ≡ false) keys → map f keys ≡ map (changed_key f change key) keys
 unchanged f change key [] none = refl
 unchanged f change key (k ∷ keys) none =
     let here : f k ≡ changed_key f change key k = ap (λ (b : Bool). if b then change (f k) else f k) (sym none.0) in
@@ -97,16 +99,19 @@ unchanged f change key (k ∷ keys) none =
 pub none_same : (key : List ℕ) (keys : List (List ℕ)) → is_any_key keys key ≡ false → AllByRecursion (λ (k : List ℕ). is_same_key key k ≡ false) keys
 none_same key [] none = tt
 none_same key (k ∷ keys) none = by_test (is_same_key key k) refl (none_same key keys) none where
-  by_test : (b : Bool) → is_same_key key k ≡ b → (is_any_key keys key ≡ false → AllByRecursion (λ (k : List ℕ). is_same_key key k ≡ false) keys) → (b || is_any_key keys key) ≡ false
+  by_test : (b : Bool) → is_same_key key k ≡ b → (is_any_key keys key ≡ false → AllByRecursion (λ (k : List ℕ). is_same_key key k ≡ false) keys)
+      → (b || is_any_key keys key) ≡ false
       → (is_same_key key k ≡ false) × AllByRecursion (λ (k : List ℕ). is_same_key key k ≡ false) keys
   by_test true same rest none = cc
   by_test false other rest none = (other, rest none)
 
-others : (key k : List ℕ) (keys : List (List ℕ)) → is_same_key key k ≡ true → AllByRecursion (λ (other : List ℕ). is_same_key k other ≡ false) keys → AllByRecursion (λ (other : List ℕ). is_same_key key other ≡ false) keys
+others : (key k : List ℕ) (keys : List (List ℕ)) → is_same_key key k ≡ true → AllByRecursion (λ (other : List ℕ). is_same_key k other ≡ false) keys
+    → AllByRecursion (λ (other : List ℕ). is_same_key key other ≡ false) keys
 others key k [] same h = tt
 others key k (other ∷ keys) same h = (same_key_equiv.congr key k other same ∙ h.0, others key k keys same h.1)
 
-suc_some : (b : Bool) (o : Option ℕ) (place : ℕ) → (if b then Some 0 else option_map suc o) ≡ Some place → b ≡ false → (before : ℕ) × ((o ≡ Some before) × (place ≡ suc before))
+suc_some : (b : Bool) (o : Option ℕ) (place : ℕ) → (if b then Some 0 else option_map suc o) ≡ Some place → b ≡ false
+    → (before : ℕ) × ((o ≡ Some before) × (place ≡ suc before))
 suc_some true o place h f = cc
 suc_some false None place h f = cc
 suc_some false (Some before) place h f = (before, (refl, cc))
@@ -115,15 +120,20 @@ zero_some : (b : Bool) (o : Option ℕ) (place : ℕ) → (if b then Some 0 else
 zero_some true o place h t = cc
 zero_some false o place h t = cc
 
-pub changed_at-key : (f : List ℕ → DraftSlot) (change : DraftSlot → DraftSlot) (key : List ℕ) (keys : List (List ℕ)) (place : ℕ) → IsDistinct is_same_key keys → first_place (bytes_eq (folded key)) (map folded keys) ≡ Some place
+pub changed_at-key : (f : List ℕ → DraftSlot) (change : DraftSlot → DraftSlot) (key : List ℕ) (keys : List (List ℕ)) (place : ℕ) → IsDistinct is_same_key keys
+    → first_place (bytes_eq (folded key)) (map folded keys) ≡ Some place
     → changed_at place change (map f keys) ≡ map (changed_key f change key) keys
 changed_at-key f change key [] place distinct at = refl
-changed_at-key f change key (k ∷ keys) place distinct at = by_test (is_same_key key k) refl (λ before there. changed_at-key f change key keys before (IsDistinct-tail is_same_key k keys distinct) there) where
-  by_test : (b : Bool) → is_same_key key k ≡ b → ((before : ℕ) → first_place (bytes_eq (folded key)) (map folded keys) ≡ Some before → changed_at before change (map f keys) ≡ map (changed_key f change key) keys)
-      → changed_at place change (f k ∷ map f keys) ≡ (if b then change (f k) else f k) ∷ map (changed_key f change key) keys
-  by_test true same rest =
-      let first = zero_some (is_same_key key k) (first_place (bytes_eq (folded key)) (map folded keys)) place at same in
-      rw first (ap (λ (slots : List DraftSlot). change (f k) ∷ slots) (unchanged f change key keys (others key k keys same (IsDistinct-head is_same_key k keys distinct))))
-  by_test false other rest =
-      let later = suc_some (is_same_key key k) (first_place (bytes_eq (folded key)) (map folded keys)) place at other in
-      rw later.1.1 (ap (λ (slots : List DraftSlot). f k ∷ slots) (rest later.0 later.1.0))
+changed_at-key f change key (k ∷ keys) place distinct at =
+    by_test (is_same_key key k) refl (λ before there. changed_at-key f change key keys before (IsDistinct-tail is_same_key k keys distinct) there) where
+      by_test : (b : Bool) → is_same_key key k ≡ b
+          → ((before : ℕ) → first_place (bytes_eq (folded key)) (map folded keys) ≡ Some before → changed_at before change (map f keys)
+          ≡ map (changed_key f change key) keys)
+          → changed_at place change (f k ∷ map f keys) ≡ (if b then change (f k) else f k) ∷ map (changed_key f change key) keys
+      by_test true same rest =
+          let first = zero_some (is_same_key key k) (first_place (bytes_eq (folded key)) (map folded keys)) place at same in
+          rw first (ap (λ (slots : List DraftSlot). change (f k) ∷ slots)
+          (unchanged f change key keys (others key k keys same (IsDistinct-head is_same_key k keys distinct))))
+      by_test false other rest =
+          let later = suc_some (is_same_key key k) (first_place (bytes_eq (folded key)) (map folded keys)) place at other in
+          rw later.1.1 (ap (λ (slots : List DraftSlot). f k ∷ slots) (rest later.0 later.1.0))

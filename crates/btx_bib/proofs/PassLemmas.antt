@@ -1,5 +1,6 @@
 -- The passes, place by place.
-use Rattle.std.proofs.Common.{◌≡◌, ℕ, zero, suc, arith, ◌+◌, ◌<◌, ◌≤◌, IfSome, Bool, true, false, cond, if◌then◌else◌, List, [], ◌∷◌, ◌++◌, take, drop, length, Option, None, Some, refl, sym, ap, subst, ◌∙◌, add-one, append_assoc, nat_eq}
+use Rattle.std.proofs.Common.{◌≡◌, ℕ, zero, suc, arith, ◌+◌, ◌<◌, ◌≤◌, IfSome, Bool, true, false, cond, if◌then◌else◌, List, [], ◌∷◌, ◌++◌, take, drop, length}
+use Rattle.std.proofs.Common.{Option, None, Some, refl, sym, ap, subst, ◌∙◌, add-one, append_assoc, nat_eq}
 use Rattle.std.specs.Prelude.{slice_get}
 use Rattle.std.specs.Str.{bytes_eq}
 use Rattle.std.specs.Option.{option_map, option_map_or}
@@ -8,7 +9,8 @@ use Rattle.btx_aux.specs.language.Names.{is_same_key}
 use Rattle.btx_bib.specs.declared.message.Message.{Message}
 use Rattle.btx_bib.specs.declared.slots.Slot.{Slot}
 use Rattle.btx_bib.specs.refinement.Finding.{first_place, changed_at}
-use Rattle.btx_bib.specs.language.Passes.{body_values, check_messages, checked, inherited, inherited_from, inherited_values, is_parent, parent_at, parent_messages, pass_messages, passed, slot_at, without_crossref}
+use Rattle.btx_bib.specs.language.Passes.{body_values, check_messages, checked, inherited, inherited_from, inherited_values, is_parent, parent_at}
+use Rattle.btx_bib.specs.language.Passes.{parent_messages, pass_messages, passed, slot_at, without_crossref}
 use Rattle.btx_bib.specs.refinement.Passes.{check_messages_by, checked_by, parent_slot, with_body, with_field_values}
 use Rattle.btx_bib.specs.refinement.Steps.{lower_keys, messages_by, slot_by}
 use Rattle.btx_bib.specs.declared.slots.Body.{Body}
@@ -46,12 +48,15 @@ pub slot_at-place : (slots : List Slot) (key : List ℕ) → slot_at slots key �
 slot_at-place [] key = refl
 slot_at-place (slot ∷ slots) key = by_test (is_same_key key slot.key) (slot_at-place slots key) where
   by_test : (b : Bool) → slot_at slots key ≡ slot_by slots (first_place (bytes_eq (folded key)) (lower_keys slots))
-      → cond b (Some slot) (slot_at slots key) ≡ slot_by (slot ∷ slots) (if b then Some 0 else option_map suc (first_place (bytes_eq (folded key)) (lower_keys slots)))
+      → cond b (Some slot) (slot_at slots key)
+      ≡ slot_by (slot ∷ slots) (if b then Some 0 else option_map suc (first_place (bytes_eq (folded key)) (lower_keys slots)))
   by_test true rest = refl
   by_test false rest = rest ∙ sym (later slot slots (first_place (bytes_eq (folded key)) (lower_keys slots)))
 
-pub slot_at-by : (slots : List Slot) (names : List (List ℕ)) (key : List ℕ) (o : Option Slot) → names ≡ lower_keys slots → o ≡ slot_by slots (first_place (bytes_eq (folded key)) names) → slot_at slots key ≡ o
-slot_at-by slots names key o are is = slot_at-place slots key ∙ ap (λ (ns : List (List ℕ)). slot_by slots (first_place (bytes_eq (folded key)) ns)) (sym are) ∙ sym is
+pub slot_at-by : (slots : List Slot) (names : List (List ℕ)) (key : List ℕ) (o : Option Slot) → names ≡ lower_keys slots
+    → o ≡ slot_by slots (first_place (bytes_eq (folded key)) names) → slot_at slots key ≡ o
+slot_at-by slots names key o are is = slot_at-place slots key ∙ ap (λ (ns : List (List ℕ)). slot_by slots (first_place (bytes_eq (folded key)) ns)) (sym are)
+    ∙ sym is
 
 -- ---- what a pass makes of a place
 
@@ -59,9 +64,11 @@ pub inherited-alone : (slots : List Slot) (slot : Slot) → parent_at slot ≡ N
 unfolding inherited
 inherited-alone slots slot none = ap (λ (o : Option (List ℕ)). inherited_from (parent_slot slots o) slot) none
 
-pub inherited-by : (slots : List Slot) (slot : Slot) (key : List ℕ) (o : Option Slot) → parent_at slot ≡ Some key → slot_at slots key ≡ o → inherited slots slot ≡ inherited_from o slot
+pub inherited-by : (slots : List Slot) (slot : Slot) (key : List ℕ) (o : Option Slot) → parent_at slot ≡ Some key → slot_at slots key ≡ o
+    → inherited slots slot ≡ inherited_from o slot
 unfolding inherited
-inherited-by slots slot key o some is = ap (λ (o : Option (List ℕ)). inherited_from (parent_slot slots o) slot) some ∙ ap (λ (o : Option Slot). inherited_from o slot) is
+inherited-by slots slot key o some is = ap (λ (o : Option (List ℕ)). inherited_from (parent_slot slots o) slot) some
+    ∙ ap (λ (o : Option Slot). inherited_from o slot) is
 
 key-from : (o : Option Slot) (slot : Slot) → (inherited_from o slot).key ≡ slot.key
 key-from None slot = refl
@@ -79,13 +86,17 @@ pub messages-alone : (slots : List Slot) (slot : Slot) → parent_at slot ≡ No
 unfolding check_messages
 messages-alone slots slot none = ap (λ (o : Option (List ℕ)). check_messages_by o slots slot) none
 
-pub checked-is : (slots : List Slot) (slot : Slot) (key : List ℕ) (o : Option Slot) → parent_at slot ≡ Some key → slot_at slots key ≡ o → checked slots slot ≡ (if is_parent o then slot else without_crossref slot)
+pub checked-is : (slots : List Slot) (slot : Slot) (key : List ℕ) (o : Option Slot) → parent_at slot ≡ Some key → slot_at slots key ≡ o
+    → checked slots slot ≡ (if is_parent o then slot else without_crossref slot)
 unfolding checked
-checked-is slots slot key o some is = ap (λ (o : Option (List ℕ)). checked_by o slots slot) some ∙ ap (λ (o : Option Slot). if is_parent o then slot else without_crossref slot) is
+checked-is slots slot key o some is = ap (λ (o : Option (List ℕ)). checked_by o slots slot) some
+    ∙ ap (λ (o : Option Slot). if is_parent o then slot else without_crossref slot) is
 
-pub messages-is : (slots : List Slot) (slot : Slot) (key : List ℕ) (o : Option Slot) → parent_at slot ≡ Some key → slot_at slots key ≡ o → check_messages slots slot ≡ parent_messages slot.key key o
+pub messages-is : (slots : List Slot) (slot : Slot) (key : List ℕ) (o : Option Slot) → parent_at slot ≡ Some key → slot_at slots key ≡ o
+    → check_messages slots slot ≡ parent_messages slot.key key o
 unfolding check_messages
-messages-is slots slot key o some is = ap (λ (o : Option (List ℕ)). check_messages_by o slots slot) some ∙ ap (λ (o : Option Slot). parent_messages slot.key key o) is
+messages-is slots slot key o some is = ap (λ (o : Option (List ℕ)). check_messages_by o slots slot) some
+    ∙ ap (λ (o : Option Slot). parent_messages slot.key key o) is
 
 key-checked_by : (o : Option (List ℕ)) (slots : List Slot) (slot : Slot) → (checked_by o slots slot).key ≡ slot.key
 key-checked_by None slots slot = refl
@@ -100,7 +111,8 @@ key-checked slots slot = key-checked_by (parent_at slot) slots slot
 
 -- ---- a whole pass
 
-split : (xs : List Slot) (p : ℕ) → p < length xs → (x : Slot) × ((slice_get xs p ≡ Some x) × ((drop p xs ≡ x ∷ drop (suc p) xs) × (take p xs ++ x ∷ drop (suc p) xs ≡ xs)))
+split : (xs : List Slot) (p : ℕ) → p < length xs
+    → (x : Slot) × ((slice_get xs p ≡ Some x) × ((drop p xs ≡ x ∷ drop (suc p) xs) × (take p xs ++ x ∷ drop (suc p) xs ≡ xs)))
 split [] p h = absurd (omega arith)
 split (x ∷ xs) zero h = (x, (refl, (refl, refl)))
 split (x ∷ xs) (suc p) h =
@@ -123,7 +135,8 @@ length-changed (x ∷ xs) zero f = refl
 length-changed (x ∷ xs) (suc p) f = ap suc (length-changed xs p f)
 
 module _ (judge : List Slot → Slot → Slot) where
-  pub passed-next : (slots after : List Slot) (p : ℕ) → p < length slots → after ≡ changed_at p (judge slots) slots → passed judge (take (p + 1) after) (drop (p + 1) after) ≡ passed judge (take p slots) (drop p slots)
+  pub passed-next : (slots after : List Slot) (p : ℕ) → p < length slots → after ≡ changed_at p (judge slots) slots
+      → passed judge (take (p + 1) after) (drop (p + 1) after) ≡ passed judge (take p slots) (drop p slots)
   passed-next slots after p within is =
       let s = split slots p within in
       ap (λ (n : ℕ). passed judge (take n after) (drop n after)) (add-one p)
@@ -138,19 +151,23 @@ module _ (judge : List Slot → Slot → Slot) where
   messages_here report slots None = []
   messages_here report slots (Some slot) = report slots slot
 
-  pub messages-next : (report : List Slot → Slot → List Message) (slots after : List Slot) (p : ℕ) (messages messages' whole : List Message) → p < length slots → after ≡ changed_at p (judge slots) slots
-      → messages' ≡ messages ++ messages_here report slots (slice_get slots p) → messages ++ pass_messages judge report (take p slots) (drop p slots) ≡ whole → messages' ++ pass_messages judge report (take (p + 1) after) (drop (p + 1) after) ≡ whole
+  pub messages-next : (report : List Slot → Slot → List Message) (slots after : List Slot) (p : ℕ) (messages messages' whole : List Message) → p < length slots
+      → after ≡ changed_at p (judge slots) slots
+      → messages' ≡ messages ++ messages_here report slots (slice_get slots p) → messages ++ pass_messages judge report (take p slots) (drop p slots) ≡ whole
+      → messages' ++ pass_messages judge report (take (p + 1) after) (drop (p + 1) after) ≡ whole
   messages-next report slots after p messages messages' whole within is logs total =
       let s = split slots p within in
       let rest = pass_messages judge report (take p slots ++ judge slots s.0 ∷ []) (drop (suc p) slots) in
       ap (λ (n : ℕ). messages' ++ pass_messages judge report (take n after) (drop n after)) (add-one p)
       ∙ ap (λ (xs : List Slot). messages' ++ pass_messages judge report (take (suc p) xs) (drop (suc p) xs)) is
-      ∙ ap (λ (xs : List Slot). messages' ++ pass_messages judge report xs (drop (suc p) (changed_at p (judge slots) slots))) (take-changed slots p s.0 (judge slots) s.1.0)
+      ∙ ap (λ (xs : List Slot). messages' ++ pass_messages judge report xs (drop (suc p) (changed_at p (judge slots) slots)))
+      (take-changed slots p s.0 (judge slots) s.1.0)
       ∙ ap (λ (xs : List Slot). messages' ++ pass_messages judge report (take p slots ++ judge slots s.0 ∷ []) xs) (drop-changed slots p (judge slots))
       ∙ ap (λ (ms : List Message). ms ++ rest) logs
       ∙ ap (λ (o : Option Slot). (messages ++ messages_here report slots o) ++ rest) s.1.0
       ∙ append_assoc messages (report slots s.0) rest
-      ∙ ap (λ (xs : List Slot). messages ++ (report xs s.0 ++ pass_messages judge report (take p slots ++ judge xs s.0 ∷ []) (drop (suc p) slots))) (sym s.1.1.1)
+      ∙ ap (λ (xs : List Slot). messages ++ (report xs s.0 ++ pass_messages judge report (take p slots ++ judge xs s.0 ∷ []) (drop (suc p) slots)))
+      (sym s.1.1.1)
       ∙ ap (λ (xs : List Slot). messages ++ pass_messages judge report (take p slots) xs) (sym s.1.1.0)
       ∙ total
 
@@ -175,7 +192,8 @@ at-other (s ∷ slots) zero (suc other) apart = refl
 at-other (s ∷ slots) (suc place) zero apart = refl
 at-other (s ∷ slots) (suc place) (suc other) apart = at-other slots place other (λ is. apart (ap suc is))
 
-changed-twice : (slots : List Slot) (place : ℕ) (f g : Slot → Slot) → changed_at place g (changed_at place f slots) ≡ changed_at place (λ slot. g (f slot)) slots
+changed-twice : (slots : List Slot) (place : ℕ) (f g : Slot → Slot) → changed_at place g (changed_at place f slots)
+    ≡ changed_at place (λ slot. g (f slot)) slots
 changed-twice [] place f g = refl
 changed-twice (s ∷ slots) zero f g = refl
 changed-twice (s ∷ slots) (suc place) f g = ap (λ (rest : List Slot). s ∷ rest) (changed-twice slots place f g)
@@ -185,7 +203,8 @@ abbrev pub given_by : Option Slot → List (Option (List ℕ)) → List (Option 
 given_by None values = values
 given_by (Some parent) values = inherited_values parent.key values (body_values parent.body)
 
-given-from : (slot : Slot) (body : Body) (o : Option Slot) → slot.body ≡ Some body → with_body slot (Some (record body { values = given_by o body.values })) ≡ inherited_from o slot
+given-from : (slot : Slot) (body : Body) (o : Option Slot) → slot.body ≡ Some body → with_body slot (Some (record body { values = given_by o body.values }))
+    ≡ inherited_from o slot
 given-from slot body None is = ap (with_body slot) (sym is)
 given-from slot body (Some parent) is = rw is refl
 
@@ -195,7 +214,8 @@ given-own slot body is = rw is (inherited-same slot.key body.values)
 given-there : (slots : List Slot) (place parent : ℕ) (slot : Slot) (body : Body) → slice_get slots place ≡ Some slot → slot.body ≡ Some body →
     given_by (slice_get (changed_at place away slots) parent) body.values ≡ given_by (slice_get slots parent) body.values
 given-there slots place parent slot body there is = by_test (nat_eq parent place) refl where
-  by_test : (b : Bool) → nat_eq parent place ≡ b → given_by (slice_get (changed_at place away slots) parent) body.values ≡ given_by (slice_get slots parent) body.values
+  by_test : (b : Bool) → nat_eq parent place ≡ b → given_by (slice_get (changed_at place away slots) parent) body.values
+      ≡ given_by (slice_get slots parent) body.values
   by_test true same =
       let one : parent ≡ place = grind (arith, nat_tests) in
       ap (λ (p : ℕ). given_by (slice_get (changed_at place away slots) p) body.values) one
@@ -210,28 +230,36 @@ abbrev pub body_in : Option Slot → Option Body
 body_in o = option_map_or (λ (slot : Slot). slot.body) o None
 
 pub given-back : (slots : List Slot) (place parent : ℕ) (body : Body) → Some body ≡ body_in (slice_get slots place) →
-    changed_at place (λ slot. with_body slot (Some (record body { values = given_by (slice_get (changed_at place away slots) parent) body.values }))) (changed_at place away slots) ≡ changed_at place (inherited_from (slice_get slots parent)) slots
+    changed_at place (λ slot. with_body slot (Some (record body { values = given_by (slice_get (changed_at place away slots) parent) body.values })))
+    (changed_at place away slots) ≡ changed_at place (inherited_from (slice_get slots parent)) slots
 given-back slots place parent body is = at (slice_get slots place) refl is where
   values : List (Option (List ℕ))
   values = given_by (slice_get (changed_at place away slots) parent) body.values
 
-  at : (o : Option Slot) → slice_get slots place ≡ o → Some body ≡ body_in o → changed_at place (λ slot. with_body slot (Some (record body { values = values }))) (changed_at place away slots) ≡ changed_at place (inherited_from (slice_get slots parent)) slots
+  at : (o : Option Slot) → slice_get slots place ≡ o → Some body ≡ body_in o
+      → changed_at place (λ slot. with_body slot (Some (record body { values = values }))) (changed_at place away slots)
+      ≡ changed_at place (inherited_from (slice_get slots parent)) slots
   at None there none = cc
   at (Some slot) there whole =
       changed-twice slots place away (λ slot. with_body slot (Some (record body { values = values })))
       ∙ changed_at-agree slots place slot (λ s. with_body s (Some (record body { values = values }))) (inherited_from (slice_get slots parent)) there
-      (ap (λ (vs : List (Option (List ℕ))). with_body slot (Some (record body { values = vs }))) (given-there slots place parent slot body there (sym whole)) ∙ given-from slot body (slice_get slots parent) (sym whole))
+      (ap (λ (vs : List (Option (List ℕ))). with_body slot (Some (record body { values = vs }))) (given-there slots place parent slot body there (sym whole))
+      ∙ given-from slot body (slice_get slots parent) (sym whole))
 
 -- nothing is inherited where no entry is
 alone : (slot : Slot) (o : Option Slot) → slot.body ≡ None → inherited_from o slot ≡ slot
 alone slot None is = refl
-alone slot (Some parent) is = ap (λ (body : Option Body). with_body slot (with_field_values body (inherited_values parent.key (body_values slot.body) (body_values parent.body)))) is ∙ ap (with_body slot) (sym is)
+alone slot (Some parent) is = ap (λ (body : Option Body). with_body slot
+    (with_field_values body (inherited_values parent.key (body_values slot.body) (body_values parent.body)))) is ∙ ap (with_body slot) (sym is)
 
-pub given-none : (slots : List Slot) (place parent : ℕ) → None ≡ body_in (slice_get slots place) → changed_at place away slots ≡ changed_at place (inherited_from (slice_get slots parent)) slots
+pub given-none : (slots : List Slot) (place parent : ℕ) → None ≡ body_in (slice_get slots place) → changed_at place away slots
+    ≡ changed_at place (inherited_from (slice_get slots parent)) slots
 given-none slots place parent is = at (slice_get slots place) refl is where
-  at : (o : Option Slot) → slice_get slots place ≡ o → None ≡ body_in o → changed_at place away slots ≡ changed_at place (inherited_from (slice_get slots parent)) slots
+  at : (o : Option Slot) → slice_get slots place ≡ o → None ≡ body_in o → changed_at place away slots
+      ≡ changed_at place (inherited_from (slice_get slots parent)) slots
   at None there none = sym (changed_at-none slots place away there) ∙ changed_at-none slots place (inherited_from (slice_get slots parent)) there
-  at (Some slot) there none = changed_at-agree slots place slot away (inherited_from (slice_get slots parent)) there (ap (with_body slot) none ∙ sym (alone slot (slice_get slots parent) (sym none)))
+  at (Some slot) there none = changed_at-agree slots place slot away (inherited_from (slice_get slots parent)) there
+      (ap (with_body slot) none ∙ sym (alone slot (slice_get slots parent) (sym none)))
 
 some-short : (o : Option Slot) (slot : Slot) (most : ℕ) → IfSome o (λ (slot : Slot). length slot.key ≤ most) → o ≡ Some slot → length slot.key ≤ most
 some-short None slot most short is = cc
@@ -255,7 +283,8 @@ past-none (s ∷ slots) (suc place) past = past-none slots place (omega arith)
 pub slot_at-same : (slots : List Slot) (key : List ℕ) (slot : Slot) → slot_at slots key ≡ Some slot → is_same_key key slot.key ≡ true
 slot_at-same [] key slot h = cc
 slot_at-same (s ∷ slots) key slot h = by_test (is_same_key key s.key) refl h (slot_at-same slots key slot) where
-  by_test : (b : Bool) → is_same_key key s.key ≡ b → cond b (Some s) (slot_at slots key) ≡ Some slot → (slot_at slots key ≡ Some slot → is_same_key key slot.key ≡ true) → is_same_key key slot.key ≡ true
+  by_test : (b : Bool) → is_same_key key s.key ≡ b → cond b (Some s) (slot_at slots key) ≡ Some slot
+      → (slot_at slots key ≡ Some slot → is_same_key key slot.key ≡ true) → is_same_key key slot.key ≡ true
   by_test true same h rest = let is : s ≡ slot = cc in subst (λ (x : Slot). is_same_key key x.key ≡ true) is same
   by_test false differs h rest = rest h
 
@@ -265,4 +294,5 @@ length-folded (b ∷ key) = ap suc (length-folded key)
 
 pub parent-length : (slots : List Slot) (key : List ℕ) (parent : Slot) → slot_at slots key ≡ Some parent → length parent.key ≡ length key
 parent-length slots key parent at =
-    sym (length-folded parent.key) ∙ ap (λ (name : List ℕ). length name) (sym (folded-same key parent.key (slot_at-same slots key parent at))) ∙ length-folded key
+    sym (length-folded parent.key) ∙ ap (λ (name : List ℕ). length name) (sym (folded-same key parent.key (slot_at-same slots key parent at)))
+    ∙ length-folded key

@@ -1,11 +1,13 @@
 -- Places of a list.
-use Rattle.std.proofs.Common.{◌≡◌, ℕ, zero, suc, arith, ◌<◌, Bool, true, false, ◌||◌, if◌then◌else◌, List, [], ◌∷◌, length, get_or, Option, None, Some, refl, ap, ◌∙◌}
+use Rattle.std.proofs.Common.{◌≡◌, ℕ, zero, suc, arith, ◌<◌, Bool, true, false, ◌||◌, if◌then◌else◌, List, [], ◌∷◌, length, get_or, Option, None, Some, refl}
+use Rattle.std.proofs.Common.{ap, ◌∙◌}
 use Rattle.std.specs.Prelude.{slice_set}
 use Rattle.std.specs.Option.{option_map}
 use Rattle.std.specs.List.{list_any}
 use Rattle.btx_bib.specs.refinement.Finding.{first_place, changed_at}
 
-pub changed_at-set : {T : Type 0} (xs : List T) (i : ℕ) (d y : T) (change : T → T) → y ≡ change d → d ≡ get_or xs i d → i < length xs → slice_set xs i y ≡ changed_at i change xs
+pub changed_at-set : {T : Type 0} (xs : List T) (i : ℕ) (d y : T) (change : T → T) → y ≡ change d → d ≡ get_or xs i d → i < length xs
+    → slice_set xs i y ≡ changed_at i change xs
 changed_at-set [] i d y change is at h = absurd (omega arith)
 changed_at-set (x ∷ xs) zero d y change is at h = ap (λ (first : _). first ∷ xs) (is ∙ ap change at)
 changed_at-set (x ∷ xs) (suc i) d y change is at h = ap (λ (rest : List _). x ∷ rest) (changed_at-set xs i d y change is at (omega arith))

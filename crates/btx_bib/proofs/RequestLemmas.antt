@@ -30,7 +30,8 @@ drop_texts_all (key ∷ keys) (suc n) h = drop_texts_all keys n (omega arith)
 
 pub ruleset cited_parts = (take_texts, drop_texts, take_texts_all, drop_texts_all)
 
-pub cited-place : (keys : List Bytes) (listed : List (List ℕ)) (place : ℕ) (key d : Bytes) → texts_of keys ≡ listed → true ≡ nat_lt place (length keys) → key ≡ slice_index_or keys place d
+pub cited-place : (keys : List Bytes) (listed : List (List ℕ)) (place : ℕ) (key d : Bytes) → texts_of keys ≡ listed → true ≡ nat_lt place (length keys)
+    → key ≡ slice_index_or keys place d
     → slice_get listed place ≡ Some key.items
 cited-place keys listed place key d is within at =
     ap (λ (ks : List (List ℕ)). slice_get ks place) (sym is)

@@ -1,5 +1,6 @@
 -- The place of the list for a key, after one more entry.
-use Rattle.std.proofs.Common.{◌≡◌, ℕ, nat_eq, nat_le, arith, ◌+◌, ◌-◌, Bool, true, false, ◌||◌, cond, if◌then◌else◌, List, [], ◌∷◌, ◌++◌, Option, None, Some, is_some, refl, sym, ap, ◌∙◌}
+use Rattle.std.proofs.Common.{◌≡◌, ℕ, nat_eq, nat_le, arith, ◌+◌, ◌-◌, Bool, true, false, ◌||◌, cond, if◌then◌else◌, List, [], ◌∷◌, ◌++◌, Option, None, Some}
+use Rattle.std.proofs.Common.{is_some, refl, sym, ap, ◌∙◌}
 use Rattle.std.specs.Prelude.{count_by}
 use Rattle.std.specs.Option.{option_map, option_or, unwrap_or}
 use Rattle.std.specs.List.{sum_by}
@@ -25,7 +26,8 @@ slot_by wanted kept key cited entry count = record {
 }
 
 pub with_entry-slot : (wanted : Request) (key : List ℕ) (cited : Option (List ℕ)) (entry : Given) (count : ℕ)
-    → with_entry (body_of wanted entry) entry.key (slot_by wanted (is_some cited) key cited None count) ≡ slot_by wanted (is_some cited) key cited (Some entry) count
+    → with_entry (body_of wanted entry) entry.key (slot_by wanted (is_some cited) key cited None count) ≡ slot_by wanted (is_some cited) key cited (Some entry)
+    count
 with_entry-slot wanted key None entry count = refl
 with_entry-slot wanted key (Some spelling) entry count = refl
 
@@ -46,7 +48,9 @@ enough-is false fewest count = by_tests (nat_eq (fewest - count) 0) (nat_le fewe
   by_tests false true left right = absurd (grind (arith, nat_tests))
 
 pub settled-slot : (wanted : Request) (stored : List Given) (key : List ℕ)
-    → (let cited = listed_as wanted.cited key in settled (slot_by wanted (is_some cited) key cited (entry_with_key stored key) (count_by (is_same_key key) (references wanted stored))) ≡ slot_of wanted stored key)
+    → (let cited = listed_as wanted.cited key in
+    settled (slot_by wanted (is_some cited) key cited (entry_with_key stored key) (count_by (is_same_key key) (references wanted stored)))
+    ≡ slot_of wanted stored key)
 unfolding slot_of
 settled-slot wanted stored key =
     ap (λ (stays : Bool). record { key = spelled wanted stored key; stays = stays; body = option_map (body_of wanted) (entry_with_key stored key) })
@@ -56,7 +60,8 @@ or_chosen : (b : Bool) (x : Given) (rest last : Option Given) → cond b (Some x
 or_chosen true x rest last = refl
 or_chosen false x rest last = refl
 
-pub entry_of-push : (entries : List Given) (entry : Given) (key : List ℕ) → entry_with_key (entries ++ entry ∷ []) key ≡ option_or (entry_with_key entries key) (cond (is_same_key key entry.key) (Some entry) None)
+pub entry_of-push : (entries : List Given) (entry : Given) (key : List ℕ) → entry_with_key (entries ++ entry ∷ []) key ≡ option_or (entry_with_key entries key)
+    (cond (is_same_key key entry.key) (Some entry) None)
 entry_of-push [] entry key = refl
 entry_of-push (first ∷ entries) entry key =
     ap (cond (is_same_key key first.key) (Some first)) (entry_of-push entries entry key)
@@ -83,12 +88,15 @@ entry_of-new entries entry key absent = by_test (is_same_key entry.key key) refl
       ∙ ap (λ (b : Bool). option_or (entry_with_key entries key) (cond b (Some entry) None)) back
       ∙ or_none (entry_with_key entries key)
 
-pub count_by-push : (keys : List (List ℕ)) (last key : List ℕ) → count_by (is_same_key key) (keys ++ last ∷ []) ≡ (if is_same_key last key then count_by (is_same_key key) keys + 1 else count_by (is_same_key key) keys)
+pub count_by-push : (keys : List (List ℕ)) (last key : List ℕ) → count_by (is_same_key key) (keys ++ last ∷ [])
+    ≡ (if is_same_key last key then count_by (is_same_key key) keys + 1 else count_by (is_same_key key) keys)
 count_by-push keys last key =
     let ones : List ℕ → ℕ = λ (k : List ℕ). cond (is_same_key key k) 1 0 in
-    let whole : count_by (is_same_key key) (keys ++ last ∷ []) ≡ count_by (is_same_key key) keys + count_by (is_same_key key) (last ∷ []) = sum_by-append ones keys (last ∷ []) in
+    let whole : count_by (is_same_key key) (keys ++ last ∷ []) ≡ count_by (is_same_key key) keys + count_by (is_same_key key) (last ∷ []) =
+    sum_by-append ones keys (last ∷ []) in
     by_test (is_same_key last key) (is_same_key key last) (same_key_equiv.symm key last) whole where
-      by_test : (b back : Bool) → back ≡ b → count_by (is_same_key key) (keys ++ last ∷ []) ≡ count_by (is_same_key key) keys + sum_by (λ (same : Bool). cond same 1 0) (back ∷ [])
+      by_test : (b back : Bool) → back ≡ b → count_by (is_same_key key) (keys ++ last ∷ []) ≡ count_by (is_same_key key) keys + sum_by
+          (λ (same : Bool). cond same 1 0) (back ∷ [])
           → count_by (is_same_key key) (keys ++ last ∷ []) ≡ (if b then count_by (is_same_key key) keys + 1 else count_by (is_same_key key) keys)
       by_test true true e h = h ∙ omega arith
       by_test true false e h = cc

@@ -1,5 +1,6 @@
 -- Which keys of the list stay: the passes change neither the key of a place nor whether it has an entry and enough references.
-use Rattle.std.proofs.Common.{◌≡◌, ℕ, nat_le, arith, Bool, true, false, ◌||◌, ◌&&◌, cond, if◌then◌else◌, List, [], ◌∷◌, ◌++◌, map, Option, None, Some, is_some, refl, sym, ap, ◌∙◌, append_assoc, append-nil}
+use Rattle.std.proofs.Common.{◌≡◌, ℕ, nat_le, arith, Bool, true, false, ◌||◌, ◌&&◌, cond, if◌then◌else◌, List, [], ◌∷◌, ◌++◌, map, Option, None, Some, is_some}
+use Rattle.std.proofs.Common.{refl, sym, ap, ◌∙◌, append_assoc, append-nil}
 use Rattle.std.specs.Prelude.{count_by}
 use Rattle.std.specs.Option.{option_map}
 use Rattle.std.specs.List.{filter, flat_map}
@@ -16,7 +17,8 @@ use Rattle.btx_bib.specs.language.Entries.{Given, body_of}
 use Rattle.btx_bib.specs.language.Stored.{entry_with_key, parents_in}
 use Rattle.btx_bib.specs.language.Requests.{asked}
 use Rattle.btx_bib.specs.language.Listing.{list_keys, slot_of, slots_of}
-use Rattle.btx_bib.specs.language.Passes.{passed, inherited, inherited_from, checked, without_crossref, is_parent, slot_at, parent_at, after_first, after_second, entries_of, entry_at, inherited_values, without_parent, body_values}
+use Rattle.btx_bib.specs.language.Passes.{passed, inherited, inherited_from, checked, without_crossref, is_parent, slot_at, parent_at, after_first}
+use Rattle.btx_bib.specs.language.Passes.{after_second, entries_of, entry_at, inherited_values, without_parent, body_values}
 use Rattle.btx_bib.specs.language.Known.{Known}
 use Rattle.btx_bib.specs.language.Databases.{library_of, library_by}
 use Rattle.btx_bib.specs.laws.Laws.{ListIsKept, StarredCitedOrReferred, keeps_entry, list_of}
@@ -32,7 +34,8 @@ map-append : {A : Type 0} (f : Slot → A) (xs ys : List Slot) → map f (xs ++ 
 map-append f [] ys = refl
 map-append f (x ∷ xs) ys = ap (λ (rest : List _). f x ∷ rest) (map-append f xs ys)
 
-pub view-next : {A : Type 0} (f : Slot → A) (judge : List Slot → Slot → Slot) → ((slots : List Slot) (slot : Slot) → f (judge slots slot) ≡ f slot) → (slot : Slot) (slots done : List Slot)
+pub view-next : {A : Type 0} (f : Slot → A) (judge : List Slot → Slot → Slot) → ((slots : List Slot) (slot : Slot) → f (judge slots slot) ≡ f slot)
+    → (slot : Slot) (slots done : List Slot)
     → map f ((done ++ judge (done ++ slot ∷ slots) slot ∷ []) ++ slots) ≡ map f (done ++ slot ∷ slots)
 view-next f judge keeps slot slots done =
     let judged = judge (done ++ slot ∷ slots) slot in
@@ -41,7 +44,8 @@ view-next f judge keeps slot slots done =
     ∙ ap (λ (seen : _). map f done ++ seen ∷ map f slots) (keeps (done ++ slot ∷ slots) slot)
     ∙ sym (map-append f done (slot ∷ slots))
 
-pub view-passed : {A : Type 0} (f : Slot → A) (judge : List Slot → Slot → Slot) → ((slots : List Slot) (slot : Slot) → f (judge slots slot) ≡ f slot) → (slots done : List Slot)
+pub view-passed : {A : Type 0} (f : Slot → A) (judge : List Slot → Slot → Slot) → ((slots : List Slot) (slot : Slot) → f (judge slots slot) ≡ f slot)
+    → (slots done : List Slot)
     → map f (passed judge done slots) ≡ map f (done ++ slots)
 view-passed f judge keeps [] done = ap (map f) (sym (append-nil done))
 view-passed f judge keeps (slot ∷ slots) done =
@@ -55,7 +59,8 @@ seen_as key has_entry enough = (key, has_entry && enough)
 abbrev pub view : Slot → List ℕ × Bool
 view slot = seen_as slot.key (is_some slot.body) slot.stays
 
-same-body : (key : List ℕ) (enough : Bool) (body : Option Body) (values : List (Option (List ℕ))) → seen_as key (is_some (with_field_values body values)) enough ≡ seen_as key (is_some body) enough
+same-body : (key : List ℕ) (enough : Bool) (body : Option Body) (values : List (Option (List ℕ))) → seen_as key (is_some (with_field_values body values)) enough
+    ≡ seen_as key (is_some body) enough
 same-body key enough None values = refl
 same-body key enough (Some body) values = refl
 
@@ -97,7 +102,8 @@ pub kept-chosen : (slots : List Slot) → kept slots ≡ chosen (map view slots)
 kept-chosen [] = refl
 kept-chosen (slot ∷ slots) = by_body slot.stays slot.body (kept-chosen slots) where
   by_body : (enough : Bool) (body : Option Body) → kept slots ≡ chosen (map view slots)
-      → map (λ (entry : Entry). entry.key) (entry_by slot.key enough body ++ flat_map entry_at slots) ≡ chosen_by (seen_as slot.key (is_some body) enough) ++ chosen (map view slots)
+      → map (λ (entry : Entry). entry.key) (entry_by slot.key enough body ++ flat_map entry_at slots) ≡ chosen_by (seen_as slot.key (is_some body) enough)
+      ++ chosen (map view slots)
   by_body enough None rest = rest
   by_body true (Some body) rest = ap (λ (keys : List (List ℕ)). slot.key ∷ keys) rest
   by_body false (Some body) rest = rest
@@ -108,23 +114,28 @@ has-body : (wanted : Request) (entry : Option Given) → is_some (option_map (bo
 has-body wanted None = refl
 has-body wanted (Some given) = refl
 
-stays-is : (wanted : Request) (stored : List Given) (key : List ℕ) → view (slot_of wanted stored key) ≡ seen_as (spelled wanted stored key) (is_some (entry_with_key stored key)) (stays wanted stored key)
+stays-is : (wanted : Request) (stored : List Given) (key : List ℕ) → view (slot_of wanted stored key)
+    ≡ seen_as (spelled wanted stored key) (is_some (entry_with_key stored key)) (stays wanted stored key)
 unfolding slot_of
 stays-is wanted stored key = ap (λ (b : Bool). seen_as (spelled wanted stored key) b (stays wanted stored key)) (has-body wanted (entry_with_key stored key))
 
-slots-chosen : (wanted : Request) (stored : List Given) (keys : List (List ℕ)) → chosen (map view (map (slot_of wanted stored) keys)) ≡ map (spelled wanted stored) (filter (keeps_entry wanted stored) keys)
+slots-chosen : (wanted : Request) (stored : List Given) (keys : List (List ℕ)) → chosen (map view (map (slot_of wanted stored) keys))
+    ≡ map (spelled wanted stored) (filter (keeps_entry wanted stored) keys)
 slots-chosen wanted stored [] = refl
 slots-chosen wanted stored (key ∷ keys) =
     let others = map view (map (slot_of wanted stored) keys) in
-    ap (λ (seen : List ℕ × Bool). chosen_by seen ++ chosen others) (stays-is wanted stored key) ∙ by_test (keeps_entry wanted stored key) (slots-chosen wanted stored keys) where
+    ap (λ (seen : List ℕ × Bool). chosen_by seen ++ chosen others) (stays-is wanted stored key)
+    ∙ by_test (keeps_entry wanted stored key) (slots-chosen wanted stored keys) where
       by_test : (b : Bool) → chosen (map view (map (slot_of wanted stored) keys)) ≡ map (spelled wanted stored) (filter (keeps_entry wanted stored) keys)
-          → (if b then spelled wanted stored key ∷ [] else []) ++ chosen (map view (map (slot_of wanted stored) keys)) ≡ map (spelled wanted stored) (cond b (key ∷ filter (keeps_entry wanted stored) keys) (filter (keeps_entry wanted stored) keys))
+          → (if b then spelled wanted stored key ∷ [] else []) ++ chosen (map view (map (slot_of wanted stored) keys))
+          ≡ map (spelled wanted stored) (cond b (key ∷ filter (keeps_entry wanted stored) keys) (filter (keeps_entry wanted stored) keys))
       by_test true rest = ap (λ (found : List (List ℕ)). spelled wanted stored key ∷ found) rest
       by_test false rest = rest
 
 -- ---- the library
 
-kept-entries : (wanted : Request) (stored : List Given) → map (λ (entry : Entry). entry.key) (entries_of (slots_of wanted stored)) ≡ map (spelled wanted stored) (filter (keeps_entry wanted stored) (list_keys wanted stored))
+kept-entries : (wanted : Request) (stored : List Given) → map (λ (entry : Entry). entry.key) (entries_of (slots_of wanted stored))
+    ≡ map (spelled wanted stored) (filter (keeps_entry wanted stored) (list_keys wanted stored))
 unfolding entries_of
 kept-entries wanted stored =
     kept-chosen (after_second (after_first (slots_of wanted stored)))
@@ -132,7 +143,8 @@ kept-entries wanted stored =
     ∙ slots-chosen wanted stored (list_keys wanted stored)
 
 kept-library : (ending : End) (wanted : Request) (known : Known) (messages : List Message) → ending ≡ end.Whole
-    → list_of (library_by ending wanted known messages) ≡ map (spelled wanted known.stored) (filter (keeps_entry wanted known.stored) (list_keys wanted known.stored))
+    → list_of (library_by ending wanted known messages)
+    ≡ map (spelled wanted known.stored) (filter (keeps_entry wanted known.stored) (list_keys wanted known.stored))
 kept-library end.Whole wanted known messages whole = kept-entries wanted known.stored
 kept-library end.FileLimit wanted known messages whole = cc
 kept-library end.StringLimit wanted known messages whole = cc
@@ -162,6 +174,7 @@ starred-cited-or-referred style job least stored key = by_star job.all where
   parents : List (List ℕ)
   parents = parents_in (asked style job least) stored
 
-  by_star : (all : Option ℕ) → (cited || nat_le (fewest_of all least) (count_by (is_same_key key) (references_by all (asked style job least) stored))) ≡ (is_some all || (cited || nat_le least (count_by (is_same_key key) parents)))
+  by_star : (all : Option ℕ) → (cited || nat_le (fewest_of all least) (count_by (is_same_key key) (references_by all (asked style job least) stored)))
+      ≡ (is_some all || (cited || nat_le least (count_by (is_same_key key) parents)))
   by_star None = refl
   by_star (Some place) = ap (λ (b : Bool). cited || b) (zero-least 0) ∙ or-true cited

@@ -1,5 +1,6 @@
 -- What an entry that is read adds to the stored ones.
-use Rattle.std.proofs.Common.{◌≡◌, ℕ, nat_lt, Bool, true, false, not, ◌||◌, ◌&&◌, if◌then◌else◌, List, [], ◌∷◌, ◌++◌, length, Option, None, Some, is_some, refl, sym, ap, ◌∙◌, append-nil}
+use Rattle.std.proofs.Common.{◌≡◌, ℕ, nat_lt, Bool, true, false, not, ◌||◌, ◌&&◌, if◌then◌else◌, List, [], ◌∷◌, ◌++◌, length, Option, None, Some, is_some, refl}
+use Rattle.std.proofs.Common.{sym, ap, ◌∙◌, append-nil}
 use Rattle.btx_text.specs.language.Limits.{greatest_string}
 use Rattle.btx_aux.specs.language.Names.{is_same_key}
 use Rattle.btx_bib.specs.declared.end.End.TheVariants as end
@@ -27,13 +28,15 @@ use Rattle.btx_bib.specs.refinement.Stored.{references_by}
 pub is_stored-any : (stored : List Given) (key : List ℕ) → is_some (entry_with_key stored key) ≡ is_any_key (keys_in stored) key
 is_stored-any [] key = refl
 is_stored-any (given ∷ stored) key = by_test (is_same_key key given.key) (is_stored-any stored key) where
-  by_test : (b : Bool) → is_some (entry_with_key stored key) ≡ is_any_key (keys_in stored) key → is_some (if b then Some given else entry_with_key stored key) ≡ (b || is_any_key (keys_in stored) key)
+  by_test : (b : Bool) → is_some (entry_with_key stored key) ≡ is_any_key (keys_in stored) key → is_some (if b then Some given else entry_with_key stored key)
+      ≡ (b || is_any_key (keys_in stored) key)
   by_test true rest = refl
   by_test false rest = rest
 
 wanted-asked : (wanted : Request) (stored : List Given) (key : List ℕ) → is_wanted wanted stored key ≡ is_asked_for wanted stored key
 wanted-asked wanted stored key = by_all wanted.all where
-  by_all : (all : Option ℕ) → (is_some all || is_any_key (wanted.cited ++ references_by all wanted stored) key) ≡ (is_some all || (is_any_key wanted.cited key || is_any_key (parents_in wanted stored) key))
+  by_all : (all : Option ℕ) → (is_some all || is_any_key (wanted.cited ++ references_by all wanted stored) key)
+      ≡ (is_some all || (is_any_key wanted.cited key || is_any_key (parents_in wanted stored) key))
   by_all (Some place) = refl
   by_all None = is_any_key-append wanted.cited (parents_in wanted stored) key
 
@@ -63,7 +66,8 @@ wanted-new-are-stored knows wanted known kind key next on = by_stored ((keeping 
   wrong-stored : stored_in (known_after wanted known (Wrong Repeated)) ≡ stored
   wrong-stored = ap (λ (b : Bool). stored_in (if b then known else known)) on
 
-  by_wanted : (b : Bool) → stored_in (if b then record (with_current_stored known) { current = Some given } else with_current_stored known) ≡ (if b then stored ++ given ∷ [] else stored)
+  by_wanted : (b : Bool) → stored_in (if b then record (with_current_stored known) { current = Some given } else with_current_stored known)
+      ≡ (if b then stored ++ given ∷ [] else stored)
   by_wanted true = refl
   by_wanted false = append-nil stored
 
@@ -74,9 +78,12 @@ wanted-new-are-stored knows wanted known kind key next on = by_stored ((keeping 
       ∙ ap (λ (b : Bool). if b then stored ++ given ∷ [] else stored) (wanted-asked wanted stored key)
 
   by_stored : (there : Bool) → there ≡ is_any_key (keys_in stored) key
-      → (let read : Event × Next = if there then (Wrong Repeated, Item) else (Entry kind key, next) in stored_in (known_after wanted known read.0)) ≡ (if asked && not (is_any_key (keys_in stored) key) then stored ++ given ∷ [] else stored)
-  by_stored true is = wrong-stored ∙ ap (λ (b : Bool). if b then stored ++ given ∷ [] else stored) (sym (ap (λ (b : Bool). asked && not b) (sym is) ∙ and-false asked))
-  by_stored false is = entry-stored ∙ ap (λ (b : Bool). if b then stored ++ given ∷ [] else stored) (sym (ap (λ (b : Bool). asked && not b) (sym is) ∙ and-true asked))
+      → (let read : Event × Next = if there then (Wrong Repeated, Item) else (Entry kind key, next) in stored_in (known_after wanted known read.0))
+      ≡ (if asked && not (is_any_key (keys_in stored) key) then stored ++ given ∷ [] else stored)
+  by_stored true is = wrong-stored ∙ ap (λ (b : Bool). if b then stored ++ given ∷ [] else stored)
+      (sym (ap (λ (b : Bool). asked && not b) (sym is) ∙ and-false asked))
+  by_stored false is = entry-stored ∙ ap (λ (b : Bool). if b then stored ++ given ∷ [] else stored)
+      (sym (ap (λ (b : Bool). asked && not b) (sym is) ∙ and-true asked))
 
 -- ---- what is no entry
 
@@ -93,7 +100,8 @@ keys-behind : (stored : List Given) (one other : Given) → one.key ≡ other.ke
 keys-behind [] one other same = ap (λ (key : List ℕ). key ∷ []) same
 keys-behind (given ∷ stored) one other same = ap (λ (keys : List (List ℕ)). given.key ∷ keys) (keys-behind stored one other same)
 
-field-keys : (wanted : Request) (known : Known) (current : Option Given) (field : Field) → current ≡ known.current → keys_of (after_field wanted known current field) ≡ keys_of known
+field-keys : (wanted : Request) (known : Known) (current : Option Given) (field : Field) → current ≡ known.current
+    → keys_of (after_field wanted known current field) ≡ keys_of known
 field-keys wanted known None field is = refl
 field-keys wanted known (Some given) field is = by_test (keeps_field wanted given field.name) where
   text : List ℕ

@@ -1,5 +1,6 @@
 -- A table of names, as a list of names.
-use Rattle.std.proofs.Common.{◌≡◌, ℕ, suc, arith, ◌+◌, Bool, true, false, not, ◌||◌, cond, if◌then◌else◌, List, [], ◌∷◌, ◌++◌, length, Option, None, Some, refl, ap, ◌∙◌, nat_lt, one-add}
+use Rattle.std.proofs.Common.{◌≡◌, ℕ, suc, arith, ◌+◌, Bool, true, false, not, ◌||◌, cond, if◌then◌else◌, List, [], ◌∷◌, ◌++◌, length, Option, None, Some, refl}
+use Rattle.std.proofs.Common.{ap, ◌∙◌, nat_lt, one-add}
 use Rattle.std.specs.Prelude.{position}
 use Rattle.std.specs.Str.{bytes_eq}
 use Rattle.std.specs.Option.{option_map}
@@ -40,7 +41,8 @@ module _ {T : Type 0} (test : T → Bool) where
   place_of-position [] = refl
   place_of-position (x ∷ xs) = placed-is (test x) xs (place_of-position xs)
 
-pub place_of-texts : (names : List Bytes) (name : List ℕ) → first_place (λ (other : Bytes). bytes_eq name other.items) names ≡ first_place (bytes_eq name) (texts_of names)
+pub place_of-texts : (names : List Bytes) (name : List ℕ) → first_place (λ (other : Bytes). bytes_eq name other.items) names
+    ≡ first_place (bytes_eq name) (texts_of names)
 place_of-texts [] name = refl
 place_of-texts (first ∷ names) name = ap (λ (o : Option ℕ). if bytes_eq name first.items then Some 0 else option_map suc o) (place_of-texts names name)
 

@@ -1,5 +1,6 @@
 -- Values as places among the values that an entry has.
-use Rattle.std.proofs.Common.{◌≡◌, ℕ, zero, suc, arith, ◌+◌, ◌<◌, ◌≤◌, List, [], ◌∷◌, ◌++◌, length, length-append, map, take, replicate, Option, None, Some, refl, ap, ◌∙◌}
+use Rattle.std.proofs.Common.{◌≡◌, ℕ, zero, suc, arith, ◌+◌, ◌<◌, ◌≤◌, List, [], ◌∷◌, ◌++◌, length, length-append, map, take, replicate, Option, None, Some}
+use Rattle.std.proofs.Common.{refl, ap, ◌∙◌}
 use Rattle.std.specs.Prelude.{slice_get, slice_set}
 use Rattle.std.specs.List.{All, AllByRecursion}
 use Rattle.std.proofs.lemmas.List.{length-map, map-append}
@@ -16,14 +17,16 @@ use Rattle.btx_bib.specs.refinement.Values.{IsAdded, IsWithin, text_at}
 -- ---- one field
 
 -- the value of a field, by its place
-pub value_at-place : (lent made : List (List ℕ)) (places : List Place) (field : ℕ) (place : Place) → Some place ≡ slice_get places field → text_at lent made place ≡ field_value field (map (text_at lent made) places)
+pub value_at-place : (lent made : List (List ℕ)) (places : List Place) (field : ℕ) (place : Place) → Some place ≡ slice_get places field
+    → text_at lent made place ≡ field_value field (map (text_at lent made) places)
 value_at-place lent made [] field place is = cc
 value_at-place lent made (first ∷ places) zero place is = by_place is where
   by_place : Some place ≡ Some first → text_at lent made place ≡ text_at lent made first
   by_place e = cc
 value_at-place lent made (first ∷ places) (suc field) place is = value_at-place lent made places field place is
 
-pub value_at-past : (lent made : List (List ℕ)) (places : List Place) (field : ℕ) → None ≡ slice_get places field → None ≡ field_value field (map (text_at lent made) places)
+pub value_at-past : (lent made : List (List ℕ)) (places : List Place) (field : ℕ) → None ≡ slice_get places field
+    → None ≡ field_value field (map (text_at lent made) places)
 value_at-past lent made [] field is = refl
 value_at-past lent made (first ∷ places) zero is = cc
 value_at-past lent made (first ∷ places) (suc field) is = value_at-past lent made places field is
@@ -39,14 +42,16 @@ places-missing short zero is = refl
 places-missing short (suc count) is =
     ap (λ (place : Place). place ∷ map place_in (replicate count short)) is ∙ ap (λ (rest : List Place). Missing ∷ rest) (places-missing short count is)
 
-pub places-set : (shorts : List ShortPlace) (field : ℕ) (short : ShortPlace) (place : Place) → place_in short ≡ place → map place_in (slice_set shorts field short) ≡ slice_set (map place_in shorts) field place
+pub places-set : (shorts : List ShortPlace) (field : ℕ) (short : ShortPlace) (place : Place) → place_in short ≡ place
+    → map place_in (slice_set shorts field short) ≡ slice_set (map place_in shorts) field place
 places-set [] field short place is = refl
 places-set (first ∷ shorts) zero short place is = ap (λ (new : Place). new ∷ map place_in shorts) is
 places-set (first ∷ shorts) (suc field) short place is = ap (λ (rest : List Place). place_in first ∷ rest) (places-set shorts field short place is)
 
 -- ---- places of few fields
 
-take-set : (shorts : List ShortPlace) (count field : ℕ) (short : ShortPlace) → take count (slice_set shorts field short) ≡ slice_set (take count shorts) field short
+take-set : (shorts : List ShortPlace) (count field : ℕ) (short : ShortPlace) → take count (slice_set shorts field short)
+    ≡ slice_set (take count shorts) field short
 take-set shorts zero field short = refl
 take-set [] (suc count) field short = refl
 take-set (first ∷ shorts) (suc count) zero short = refl
@@ -57,10 +62,12 @@ take-missing short all zero few = refl
 take-missing short zero (suc count) few = absurd (omega arith)
 take-missing short (suc all) (suc count) few = ap (λ (rest : List ShortPlace). short ∷ rest) (take-missing short all count (omega arith))
 
-pub few-missing : (short : ShortPlace) (all count : ℕ) → count ≤ all → place_in short ≡ Missing → few_places (replicate all short) count ≡ replicate count Missing
+pub few-missing : (short : ShortPlace) (all count : ℕ) → count ≤ all → place_in short ≡ Missing → few_places (replicate all short) count
+    ≡ replicate count Missing
 few-missing short all count few is = ap (map place_in) (take-missing short all count few) ∙ places-missing short count is
 
-pub few-set : (shorts : List ShortPlace) (count field : ℕ) (short : ShortPlace) → few_places (slice_set shorts field short) count ≡ slice_set (few_places shorts count) field (place_in short)
+pub few-set : (shorts : List ShortPlace) (count field : ℕ) (short : ShortPlace) → few_places (slice_set shorts field short) count
+    ≡ slice_set (few_places shorts count) field (place_in short)
 few-set shorts count field short = ap (map place_in) (take-set shorts count field short) ∙ places-set (take count shorts) field short (place_in short) refl
 
 pub few-within : (shorts : List ShortPlace) (count field : ℕ) → field < length (few_places shorts count) → field < length shorts
@@ -90,14 +97,16 @@ one-more texts new = length-append texts (new ∷ [])
 
 pub added-lent : (lent made : List (List ℕ)) (new : List ℕ) → IsAdded lent made (lent ++ new ∷ []) made new (Lent (length lent))
 added-lent lent made new = record { there = text-new lent new; within = omega (arith, one-more lent new); others = other } where
-  other : (place : Place) → IsWithin (length lent) (length made) place → (text_at (lent ++ new ∷ []) made place ≡ text_at lent made place) × IsWithin (length (lent ++ new ∷ [])) (length made) place
+  other : (place : Place) → IsWithin (length lent) (length made) place → (text_at (lent ++ new ∷ []) made place ≡ text_at lent made place)
+      × IsWithin (length (lent ++ new ∷ [])) (length made) place
   other Missing h = (refl, tt)
   other (Lent number) h = (text-kept lent new number h, omega (arith, one-more lent new, h))
   other (Made number) h = (refl, h)
 
 pub added-made : (lent made : List (List ℕ)) (new : List ℕ) → IsAdded lent made lent (made ++ new ∷ []) new (Made (length made))
 added-made lent made new = record { there = text-new made new; within = omega (arith, one-more made new); others = other } where
-  other : (place : Place) → IsWithin (length lent) (length made) place → (text_at lent (made ++ new ∷ []) place ≡ text_at lent made place) × IsWithin (length lent) (length (made ++ new ∷ [])) place
+  other : (place : Place) → IsWithin (length lent) (length made) place → (text_at lent (made ++ new ∷ []) place ≡ text_at lent made place)
+      × IsWithin (length lent) (length (made ++ new ∷ [])) place
   other Missing h = (refl, tt)
   other (Lent number) h = (refl, h)
   other (Made number) h = (text-kept made new number h, omega (arith, one-more made new, h))
@@ -110,14 +119,16 @@ map-changed_at f (x ∷ xs) zero y = refl
 map-changed_at f (x ∷ xs) (suc i) y = ap (λ (rest : List _). f x ∷ rest) (map-changed_at f xs i y)
 
 module _ (lent made lent' made' : List (List ℕ)) (new : List ℕ) (place : Place) (added : IsAdded lent made lent' made' new place) where
-  texts-kept : (places : List Place) → AllByRecursion (IsWithin (length lent) (length made)) places → map (text_at lent' made') places ≡ map (text_at lent made) places
+  texts-kept : (places : List Place) → AllByRecursion (IsWithin (length lent) (length made)) places → map (text_at lent' made') places
+      ≡ map (text_at lent made) places
   texts-kept [] h = refl
   texts-kept (first ∷ places) h =
       ap (λ (value : Option (List ℕ)). value ∷ map (text_at lent' made') places) (added.others first h.0).0
       ∙ ap (λ (rest : List (Option (List ℕ))). text_at lent made first ∷ rest) (texts-kept places h.1)
 
   -- a field with another value
-  pub texts-put : (places : List Place) (field : ℕ) → All (IsWithin (length lent) (length made)) places → map (text_at lent' made') (slice_set places field place) ≡ changed_at field (λ (old : Option (List ℕ)). Some new) (map (text_at lent made) places)
+  pub texts-put : (places : List Place) (field : ℕ) → All (IsWithin (length lent) (length made)) places
+      → map (text_at lent' made') (slice_set places field place) ≡ changed_at field (λ (old : Option (List ℕ)). Some new) (map (text_at lent made) places)
   texts-put places field within =
       map-changed_at (text_at lent' made') places field place
       ∙ ap (λ (value : Option (List ℕ)). changed_at field (λ (old : Option (List ℕ)). value) (map (text_at lent' made') places)) added.there

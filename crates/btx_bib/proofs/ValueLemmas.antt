@@ -1,5 +1,6 @@
 -- Values by place, with those of a parent.
-use Rattle.std.proofs.Common.{◌≡◌, ℕ, zero, suc, arith, ◌+◌, ◌<◌, ◌≤◌, List, [], ◌∷◌, ◌++◌, take, drop, length, append-nil, Option, None, Some, is_some, true, refl, sym, ap, ◌∙◌, add-one}
+use Rattle.std.proofs.Common.{◌≡◌, ℕ, zero, suc, arith, ◌+◌, ◌<◌, ◌≤◌, List, [], ◌∷◌, ◌++◌, take, drop, length, append-nil, Option, None, Some, is_some, true}
+use Rattle.std.proofs.Common.{refl, sym, ap, ◌∙◌, add-one}
 use Rattle.std.proofs.lemmas.List.{take_all, drop_all}
 use Rattle.std.specs.Option.{option_or}
 use Rattle.btx_bib.specs.refinement.Finding.{changed_at}
@@ -41,7 +42,8 @@ filled-none [] place = refl
 filled-none (v ∷ own) zero = ap (λ (first : Option (List ℕ)). first ∷ own) (or_none v)
 filled-none (v ∷ own) (suc place) = ap (λ (rest : List (Option (List ℕ))). v ∷ rest) (filled-none own place)
 
-pub filled-kept : (own : List (Option (List ℕ))) (place : ℕ) (o : Option (List ℕ)) → is_some (field_value place own) ≡ true → own ≡ changed_at place (λ value. option_or value o) own
+pub filled-kept : (own : List (Option (List ℕ))) (place : ℕ) (o : Option (List ℕ)) → is_some (field_value place own) ≡ true
+    → own ≡ changed_at place (λ value. option_or value o) own
 filled-kept own place None kept = filled-none own place
 filled-kept own place (Some new) kept = with_value-kept own place new kept
 
@@ -57,19 +59,22 @@ inherited-first key (v ∷ own) [] = refl
 inherited-first key (v ∷ own) (p ∷ parents) = refl
 
 -- the first value is the parent's key, whatever it was
-pub inherited-over : (key : List ℕ) (own parents : List (Option (List ℕ))) → inherited_values key (changed_at 0 (λ value. Some key) own) parents ≡ inherited_values key own parents
+pub inherited-over : (key : List ℕ) (own parents : List (Option (List ℕ))) → inherited_values key (changed_at 0 (λ value. Some key) own) parents
+    ≡ inherited_values key own parents
 inherited-over key [] parents = refl
 inherited-over key (v ∷ own) [] = refl
 inherited-over key (v ∷ own) (p ∷ parents) = refl
 
-none-next : (place : ℕ) (own : List (Option (List ℕ))) → changed_at place (λ value. option_or value None) (take place own ++ drop place own) ≡ take (suc place) own ++ drop (suc place) own
+none-next : (place : ℕ) (own : List (Option (List ℕ))) → changed_at place (λ value. option_or value None) (take place own ++ drop place own)
+    ≡ take (suc place) own ++ drop (suc place) own
 none-next zero [] = refl
 none-next (suc place) [] = refl
 none-next zero (v ∷ own) = ap (λ (first : Option (List ℕ)). first ∷ own) (sym (or_none v))
 none-next (suc place) (v ∷ own) = ap (λ (rest : List (Option (List ℕ))). v ∷ rest) (none-next place own)
 
 or-next : (place : ℕ) (own parents : List (Option (List ℕ))) →
-    changed_at place (λ value. option_or value (field_value place parents)) (take place (or_values own parents) ++ drop place own) ≡ take (suc place) (or_values own parents) ++ drop (suc place) own
+    changed_at place (λ value. option_or value (field_value place parents)) (take place (or_values own parents) ++ drop place own)
+    ≡ take (suc place) (or_values own parents) ++ drop (suc place) own
 or-next zero [] parents = refl
 or-next (suc place) [] parents = refl
 or-next place (v ∷ own) [] = none-next place (v ∷ own)
@@ -77,7 +82,8 @@ or-next zero (v ∷ own) (p ∷ parents) = refl
 or-next (suc place) (v ∷ own) (p ∷ parents) = ap (λ (rest : List (Option (List ℕ))). option_or v p ∷ rest) (or-next place own parents)
 
 inherited-behind : (place : ℕ) (key : List ℕ) (own parents : List (Option (List ℕ))) →
-    changed_at (suc place) (λ value. option_or value (field_value (suc place) parents)) (inherited_to (suc place) key own parents) ≡ inherited_to (suc (suc place)) key own parents
+    changed_at (suc place) (λ value. option_or value (field_value (suc place) parents)) (inherited_to (suc place) key own parents)
+    ≡ inherited_to (suc (suc place)) key own parents
 inherited-behind place key [] parents = refl
 inherited-behind place key (v ∷ own) [] = ap (λ (rest : List (Option (List ℕ))). Some key ∷ rest) (none-next place own)
 inherited-behind place key (v ∷ own) (p ∷ parents) = ap (λ (rest : List (Option (List ℕ))). Some key ∷ rest) (or-next place own parents)
@@ -85,9 +91,11 @@ inherited-behind place key (v ∷ own) (p ∷ parents) = ap (λ (rest : List (Op
 pub inherited-next : (place : ℕ) (key : List ℕ) (own parents : List (Option (List ℕ))) → 0 < place →
     changed_at place (λ value. option_or value (field_value place parents)) (inherited_to place key own parents) ≡ inherited_to (place + 1) key own parents
 inherited-next zero key own parents behind = absurd (omega arith)
-inherited-next (suc place) key own parents behind = inherited-behind place key own parents ∙ ap (λ n. inherited_to n key own parents) (sym (add-one (suc place)))
+inherited-next (suc place) key own parents behind = inherited-behind place key own parents
+    ∙ ap (λ n. inherited_to n key own parents) (sym (add-one (suc place)))
 
-pub inherited-whole : (place : ℕ) (key : List ℕ) (own parents : List (Option (List ℕ))) → length own ≤ place → inherited_to place key own parents ≡ inherited_values key own parents
+pub inherited-whole : (place : ℕ) (key : List ℕ) (own parents : List (Option (List ℕ))) → length own ≤ place → inherited_to place key own parents
+    ≡ inherited_values key own parents
 inherited-whole place key own parents past =
     ap (λ rest. take place (inherited_values key own parents) ++ rest) (drop_all place own past)
     ∙ append-nil (take place (inherited_values key own parents))

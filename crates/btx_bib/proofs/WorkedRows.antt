@@ -23,23 +23,53 @@ use Rattle.btx_bib.specs.language.MessageTexts.{slip_text, message_text}
 use Rattle.btx_bib.specs.laws.WorkedLibraries.{entries, reference_rows, cuts, no_cuts, messages, AreGiven, AreCuts, AreNoCuts, AreLines}
 
 pub texts-worked : AreEvents texts
-unfolding events_from events_within expected_step behind_at head_at head_of command_of more_in after_comma field_at value_at value_within part_in name_here open_in sign_in key_here longest_run_len enclosed_len
-texts-worked = (refl, (refl, (refl, (refl, (refl, (refl, (refl, (refl, (refl, (refl, (refl, (refl, (refl, (refl, (refl, (refl, (refl, (refl, (refl, (refl, (refl, (refl, (refl, (refl, (refl, (refl, tt))))))))))))))))))))))))))
+unfolding events_from events_within expected_step behind_at head_at head_of command_of more_in after_comma field_at value_at value_within part_in name_here
+    open_in sign_in key_here longest_run_len enclosed_len
+texts-worked = (
+  refl,
+  (
+    refl,
+    (
+      refl,
+      (
+        refl,
+        (
+          refl,
+          (
+            refl,
+            (
+              refl,
+              (
+                refl,
+                (refl, (refl, (refl, (refl, (refl, (refl, (refl, (refl, (refl, (refl, (refl, (refl, (refl, (refl, (refl, (refl, (refl, (refl, tt)))))))))))))))))),
+              ),
+            ),
+          ),
+        ),
+      ),
+    ),
+  ),
+)
 
 pub values-worked : AreValueTexts value_texts
 unfolding squeezed
 values-worked = (refl, (refl, (refl, (refl, (refl, (refl, tt))))))
 
 pub entries-worked : AreGiven entries
-unfolding library_of entries_of reference_messages slot_of inherited checked check_messages body_of events_from events_within expected_step behind_at head_at head_of command_of more_in after_comma field_at value_at value_within part_in name_here open_in sign_in key_here longest_run_len enclosed_len squeezed lines_begun line_pieces
+unfolding library_of entries_of reference_messages slot_of inherited checked check_messages body_of events_from events_within expected_step behind_at head_at
+    head_of command_of more_in after_comma field_at value_at value_within part_in name_here open_in sign_in key_here longest_run_len enclosed_len squeezed
+    lines_begun line_pieces
 entries-worked = (refl, (refl, (refl, (refl, (refl, (refl, (refl, (refl, (refl, (refl, (refl, (refl, (refl, (refl, tt))))))))))))))
 
 pub references-worked : AreGiven reference_rows
-unfolding library_of entries_of reference_messages slot_of inherited checked check_messages body_of events_from events_within expected_step behind_at head_at head_of command_of more_in after_comma field_at value_at value_within part_in name_here open_in sign_in key_here longest_run_len enclosed_len squeezed lines_begun line_pieces
+unfolding library_of entries_of reference_messages slot_of inherited checked check_messages body_of events_from events_within expected_step behind_at head_at
+    head_of command_of more_in after_comma field_at value_at value_within part_in name_here open_in sign_in key_here longest_run_len enclosed_len squeezed
+    lines_begun line_pieces
 references-worked = (refl, (refl, (refl, (refl, (refl, (refl, (refl, (refl, (refl, (refl, (refl, (refl, tt))))))))))))
 
 pub cuts-worked : AreCuts cuts
-unfolding events_from events_within expected_step behind_at head_at head_of command_of more_in after_comma field_at value_at value_within part_in name_here open_in sign_in key_here longest_run_len enclosed_len squeezed
+unfolding events_from events_within expected_step behind_at head_at head_of command_of more_in after_comma field_at value_at value_within part_in name_here
+    open_in sign_in key_here longest_run_len enclosed_len squeezed
 cuts-worked = ((refl, inl refl), ((refl, tt), ((refl, inr (inl (omega arith))), ((refl, inr (inr (refl, refl))), ((refl, inr (inr (refl, refl))), tt)))))
 
 -- what was read last is open: at the end of the text a fault, or a comment whose name goes on
@@ -54,12 +84,22 @@ comment-open (inr (inl less)) = omega (arith, less)
 comment-open (inr (inr (e, goes_on))) = true≢false goes_on
 
 pub no-cuts-worked : AreNoCuts no_cuts
-unfolding events_from events_within expected_step behind_at head_at head_of command_of more_in after_comma field_at value_at value_within part_in name_here open_in sign_in key_here longest_run_len enclosed_len squeezed
+unfolding events_from events_within expected_step behind_at head_at head_of command_of more_in after_comma field_at value_at value_within part_in name_here
+    open_in sign_in key_here longest_run_len enclosed_len squeezed
 no-cuts-worked =
     ((λ row. fault-open (codes "}") row.1), ((λ row. fault-open (codes "sc{k}") row.1), ((λ row. comment-open row.1), ((λ row. comment-open row.1), tt))))
 
 pub messages-worked : AreLines messages
 unfolding digits mark_of place_text slip_text message_text
-messages-worked = (refl, (refl, (refl, (refl, (refl, (refl, (refl, (refl, (refl, (refl, (refl, (refl, (refl, (refl, (refl, (refl, (refl, (refl, tt))))))))))))))))))
+messages-worked = (
+  refl,
+  (
+    refl,
+    (
+      refl,
+      (refl, (refl, (refl, (refl, (refl, (refl, (refl, (refl, (refl, (refl, (refl, (refl, (refl, (refl, (refl, tt))))))))))))))),
+    ),
+  ),
+)
 
 pub ruleset worked_rows = (texts-worked, values-worked, entries-worked, references-worked, cuts-worked, no-cuts-worked, messages-worked)

@@ -118,12 +118,13 @@ impl<'a> Pending<'a> {
 impl<'a> Gathering<'a> {
     ghost use Rattle.std.specs.Prelude.{◌≡◌, ◌≤◌, ◌++◌, None, Some, true, not, length, IfOk, OnOk};
     ghost use Rattle.btx_bib.specs.declared.draft.Standing.TheVariants as standing;
-    ghost use Rattle.btx_bib.specs.refinement.Gatherings.{IfTaken, IsSilent, all_kept, all_messages, closed, begun, begun_by, entered, events_with, fielded_by, kept_after, kept_along, kept_messages, messages_of, messages_of_current, messages_of_entry, messages_of_standing, with_preamble, with_kept_string};
+    ghost use Rattle.btx_bib.specs.refinement.Gatherings.{GoesOn, IfTaken, IsSilent, all_kept, all_messages, closed, begun, begun_by, entered, events_with, fielded_by, kept_after, kept_along, kept_messages, messages_of, messages_of_current, messages_of_entry, messages_of_standing, with_preamble, with_kept_string};
     ghost use Rattle.btx_bib.specs.refinement.Sites.{site_database};
     ghost use Rattle.btx_bib.specs.language.Messages.{Database, value_messages};
     ghost use Rattle.btx_bib.specs.refinement.Grammar.FieldViews.{field_view};
     ghost use Rattle.btx_bib.specs.refinement.Grammar.PlainFields.{IsPlainPart, part_in_view, plain_field_view};
     ghost use Rattle.btx_bib.specs.refinement.Grammar.EventViews.{event_view};
+    ghost use Rattle.btx_bib.specs.refinement.Grammar.Reads.{left};
     ghost use Rattle.btx_bib.specs.language.Known.{goes_on};
     ghost use Rattle.btx_bib.specs.declared.grammar.commands.Wanted.TheVariants as next;
     ghost use Rattle.btx_bib.specs.refinement.Requests.{wanted};
@@ -335,15 +336,72 @@ impl<'a> Gathering<'a> {
         ensures same { OnOk result (site.new ≡ site.old) }
     {
         let mut reader = Reader::of(text);
-        self.take_plain_fields(alloc, request, &mut reader)?;
+        self.pass_plainly(alloc, request, &mut reader)?;
         while let Some(placed) = reader.read(alloc, self)? {
             self.take(alloc, request, &placed.event, placed.rest, site, messages)?;
             if self.has_ended() {
                 return Ok(());
             }
-            self.take_plain_fields(alloc, request, &mut reader)?;
+            self.pass_plainly(alloc, request, &mut reader)?;
         }
         Ok(())
+    }
+
+    // Goes on without events: takes the fields in their plainest form that stand next, and passes the entries that aren't wanted.
+    #[inline(always)]
+    fn pass_plainly(
+        &mut self,
+        alloc: Global,
+        request: &Request<'_, 'a>,
+        reader: &mut Reader<'a>,
+    ) -> Result<(), AllocError>
+        requires { goes_on self.old.ending ≡ true }
+        ensures whole { OnOk result (goes_on self.new.ending ≡ true) }
+        ensures state { OnOk result (all_kept (wanted request.now) self.new reader.new ≡ all_kept (wanted request.now) self.old reader.old) }
+        ensures logged { OnOk result ((database : Database) → all_messages (wanted request.now) database self.new reader.new ≡ all_messages (wanted request.now) database self.old reader.old) }
+        ensures shorter { OnOk result (left reader.new.0 (length reader.new.1) ≤ left reader.old.0 (length reader.old.1)) }
+    {
+        let None = self.current else {
+            return self.take_plain_fields(alloc, request, reader);
+        };
+        self.pass_unwanted(alloc, request, reader)?;
+        Ok(())
+    }
+
+    // Passes the entries that aren't wanted, up to the first item that is something else or isn't passed whole.
+    #[inline(never)]
+    fn pass_unwanted(
+        &self,
+        alloc: Global,
+        request: &Request<'_, 'a>,
+        reader: &mut Reader<'a>,
+    ) -> Result<(), AllocError>
+        requires whole { goes_on self.now.ending ≡ true }
+        requires none { self.now.current ≡ None }
+        ensures { OnOk result (GoesOn (wanted request.now) self.now reader.old reader.new) }
+    {
+        self.pass_fields(request, reader);
+        while let Some(head) = reader.entry_head() {
+            let Standing::Unwanted = self.draft.standing(alloc, request, head.key)? else {
+                return Ok(());
+            };
+            reader.enter(&head);
+            self.pass_fields(request, reader);
+        }
+        Ok(())
+    }
+
+    // Passes the fields that stand next, of no entry that is stored, and the end of the entry.
+    #[inline(always)]
+    fn pass_fields(&self, request: &Request<'_, 'a>, reader: &mut Reader<'a>)
+        requires whole { goes_on self.now.ending ≡ true }
+        requires none { self.now.current ≡ None }
+        ensures { GoesOn (wanted request.now) self.now reader.old reader.new }
+    {
+        while let Some(field) = reader.passed_field() {
+            reader.pass(field.value.rest);
+        }
+        reader.leave();
     }
 
     // Takes a field in its plainest form, of the entry that is being read or of none, where no message comes of it. Answers whether it did.
@@ -377,8 +435,7 @@ impl<'a> Gathering<'a> {
         ensures whole { OnOk result (goes_on self.new.ending ≡ true) }
         ensures state { OnOk result (all_kept (wanted request.now) self.new reader.new ≡ all_kept (wanted request.now) self.old reader.old) }
         ensures logged { OnOk result ((database : Database) → all_messages (wanted request.now) database self.new reader.new ≡ all_messages (wanted request.now) database self.old reader.old) }
-        ensures next { OnOk result (reader.new.0 ≡ reader.old.0) }
-        ensures shorter { OnOk result (length reader.new.1 ≤ length reader.old.1) }
+        ensures shorter { OnOk result (left reader.new.0 (length reader.new.1) ≤ left reader.old.0 (length reader.old.1)) }
     {
         while let Some(field) = reader.plain_field() {
             let taken = self.take_plainly(alloc, request, &field)?;

@@ -9,6 +9,7 @@ mod item_readers;
 pub mod laws;
 pub mod line_counter;
 pub mod parts;
+mod passed;
 mod plain;
 pub mod plain_fields;
 pub mod reader;

@@ -5,7 +5,8 @@ use Rattle.std.proofs.lemmas.List.{take_rest}
 use Rattle.memchr.specs.Find.{IsFirstByte, is_byte}
 use Rattle.btx_bib.specs.language.Grammar.Items.{behind_at}
 
-at-some : (s : List ℕ) (k : ℕ) → k < length s → ((j : ℕ) → j < k → eqb (get_or s j 0) 64 ≡ true → ⊥) → eqb (get_or s k 0) 64 ≡ true → behind_at s ≡ Some (drop (suc k) s)
+at-some : (s : List ℕ) (k : ℕ) → k < length s → ((j : ℕ) → j < k → eqb (get_or s j 0) 64 ≡ true → ⊥) → eqb (get_or s k 0) 64 ≡ true
+    → behind_at s ≡ Some (drop (suc k) s)
 unfolding behind_at
 at-some [] k lt before here = absurd (omega arith)
 at-some (b ∷ bs) zero lt before here = rw here refl

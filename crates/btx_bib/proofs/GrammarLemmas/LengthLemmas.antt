@@ -1,5 +1,6 @@
 -- What is read leaves a text that isn't longer.
-use Rattle.std.proofs.Common.{◌≡◌, ℕ, zero, suc, ◌+◌, ◌*◌, ◌<◌, ◌≤◌, Bool, true, false, cond, eqb, List, [], ◌∷◌, length, drop, refl, ◌∙◌, ap, arith, length-drop, Ok, Err, Some, None, Option}
+use Rattle.std.proofs.Common.{◌≡◌, ℕ, zero, suc, ◌+◌, ◌*◌, ◌<◌, ◌≤◌, Bool, true, false, cond, eqb, List, [], ◌∷◌, length, drop, refl, ◌∙◌, ap, arith}
+use Rattle.std.proofs.Common.{length-drop, Ok, Err, Some, None, Option}
 use Rattle.std.specs.Option.{option_map}
 use Rattle.btx_text.specs.language.Class.{begins_name}
 use Rattle.btx_bib.specs.declared.grammar.byte_sets.Delimiter.{Delimiter}
@@ -13,15 +14,18 @@ use Rattle.btx_bib.specs.declared.grammar.commands.Wanted.TheVariants.{Item, Clo
 use Rattle.btx_bib.specs.declared.grammar.slip.Slip.{Slip}
 use Rattle.btx_bib.specs.declared.grammar.slip.Slip.TheVariants.{NoEquals, NoClosing, Repeated}
 use Rattle.btx_bib.specs.language.Grammar.ByteSets.{begins, past, enclosed_len}
-use Rattle.btx_bib.specs.language.Grammar.Tokens.{Parsed, followed_by, name_here, name_at, open_in, open_at, sign_in, sign_at, key_here, key_at, closing_delimiter}
+use Rattle.btx_bib.specs.language.Grammar.Tokens.{Parsed, followed_by, name_here, name_at, open_in, open_at, sign_in, sign_at, key_here, key_at}
+use Rattle.btx_bib.specs.language.Grammar.Tokens.{closing_delimiter}
 use Rattle.btx_bib.specs.language.Grammar.Values.{Part, closed_part, enclosed_in, part_in, part_at, next_part, value_within, value_at}
 use Rattle.btx_bib.specs.language.Grammar.Fields.{Field, field_at, after_comma, more_in}
-use Rattle.btx_bib.specs.language.Grammar.Items.{Event, Wrong, Keeping, is_repeated, as_known, next_step, command_of, head_of, head_at, field_event, Step, step_by, behind_at, expected_step, Placed, events_within, events_from}
+use Rattle.btx_bib.specs.language.Grammar.Items.{Event, Wrong, Keeping, is_repeated, as_known, next_step, command_of, head_of, head_at, field_event, Step}
+use Rattle.btx_bib.specs.language.Grammar.Items.{step_by, behind_at, expected_step, Placed, events_within, events_from}
 use Rattle.btx_bib.proofs.GrammarLemmas.ValueLemmas.{Within, behind_hash-within, past-le}
 use Rattle.btx_bib.specs.refinement.Grammar.Items.{item_end, known_step, events_by}
 use Rattle.btx_bib.specs.refinement.Grammar.Fields.{one_more}
 use Rattle.std.specs.Char.{is_ascii_digit}
 use Rattle.btx_bib.specs.laws.Grammar.Fields.{more_at}
+use Rattle.btx_bib.specs.refinement.Grammar.Reads.{left}
 use Rattle.btx_bib.specs.refinement.Grammar.Values.{joined}
 
 -- the text that follows isn't longer than `n` bytes
@@ -33,7 +37,8 @@ stays-more : {A : Type 0} (r : Parsed A) (n m : ℕ) → n ≤ m → Stays n r �
 stays-more (Ok got) n m le h = omega arith
 stays-more (Err wrong) n m le h = omega arith
 
-stays-then : {A B : Type 0} (r : Parsed A) (next : A → List ℕ → Parsed B) (n : ℕ) → Stays n r → ((a : A) (rest : List ℕ) → length rest ≤ n → Stays n (next a rest)) → Stays n (followed_by r next)
+stays-then : {A B : Type 0} (r : Parsed A) (next : A → List ℕ → Parsed B) (n : ℕ) → Stays n r
+    → ((a : A) (rest : List ℕ) → length rest ≤ n → Stays n (next a rest)) → Stays n (followed_by r next)
 stays-then (Ok got) next n h k = k got.0 got.1 h
 stays-then (Err wrong) next n h k = h
 
@@ -85,7 +90,8 @@ closed-stays Group text (b ∷ bs) n h = omega arith
 closed-stays Quotes text (b ∷ bs) n h = stays-if (eqb b 34) _ _ n (omega arith) h
 
 enclosed-stays : (enclosure : Enclosure) (b : ℕ) (bs : List ℕ) → Stays (length (b ∷ bs)) (enclosed_in enclosure bs)
-enclosed-stays enclosure b bs = closed-stays enclosure _ (drop (enclosed_len enclosure 0 bs) bs) (length (b ∷ bs)) (omega (arith, drop-le (enclosed_len enclosure 0 bs) bs))
+enclosed-stays enclosure b bs = closed-stays enclosure _ (drop (enclosed_len enclosure 0 bs) bs) (length (b ∷ bs))
+    (omega (arith, drop-le (enclosed_len enclosure 0 bs) bs))
 
 part_in-stays : (s : List ℕ) → Stays (length s) (part_in s)
 unfolding part_in
@@ -104,8 +110,10 @@ value_within-stays : (turns : ℕ) (s : List ℕ) (n : ℕ) → length s ≤ n �
 unfolding value_within
 value_within-stays zero s n le = omega arith
 value_within-stays (suc turns) s n le = stays-then (part_at s) _ n (part-stays s n le)
-    (λ part rest h. at part rest h (next_part rest) (behind_hash-within (past Gap rest) (length rest) (past-le Gap rest)) (λ t k. value_within-stays turns t n k)) where
-      at : (part : Part) (rest : List ℕ) → length rest ≤ n → (o : Option (List ℕ)) → Within (length rest) o → ((t : List ℕ) → length t ≤ n → Stays n (value_within turns t)) → Stays n (joined (value_within turns) part rest o)
+    (λ part rest h. at part rest h (next_part rest) (behind_hash-within (past Gap rest) (length rest) (past-le Gap rest))
+    (λ t k. value_within-stays turns t n k)) where
+      at : (part : Part) (rest : List ℕ) → length rest ≤ n → (o : Option (List ℕ)) → Within (length rest) o
+          → ((t : List ℕ) → length t ≤ n → Stays n (value_within turns t)) → Stays n (joined (value_within turns) part rest o)
       at part rest h None le others = h
       at part rest h (Some t) le others = stays-then (value_within turns t) _ n (others t (omega arith)) (λ parts end k. k)
 
@@ -132,12 +140,6 @@ after_comma-stays delimiter s n le =
     stays-if (begins (λ b. eqb b (closing_delimiter delimiter)) s) _ _ n (omega (arith, drop-le 1 s)) (one_more-stays (field_at s) n (field-stays s n le))
 
 -- ---- what is read at a place: less is left, or as much and an item is wanted
-
--- the measure of what is left
-abbrev pub left : Wanted → ℕ → ℕ
-left Item n = 2 * n
-left (Closing delimiter) n = 2 * n + 1
-left (Fields delimiter) n = 2 * n + 1
 
 left-le : (wanted : Wanted) (n : ℕ) → left wanted n ≤ 2 * n + 1
 left-le Item n = omega arith
@@ -206,7 +208,8 @@ shrinks-more (Ok (None, rest)) n m le h = omega arith
 shrinks-more (Ok (Some field, rest)) n m le h = omega arith
 shrinks-more (Err wrong) n m le h = omega arith
 
-field-left : (delimiter : Delimiter) (r : Parsed (Option Field)) (n : ℕ) → Shrinks n r → let step = step_by (field_event delimiter r) in left step.wanted (length step.rest) < 2 * n + 1
+field-left : (delimiter : Delimiter) (r : Parsed (Option Field)) (n : ℕ) → Shrinks n r → let step = step_by (field_event delimiter r) in
+    left step.wanted (length step.rest) < 2 * n + 1
 field-left delimiter (Ok (None, rest)) n h = omega arith
 field-left delimiter (Ok (Some field, rest)) n h = omega arith
 field-left delimiter (Err wrong) n h = omega arith
@@ -234,9 +237,11 @@ item-steps s (Some t) e =
 pub step-leaves : (wanted : Wanted) (s : List ℕ) → StepsTo (left wanted (length s)) (expected_step wanted s)
 unfolding expected_step
 step-leaves Item s = item-steps s (behind_at s) refl
-step-leaves (Closing delimiter) s = ended-left (sign_at (closing_delimiter delimiter) (NoClosing delimiter) s) (length s) (sign-stays (closing_delimiter delimiter) (NoClosing delimiter) s (length s) (omega arith))
+step-leaves (Closing delimiter) s = ended-left (sign_at (closing_delimiter delimiter) (NoClosing delimiter) s) (length s)
+    (sign-stays (closing_delimiter delimiter) (NoClosing delimiter) s (length s) (omega arith))
 step-leaves (Fields delimiter) s =
-    field-left delimiter (more_at delimiter s) (length s) (shrinks-more (more_at delimiter s) (length (past Gap s)) (length s) (past-le Gap s) (more_in-shrinks delimiter (past Gap s)))
+    field-left delimiter (more_at delimiter s) (length s)
+    (shrinks-more (more_at delimiter s) (length (past Gap s)) (length s) (past-le Gap s) (more_in-shrinks delimiter (past Gap s)))
 
 -- ---- the events, one at a time
 
@@ -267,18 +272,22 @@ unfolding events_within
 within-enough keeping zero m state w s h k = absurd (omega arith)
 within-enough keeping (suc n) zero state w s h k = absurd (omega arith)
 within-enough keeping (suc n) (suc m) state w s h k =
-    by-enough keeping (events_within keeping n) (events_within keeping m) (left w (length s)) state (next_step (keeping.is_stored state) w s) (next-leaves (keeping.is_stored state) w s)
+    by-enough keeping (events_within keeping n) (events_within keeping m) (left w (length s)) state (next_step (keeping.is_stored state) w s)
+    (next-leaves (keeping.is_stored state) w s)
     (λ q v t lt. within-enough keeping n m q v t (omega arith) (omega arith))
 
 pub events_from-step : {S : Type 0} (keeping : Keeping S) (state : S) (w : Wanted) (s : List ℕ) →
     events_from keeping state w s ≡ events_by keeping (events_from keeping) state (next_step (keeping.is_stored state) w s)
 unfolding events_from events_within
 events_from-step keeping state w s =
-    by-enough keeping (events_within keeping (2 * length s + 1)) (events_from keeping) (left w (length s)) state (next_step (keeping.is_stored state) w s) (next-leaves (keeping.is_stored state) w s)
-    (λ q v t lt. within-enough keeping (2 * length s + 1) (suc (2 * length t + 1)) q v t (let le = left-le w (length s) in omega arith) (let le = left-le v (length t) in omega arith))
+    by-enough keeping (events_within keeping (2 * length s + 1)) (events_from keeping) (left w (length s)) state (next_step (keeping.is_stored state) w s)
+    (next-leaves (keeping.is_stored state) w s)
+    (λ q v t lt. within-enough keeping (2 * length s + 1) (suc (2 * length t + 1)) q v t (let le = left-le w (length s) in omega arith)
+    (let le = left-le v (length t) in omega arith))
 
 -- at the end of the text
-pub events-none : {S : Type 0} (keeping : Keeping S) (state : S) (w : Wanted) (s : List ℕ) → next_step (keeping.is_stored state) w s ≡ None → events_from keeping state w s ≡ []
+pub events-none : {S : Type 0} (keeping : Keeping S) (state : S) (w : Wanted) (s : List ℕ) → next_step (keeping.is_stored state) w s ≡ None
+    → events_from keeping state w s ≡ []
 events-none keeping state w s e = events_from-step keeping state w s ∙ ap (events_by keeping (events_from keeping) state) e
 
 -- the reader's next event, and the others
@@ -287,5 +296,6 @@ pub events-some : {S : Type 0} (keeping : Keeping S) (state : S) (w : Wanted) (s
 events-some keeping state w s step e = events_from-step keeping state w s ∙ ap (events_by keeping (events_from keeping) state) e
 
 -- each event leaves less to read: the measure of a loop that reads to the end
-pub events-less : (is_stored : List ℕ → Bool) (w : Wanted) (s : List ℕ) (step : Step) → next_step is_stored w s ≡ Some step → left step.wanted (length step.rest) < left w (length s)
+pub events-less : (is_stored : List ℕ → Bool) (w : Wanted) (s : List ℕ) (step : Step) → next_step is_stored w s ≡ Some step
+    → left step.wanted (length step.rest) < left w (length s)
 events-less is_stored w s step e = let lt : StepsTo (left w (length s)) (Some step) = rw e at (next-leaves is_stored w s) in lt

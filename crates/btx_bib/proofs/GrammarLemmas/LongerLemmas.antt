@@ -1,5 +1,6 @@
 -- What is spelled at the front of a text stays so where more stands behind the text.
-use Rattle.std.proofs.Common.{◌≡◌, ◌<◌, ℕ, zero, suc, Bool, true, false, if◌then◌else◌, eqb, List, [], ◌∷◌, ◌++◌, map, fold, length, ◌⊎◌, inl, inr, refl, sym, ◌∙◌, ap, subst, arith, append_assoc, Result, Ok, Err, Some, None, Option}
+use Rattle.std.proofs.Common.{◌≡◌, ◌<◌, ℕ, zero, suc, Bool, true, false, if◌then◌else◌, eqb, List, [], ◌∷◌, ◌++◌, map, fold, length, ◌⊎◌, inl, inr, refl, sym}
+use Rattle.std.proofs.Common.{◌∙◌, ap, subst, arith, append_assoc, Result, Ok, Err, Some, None, Option}
 use Rattle.std.proofs.lemmas.Bool.{true≢false}
 use Rattle.btx_text.specs.language.Class.{begins_name}
 use Rattle.btx_bib.specs.declared.grammar.byte_sets.ByteSet.{ByteSet}
@@ -17,8 +18,10 @@ use Rattle.btx_bib.specs.language.Grammar.Tokens.{slip_at, closing_delimiter}
 use Rattle.btx_bib.specs.language.Grammar.Values.{Part, Braced, Quoted, Digits, Named}
 use Rattle.btx_bib.specs.language.Grammar.Fields.{Field}
 use Rattle.btx_bib.specs.language.Grammar.Items.{Event, Comment, Preamble, Definition, Entry, FieldOf, End, Wrong, Placed, Keeping, as_known, command_of}
-use Rattle.btx_bib.specs.laws.Grammar.Spelling.{Grammar, Gives, Both, Then, AllIn, IsWord, IsWrongHere, White, Spaced, NameHere, SignHere, IsWrongPart, PartHere, EndsThere, OthersFollow, ValueOf, ValueSpelling, FieldSpelling}
-use Rattle.btx_bib.specs.laws.Grammar.Reading.{OnSign, WrongHere, OpenHere, KeyHere, AfterComma, MoreHere, HeadOf, Head, more_event, HasNoAt, Stands, IsOutcome, IsReading}
+use Rattle.btx_bib.specs.laws.Grammar.Spelling.{Grammar, Gives, Both, Then, AllIn, IsWord, IsWrongHere, White, Spaced, NameHere, SignHere, IsWrongPart}
+use Rattle.btx_bib.specs.laws.Grammar.Spelling.{PartHere, EndsThere, OthersFollow, ValueOf, ValueSpelling, FieldSpelling}
+use Rattle.btx_bib.specs.laws.Grammar.Reading.{OnSign, WrongHere, OpenHere, KeyHere, AfterComma, MoreHere, HeadOf, Head, more_event, HasNoAt, Stands, IsOutcome}
+use Rattle.btx_bib.specs.laws.Grammar.Reading.{IsReading}
 use Rattle.btx_bib.specs.laws.Cuts.{EndsOutside}
 use Rattle.std.specs.Char.{is_ascii_digit}
 
@@ -116,7 +119,8 @@ module _ (more : List ℕ) where
       → Goes Any on R S → ((a : A) → Goes P on_next (next a) (others (on a)))
       → (o : Result B Slip) (front rest : List ℕ) → If P o rest → Both R next o front rest → Both S others (outcome_on on_next o) front (rest ++ more)
   both-goes P on on_next R S next others D E o front rest h r =
-      let first = subst (λ t. S (Ok (on r.0)) r.1 t) (append_assoc r.2 rest more) (D (Ok r.0) r.1 (r.2 ++ rest) (left-append r.2 rest (if-left P o rest h), tt) r.4) in
+      let first = subst (λ t. S (Ok (on r.0)) r.1 t) (append_assoc r.2 rest more)
+      (D (Ok r.0) r.1 (r.2 ++ rest) (left-append r.2 rest (if-left P o rest h), tt) r.4) in
       (on r.0, r.1, r.2, r.3, first, E r.0 o r.2 rest h r.5)
 
   then-goes : {A B : Type 0} (P : B → List ℕ → Type 0) (on : A → A) (on_next : B → B) (R S : Grammar A) (next others : A → Grammar B)
@@ -153,7 +157,8 @@ module _ (more : List ℕ) where
   spaced-goes : {A : Type 0} (P : A → List ℕ → Type 0) (on : A → A) (R S : Grammar A) → Goes P on R S → Goes P on (Spaced R) (Spaced S)
   spaced-goes P on R S D = then-goes P same on White White (λ none. R) (λ none. S) white-goes (λ none. D)
 
-  word-goes : (set : ByteSet) (first : ℕ → Bool) (word front rest : List ℕ) → Left rest → IsWord set first word front rest → IsWord set first word front (rest ++ more)
+  word-goes : (set : ByteSet) (first : ℕ → Bool) (word front rest : List ℕ) → Left rest → IsWord set first word front rest
+      → IsWord set first word front (rest ++ more)
   word-goes set first word front rest h r = record {
     spelled = r.spelled;
     begins_well = r.begins_well;
@@ -171,7 +176,8 @@ module _ (more : List ℕ) where
   sign-goes sign wrong (Ok none) front rest h r = r
   sign-goes sign wrong (Err slip) front rest h r = (begins-on (λ b. eqb b sign) rest h ∙ r.0, wrong-goes wrong slip front rest h r.1)
 
-  on_sign-goes : {A : Type 0} (P : A → List ℕ → Type 0) (on : A → A) (sign : ℕ) (R Longer S Other : Grammar A) → Goes P on R Longer → Goes P on S Other → Goes P on (OnSign sign R S) (OnSign sign Longer Other)
+  on_sign-goes : {A : Type 0} (P : A → List ℕ → Type 0) (on : A → A) (sign : ℕ) (R Longer S Other : Grammar A) → Goes P on R Longer → Goes P on S Other
+      → Goes P on (OnSign sign R S) (OnSign sign Longer Other)
   on_sign-goes P on sign R Longer S Other D E o front rest h (inl (behind, is, r)) = inl (behind, is, D o behind rest h r)
   on_sign-goes P on sign R Longer S Other D E o front rest h (inr (other, r)) =
       let there = left-append front rest (if-left P o rest h) in
@@ -183,8 +189,10 @@ module _ (more : List ℕ) where
 
   open-goes : Goes Any same OpenHere OpenHere
   open-goes =
-      on_sign-goes Any same 123 (Gives Braces) (Gives Braces) (OnSign 40 (Gives Parens) (WrongHere NoDelimiter)) (OnSign 40 (Gives Parens) (WrongHere NoDelimiter)) (gives-goes Any same Braces)
-      (on_sign-goes Any same 40 (Gives Parens) (Gives Parens) (WrongHere NoDelimiter) (WrongHere NoDelimiter) (gives-goes Any same Parens) (wrong_here-goes Any same NoDelimiter))
+      on_sign-goes Any same 123 (Gives Braces) (Gives Braces) (OnSign 40 (Gives Parens) (WrongHere NoDelimiter))
+      (OnSign 40 (Gives Parens) (WrongHere NoDelimiter)) (gives-goes Any same Braces)
+      (on_sign-goes Any same 40 (Gives Parens) (Gives Parens) (WrongHere NoDelimiter) (WrongHere NoDelimiter) (gives-goes Any same Parens)
+      (wrong_here-goes Any same NoDelimiter))
 
   key-goes : (d : Delimiter) → Goes Any same (KeyHere d) (KeyHere d)
   key-goes d (Ok key) front rest h (is, run, some) = (
@@ -242,13 +250,16 @@ module _ (more : List ℕ) where
   value_of-goes : (n : ℕ) → Goes Seen parts_on (ValueOf n) (ValueOf n)
   value_of-goes zero o front rest h r = absurd r
   value_of-goes (suc n) o front rest h r =
-      then-goes Seen part_on parts_on (Spaced PartHere) (Spaced PartHere) (after_part n) (after_part n) (spaced-goes Any part_on PartHere PartHere part-goes) (after n (value_of-goes n)) o front rest h r where
+      then-goes Seen part_on parts_on (Spaced PartHere) (Spaced PartHere) (after_part n) (after_part n) (spaced-goes Any part_on PartHere PartHere part-goes)
+      (after n (value_of-goes n)) o front rest h r where
         after : (n : ℕ) → Goes Seen parts_on (ValueOf n) (ValueOf n) → (part : Part) → Goes Seen parts_on (after_part n part) (after_part n (part_on part))
         after n D part o front rest h (inl r) = inl (ends-goes part o front rest h r)
         after n D part o front rest h (inr r) =
-            inr (both-goes Seen same parts_on (Spaced (SignHere 35 NoValue)) (Spaced (SignHere 35 NoValue)) (λ none. Then (ValueOf n) (λ parts. Gives (part ∷ parts))) (λ none. Then (ValueOf n) (λ parts. Gives (part_on part ∷ parts)))
+            inr (both-goes Seen same parts_on (Spaced (SignHere 35 NoValue)) (Spaced (SignHere 35 NoValue))
+            (λ none. Then (ValueOf n) (λ parts. Gives (part ∷ parts))) (λ none. Then (ValueOf n) (λ parts. Gives (part_on part ∷ parts)))
             (spaced-goes Any same (SignHere 35 NoValue) (SignHere 35 NoValue) (sign-goes 35 NoValue))
-            (λ none. last-goes Seen Seen parts_on parts_on (ValueOf n) (ValueOf n) (λ parts. part ∷ parts) (λ parts. part_on part ∷ parts) D (λ parts. refl) seen-behind) o front rest h r)
+            (λ none. last-goes Seen Seen parts_on parts_on (ValueOf n) (ValueOf n) (λ parts. part ∷ parts) (λ parts. part_on part ∷ parts) D (λ parts. refl)
+            seen-behind) o front rest h r)
 
   value-goes : Goes Seen parts_on ValueSpelling ValueSpelling
   value-goes o front rest h (n, r) = (n, value_of-goes n o front rest h r)
@@ -261,8 +272,10 @@ module _ (more : List ℕ) where
   field-goes : Goes Seen field_on FieldSpelling FieldSpelling
   field-goes =
       then-same Seen field_on (Spaced NameHere) _ (spaced-goes Any same NameHere NameHere name-goes) (λ name.
-      then-same Seen field_on (Spaced (SignHere 61 NoEquals)) _ (spaced-goes Any same (SignHere 61 NoEquals) (SignHere 61 NoEquals) (sign-goes 61 NoEquals)) (λ sign.
-      last-goes Seen Seen parts_on field_on ValueSpelling ValueSpelling (λ value. record { name = name; value = value }) (λ value. record { name = name; value = value }) value-goes (λ value. refl) seen-behind))
+      then-same Seen field_on (Spaced (SignHere 61 NoEquals)) _ (spaced-goes Any same (SignHere 61 NoEquals) (SignHere 61 NoEquals) (sign-goes 61 NoEquals))
+      (λ sign.
+      last-goes Seen Seen parts_on field_on ValueSpelling ValueSpelling (λ value. record { name = name; value = value })
+      (λ value. record { name = name; value = value }) value-goes (λ value. refl) seen-behind))
 
   abbrev more_on : Option Field → Option Field
   more_on None = None
@@ -275,12 +288,14 @@ module _ (more : List ℕ) where
 
   comma-goes : (d : Delimiter) → Goes SeenField more_on (AfterComma d) (AfterComma d)
   comma-goes d =
-      on_sign-goes SeenField more_on (closing_delimiter d) (Gives None) (Gives None) (Then FieldSpelling (λ field. Gives (Some field))) (Then FieldSpelling (λ field. Gives (Some field))) (gives-goes SeenField more_on None)
+      on_sign-goes SeenField more_on (closing_delimiter d) (Gives None) (Gives None) (Then FieldSpelling (λ field. Gives (Some field)))
+      (Then FieldSpelling (λ field. Gives (Some field))) (gives-goes SeenField more_on None)
       (last-goes SeenField Seen field_on more_on FieldSpelling FieldSpelling (λ field. Some field) (λ field. Some field) field-goes (λ field. refl) seen-behind)
 
   more-goes : (d : Delimiter) → Goes SeenField more_on (MoreHere d) (MoreHere d)
   more-goes d =
-      on_sign-goes SeenField more_on (closing_delimiter d) (Gives None) (Gives None) (OnSign 44 (Spaced (AfterComma d)) (WrongHere (NoComma d))) (OnSign 44 (Spaced (AfterComma d)) (WrongHere (NoComma d))) (gives-goes SeenField more_on None)
+      on_sign-goes SeenField more_on (closing_delimiter d) (Gives None) (Gives None) (OnSign 44 (Spaced (AfterComma d)) (WrongHere (NoComma d)))
+      (OnSign 44 (Spaced (AfterComma d)) (WrongHere (NoComma d))) (gives-goes SeenField more_on None)
       (on_sign-goes SeenField more_on 44 (Spaced (AfterComma d)) (Spaced (AfterComma d)) (WrongHere (NoComma d)) (WrongHere (NoComma d))
       (spaced-goes SeenField more_on (AfterComma d) (AfterComma d) (comma-goes d)) (wrong_here-goes SeenField more_on (NoComma d)))
 
@@ -320,15 +335,19 @@ module _ (more : List ℕ) where
   head_of-goes command.Comment name = gives-goes Behind head_on (Comment, Item)
   head_of-goes command.Preamble name =
       then-same Behind head_on (Spaced OpenHere) _ (spaced-goes Any same OpenHere OpenHere open-goes) (λ d.
-      last-goes Behind Seen parts_on head_on ValueSpelling ValueSpelling (λ value. (Preamble value, Closing d)) (λ value. (Preamble value, Closing d)) value-goes (λ value. refl) seen-behind)
+      last-goes Behind Seen parts_on head_on ValueSpelling ValueSpelling (λ value. (Preamble value, Closing d)) (λ value. (Preamble value, Closing d))
+      value-goes (λ value. refl) seen-behind)
   head_of-goes command.Definition name =
       then-same Behind head_on (Spaced OpenHere) _ (spaced-goes Any same OpenHere OpenHere open-goes) (λ d.
       then-same Behind head_on (Spaced NameHere) _ (spaced-goes Any same NameHere NameHere name-goes) (λ string.
-      then-same Behind head_on (Spaced (SignHere 61 NoEquals)) _ (spaced-goes Any same (SignHere 61 NoEquals) (SignHere 61 NoEquals) (sign-goes 61 NoEquals)) (λ sign.
-      last-goes Behind Seen parts_on head_on ValueSpelling ValueSpelling (λ value. (Definition string value, Closing d)) (λ value. (Definition string value, Closing d)) value-goes (λ value. refl) seen-behind)))
+      then-same Behind head_on (Spaced (SignHere 61 NoEquals)) _ (spaced-goes Any same (SignHere 61 NoEquals) (SignHere 61 NoEquals) (sign-goes 61 NoEquals))
+      (λ sign.
+      last-goes Behind Seen parts_on head_on ValueSpelling ValueSpelling (λ value. (Definition string value, Closing d))
+      (λ value. (Definition string value, Closing d)) value-goes (λ value. refl) seen-behind)))
   head_of-goes command.Entry name =
       then-same Behind head_on (Spaced OpenHere) _ (spaced-goes Any same OpenHere OpenHere open-goes) (λ d.
-      then-same Behind head_on (Spaced (KeyHere d)) _ (spaced-goes Any same (KeyHere d) (KeyHere d) (key-goes d)) (λ key. gives-goes Behind head_on (Entry name key, Fields d)))
+      then-same Behind head_on (Spaced (KeyHere d)) _ (spaced-goes Any same (KeyHere d) (KeyHere d) (key-goes d))
+      (λ key. gives-goes Behind head_on (Entry name key, Fields d)))
 
   head-goes : Goes Behind head_on Head Head
   head-goes = then-same Behind head_on (Spaced NameHere) _ (spaced-goes Any same NameHere NameHere name-goes) (λ name. head_of-goes (command_of name) name)
@@ -344,9 +363,12 @@ module _ (more : List ℕ) where
   stands-goes : (next : Wanted) → Goes Behind head_on (Stands next) (Stands next)
   stands-goes Item o front rest h (ignored, behind, is, none, r) = (ignored, behind, is, none, head-goes o behind rest h r)
   stands-goes (Closing d) o front rest h r =
-      then-same Behind head_on (Spaced (SignHere (closing_delimiter d) (NoClosing d))) _ (spaced-goes Any same (SignHere (closing_delimiter d) (NoClosing d)) (SignHere (closing_delimiter d) (NoClosing d)) (sign-goes (closing_delimiter d) (NoClosing d))) (λ sign. gives-goes Behind head_on (End, Item)) o front rest h r
+      then-same Behind head_on (Spaced (SignHere (closing_delimiter d) (NoClosing d))) _
+      (spaced-goes Any same (SignHere (closing_delimiter d) (NoClosing d)) (SignHere (closing_delimiter d) (NoClosing d))
+      (sign-goes (closing_delimiter d) (NoClosing d))) (λ sign. gives-goes Behind head_on (End, Item)) o front rest h r
   stands-goes (Fields d) o front rest h r =
-      last-goes Behind SeenField more_on head_on (Spaced (MoreHere d)) (Spaced (MoreHere d)) (more_event d) (more_event d) (spaced-goes SeenField more_on (MoreHere d) (MoreHere d) (more-goes d)) (more_event-on d) (more_event-behind d) o front rest h r
+      last-goes Behind SeenField more_on head_on (Spaced (MoreHere d)) (Spaced (MoreHere d)) (more_event d) (more_event d)
+      (spaced-goes SeenField more_on (MoreHere d) (MoreHere d) (more-goes d)) (more_event-on d) (more_event-behind d) o front rest h r
 
   -- ---- the end of an item
 
@@ -376,12 +398,16 @@ module _ (more : List ℕ) where
       then-begins P (Spaced OpenHere) (λ d. Then ValueSpelling (λ value. Gives (Preamble value, Closing d))) (λ d.
       then-begins P ValueSpelling (λ value. Gives (Preamble value, Closing d)) (λ value. gives-begins P (Preamble value, Closing d) (is value)))
 
-  definition-begins : (P : Event → Type 0) → ((string : List ℕ) (value : List Part) → P (Definition string value)) → (name : List ℕ) → Begins P (HeadOf command.Definition name)
+  definition-begins : (P : Event → Type 0) → ((string : List ℕ) (value : List Part) → P (Definition string value)) → (name : List ℕ)
+      → Begins P (HeadOf command.Definition name)
   definition-begins P is name =
-      then-begins P (Spaced OpenHere) (λ d. Then (Spaced NameHere) (λ string. Then (Spaced (SignHere 61 NoEquals)) (λ sign. Then ValueSpelling (λ value. Gives (Definition string value, Closing d))))) (λ d.
-      then-begins P (Spaced NameHere) (λ string. Then (Spaced (SignHere 61 NoEquals)) (λ sign. Then ValueSpelling (λ value. Gives (Definition string value, Closing d)))) (λ string.
+      then-begins P (Spaced OpenHere) (λ d. Then (Spaced NameHere)
+      (λ string. Then (Spaced (SignHere 61 NoEquals)) (λ sign. Then ValueSpelling (λ value. Gives (Definition string value, Closing d))))) (λ d.
+      then-begins P (Spaced NameHere) (λ string. Then (Spaced (SignHere 61 NoEquals))
+      (λ sign. Then ValueSpelling (λ value. Gives (Definition string value, Closing d)))) (λ string.
       then-begins P (Spaced (SignHere 61 NoEquals)) (λ sign. Then ValueSpelling (λ value. Gives (Definition string value, Closing d))) (λ sign.
-      then-begins P ValueSpelling (λ value. Gives (Definition string value, Closing d)) (λ value. gives-begins P (Definition string value, Closing d) (is string value)))))
+      then-begins P ValueSpelling (λ value. Gives (Definition string value, Closing d))
+      (λ value. gives-begins P (Definition string value, Closing d) (is string value)))))
 
   entry-begins : (P : Event → Type 0) → ((kind key : List ℕ) → P (Entry kind key)) → (name : List ℕ) → Begins P (HeadOf command.Entry name)
   entry-begins P is name =
@@ -398,16 +424,27 @@ module _ (more : List ℕ) where
   head-begins = then-begins IsNoEnd (Spaced NameHere) (λ name. HeadOf (command_of name) name) (λ name. head_of-begins (command_of name) name)
 
   -- what ends with a sign of its own stays so, whatever stands behind it
-  spaced-free : {A : Type 0} (R : Grammar A) (a : A) (front rest : List ℕ) → ((inner : List ℕ) → R (Ok a) inner rest → Left inner × R (Ok a) inner (rest ++ more)) → Spaced R (Ok a) front rest → Spaced R (Ok a) front (rest ++ more)
+  spaced-free : {A : Type 0} (R : Grammar A) (a : A) (front rest : List ℕ)
+      → ((inner : List ℕ) → R (Ok a) inner rest → Left inner × R (Ok a) inner (rest ++ more)) → Spaced R (Ok a) front rest
+      → Spaced R (Ok a) front (rest ++ more)
   spaced-free R a front rest free (inl r) = absurd r
   spaced-free R a front rest free (inr (none, gap, inner, whole, white, r)) =
       let there = free inner r in
-      inr (none, gap, inner, whole, record { all = white.all; longest = sym (begins-front (is_in Gap) inner rest (rest ++ more) there.0) ∙ white.longest }, there.1)
+      inr (
+        none,
+        gap,
+        inner,
+        whole,
+        record { all = white.all; longest = sym (begins-front (is_in Gap) inner rest (rest ++ more) there.0) ∙ white.longest },
+        there.1,
+      )
 
-  sign-free : (sign : ℕ) (wrong : Slip) (none : Unit {0}) (rest inner : List ℕ) → SignHere sign wrong (Ok none) inner rest → Left inner × SignHere sign wrong (Ok none) inner (rest ++ more)
+  sign-free : (sign : ℕ) (wrong : Slip) (none : Unit {0}) (rest inner : List ℕ) → SignHere sign wrong (Ok none) inner rest
+      → Left inner × SignHere sign wrong (Ok none) inner (rest ++ more)
   sign-free sign wrong none rest inner r = (subst Left (sym r) tt, r)
 
-  first-sign : (sign b : ℕ) (bs rest : List ℕ) (inner : List ℕ) → inner ≡ b ∷ bs → begins (λ c. eqb c sign) (inner ++ rest) ≡ false → begins (λ c. eqb c sign) (inner ++ (rest ++ more)) ≡ false
+  first-sign : (sign b : ℕ) (bs rest : List ℕ) (inner : List ℕ) → inner ≡ b ∷ bs → begins (λ c. eqb c sign) (inner ++ rest) ≡ false
+      → begins (λ c. eqb c sign) (inner ++ (rest ++ more)) ≡ false
   first-sign sign b bs rest inner is other = sym (begins-front (λ c. eqb c sign) inner rest (rest ++ more) (subst Left (sym is) tt)) ∙ other
 
   comma-free : (d : Delimiter) (rest inner : List ℕ) → AfterComma d (Ok None) inner rest → Left inner × AfterComma d (Ok None) inner (rest ++ more)
@@ -420,19 +457,34 @@ module _ (more : List ℕ) where
 
   more-free : (d : Delimiter) (rest inner : List ℕ) → MoreHere d (Ok None) inner rest → Left inner × MoreHere d (Ok None) inner (rest ++ more)
   more-free d rest inner (inl (behind, is, r)) = (subst Left (sym is) tt, inl (behind, is, r))
-  more-free d rest inner (inr (other, inl (behind, is, r))) =
-      (subst Left (sym is) tt, inr (first-sign (closing_delimiter d) 44 behind rest inner is other, inl (behind, is, spaced-free (AfterComma d) None behind rest (comma-free d rest) r)))
+  more-free d rest inner (inr (other, inl (behind, is, r))) = (
+    subst Left (sym is) tt,
+    inr (
+      first-sign (closing_delimiter d) 44 behind rest inner is other,
+      inl (behind, is, spaced-free (AfterComma d) None behind rest (comma-free d rest) r),
+    ),
+  )
   more-free d rest inner (inr (other, inr (not_comma, r))) = absurd r
 
   no-end : (event : Event) → IsNoEnd event → event ≡ End → ⊥
   no-end event h is = subst IsNoEnd is h
 
-  end-goes : (next : Wanted) (got : Event × Wanted) (front rest : List ℕ) → got.0 ≡ End → Stands next (Ok got) front rest → Stands next (Ok (head_on got)) front (rest ++ more)
+  end-goes : (next : Wanted) (got : Event × Wanted) (front rest : List ℕ) → got.0 ≡ End → Stands next (Ok got) front rest
+      → Stands next (Ok (head_on got)) front (rest ++ more)
   end-goes Item got front rest end (ignored, behind, is, none, r) = absurd (no-end got.0 (head-begins got behind rest r) end)
   end-goes (Closing d) got front rest end (inl r) = absurd r
   end-goes (Closing d) got front rest end (inr (none, first, second, whole, r, g)) =
-      let there = spaced-free (SignHere (closing_delimiter d) (NoClosing d)) none first (second ++ rest) (sign-free (closing_delimiter d) (NoClosing d) none (second ++ rest)) r in
-      inr (none, first, second, whole, subst (λ t. Spaced (SignHere (closing_delimiter d) (NoClosing d)) (Ok none) first t) (append_assoc second rest more) there, (g.0, ap head_on g.1))
+      let there = spaced-free (SignHere (closing_delimiter d) (NoClosing d)) none first (second ++ rest)
+      (sign-free (closing_delimiter d) (NoClosing d) none (second ++ rest)) r in
+      inr (
+        none,
+        first,
+        second,
+        whole,
+        subst (λ t. Spaced (SignHere (closing_delimiter d) (NoClosing d)) (Ok none) first t) (append_assoc second rest more)
+            there,
+        (g.0, ap head_on g.1),
+      )
   end-goes (Fields d) got front rest end (inl r) = absurd r
   end-goes (Fields d) got front rest end (inr (None, first, second, whole, r, g)) =
       let there = spaced-free (MoreHere d) None first (second ++ rest) (more-free d (second ++ rest)) r in
@@ -451,7 +503,8 @@ module _ (more : List ℕ) where
   begins-left test [] h = absurd (true≢false (sym h))
   begins-left test (b ∷ bs) h = tt
 
-  name-free : begins (is_in NameByte) more ≡ false → (name rest inner : List ℕ) → NameHere (Ok name) inner rest → Left inner × NameHere (Ok name) inner (rest ++ more)
+  name-free : begins (is_in NameByte) more ≡ false → (name rest inner : List ℕ) → NameHere (Ok name) inner rest
+      → Left inner × NameHere (Ok name) inner (rest ++ more)
   name-free stops name rest inner r = (
     subst Left (sym r.spelled) (begins-left begins_name name r.begins_well),
     record {
@@ -464,25 +517,38 @@ module _ (more : List ℕ) where
   no-comment : (event : Event) → IsNoComment event → event ≡ Comment → ⊥
   no-comment event h is = subst IsNoComment is h
 
-  comment_of-goes : (c : Command) (name : List ℕ) (next : Wanted) (front rest : List ℕ) → HeadOf c name (Ok (Comment, next)) front rest → HeadOf c name (Ok (Comment, next)) front (rest ++ more)
+  comment_of-goes : (c : Command) (name : List ℕ) (next : Wanted) (front rest : List ℕ) → HeadOf c name (Ok (Comment, next)) front rest
+      → HeadOf c name (Ok (Comment, next)) front (rest ++ more)
   comment_of-goes command.Comment name next front rest r = r
   comment_of-goes command.Preamble name next front rest r = absurd (preamble-begins IsNoComment (λ value. tt) name (Comment, next) front rest r)
   comment_of-goes command.Definition name next front rest r = absurd (definition-begins IsNoComment (λ string value. tt) name (Comment, next) front rest r)
   comment_of-goes command.Entry name next front rest r = absurd (entry-begins IsNoComment (λ kind key. tt) name (Comment, next) front rest r)
 
-  comment-goes : begins (is_in NameByte) more ≡ false → (next : Wanted) (front rest : List ℕ) → Head (Ok (Comment, next)) front rest → Head (Ok (Comment, next)) front (rest ++ more)
+  comment-goes : begins (is_in NameByte) more ≡ false → (next : Wanted) (front rest : List ℕ) → Head (Ok (Comment, next)) front rest
+      → Head (Ok (Comment, next)) front (rest ++ more)
   comment-goes stops next front rest (inl r) = absurd r
   comment-goes stops next front rest (inr (name, first, second, whole, r, h)) =
       let there = spaced-free NameHere name first (second ++ rest) (name-free stops name (second ++ rest)) r in
-      inr (name, first, second, whole, subst (λ t. Spaced NameHere (Ok name) first t) (append_assoc second rest more) there, comment_of-goes (command_of name) name next second rest h)
+      inr (
+        name,
+        first,
+        second,
+        whole,
+        subst (λ t. Spaced NameHere (Ok name) first t) (append_assoc second rest more) there,
+        comment_of-goes (command_of name) name next second rest h,
+      )
 
-  comment-stands : begins (is_in NameByte) more ≡ false → (first next : Wanted) (front rest : List ℕ) → Stands first (Ok (Comment, next)) front rest → Stands first (Ok (Comment, next)) front (rest ++ more)
+  comment-stands : begins (is_in NameByte) more ≡ false → (first next : Wanted) (front rest : List ℕ) → Stands first (Ok (Comment, next)) front rest
+      → Stands first (Ok (Comment, next)) front (rest ++ more)
   comment-stands stops Item next front rest (ignored, behind, is, none, r) = (ignored, behind, is, none, comment-goes stops next behind rest r)
   comment-stands stops (Closing d) next front rest (inl r) = absurd r
-  comment-stands stops (Closing d) next front rest (inr (none, first, second, whole, r, g)) = absurd (no-comment End tt (sym (ap (λ (x : Event × Wanted). x.0) g.1)))
+  comment-stands stops (Closing d) next front rest (inr (none, first, second, whole, r, g)) =
+      absurd (no-comment End tt (sym (ap (λ (x : Event × Wanted). x.0) g.1)))
   comment-stands stops (Fields d) next front rest (inl r) = absurd r
-  comment-stands stops (Fields d) next front rest (inr (None, first, second, whole, r, g)) = absurd (no-comment End tt (sym (ap (λ (x : Event × Wanted). x.0) g.1)))
-  comment-stands stops (Fields d) next front rest (inr (Some field, first, second, whole, r, g)) = absurd (no-comment (FieldOf field) tt (sym (ap (λ (x : Event × Wanted). x.0) g.1)))
+  comment-stands stops (Fields d) next front rest (inr (None, first, second, whole, r, g)) =
+      absurd (no-comment End tt (sym (ap (λ (x : Event × Wanted). x.0) g.1)))
+  comment-stands stops (Fields d) next front rest (inr (Some field, first, second, whole, r, g)) =
+      absurd (no-comment (FieldOf field) tt (sym (ap (λ (x : Event × Wanted). x.0) g.1)))
 
   -- ---- what stands at the place of an event
 
@@ -490,14 +556,17 @@ module _ (more : List ℕ) where
   ErrLeft (Ok a) rest = Unit {0}
   ErrLeft (Err slip) rest = Left rest
 
-  spaced-white : {A : Type 0} (R : Grammar A) (o : Result A Slip) (front rest : List ℕ) → ((inner : List ℕ) → R o inner rest → Left (inner ++ rest)) → Spaced R o front rest → NotWhite (front ++ rest)
+  spaced-white : {A : Type 0} (R : Grammar A) (o : Result A Slip) (front rest : List ℕ) → ((inner : List ℕ) → R o inner rest → Left (inner ++ rest))
+      → Spaced R o front rest → NotWhite (front ++ rest)
   spaced-white R (Ok a) front rest there (inl r) = absurd r
   spaced-white R (Err slip) front rest there (inl r) = absurd r
   spaced-white R o front rest there (inr (none, gap, inner, whole, white, r)) =
-      subst NotWhite (sym (ap (λ t. t ++ rest) whole ∙ append_assoc gap inner rest)) (white-append gap (inner ++ rest) (begins-white (inner ++ rest) (there inner r) white.longest))
+      subst NotWhite (sym (ap (λ t. t ++ rest) whole ∙ append_assoc gap inner rest))
+      (white-append gap (inner ++ rest) (begins-white (inner ++ rest) (there inner r) white.longest))
 
   last-white : {A : Type 0} (R : Grammar A) (give : A → Event × Wanted) → ((a : A) (front rest : List ℕ) → R (Ok a) front rest → Left front)
-      → (o : Result (Event × Wanted) Slip) (front rest : List ℕ) → ErrLeft o rest → Then (Spaced R) (λ a. Gives (give a)) o front rest → NotWhite (front ++ rest)
+      → (o : Result (Event × Wanted) Slip) (front rest : List ℕ) → ErrLeft o rest → Then (Spaced R) (λ a. Gives (give a)) o front rest
+      → NotWhite (front ++ rest)
   last-white R give some (Ok got) front rest h (inl r) = absurd r
   last-white R give some (Err slip) front rest h (inl r) = spaced-white R (Err slip) front rest (λ inner r. left-append inner rest h) r
   last-white R give some (Err slip) front rest h (inr (a, first, second, whole, r, none)) = absurd none
@@ -523,26 +592,32 @@ module _ (more : List ℕ) where
     item-left p events state text (o, next, front, whole, outcome, (ignored, behind, is, none, r), others) =
         subst Left whole (left-front front p.rest (subst Left (sym is) (left-append ignored (64 ∷ behind) tt)))
 
-    err-left : (p : Placed) (events : List Placed) (state : S) (o : Result (Event × Wanted) Slip) (next : Wanted) → EndsOutside (p ∷ events) more → IsOutcome keeping state p.event next o
+    err-left : (p : Placed) (events : List Placed) (state : S) (o : Result (Event × Wanted) Slip) (next : Wanted) → EndsOutside (p ∷ events) more
+        → IsOutcome keeping state p.event next o
         → IsReading keeping (keeping.after state p.event) next p.rest events → ErrLeft o p.rest
     err-left p events state (Ok got) next ends outcome others = tt
     err-left p [] state (Err slip) next (inl end) outcome others = absurd (no-end (Wrong slip) tt (sym outcome.0 ∙ end))
     err-left p [] state (Err slip) next (inr (inl some)) outcome others = left-some p.rest some
     err-left p [] state (Err slip) next (inr (inr comment)) outcome others = absurd (no-comment (Wrong slip) tt (sym outcome.0 ∙ comment.0))
     err-left p (q ∷ events) state (Err slip) next ends outcome others =
-        item-left q events (keeping.after state p.event) p.rest (subst (λ n. IsReading keeping (keeping.after state p.event) n p.rest (q ∷ events)) outcome.1 others)
+        item-left q events (keeping.after state p.event) p.rest
+        (subst (λ n. IsReading keeping (keeping.after state p.event) n p.rest (q ∷ events)) outcome.1 others)
 
     -- where an event stands something is left, and what isn't whitespace where something of an item is wanted
-    there : (p : Placed) (events : List Placed) (state : S) (next : Wanted) (text : List ℕ) → EndsOutside (p ∷ events) more → IsReading keeping state next text (p ∷ events) → Left text × After next text
+    there : (p : Placed) (events : List Placed) (state : S) (next : Wanted) (text : List ℕ) → EndsOutside (p ∷ events) more
+        → IsReading keeping state next text (p ∷ events) → Left text × After next text
     there p events state Item text ends h = (item-left p events state text h, tt)
     there p events state (Closing d) text ends (o, next, front, whole, outcome, r, others) =
-        let white = subst NotWhite whole (last-white (SignHere (closing_delimiter d) (NoClosing d)) (λ sign. (End, Item)) (sign-some (closing_delimiter d) (NoClosing d)) o front p.rest (err-left p events state o next ends outcome others) r) in
+        let white = subst NotWhite whole (last-white (SignHere (closing_delimiter d) (NoClosing d)) (λ sign. (End, Item))
+        (sign-some (closing_delimiter d) (NoClosing d)) o front p.rest (err-left p events state o next ends outcome others) r) in
         (white-left text white, white)
     there p events state (Fields d) text ends (o, next, front, whole, outcome, r, others) =
-        let white = subst NotWhite whole (last-white (MoreHere d) (more_event d) (more-some d) o front p.rest (err-left p events state o next ends outcome others) r) in
+        let white = subst NotWhite whole (last-white (MoreHere d) (more_event d) (more-some d) o front p.rest
+        (err-left p events state o next ends outcome others) r) in
         (white-left text white, white)
 
-    behind-known : (is_stored : List ℕ → Bool) (event : Event) (first next : Wanted) (rest : List ℕ) → next ≡ (as_known is_stored (event, first)).1 → After next rest → behind_event event first rest
+    behind-known : (is_stored : List ℕ → Bool) (event : Event) (first next : Wanted) (rest : List ℕ) → next ≡ (as_known is_stored (event, first)).1
+        → After next rest → behind_event event first rest
     behind-known is_stored Comment first next rest is h = subst (λ n. After n rest) is h
     behind-known is_stored (Preamble value) first next rest is h = subst (λ n. After n rest) is h
     behind-known is_stored (Definition name value) first next rest is h = subst (λ n. After n rest) is h
@@ -551,14 +626,17 @@ module _ (more : List ℕ) where
     behind-known is_stored End first next rest is h = subst (λ n. After n rest) is h
     behind-known is_stored (Wrong slip) first next rest is h = subst (λ n. After n rest) is h
 
-    if-known : (state : S) (event : Event) (next : Wanted) (o : Result (Event × Wanted) Slip) (rest : List ℕ) → IsOutcome keeping state event next o → Left rest → After next rest → If Behind o rest
+    if-known : (state : S) (event : Event) (next : Wanted) (o : Result (Event × Wanted) Slip) (rest : List ℕ) → IsOutcome keeping state event next o → Left rest
+        → After next rest → If Behind o rest
     if-known state event next (Ok (got, first)) rest outcome left h = (left, behind-known (keeping.is_stored state) got first next rest outcome.1 h)
     if-known state event next (Err slip) rest outcome left h = left
 
     -- what is known to be something else than a repeated entry was read as that
-    known-read : (other : Event) → (Wrong Repeated ≡ other → ⊥) → (is_stored : List ℕ → Bool) (event : Event) (first : Wanted) → (as_known is_stored (event, first)).0 ≡ other → event ≡ other
+    known-read : (other : Event) → (Wrong Repeated ≡ other → ⊥) → (is_stored : List ℕ → Bool) (event : Event) (first : Wanted)
+        → (as_known is_stored (event, first)).0 ≡ other → event ≡ other
     known-read other differs is_stored (Entry kind key) first is = by_test (is_stored key) is where
-      by_test : (b : Bool) → (let got : Event × Wanted = if b then (Wrong Repeated, Item) else (Entry kind key, first) in got.0 ≡ other) → Entry kind key ≡ other
+      by_test : (b : Bool) → (let got : Event × Wanted = if b then (Wrong Repeated, Item) else (Entry kind key, first) in got.0 ≡ other)
+          → Entry kind key ≡ other
       by_test true e = absurd (differs e)
       by_test false e = e
     known-read other differs is_stored Comment first is = is
@@ -568,11 +646,14 @@ module _ (more : List ℕ) where
     known-read other differs is_stored End first is = is
     known-read other differs is_stored (Wrong slip) first is = is
 
-    ended-on : (state : S) (p : Placed) (next first : Wanted) (o : Result (Event × Wanted) Slip) (front : List ℕ) → p.event ≡ End → IsOutcome keeping state p.event next o → Stands first o front p.rest → Stands first (outcome_on head_on o) front (p.rest ++ more)
+    ended-on : (state : S) (p : Placed) (next first : Wanted) (o : Result (Event × Wanted) Slip) (front : List ℕ) → p.event ≡ End
+        → IsOutcome keeping state p.event next o → Stands first o front p.rest → Stands first (outcome_on head_on o) front (p.rest ++ more)
     ended-on state p next first (Err slip) front end outcome r = absurd (no-end (Wrong slip) tt (sym outcome.0 ∙ end))
-    ended-on state p next first (Ok (event, wanted)) front end outcome r = end-goes first (event, wanted) front p.rest (known-read End (no-end (Wrong Repeated) tt) (keeping.is_stored state) event wanted (sym outcome.0 ∙ end)) r
+    ended-on state p next first (Ok (event, wanted)) front end outcome r =
+        end-goes first (event, wanted) front p.rest (known-read End (no-end (Wrong Repeated) tt) (keeping.is_stored state) event wanted (sym outcome.0 ∙ end)) r
 
-    comment-on : (state : S) (p : Placed) (next first : Wanted) (o : Result (Event × Wanted) Slip) (front : List ℕ) → p.event ≡ Comment → begins (is_in NameByte) more ≡ false → IsOutcome keeping state p.event next o
+    comment-on : (state : S) (p : Placed) (next first : Wanted) (o : Result (Event × Wanted) Slip) (front : List ℕ) → p.event ≡ Comment
+        → begins (is_in NameByte) more ≡ false → IsOutcome keeping state p.event next o
         → Stands first o front p.rest → Stands first (outcome_on head_on o) front (p.rest ++ more)
     comment-on state p next first (Err slip) front comment stops outcome r = absurd (no-comment (Wrong slip) tt (sym outcome.0 ∙ comment))
     comment-on state p next first (Ok (event, wanted)) front comment stops outcome r =
@@ -580,18 +661,23 @@ module _ (more : List ℕ) where
         subst (λ (x : Event). Stands first (Ok (event_on x, wanted)) front (p.rest ++ more)) (sym is)
         (comment-stands stops first wanted front p.rest (subst (λ (x : Event). Stands first (Ok (x, wanted)) front p.rest) is r))
 
-    stands-on : (p : Placed) (events : List Placed) (state : S) (o : Result (Event × Wanted) Slip) (next first : Wanted) (front : List ℕ) → EndsOutside (p ∷ events) more → IsOutcome keeping state p.event next o → Stands first o front p.rest
+    stands-on : (p : Placed) (events : List Placed) (state : S) (o : Result (Event × Wanted) Slip) (next first : Wanted) (front : List ℕ)
+        → EndsOutside (p ∷ events) more → IsOutcome keeping state p.event next o → Stands first o front p.rest
         → IsReading keeping (keeping.after state p.event) next p.rest events → Stands first (outcome_on head_on o) front (p.rest ++ more)
     stands-on p [] state o next first front (inl end) outcome r others = ended-on state p next first o front end outcome r
     stands-on p [] state o next first front (inr (inr comment)) outcome r others = comment-on state p next first o front comment.0 comment.1 outcome r
     stands-on p [] state o next first front (inr (inl some)) outcome r others =
-        stands-goes first o front p.rest (if-known state p.event next o p.rest outcome (left-some p.rest some) (subst (λ n. After n p.rest) (sym others.0) tt)) r
+        stands-goes first o front p.rest (if-known state p.event next o p.rest outcome (left-some p.rest some) (subst (λ n. After n p.rest) (sym others.0) tt))
+        r
     stands-on p (q ∷ events) state o next first front ends outcome r others =
-        let h = there q events (keeping.after state p.event) next p.rest ends others in stands-goes first o front p.rest (if-known state p.event next o p.rest outcome h.0 h.1) r
+        let h = there q events (keeping.after state p.event) next p.rest ends others in
+        stands-goes first o front p.rest (if-known state p.event next o p.rest outcome h.0 h.1) r
 
-    known-on : (is_stored : List ℕ → Bool) (event : Event) (first : Wanted) → as_known is_stored (event_on event, first) ≡ head_on (as_known is_stored (event, first))
+    known-on : (is_stored : List ℕ → Bool) (event : Event) (first : Wanted) → as_known is_stored (event_on event, first)
+        ≡ head_on (as_known is_stored (event, first))
     known-on is_stored (Entry kind key) first = by_test (is_stored key) where
-      by_test : (b : Bool) → ◌≡◌ {A = Event × Wanted} (if b then (Wrong Repeated, Item) else (Entry kind key, first)) (head_on (if b then (Wrong Repeated, Item) else (Entry kind key, first)))
+      by_test : (b : Bool) → ◌≡◌ {A = Event × Wanted} (if b then (Wrong Repeated, Item) else (Entry kind key, first))
+          (head_on (if b then (Wrong Repeated, Item) else (Entry kind key, first)))
       by_test true = refl
       by_test false = refl
     known-on is_stored Comment first = refl
@@ -601,7 +687,8 @@ module _ (more : List ℕ) where
     known-on is_stored End first = refl
     known-on is_stored (Wrong slip) first = refl
 
-    outcome-on : (state : S) (event : Event) (next : Wanted) (o : Result (Event × Wanted) Slip) → IsOutcome keeping state event next o → IsOutcome keeping state (event_on event) next (outcome_on head_on o)
+    outcome-on : (state : S) (event : Event) (next : Wanted) (o : Result (Event × Wanted) Slip) → IsOutcome keeping state event next o
+        → IsOutcome keeping state (event_on event) next (outcome_on head_on o)
     outcome-on state event next (Err slip) h = (ap event_on h.0, h.1)
     outcome-on state event next (Ok (got, first)) h =
         let same_known = sym (known-on (keeping.is_stored state) got first) in
@@ -612,7 +699,8 @@ module _ (more : List ℕ) where
     no_at-append (b ∷ bs) behind h k = (h.0, no_at-append bs behind h.1 k)
 
     -- what stands before the first item is passed
-    passed : (text : List ℕ) (events : List Placed) (state : S) (behind : List ℕ) → HasNoAt text → IsReading keeping state Item behind events → IsReading keeping state Item (text ++ behind) events
+    passed : (text : List ℕ) (events : List Placed) (state : S) (behind : List ℕ) → HasNoAt text → IsReading keeping state Item behind events
+        → IsReading keeping state Item (text ++ behind) events
     passed text [] state behind none h = (h.0, no_at-append text behind none h.1)
     passed text (p ∷ events) state behind none (o, next, front, whole, outcome, (ignored, inner, is, no_at, r), others) = (
       o,
@@ -632,7 +720,8 @@ module _ (more : List ℕ) where
     after_events state events = fold (λ (s : S) (p : Placed). keeping.after s p.event) state events
 
     -- a text that ends outside any item, and more behind it, are read one after the other
-    pub reading-on : (events behind : List Placed) (state : S) (first : Wanted) (text : List ℕ) → EndsOutside events more → IsReading keeping state first text events → IsReading keeping (after_events state events) Item more behind
+    pub reading-on : (events behind : List Placed) (state : S) (first : Wanted) (text : List ℕ) → EndsOutside events more
+        → IsReading keeping state first text events → IsReading keeping (after_events state events) Item more behind
         → IsReading keeping state first (text ++ more) (map placed_on events ++ behind)
     reading-on [] behind state first text ends h rest =
         subst (λ n. IsReading keeping state n (text ++ more) behind) (sym h.0) (passed text behind state more h.1 rest)

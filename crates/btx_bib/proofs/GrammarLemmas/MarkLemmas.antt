@@ -1,5 +1,6 @@
 -- Where what is enclosed ends is found from mark to mark.
-use Rattle.std.proofs.Common.{◌≡◌, ℕ, zero, suc, ◌+◌, ◌-◌, ◌<◌, ◌≤◌, Bool, true, false, cond, eqb, ◌&&◌, ◌||◌, List, [], ◌∷◌, length, drop, get_or, refl, sym, ◌∙◌, ap, arith, Option, Some, None}
+use Rattle.std.proofs.Common.{◌≡◌, ℕ, zero, suc, ◌+◌, ◌-◌, ◌<◌, ◌≤◌, Bool, true, false, cond, eqb, ◌&&◌, ◌||◌, List, [], ◌∷◌, length, drop, get_or, refl, sym}
+use Rattle.std.proofs.Common.{◌∙◌, ap, arith, Option, Some, None}
 use Rattle.std.specs.Prelude.{unwrap_or}
 use Rattle.std.proofs.lemmas.Bool.{eqb-true, false_from_ne_true, true≢false}
 use Rattle.std.proofs.lemmas.List.{drop_all}
@@ -13,7 +14,8 @@ use Rattle.btx_bib.proofs.GrammarLemmas.RunLemmas.{enclosed_here, enclosed_next}
 
 -- ---- the first mark
 
-unmarked-some : (test : ℕ → Bool) (s : List ℕ) (k : ℕ) → k < length s → ((j : ℕ) → j < k → test (get_or s j 0) ≡ true → ⊥) → test (get_or s k 0) ≡ true → unmarked_len test s ≡ k
+unmarked-some : (test : ℕ → Bool) (s : List ℕ) (k : ℕ) → k < length s → ((j : ℕ) → j < k → test (get_or s j 0) ≡ true → ⊥) → test (get_or s k 0) ≡ true
+    → unmarked_len test s ≡ k
 unfolding unmarked_len
 unmarked-some test [] k lt before here = absurd (omega arith)
 unmarked-some test (b ∷ bs) zero lt before here = rw here refl
@@ -44,12 +46,12 @@ pub ruleset mark_steps = (unmarked-found, unmarked-le)
 
 -- ---- from mark to mark
 
-or_parts : (x y : Bool) → (x || y) ≡ false → (x ≡ false) × (y ≡ false)
+pub or_parts : (x y : Bool) → (x || y) ≡ false → (x ≡ false) × (y ≡ false)
 or_parts true y h = absurd (true≢false h)
 or_parts false y h = (refl, h)
 
 -- a byte that is no mark ends nothing, and the depth stays
-no-mark : (e : Enclosure) (d b : ℕ) → is_mark e b ≡ false → (ends_enclosed e b ≡ false) × (depth_after d b ≡ d)
+pub no-mark : (e : Enclosure) (d b : ℕ) → is_mark e b ≡ false → (ends_enclosed e b ≡ false) × (depth_after d b ≡ d)
 no-mark Group d b h = let parts = or_parts (eqb b 123) (eqb b 125) h in rw (parts.0, parts.1) (refl, refl)
 no-mark Quotes d b h =
     let quote = or_parts (eqb b 123 || eqb b 125) (eqb b 34) h in
@@ -61,7 +63,8 @@ and-false true = refl
 and-false false = refl
 
 -- bytes that are no marks are passed over
-pub enclosed-skip : (e : Enclosure) (d : ℕ) (s : List ℕ) → enclosed_len e d s ≡ unmarked_len (is_mark e) s + enclosed_len e d (drop (unmarked_len (is_mark e) s) s)
+pub enclosed-skip : (e : Enclosure) (d : ℕ) (s : List ℕ) → enclosed_len e d s ≡ unmarked_len (is_mark e) s + enclosed_len e d
+    (drop (unmarked_len (is_mark e) s) s)
 unfolding enclosed_len unmarked_len
 enclosed-skip e d [] = refl
 enclosed-skip e d (b ∷ bs) = at (is_mark e b) refl (enclosed-skip e d bs) where
@@ -78,17 +81,20 @@ drop-further (suc n) k [] = drop_all k [] (omega arith) ∙ sym (drop_all (suc n
 drop-further (suc n) k (b ∷ bs) = let e : suc n + k ≡ suc (n + k) = omega arith in rw e (drop-further n k bs)
 
 -- the end is found from the first mark on
-pub enclosed-first : (e : Enclosure) (s : List ℕ) (place : ℕ) → place ≡ unmarked_len (is_mark e) s → place + enclosed_len e 0 (drop place s) ≡ enclosed_len e 0 s
+pub enclosed-first : (e : Enclosure) (s : List ℕ) (place : ℕ) → place ≡ unmarked_len (is_mark e) s → place + enclosed_len e 0 (drop place s)
+    ≡ enclosed_len e 0 s
 enclosed-first e s place is = rw is (sym (enclosed-skip e 0 s))
 
 -- and from behind a mark that isn't it
-pub enclosed-further : (e : Enclosure) (d : ℕ) (s : List ℕ) (place : ℕ) (k total : ℕ) → place < length s → (eqb d 0 && ends_enclosed e (get_or s place 0)) ≡ false →
+pub enclosed-further : (e : Enclosure) (d : ℕ) (s : List ℕ) (place : ℕ) (k total : ℕ) → place < length s → (eqb d 0 && ends_enclosed e (get_or s place 0))
+    ≡ false →
     k ≡ unmarked_len (is_mark e) (drop (place + 1) s) → place + enclosed_len e d (drop place s) ≡ total →
     (place + 1) + k + enclosed_len e (depth_after d (get_or s place 0)) (drop ((place + 1) + k) s) ≡ total
 enclosed-further e d s place k total lt ends is whole =
     let after = depth_after d (get_or s place 0) in
     let next = enclosed_next e d s place lt ends in
-    let skip : enclosed_len e after (drop (place + 1) s) ≡ k + enclosed_len e after (drop k (drop (place + 1) s)) = rw is (enclosed-skip e after (drop (place + 1) s)) in
+    let skip : enclosed_len e after (drop (place + 1) s) ≡ k + enclosed_len e after (drop k (drop (place + 1) s)) =
+    rw is (enclosed-skip e after (drop (place + 1) s)) in
     let far = ap (λ t. enclosed_len e after t) (drop-further (place + 1) k s) in
     omega arith
 
@@ -119,9 +125,11 @@ pub word-depth : (d b : ℕ) → is_word_byte b ≡ true → depth_after d b ≡
 word-depth d b h = rw (no-word b 123 refl h, no-word b 125 refl h) refl
 
 -- a byte that doesn't end what is enclosed is passed over
-pub enclosed-on : (e : Enclosure) (d after : ℕ) (s : List ℕ) (i n : ℕ) → i < length s → (eqb d 0 && ends_enclosed e (get_or s i 0)) ≡ false → after ≡ depth_after d (get_or s i 0) →
+pub enclosed-on : (e : Enclosure) (d after : ℕ) (s : List ℕ) (i n : ℕ) → i < length s → (eqb d 0 && ends_enclosed e (get_or s i 0)) ≡ false
+    → after ≡ depth_after d (get_or s i 0) →
     i + enclosed_len e d (drop i s) ≡ n → i + 1 + enclosed_len e after (drop (i + 1) s) ≡ n
 enclosed-on e d after s i n lt goes is h = rw is (omega (arith, enclosed_next e d s i lt goes, h))
 
-pub enclosed-ends : (e : Enclosure) (d : ℕ) (s : List ℕ) (i n : ℕ) → i < length s → (eqb d 0 && ends_enclosed e (get_or s i 0)) ≡ true → i + enclosed_len e d (drop i s) ≡ n → i ≡ n
+pub enclosed-ends : (e : Enclosure) (d : ℕ) (s : List ℕ) (i n : ℕ) → i < length s → (eqb d 0 && ends_enclosed e (get_or s i 0)) ≡ true
+    → i + enclosed_len e d (drop i s) ≡ n → i ≡ n
 enclosed-ends e d s i n lt ends h = omega (arith, enclosed_here e d s i lt ends, h)

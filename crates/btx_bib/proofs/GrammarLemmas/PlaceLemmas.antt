@@ -1,5 +1,6 @@
 -- Lemmas on the lines of places.
-use Rattle.std.proofs.Common.{◌≡◌, ℕ, zero, suc, ◌+◌, ◌-◌, ◌<◌, ◌≤◌, Bool, true, false, cond, eqb, List, [], ◌∷◌, ◌++◌, length, take, drop, get_or, refl, sym, ◌∙◌, ap, arith, min, ⊎_elim}
+use Rattle.std.proofs.Common.{◌≡◌, ℕ, zero, suc, ◌+◌, ◌-◌, ◌<◌, ◌≤◌, Bool, true, false, cond, eqb, List, [], ◌∷◌, ◌++◌, length, take, drop, get_or, refl, sym}
+use Rattle.std.proofs.Common.{◌∙◌, ap, arith, min, ⊎_elim}
 use Rattle.std.proofs.lemmas.List.{take_more, take_all, length-take}
 use Rattle.std.proofs.lemmas.Bool.{cases_lt}
 use Rattle.std.proofs.lemmas.List.Sums.{count_by-le-length}
@@ -23,7 +24,8 @@ pub ruleset feed_counts = (feeds-count, feeds-le)
 feeds-append : (s t : List ℕ) → feeds_in (s ++ t) ≡ feeds_in s + feeds_in t
 feeds-append [] t = omega arith
 feeds-append (b ∷ bs) t = at (eqb b 10) (feeds-append bs t) where
-  at : (u : Bool) → feeds_in (bs ++ t) ≡ feeds_in bs + feeds_in t → cond u (suc (feeds_in (bs ++ t))) (feeds_in (bs ++ t)) ≡ cond u (suc (feeds_in bs)) (feeds_in bs) + feeds_in t
+  at : (u : Bool) → feeds_in (bs ++ t) ≡ feeds_in bs + feeds_in t → cond u (suc (feeds_in (bs ++ t))) (feeds_in (bs ++ t))
+      ≡ cond u (suc (feeds_in bs)) (feeds_in bs) + feeds_in t
   at true h = omega arith
   at false h = h
 
@@ -37,10 +39,12 @@ pub feeds-block : (s : List ℕ) (place : ℕ) → feeds_in (take place s) + fee
 feeds-block s place = sym (feeds-append (take place s) (take 32 (drop place s))) ∙ ap feeds_in (sym (take-take-drop place 32 s))
 
 -- the line feeds up to a place, and those from it to a later one
-pub feeds-on : (s : List ℕ) (counted place : ℕ) → counted ≤ place → feeds_in (take counted s) + feeds_in (take (place - counted) (drop counted s)) ≡ feeds_in (take place s)
+pub feeds-on : (s : List ℕ) (counted place : ℕ) → counted ≤ place → feeds_in (take counted s) + feeds_in (take (place - counted) (drop counted s))
+    ≡ feeds_in (take place s)
 feeds-on s counted place le =
     let e : counted + (place - counted) ≡ place = omega arith in
-    sym (feeds-append (take counted s) (take (place - counted) (drop counted s))) ∙ ap feeds_in (sym (take-take-drop counted (place - counted) s)) ∙ ap (λ n. feeds_in (take n s)) e
+    sym (feeds-append (take counted s) (take (place - counted) (drop counted s))) ∙ ap feeds_in (sym (take-take-drop counted (place - counted) s))
+    ∙ ap (λ n. feeds_in (take n s)) e
 
 -- the line feeds up to a place, and all others
 pub feeds-rest : (s : List ℕ) (place : ℕ) → place ≤ length s → feeds_in (take place s) + feeds_in (take (length s - place) (drop place s)) ≡ feeds_in s
@@ -63,7 +67,8 @@ pieces-snoc [] b = at (eqb b 10) where
   at true = refl
   at false = refl
 pieces-snoc (c ∷ cs) b = at (eqb c 10) (pieces-snoc cs b) where
-  at : (t : Bool) → length (line_pieces (cs ++ b ∷ [])) ≡ suc (feeds_in cs) → length (cond t ([] ∷ line_pieces (cs ++ b ∷ [])) (onto_first c (line_pieces (cs ++ b ∷ [])))) ≡ suc (cond t (suc (feeds_in cs)) (feeds_in cs))
+  at : (t : Bool) → length (line_pieces (cs ++ b ∷ [])) ≡ suc (feeds_in cs)
+      → length (cond t ([] ∷ line_pieces (cs ++ b ∷ [])) (onto_first c (line_pieces (cs ++ b ∷ [])))) ≡ suc (cond t (suc (feeds_in cs)) (feeds_in cs))
   at true h = ap suc h
   at false h = in_front-length c (line_pieces (cs ++ b ∷ [])) (feeds_in cs) h
 
@@ -79,7 +84,8 @@ take-min count text = ⊎_elim within past (cases_lt count (length text)) where
 pub lines_begun-place : (count : ℕ) (text : List ℕ) (place : ℕ) → min count (length text) ≡ place + 1 → lines_begun count text ≡ feeds_in (take place text) + 1
 unfolding lines_begun
 lines_begun-place count text place is =
-    let cut : take count text ≡ take place text ++ get_or text place 0 ∷ [] = take-min count text ∙ ap (λ n. take n text) is ∙ take_more text place 0 (omega (arith, is)) in
+    let cut : take count text ≡ take place text ++ get_or text place 0 ∷ [] = take-min count text ∙ ap (λ n. take n text) is
+    ∙ take_more text place 0 (omega (arith, is)) in
     ap (λ s. length (line_pieces s)) cut ∙ pieces-snoc (take place text) (get_or text place 0) ∙ omega arith
 
 pub lines_begun-nothing : (count : ℕ) (text : List ℕ) → min count (length text) ≡ 0 → lines_begun count text ≡ 0

@@ -1,5 +1,6 @@
 -- Lemmas on plain bytes, which are passed a block at a time.
-use Rattle.std.proofs.Common.{◌≡◌, ℕ, zero, suc, ◌+◌, ◌-◌, ◌%◌, ◌^◌, ◌<◌, ◌≤◌, Bool, true, false, not, ◌&&◌, ◌||◌, eqb, leb, List, [], ◌∷◌, map, length, drop, get_or, replicate, cond, bit_and, bit_or, ltb, Fits, w8, refl, sym, ◌∙◌, ap, ap₂, arith}
+use Rattle.std.proofs.Common.{◌≡◌, ℕ, zero, suc, ◌+◌, ◌-◌, ◌%◌, ◌^◌, ◌<◌, ◌≤◌, Bool, true, false, not, ◌&&◌, ◌||◌, eqb, leb, List, [], ◌∷◌, map, length, drop}
+use Rattle.std.proofs.Common.{get_or, replicate, cond, bit_and, bit_or, ltb, Fits, w8, refl, sym, ◌∙◌, ap, ap₂, arith}
 use Rattle.std.proofs.lemmas.Bool.{agree_below, agree_below_at, and_parts, eqb-true, ne_eqb, not-true, true≢false}
 use Rattle.std.proofs.lemmas.List.{length-map}
 use Rattle.std.proofs.lemmas.List.Sums.{prefix_len-le-length, prefix_len_passes}
@@ -28,7 +29,8 @@ zip2-left h f k (x ∷ xs) [] = refl
 zip2-left h f k (x ∷ xs) (y ∷ ys) = ap (λ r. h (f x) (k x y) ∷ r) (zip2-left h f k xs ys)
 
 -- the lanes are computed from the bytes and those before them; they stand for the first of them that isn't plain
-module _ (s : List ℕ) (i r : ℕ) (z : List ℕ) (f : ℕ → ℕ → ℕ) (behind : 0 < i) (room : i + 16 ≤ length s) (fits : (k : ℕ) → Fits w8 (get_or s k 0)) (found : r ≡ lanes_before (mask_l (map (top 7) z) % 2 ^ 64))
+module _ (s : List ℕ) (i r : ℕ) (z : List ℕ) (f : ℕ → ℕ → ℕ) (behind : 0 < i) (room : i + 16 ≤ length s) (fits : (k : ℕ) → Fits w8 (get_or s k 0))
+    (found : r ≡ lanes_before (mask_l (map (top 7) z) % 2 ^ 64))
     (lanes : z ≡ zip2 f (chunk i 16 s) (chunk (i - 1) 16 s)) where
   before-long : length (chunk (i - 1) 16 s) ≡ 16
   before-long = length-chunk (i - 1) 16 s (omega arith)
@@ -37,7 +39,8 @@ module _ (s : List ℕ) (i r : ℕ) (z : List ℕ) (f : ℕ → ℕ → ℕ) (be
   long = ap length lanes ∙ length-zip2 f (chunk i 16 s) (chunk (i - 1) 16 s) (length-chunk i 16 s room ∙ sym before-long) ∙ length-chunk i 16 s room
 
   counted : r ≡ prefix_len (λ x. not (top 7 x)) z
-  counted = found ∙ ap lanes_before (mask_l-mod (map (top 7) z) 64 (omega (arith, length-map z (top 7), long))) ∙ first_set_mask_l (top 7) z 16 long (omega arith)
+  counted = found ∙ ap lanes_before (mask_l-mod (map (top 7) z) 64 (omega (arith, length-map z (top 7), long)))
+      ∙ first_set_mask_l (top 7) z 16 long (omega arith)
 
   block-bound : r ≤ 16
   block-bound = omega (arith, counted, long, prefix_len-le-length (λ x. not (top 7 x)) z)
@@ -51,7 +54,8 @@ module _ (s : List ℕ) (i r : ℕ) (z : List ℕ) (f : ℕ → ℕ → ℕ) (be
       let clear : top 7 (get_or z j 0) ≡ false = not-true _ (prefix_len_passes (λ x. not (top 7 x)) z j 0 (omega (arith, counted))) in
       let here = get_or-chunk i 16 s j 0 inside ∙ ap (λ n. get_or s n 0) forth in
       let before = get_or-chunk (i - 1) 16 s j 0 inside ∙ ap (λ n. get_or s n 0) back in
-      let lane = ap (λ l. get_or l j 0) lanes ∙ get_or-zip2 f (chunk i 16 s) (chunk (i - 1) 16 s) j 0 0 0 (omega (arith, length-chunk i 16 s room)) (omega (arith, before-long)) ∙ ap₂ f here before in
+      let lane = ap (λ l. get_or l j 0) lanes ∙ get_or-zip2 f (chunk i 16 s) (chunk (i - 1) 16 s) j 0 0 0 (omega (arith, length-chunk i 16 s room))
+      (omega (arith, before-long)) ∙ ap₂ f here before in
       plain (get_or s k 0) (get_or s (k - 1) 0) (fits k).fits (fits (k - 1)).fits (sym (ap (top 7) lane) ∙ clear)
 
 -- ---- byte by byte
@@ -77,7 +81,8 @@ read-on e s i d after b lt is goes stays deep so = record {
 }
 
 -- a plain byte ends nothing, and leaves depth and squeezing alone
-plain-byte : (e : Enclosure) (d w b : ℕ) → is_plain_byte w b ≡ true → ((eqb d 0 && ends_enclosed e b) ≡ false) × (depth_after d b ≡ d) × (stays_squeezed (is_gap w) b ≡ true)
+plain-byte : (e : Enclosure) (d w b : ℕ) → is_plain_byte w b ≡ true → ((eqb d 0 && ends_enclosed e b) ≡ false) × (depth_after d b ≡ d)
+    × (stays_squeezed (is_gap w) b ≡ true)
 plain-byte e d w b = at (is_word_byte b) refl where
   space-ends : (e : Enclosure) → (eqb d 0 && ends_enclosed e 32) ≡ false
   space-ends Group = and-false (eqb d 0)
@@ -134,7 +139,8 @@ module _ (less : ℕ → ℕ → ℕ) (high : agree_below (λ b. top 7 (lane les
     (low : agree_below (λ b. top 7 (lane less true b) || is_plain_behind true b) (λ _. true) 256 ≡ true) where
   lanes-plain : (b w : ℕ) → b < 256 → w < 256 → top 7 (lane less (leb w 32) b) ≡ false → is_plain_byte w b ≡ true
   lanes-plain b w fits before none =
-      at (is_word_byte b) (eqb b 32) (leb w 32) (is_gap w) (no-white w before) (sym (ap (λ (t : Bool). t || is_plain_behind (leb w 32) b) none) ∙ all (leb w 32)) where
+      at (is_word_byte b) (eqb b 32) (leb w 32) (is_gap w) (no-white w before) (sym (ap (λ (t : Bool). t || is_plain_behind (leb w 32) b) none)
+      ∙ all (leb w 32)) where
         all : (t : Bool) → (top 7 (lane less t b) || is_plain_behind t b) ≡ true
         all true = agree_below_at (λ b. top 7 (lane less true b) || is_plain_behind true b) (λ _. true) 256 b low fits
         all false = agree_below_at (λ b. top 7 (lane less false b) || is_plain_behind false b) (λ _. true) 256 b high fits
@@ -146,14 +152,16 @@ module _ (less : ℕ → ℕ → ℕ) (high : agree_below (λ b. top 7 (lane les
         at false false low g apart h = h
 
 block-lanes : (s : List ℕ) (i : ℕ) (less : ℕ → ℕ → ℕ) → 0 < i → i + 16 ≤ length s →
-    zip2 bit_and (zip2 above (replicate 16 87) (zip2 less (chunk i 16 s) (replicate 16 35))) (zip2 bit_or (zip2 apart (chunk i 16 s) (replicate 16 32)) (zip2 at_most (chunk (i - 1) 16 s) (replicate 16 32))) ≡
+    zip2 bit_and (zip2 above (replicate 16 87) (zip2 less (chunk i 16 s) (replicate 16 35)))
+    (zip2 bit_or (zip2 apart (chunk i 16 s) (replicate 16 32)) (zip2 at_most (chunk (i - 1) 16 s) (replicate 16 32))) ≡
     zip2 (λ b w. lane less (leb w 32) b) (chunk i 16 s) (chunk (i - 1) 16 s)
 block-lanes s i less behind room =
     let here = chunk i 16 s in
     let before = chunk (i - 1) 16 s in
     let here-long = length-chunk i 16 s room in
     let words = zip2_of_maps above (λ _. 87) (λ b. less b 35) here (splat_is_map here 16 87 here-long) (zip2_splat less here 16 35 here-long) in
-    let spaces = ap₂ (zip2 bit_or) (zip2_splat apart here 16 32 here-long) (zip2_splat at_most before 16 32 (length-chunk (i - 1) 16 s (omega arith))) ∙ zip2-maps bit_or (λ b. apart b 32) (λ w. at_most w 32) here before in
+    let spaces = ap₂ (zip2 bit_or) (zip2_splat apart here 16 32 here-long) (zip2_splat at_most before 16 32 (length-chunk (i - 1) 16 s (omega arith)))
+    ∙ zip2-maps bit_or (λ b. apart b 32) (λ w. at_most w 32) here before in
     ap₂ (zip2 bit_and) words spaces ∙ zip2-left bit_and (λ b. above 87 (less b 35)) (λ b w. bit_or (apart b 32) (at_most w 32)) here before
 
 pub plain-in-block : (s : List ℕ) (i r : ℕ) (less : ℕ → ℕ → ℕ) → 0 < i → i + 16 ≤ length s → ((k : ℕ) → Fits w8 (get_or s k 0)) →
@@ -162,5 +170,7 @@ pub plain-in-block : (s : List ℕ) (i r : ℕ) (less : ℕ → ℕ → ℕ) →
     agree_below (λ b. top 7 (lane less false b) || is_plain_behind false b) (λ _. true) 256 ≡ true →
     agree_below (λ b. top 7 (lane less true b) || is_plain_behind true b) (λ _. true) 256 ≡ true → ArePlainBytes s i (i + r) × (r ≤ 16)
 plain-in-block s i r less behind room fits found high low =
-    let lanes = block-lanes s i less behind room in
-    (block-plain s i r _ (λ b w. lane less (leb w 32) b) behind room fits found lanes (lanes-plain less high low), block-bound s i r _ (λ b w. lane less (leb w 32) b) behind room fits found lanes)
+    let lanes = block-lanes s i less behind room in (
+      block-plain s i r _ (λ b w. lane less (leb w 32) b) behind room fits found lanes (lanes-plain less high low),
+      block-bound s i r _ (λ b w. lane less (leb w 32) b) behind room fits found lanes,
+    )

@@ -1,9 +1,8 @@
 -- Lemmas on fields in their plainest form.
-use Rattle.std.proofs.Common.{◌≡◌, ℕ, ◌<◌, ◌≤◌, Bool, true, false, eqb, List, ◌∷◌, length, take, drop, Ok, Some, refl, sym, ◌∙◌, ap, arith}
+use Rattle.std.proofs.Common.{◌≡◌, ℕ, ◌<◌, Bool, true, false, eqb, List, ◌∷◌, length, take, drop, Ok, Some, refl, sym, ◌∙◌, ap}
 use Rattle.std.proofs.lemmas.Bool.{eqb-true, true≢false}
 use Rattle.btx_bib.specs.declared.grammar.byte_sets.ByteSet.TheVariants.{Gap, NameByte}
 use Rattle.btx_bib.specs.declared.grammar.commands.Wanted.{Wanted}
-use Rattle.btx_bib.specs.declared.grammar.commands.Wanted.TheVariants.{Item, Closing, Fields}
 use Rattle.btx_bib.specs.declared.grammar.plain_fields.PlainField.{PlainField}
 use Rattle.btx_bib.specs.declared.grammar.byte_sets.Delimiter.{Delimiter}
 use Rattle.btx_bib.specs.declared.grammar.byte_sets.Delimiter.TheVariants.{Braces, Parens}
@@ -14,7 +13,8 @@ use Rattle.btx_bib.specs.language.Grammar.Fields.{after_comma, field_at, more_in
 use Rattle.btx_bib.specs.language.Grammar.Items.{next_step, expected_step}
 use Rattle.btx_bib.specs.refinement.Grammar.PlainFields.{plain_step}
 use Rattle.btx_bib.specs.language.Grammar.Values.{Part, value_at}
-use Rattle.btx_bib.proofs.GrammarLemmas.LengthLemmas.{events-less, left}
+use Rattle.btx_bib.proofs.GrammarLemmas.LengthLemmas.{events-less}
+use Rattle.btx_bib.specs.refinement.Grammar.Reads.{left}
 use Rattle.btx_bib.specs.laws.Grammar.Fields.{more_at}
 use Rattle.btx_bib.specs.refinement.Grammar.Items.{known_step}
 
@@ -41,7 +41,8 @@ unfolding longest_run_len
 name-past b bs h = rw (name-gap b h) refl
 
 -- a field whose name begins with this byte
-module _ (b : ℕ) (bs behind_sign rest : List ℕ) (value : List Part) (begins : begins_name b ≡ true) (signed : past Gap (past NameByte (b ∷ bs)) ≡ 61 ∷ behind_sign)
+module _ (b : ℕ) (bs behind_sign rest : List ℕ) (value : List Part) (begins : begins_name b ≡ true)
+    (signed : past Gap (past NameByte (b ∷ bs)) ≡ 61 ∷ behind_sign)
     (valued : value_at behind_sign ≡ Ok (value, rest)) where
   plain-field : field_at (b ∷ bs) ≡ Ok (record { name = longest_run NameByte (b ∷ bs); value = value }, rest)
   unfolding field_at name_here sign_in
@@ -54,8 +55,10 @@ module _ (b : ℕ) (bs behind_sign rest : List ℕ) (value : List Part) (begins 
   plain-more delimiter text behind_comma comma next = rw (comma, comma-closes delimiter, next, name-closes delimiter b begins, plain-field) refl
 
 -- the same, as the code finds its parts
-pub plain-stands : (text behind_comma next name back behind_sign rest : List ℕ) (value : List Part) (b : ℕ) (bs : List ℕ) (count : ℕ) → past Gap text ≡ 44 ∷ behind_comma →
-    next ≡ past Gap behind_comma → next ≡ b ∷ bs → begins_name b ≡ true → count ≡ longest_run_len NameByte next → name ≡ take count next → back ≡ drop count next →
+pub plain-stands : (text behind_comma next name back behind_sign rest : List ℕ) (value : List Part) (b : ℕ) (bs : List ℕ) (count : ℕ)
+    → past Gap text ≡ 44 ∷ behind_comma →
+    next ≡ past Gap behind_comma → next ≡ b ∷ bs → begins_name b ≡ true → count ≡ longest_run_len NameByte next → name ≡ take count next
+    → back ≡ drop count next →
     past Gap back ≡ 61 ∷ behind_sign → value_at behind_sign ≡ Ok (value, rest) → (delimiter : Delimiter) →
     more_at delimiter text ≡ Ok (Some (record { name = name; value = value }), rest)
 plain-stands text behind_comma next name back behind_sign rest value b bs count comma is begun begins counted front behind signed valued delimiter =
@@ -64,25 +67,13 @@ plain-stands text behind_comma next name back behind_sign rest value b bs count 
     rw named (plain-more b bs behind_sign rest value begins (ap (past Gap) (sym left) ∙ signed) valued delimiter text behind_comma comma (sym is ∙ begun))
 
 -- the reader reads it, whatever keys are stored
-pub plain-next : (is_stored : List ℕ → Bool) (wanted : Wanted) (text : List ℕ) (field : PlainField) → expected_step wanted text ≡ Some (plain_step wanted field) →
+pub plain-next : (is_stored : List ℕ → Bool) (wanted : Wanted) (text : List ℕ) (field : PlainField) → expected_step wanted text ≡ Some (plain_step wanted field)
+    →
     next_step is_stored wanted text ≡ Some (plain_step wanted field)
 plain-next is_stored wanted text field e = ap (known_step is_stored) e
 
 -- and leaves less
-pub plain-shorter : (is_stored : List ℕ → Bool) (wanted : Wanted) (text : List ℕ) (field : PlainField) → expected_step wanted text ≡ Some (plain_step wanted field) →
+pub plain-shorter : (is_stored : List ℕ → Bool) (wanted : Wanted) (text : List ℕ) (field : PlainField) → expected_step wanted text
+    ≡ Some (plain_step wanted field) →
     left wanted (length field.value.rest.now) < left wanted (length text)
 plain-shorter is_stored wanted text field e = events-less is_stored wanted text (plain_step wanted field) (plain-next is_stored wanted text field e)
-
-pub left-shorter : (wanted : Wanted) (n m : ℕ) → left wanted n < left wanted m → n ≤ m
-left-shorter Item n m lt = omega arith
-left-shorter (Closing delimiter) n m lt = omega arith
-left-shorter (Fields delimiter) n m lt = omega arith
-
-left-within : (wanted : Wanted) (n m : ℕ) → n ≤ m → left wanted n ≤ left wanted m
-left-within Item n m le = omega arith
-left-within (Closing delimiter) n m le = omega arith
-left-within (Fields delimiter) n m le = omega arith
-
--- less is left where the same is wanted and no more text is left
-pub left-chain : (wanted before : Wanted) (n m k : ℕ) → wanted ≡ before → n ≤ m → left before m < k → left wanted n < k
-left-chain wanted before n m k same le lt = let less = left-within before n m le in rw same (omega (arith, less, lt))

@@ -1,5 +1,6 @@
 -- The reading of a database is the list that is computed, and no other.
-use Rattle.std.proofs.Common.{◌≡◌, ℕ, zero, suc, ◌<◌, Bool, true, false, cond, eqb, List, [], ◌∷◌, ◌++◌, length, drop, inl, inr, refl, sym, ◌∙◌, ap, subst, arith, append_assoc, Result, Ok, Err, Some, None, Option}
+use Rattle.std.proofs.Common.{◌≡◌, ℕ, zero, suc, ◌<◌, Bool, true, false, cond, eqb, List, [], ◌∷◌, ◌++◌, length, drop, inl, inr, refl, sym, ◌∙◌, ap, subst}
+use Rattle.std.proofs.Common.{arith, append_assoc, Result, Ok, Err, Some, None, Option}
 use Rattle.std.proofs.lemmas.Bool.{eqb-true, eq-eqb, true≢false}
 use Rattle.std.proofs.lemmas.List.{take-append-drop}
 use Rattle.std.specs.Option.{option_map}
@@ -16,11 +17,15 @@ use Rattle.btx_bib.specs.language.Grammar.ByteSets.{begins, longest_run_len, lon
 use Rattle.btx_bib.specs.language.Grammar.Tokens.{Parsed, followed_by, wrong_at, name_at, open_in, open_at, sign_at, key_here, key_at, closing_delimiter}
 use Rattle.btx_bib.specs.language.Grammar.Values.{value_at}
 use Rattle.btx_bib.specs.language.Grammar.Fields.{Field, field_at, after_comma, more_in}
-use Rattle.btx_bib.specs.language.Grammar.Items.{Event, Comment, Preamble, Definition, Entry, End, Wrong, command_of, head_of, head_at, field_event, Step, step_by, behind_at, expected_step, Placed, Keeping, as_known, events_from}
+use Rattle.btx_bib.specs.language.Grammar.Items.{Event, Comment, Preamble, Definition, Entry, End, Wrong, command_of, head_of, head_at, field_event, Step}
+use Rattle.btx_bib.specs.language.Grammar.Items.{step_by, behind_at, expected_step, Placed, Keeping, as_known, events_from}
 use Rattle.btx_bib.specs.laws.Grammar.Spelling.{Grammar, Gives, Then, Spaced, NameHere, SignHere, ValueSpelling, FieldSpelling, Splits, read_as}
-use Rattle.btx_bib.specs.laws.Grammar.Reading.{OnSign, WrongHere, OpenHere, KeyHere, AfterComma, MoreHere, HeadOf, Head, more_event, HasNoAt, Stands, IsOutcome, IsReading}
-use Rattle.btx_bib.proofs.GrammarLemmas.LengthLemmas.{left, StepsTo, next-leaves, events_from-step, events-none}
-use Rattle.btx_bib.proofs.GrammarLemmas.SpellingLemmas.{Decides, Only, then-decides, gives-decides, spaced-decides, name-decides, sign-decides, value-decides, field-decides, run-of, past-of, is_run}
+use Rattle.btx_bib.specs.laws.Grammar.Reading.{OnSign, WrongHere, OpenHere, KeyHere, AfterComma, MoreHere, HeadOf, Head, more_event, HasNoAt, Stands, IsOutcome}
+use Rattle.btx_bib.specs.laws.Grammar.Reading.{IsReading}
+use Rattle.btx_bib.specs.refinement.Grammar.Reads.{left}
+use Rattle.btx_bib.proofs.GrammarLemmas.LengthLemmas.{StepsTo, next-leaves, events_from-step, events-none}
+use Rattle.btx_bib.proofs.GrammarLemmas.SpellingLemmas.{Decides, Only, then-decides, gives-decides, spaced-decides, name-decides, sign-decides, value-decides}
+use Rattle.btx_bib.proofs.GrammarLemmas.SpellingLemmas.{field-decides, run-of, past-of, is_run}
 use Rattle.btx_bib.specs.refinement.Grammar.Items.{item_end, known_step, events_by}
 use Rattle.btx_bib.specs.refinement.Grammar.Fields.{one_more}
 use Rattle.btx_bib.specs.laws.Grammar.Fields.{more_at}
@@ -34,23 +39,27 @@ sign-front : {A : Type 0} (sign : ℕ) (R S : Grammar A) (bs : List ℕ) (r : Pa
 sign-front sign R S bs (Ok got) h = (sign ∷ h.0, ap (λ t. sign ∷ t) h.1, inl (h.0, refl, h.2))
 sign-front sign R S bs (Err wrong) h = (sign ∷ h.0, ap (λ t. sign ∷ t) h.1, inl (h.0, refl, h.2))
 
-other-front : {A : Type 0} (sign : ℕ) (R S : Grammar A) (s : List ℕ) (r : Parsed A) → begins (λ b. eqb b sign) s ≡ false → Splits S s r → Splits (OnSign sign R S) s r
+other-front : {A : Type 0} (sign : ℕ) (R S : Grammar A) (s : List ℕ) (r : Parsed A) → begins (λ b. eqb b sign) s ≡ false → Splits S s r
+    → Splits (OnSign sign R S) s r
 other-front sign R S s (Ok got) e h = (h.0, h.1, inr (rw h.1 e, h.2))
 other-front sign R S s (Err wrong) e h = (h.0, h.1, inr (rw h.1 e, h.2))
 
-on-total : {A : Type 0} (sign : ℕ) (R S : Grammar A) (read other : List ℕ → Parsed A) → ((t : List ℕ) → Splits R t (read t)) → ((t : List ℕ) → Splits S t (other t)) →
+on-total : {A : Type 0} (sign : ℕ) (R S : Grammar A) (read other : List ℕ → Parsed A) → ((t : List ℕ) → Splits R t (read t))
+    → ((t : List ℕ) → Splits S t (other t)) →
     (s : List ℕ) (t : Bool) → begins (λ b. eqb b sign) s ≡ t → Splits (OnSign sign R S) s (cond t (read (drop 1 s)) (other s))
 on-total sign R S read other D E s false e = other-front sign R S s (other s) e (E s)
 on-total sign R S read other D E [] true e = absurd (true≢false (sym e))
 on-total sign R S read other D E (b ∷ bs) true e =
     subst (λ c. Splits (OnSign sign R S) (c ∷ bs) (read bs)) (sym (eqb-true b sign e)) (sign-front sign R S bs (read bs) (D bs))
 
-on-only : {A : Type 0} (sign : ℕ) (R S : Grammar A) (read other : List ℕ → Parsed A) → Only read R → Only other S → Only (on_sign sign read other) (OnSign sign R S)
+on-only : {A : Type 0} (sign : ℕ) (R S : Grammar A) (read other : List ℕ → Parsed A) → Only read R → Only other S
+    → Only (on_sign sign read other) (OnSign sign R S)
 on-only sign R S read other D E o front rest (inl h) =
     rw (h.1, eq-eqb sign sign refl) (D o h.0 rest h.2)
 on-only sign R S read other D E o front rest (inr h) = rw h.0 (E o front rest h.1)
 
-on-decides : {A : Type 0} (sign : ℕ) (R S : Grammar A) (read other : List ℕ → Parsed A) → Decides read R → Decides other S → Decides (on_sign sign read other) (OnSign sign R S)
+on-decides : {A : Type 0} (sign : ℕ) (R S : Grammar A) (read other : List ℕ → Parsed A) → Decides read R → Decides other S
+    → Decides (on_sign sign read other) (OnSign sign R S)
 on-decides sign R S read other D E = record {
   total = λ s. on-total sign R S read other D.total E.total s (begins (λ b. eqb b sign) s) refl;
   only = on-only sign R S read other D.only E.only;
@@ -99,20 +108,23 @@ same-decides R read other e D = record {
 }
 
 some-field-decides : Decides (λ s. one_more (field_at s)) (Then FieldSpelling (λ field. Gives (Some field)))
-some-field-decides = then-decides FieldSpelling (λ field. Gives (Some field)) field_at (λ field rest. Ok (Some field, rest)) field-decides (λ field. gives-decides (Some field))
+some-field-decides = then-decides FieldSpelling (λ field. Gives (Some field)) field_at (λ field rest. Ok (Some field, rest)) field-decides
+    (λ field. gives-decides (Some field))
 
 ended-decides : Decides (λ s. Ok (None, s)) (Gives {A = Option Field} None)
 ended-decides = gives-decides None
 
 after_comma-decides : (d : Delimiter) → Decides (after_comma d) (AfterComma d)
 unfolding after_comma
-after_comma-decides d = on-decides (closing_delimiter d) (Gives None) (Then FieldSpelling (λ field. Gives (Some field))) (λ s. Ok (None, s)) (λ s. one_more (field_at s)) ended-decides some-field-decides
+after_comma-decides d = on-decides (closing_delimiter d) (Gives None) (Then FieldSpelling (λ field. Gives (Some field))) (λ s. Ok (None, s))
+    (λ s. one_more (field_at s)) ended-decides some-field-decides
 
 pub more_in-decides : (d : Delimiter) → Decides (more_in d) (MoreHere d)
 unfolding more_in
 more_in-decides d =
     on-decides (closing_delimiter d) (Gives None) (OnSign 44 (Spaced (AfterComma d)) (WrongHere (NoComma d))) (λ s. Ok (None, s)) _ ended-decides
-    (on-decides 44 (Spaced (AfterComma d)) (WrongHere (NoComma d)) (λ s. after_comma d (past Gap s)) (wrong_at (NoComma d)) (spaced-decides (AfterComma d) (after_comma d) (after_comma-decides d)) (wrong-decides (NoComma d)))
+    (on-decides 44 (Spaced (AfterComma d)) (WrongHere (NoComma d)) (λ s. after_comma d (past Gap s)) (wrong_at (NoComma d))
+    (spaced-decides (AfterComma d) (after_comma d) (after_comma-decides d)) (wrong-decides (NoComma d)))
 
 pub spaced-open : Decides open_at (Spaced OpenHere)
 spaced-open = spaced-decides OpenHere open_in open-decides
@@ -124,14 +136,16 @@ head_of-decides : (c : Command) (name : List ℕ) → Decides (head_of c name) (
 unfolding head_of
 head_of-decides command.Comment name = gives-decides (Comment, Item)
 head_of-decides command.Preamble name =
-    then-decides (Spaced OpenHere) _ open_at _ spaced-open (λ d. then-decides ValueSpelling _ value_at _ value-decides (λ value. gives-decides (Preamble value, Closing d)))
+    then-decides (Spaced OpenHere) _ open_at _ spaced-open
+    (λ d. then-decides ValueSpelling _ value_at _ value-decides (λ value. gives-decides (Preamble value, Closing d)))
 head_of-decides command.Definition name =
     then-decides (Spaced OpenHere) _ open_at _ spaced-open (λ d.
     then-decides (Spaced NameHere) _ name_at _ name-decides (λ string.
     then-decides (Spaced (SignHere 61 NoEquals)) _ (sign_at 61 NoEquals) _ (sign-decides 61 NoEquals) (λ sign.
     then-decides ValueSpelling _ value_at _ value-decides (λ value. gives-decides (Definition string value, Closing d)))))
 head_of-decides command.Entry name =
-    then-decides (Spaced OpenHere) _ open_at _ spaced-open (λ d. then-decides (Spaced (KeyHere d)) _ (key_at d) _ (spaced-key d) (λ key. gives-decides (Entry name key, Fields d)))
+    then-decides (Spaced OpenHere) _ open_at _ spaced-open
+    (λ d. then-decides (Spaced (KeyHere d)) _ (key_at d) _ (spaced-key d) (λ key. gives-decides (Entry name key, Fields d)))
 
 head-decides : Decides head_at Head
 unfolding head_at
@@ -139,7 +153,8 @@ head-decides = then-decides (Spaced NameHere) _ name_at _ name-decides (λ name.
 
 end-decides : (d : Delimiter) → Decides (λ s. item_end (sign_at (closing_delimiter d) (NoClosing d) s)) (Stands (Closing d))
 end-decides d =
-    then-decides (Spaced (SignHere (closing_delimiter d) (NoClosing d))) (λ sign. Gives (End, Item)) (sign_at (closing_delimiter d) (NoClosing d)) (λ sign rest. Ok ((End, Item), rest)) (sign-decides (closing_delimiter d) (NoClosing d)) (λ sign. gives-decides (End, Item))
+    then-decides (Spaced (SignHere (closing_delimiter d) (NoClosing d))) (λ sign. Gives (End, Item)) (sign_at (closing_delimiter d) (NoClosing d))
+    (λ sign rest. Ok ((End, Item), rest)) (sign-decides (closing_delimiter d) (NoClosing d)) (λ sign. gives-decides (End, Item))
 
 more-same : (d : Delimiter) (r : Parsed (Option Field)) → followed_by r (λ more rest. Ok (more_event d more, rest)) ≡ field_event d r
 more-same d (Ok (None, rest)) = refl
@@ -149,7 +164,8 @@ more-same d (Err wrong) = refl
 fields-decides : (d : Delimiter) → Decides (λ s. field_event d (more_at d s)) (Stands (Fields d))
 fields-decides d =
     same-decides (Stands (Fields d)) (λ s. followed_by (more_at d s) (λ more rest. Ok (more_event d more, rest))) _ (λ s. more-same d (more_at d s))
-    (then-decides (Spaced (MoreHere d)) (λ more. Gives (more_event d more)) (more_at d) (λ more rest. Ok (more_event d more, rest)) (spaced-decides (MoreHere d) (more_in d) (more_in-decides d)) (λ more. gives-decides (more_event d more)))
+    (then-decides (Spaced (MoreHere d)) (λ more. Gives (more_event d more)) (more_at d) (λ more rest. Ok (more_event d more, rest))
+    (spaced-decides (MoreHere d) (more_in d) (more_in-decides d)) (λ more. gives-decides (more_event d more)))
 
 -- ---- the first `@`
 
@@ -157,7 +173,8 @@ at-splits : (s t : List ℕ) → behind_at s ≡ Some t → (ignored : List ℕ)
 unfolding behind_at
 at-splits [] t e = cc
 at-splits (b ∷ bs) t e = at (eqb b 64) refl e (at-splits bs t) where
-  at : (u : Bool) → eqb b 64 ≡ u → cond u (Some bs) (behind_at bs) ≡ Some t → (behind_at bs ≡ Some t → (ignored : List ℕ) × (bs ≡ ignored ++ 64 ∷ t) × HasNoAt ignored) →
+  at : (u : Bool) → eqb b 64 ≡ u → cond u (Some bs) (behind_at bs) ≡ Some t
+      → (behind_at bs ≡ Some t → (ignored : List ℕ) × (bs ≡ ignored ++ 64 ∷ t) × HasNoAt ignored) →
       (ignored : List ℕ) × (b ∷ bs ≡ ignored ++ 64 ∷ t) × HasNoAt ignored
   at true is e h = let same : bs ≡ t = cc in let sign = eqb-true b 64 is in ([], rw (sign, same) refl, tt)
   at false is e h = let later = h e in (b ∷ later.0, ap (λ x. b ∷ x) later.1, (is, later.2))
@@ -188,7 +205,8 @@ IsStep event next (Ok got) = (event ≡ got.0) × (next ≡ got.1)
 IsStep event next (Err slip) = (event ≡ Wrong slip) × (next ≡ Item)
 
 abbrev StepStands : Wanted → List ℕ → Step → Type 0
-StepStands w s step = (o : Result (Event × Wanted) Slip) × (front : List ℕ) × (front ++ step.rest ≡ s) × IsStep step.event step.wanted o × Stands w o front step.rest
+StepStands w s step = (o : Result (Event × Wanted) Slip) × (front : List ℕ) × (front ++ step.rest ≡ s) × IsStep step.event step.wanted o
+    × Stands w o front step.rest
 
 read-stands : (w : Wanted) (s : List ℕ) (r : Parsed (Event × Wanted)) → Splits (Stands w) s r → StepStands w s (step_by r)
 read-stands w s (Ok got) h = (Ok got.0, h.0, h.1, (refl, refl), h.2)
@@ -216,7 +234,8 @@ step-stands Item s = item-step s (behind_at s) refl
 step-stands (Closing d) s = read-stands (Closing d) s (item_end (sign_at (closing_delimiter d) (NoClosing d) s)) ((end-decides d).total s)
 step-stands (Fields d) s = read-stands (Fields d) s (field_event d (more_at d s)) ((fields-decides d).total s)
 
-stands-step : (w : Wanted) (o : Result (Event × Wanted) Slip) (front rest : List ℕ) → Stands w o front rest → expected_step w (front ++ rest) ≡ Some (step_by (read_as o rest))
+stands-step : (w : Wanted) (o : Result (Event × Wanted) Slip) (front rest : List ℕ) → Stands w o front rest → expected_step w (front ++ rest)
+    ≡ Some (step_by (read_as o rest))
 unfolding expected_step
 stands-step Item o front rest h =
     let text : front ++ rest ≡ h.0 ++ 64 ∷ (h.1 ++ rest) = ap (λ t. t ++ rest) h.2 ∙ append_assoc h.0 (64 ∷ h.1) rest in
@@ -231,14 +250,17 @@ known-outcome : {S : Type 0} (keeping : Keeping S) (state : S) (event : Event) (
 known-outcome keeping state event next (Ok got) h = rw (h.0, h.1) (refl, refl)
 known-outcome keeping state event next (Err slip) h = rw (h.0, h.1) (refl, refl)
 
-outcome-events : {S : Type 0} (keeping : Keeping S) (others : S → Wanted → List ℕ → List Placed) (state : S) (event : Event) (next : Wanted) (rest : List ℕ) (o : Result (Event × Wanted) Slip) →
-    IsOutcome keeping state event next o → events_by keeping others state (known_step (keeping.is_stored state) (Some (step_by (read_as o rest)))) ≡ record { event = event; rest = rest } ∷ others (keeping.after state event) next rest
+outcome-events : {S : Type 0} (keeping : Keeping S) (others : S → Wanted → List ℕ → List Placed) (state : S) (event : Event) (next : Wanted) (rest : List ℕ)
+    (o : Result (Event × Wanted) Slip) →
+    IsOutcome keeping state event next o → events_by keeping others state (known_step (keeping.is_stored state) (Some (step_by (read_as o rest))))
+    ≡ record { event = event; rest = rest } ∷ others (keeping.after state event) next rest
 outcome-events keeping others state event next rest (Ok got) h = rw (h.0, h.1) refl
 outcome-events keeping others state event next rest (Err slip) h = rw (h.0, h.1) refl
 
 -- ---- the whole reading
 
-reading-by : {S : Type 0} (keeping : Keeping S) (state : S) (w : Wanted) (s : List ℕ) (o : Option Step) → OptionStands w s o → StepsTo (left w (length s)) (known_step (keeping.is_stored state) o) →
+reading-by : {S : Type 0} (keeping : Keeping S) (state : S) (w : Wanted) (s : List ℕ) (o : Option Step) → OptionStands w s o
+    → StepsTo (left w (length s)) (known_step (keeping.is_stored state) o) →
     ((q : S) (v : Wanted) (t : List ℕ) → left v (length t) < left w (length s) → IsReading keeping q v t (events_from keeping q v t)) →
     IsReading keeping state w s (events_by keeping (events_from keeping) state (known_step (keeping.is_stored state) o))
 reading-by keeping state w s None h less others = h
@@ -246,11 +268,13 @@ reading-by keeping state w s (Some step) h less others =
     let got = as_known (keeping.is_stored state) (step.event, step.wanted) in
     (h.0, got.1, h.1, h.2, known-outcome keeping state step.event step.wanted h.0 h.3, h.4, others (keeping.after state got.0) got.1 step.rest less)
 
-reading-total : {S : Type 0} (keeping : Keeping S) (m : ℕ) (state : S) (w : Wanted) (s : List ℕ) → left w (length s) < m → IsReading keeping state w s (events_from keeping state w s)
+reading-total : {S : Type 0} (keeping : Keeping S) (m : ℕ) (state : S) (w : Wanted) (s : List ℕ) → left w (length s) < m
+    → IsReading keeping state w s (events_from keeping state w s)
 reading-total keeping zero state w s lt = absurd (omega arith)
 reading-total keeping (suc m) state w s lt =
     subst (IsReading keeping state w s) (sym (events_from-step keeping state w s))
-    (reading-by keeping state w s (expected_step w s) (step-stands w s) (next-leaves (keeping.is_stored state) w s) (λ q v t less. reading-total keeping m q v t (omega arith)))
+    (reading-by keeping state w s (expected_step w s) (step-stands w s) (next-leaves (keeping.is_stored state) w s)
+    (λ q v t less. reading-total keeping m q v t (omega arith)))
 
 pub is_reading : {S : Type 0} (keeping : Keeping S) (state : S) (w : Wanted) (s : List ℕ) → IsReading keeping state w s (events_from keeping state w s)
 is_reading keeping state w s = reading-total keeping (suc (left w (length s))) state w s (omega arith)
@@ -259,7 +283,8 @@ nothing-step : (w : Wanted) (s : List ℕ) → w ≡ Item → HasNoAt s → expe
 unfolding expected_step
 nothing-step w s is h = rw (is, none-at s h) refl
 
-pub one_reading : {S : Type 0} (keeping : Keeping S) (events : List Placed) (state : S) (w : Wanted) (s : List ℕ) → IsReading keeping state w s events → events ≡ events_from keeping state w s
+pub one_reading : {S : Type 0} (keeping : Keeping S) (events : List Placed) (state : S) (w : Wanted) (s : List ℕ) → IsReading keeping state w s events
+    → events ≡ events_from keeping state w s
 one_reading keeping [] state w s h = sym (events-none keeping state w s (ap (known_step (keeping.is_stored state)) (nothing-step w s h.0 h.1)))
 one_reading keeping (p ∷ ps) state w s (o, next, front, text, outcome, stands, others) =
     let step : expected_step w s ≡ Some (step_by (read_as o p.rest)) = ap (expected_step w) (sym text) ∙ stands-step w o front p.rest stands in

@@ -10,7 +10,8 @@ pub run_len_here : (set : ByteSet) (s : List ℕ) (i : ℕ) → i < length s →
 unfolding longest_run_len
 run_len_here set s i h test = rw (drop_more s i 0 h, test) refl
 
-pub run_len_next : (set : ByteSet) (s : List ℕ) (i : ℕ) → i < length s → is_in set (get_or s i 0) ≡ true → longest_run_len set (drop i s) ≡ suc (longest_run_len set (drop (i + 1) s))
+pub run_len_next : (set : ByteSet) (s : List ℕ) (i : ℕ) → i < length s → is_in set (get_or s i 0) ≡ true → longest_run_len set (drop i s)
+    ≡ suc (longest_run_len set (drop (i + 1) s))
 unfolding longest_run_len
 run_len_next set s i h test = rw (drop_more s i 0 h, test) refl
 
@@ -18,7 +19,8 @@ pub run_len_all : (set : ByteSet) (s : List ℕ) (i : ℕ) → length s ≤ i �
 unfolding longest_run_len
 run_len_all set s i h = rw (drop_all i s h) refl
 
-pub enclosed_here : (enclosure : Enclosure) (depth : ℕ) (s : List ℕ) (i : ℕ) → i < length s → (eqb depth 0 && ends_enclosed enclosure (get_or s i 0)) ≡ true → enclosed_len enclosure depth (drop i s) ≡ 0
+pub enclosed_here : (enclosure : Enclosure) (depth : ℕ) (s : List ℕ) (i : ℕ) → i < length s → (eqb depth 0 && ends_enclosed enclosure (get_or s i 0)) ≡ true
+    → enclosed_len enclosure depth (drop i s) ≡ 0
 unfolding enclosed_len
 enclosed_here enclosure depth s i h test = rw (drop_more s i 0 h, test) refl
 

@@ -1,5 +1,6 @@
 -- The functions that read, and the relations of the grammar.
-use Rattle.std.proofs.Common.{not, ◌≡◌, ℕ, zero, suc, ◌<◌, ◌≤◌, Bool, true, false, cond, eqb, ◌||◌, ◌&&◌, List, [], ◌∷◌, ◌++◌, length, take, drop, fold, ◌⊎◌, inl, inr, refl, sym, ◌∙◌, ap, subst, arith, append_assoc, Result, Ok, Err, Some, None, Option}
+use Rattle.std.proofs.Common.{not, ◌≡◌, ℕ, zero, suc, ◌<◌, ◌≤◌, Bool, true, false, cond, eqb, ◌||◌, ◌&&◌, List, [], ◌∷◌, ◌++◌, length, take, drop, fold, ◌⊎◌}
+use Rattle.std.proofs.Common.{inl, inr, refl, sym, ◌∙◌, ap, subst, arith, append_assoc, Result, Ok, Err, Some, None, Option}
 use Rattle.std.proofs.lemmas.Bool.{and_parts, eqb-true, eq-eqb, true≢false}
 use Rattle.std.proofs.lemmas.List.{take-append-drop, take_at, drop_at}
 use Rattle.btx_text.specs.language.Class.{is_name_byte, begins_name}
@@ -12,9 +13,11 @@ use Rattle.btx_bib.specs.declared.grammar.slip.Slip.{Slip}
 use Rattle.btx_bib.specs.declared.grammar.slip.Slip.TheVariants.{NoName, NoDelimiter, NoComma, NoEquals, NoClosing, NoValue, Unbalanced, EndOfFile, Repeated}
 use Rattle.btx_bib.specs.language.Grammar.ByteSets.{is_in, begins, ends_enclosed, longest_run_len, longest_run, past, enclosed_len}
 use Rattle.btx_bib.specs.language.Grammar.Tokens.{Parsed, followed_by, wrong_at, name_here, name_at, sign_in, sign_at}
-use Rattle.btx_bib.specs.language.Grammar.Values.{Part, Braced, Quoted, Digits, Named, closed_part, enclosed_in, part_in, part_at, behind_hash, next_part, value_at}
+use Rattle.btx_bib.specs.language.Grammar.Values.{Part, Braced, Quoted, Digits, Named, closed_part, enclosed_in, part_in, part_at, behind_hash, next_part}
+use Rattle.btx_bib.specs.language.Grammar.Values.{value_at}
 use Rattle.btx_bib.specs.language.Grammar.Fields.{Field, field_at}
-use Rattle.btx_bib.specs.laws.Grammar.Spelling.{Grammar, Gives, Both, Then, AllIn, IsRun, White, Spaced, NameHere, SignHere, IsInside, IsWrongPart, PartHere, EndsThere, OthersFollow, ValueOf, ValueSpelling, FieldSpelling, Splits, read_as}
+use Rattle.btx_bib.specs.laws.Grammar.Spelling.{Grammar, Gives, Both, Then, AllIn, IsRun, White, Spaced, NameHere, SignHere, IsInside, IsWrongPart, PartHere}
+use Rattle.btx_bib.specs.laws.Grammar.Spelling.{EndsThere, OthersFollow, ValueOf, ValueSpelling, FieldSpelling, Splits, read_as}
 use Rattle.btx_bib.proofs.GrammarLemmas.ValueLemmas.{value_at-step, Within, behind_hash-within, past-le, Leaves, part_at-leaves}
 use Rattle.std.specs.Char.{is_ascii_digit}
 use Rattle.btx_bib.specs.refinement.Grammar.Values.{joined}
@@ -26,7 +29,8 @@ pub record Decides {A : Type 0} (read : List ℕ → Parsed A) (R : Grammar A) :
 
 -- ---- one after the other
 
-pub both-second : {A B : Type 0} (R : Grammar A) (next : A → Grammar B) (s : List ℕ) (got : A × List ℕ) (q : Parsed B) → Splits R s (Ok got) → Splits (next got.0) got.1 q → Splits (Both R next) s q
+pub both-second : {A B : Type 0} (R : Grammar A) (next : A → Grammar B) (s : List ℕ) (got : A × List ℕ) (q : Parsed B) → Splits R s (Ok got)
+    → Splits (next got.0) got.1 q → Splits (Both R next) s q
 both-second {A} {B} R next s got (Ok p) h k =
     (h.0 ++ k.0, append_assoc h.0 k.0 p.1 ∙ ap (λ t. h.0 ++ t) k.1 ∙ h.1, (got.0, h.0, k.0, refl, subst (λ t. R (Ok got.0) h.0 t) (sym k.1) h.2, k.2))
 both-second {A} {B} R next s got (Err p) h k =
@@ -36,7 +40,8 @@ pub both-then : {A B : Type 0} (R : Grammar A) (next : A → Grammar B) (s : Lis
 both-then R next s (Ok p) h = (h.0, h.1, inr h.2)
 both-then R next s (Err p) h = (h.0, h.1, inr h.2)
 
-then-total : {A B : Type 0} (R : Grammar A) (next : A → Grammar B) (read : A → List ℕ → Parsed B) → ((a : A) (t : List ℕ) → Splits (next a) t (read a t)) → (s : List ℕ) (r : Parsed A) → Splits R s r → Splits (Then R next) s (followed_by r read)
+then-total : {A B : Type 0} (R : Grammar A) (next : A → Grammar B) (read : A → List ℕ → Parsed B) → ((a : A) (t : List ℕ) → Splits (next a) t (read a t))
+    → (s : List ℕ) (r : Parsed A) → Splits R s r → Splits (Then R next) s (followed_by r read)
 then-total R next read D s (Ok got) h = both-then R next s (read got.0 got.1) (both-second R next s got (read got.0 got.1) h (D got.0 got.1))
 then-total R next read D s (Err wrong) h = (h.0, h.1, inl h.2)
 
@@ -44,16 +49,20 @@ then-total R next read D s (Err wrong) h = (h.0, h.1, inl h.2)
 abbrev pub Only : {A : Type 0} → (List ℕ → Parsed A) → Grammar A → Type 0
 Only {A} read R = (o : Result A Slip) (front rest : List ℕ) → R o front rest → read (front ++ rest) ≡ read_as o rest
 
-pub then-only : {A B : Type 0} (R : Grammar A) (next : A → Grammar B) (first : List ℕ → Parsed A) (read : A → List ℕ → Parsed B) → Only first R → ((a : A) → Only (read a) (next a)) →
+pub then-only : {A B : Type 0} (R : Grammar A) (next : A → Grammar B) (first : List ℕ → Parsed A) (read : A → List ℕ → Parsed B) → Only first R
+    → ((a : A) → Only (read a) (next a)) →
     (o : Result B Slip) (front rest : List ℕ) → Then R next o front rest → followed_by (first (front ++ rest)) read ≡ read_as o rest
 then-only R next first read D E (Ok b) front rest (inl h) = absurd h
 then-only R next first read D E (Err slip) front rest (inl h) = rw (D (Err slip) front rest h) refl
 then-only R next first read D E o front rest (inr h) =
-    let is : first (front ++ rest) ≡ Ok (h.0, h.2 ++ rest) = ap (λ t. first (t ++ rest)) h.3 ∙ ap first (append_assoc h.1 h.2 rest) ∙ D (Ok h.0) h.1 (h.2 ++ rest) h.4 in
+    let is : first (front ++ rest) ≡ Ok (h.0, h.2 ++ rest) = ap (λ t. first (t ++ rest)) h.3 ∙ ap first (append_assoc h.1 h.2 rest)
+    ∙ D (Ok h.0) h.1 (h.2 ++ rest) h.4 in
     rw is (E h.0 o h.2 rest h.5)
 
-pub then-decides : {A B : Type 0} (R : Grammar A) (next : A → Grammar B) (first : List ℕ → Parsed A) (read : A → List ℕ → Parsed B) → Decides first R → ((a : A) → Decides (read a) (next a)) → Decides (λ s. followed_by (first s) read) (Then R next)
-then-decides R next first read D E = record { total = λ s. then-total R next read (λ a. (E a).total) s (first s) (D.total s); only = then-only R next first read D.only (λ a. (E a).only) }
+pub then-decides : {A B : Type 0} (R : Grammar A) (next : A → Grammar B) (first : List ℕ → Parsed A) (read : A → List ℕ → Parsed B) → Decides first R
+    → ((a : A) → Decides (read a) (next a)) → Decides (λ s. followed_by (first s) read) (Then R next)
+then-decides R next first read D E =
+    record { total = λ s. then-total R next read (λ a. (E a).total) s (first s) (D.total s); only = then-only R next first read D.only (λ a. (E a).only) }
 
 pub gives-decides : {A : Type 0} (a : A) → Decides (λ s. Ok (a, s)) (Gives a)
 gives-decides {A} a = record { total = λ s. ([], refl, (refl, refl)); only = only } where
@@ -75,7 +84,8 @@ past-stops : (set : ByteSet) (s : List ℕ) → begins (is_in set) (past set s) 
 unfolding longest_run_len
 past-stops set [] = refl
 past-stops set (b ∷ bs) = at (is_in set b) refl (past-stops set bs) where
-  at : (t : Bool) → is_in set b ≡ t → begins (is_in set) (past set bs) ≡ false → begins (is_in set) (drop (cond t (suc (longest_run_len set bs)) 0) (b ∷ bs)) ≡ false
+  at : (t : Bool) → is_in set b ≡ t → begins (is_in set) (past set bs) ≡ false → begins (is_in set) (drop (cond t (suc (longest_run_len set bs)) 0) (b ∷ bs))
+      ≡ false
   at true e h = h
   at false e h = e
 
@@ -96,7 +106,8 @@ past-of set w rest h = drop_at w rest (longest_run_len set (w ++ rest)) (sym (ru
 
 white-decides : Decides (λ s. Ok (tt, past Gap s)) White
 white-decides = record { total = λ s. (longest_run Gap s, take-append-drop (longest_run_len Gap s) s, is_run Gap s); only = only } where
-  only : (o : Result (Unit {0}) Slip) (front rest : List ℕ) → White o front rest → ◌≡◌ {A = Parsed (Unit {0})} (Ok (tt, past Gap (front ++ rest))) (read_as o rest)
+  only : (o : Result (Unit {0}) Slip) (front rest : List ℕ) → White o front rest
+      → ◌≡◌ {A = Parsed (Unit {0})} (Ok (tt, past Gap (front ++ rest))) (read_as o rest)
   only (Ok none) front rest h = rw (past-of Gap front rest h) refl
   only (Err slip) front rest h = absurd h
 
@@ -117,7 +128,8 @@ unfolding longest_run_len
 starts [] e = e
 starts (b ∷ bs) e = rw (and_parts (is_name_byte b) _ e).0 e
 
-name_here-total : (s : List ℕ) (t : Bool) → begins begins_name s ≡ t → Splits NameHere s (cond t (Ok (longest_run NameByte s, past NameByte s)) (wrong_at NoName s))
+name_here-total : (s : List ℕ) (t : Bool) → begins begins_name s ≡ t
+    → Splits NameHere s (cond t (Ok (longest_run NameByte s, past NameByte s)) (wrong_at NoName s))
 name_here-total s true e =
     let front = longest_run NameByte s in
     let joined_again : front ++ past NameByte s ≡ s = take-append-drop (longest_run_len NameByte s) s in
@@ -134,12 +146,14 @@ name_here-decides : Decides name_here NameHere
 unfolding name_here
 name_here-decides = record { total = λ s. name_here-total s (begins begins_name s) refl; only = name_here-only }
 
-sign_here-total : (sign : ℕ) (wrong : Slip) (s : List ℕ) (t : Bool) → begins (λ b. eqb b sign) s ≡ t → Splits (SignHere sign wrong) s (cond t (Ok (tt, drop 1 s)) (wrong_at wrong s))
+sign_here-total : (sign : ℕ) (wrong : Slip) (s : List ℕ) (t : Bool) → begins (λ b. eqb b sign) s ≡ t
+    → Splits (SignHere sign wrong) s (cond t (Ok (tt, drop 1 s)) (wrong_at wrong s))
 sign_here-total sign wrong [] true e = cc
 sign_here-total sign wrong (b ∷ bs) true e = let is : b ≡ sign = eqb-true b sign e in (sign ∷ [], rw is refl, refl)
 sign_here-total sign wrong s false e = ([], refl, (e, record { nothing = refl; slip_is = refl }))
 
-sign_here-only : (sign : ℕ) (wrong : Slip) (o : Result (Unit {0}) Slip) (front rest : List ℕ) → SignHere sign wrong o front rest → sign_in sign wrong (front ++ rest) ≡ read_as o rest
+sign_here-only : (sign : ℕ) (wrong : Slip) (o : Result (Unit {0}) Slip) (front rest : List ℕ) → SignHere sign wrong o front rest
+    → sign_in sign wrong (front ++ rest) ≡ read_as o rest
 unfolding sign_in
 sign_here-only sign wrong (Ok none) front rest h = rw (h, eq-eqb sign sign refl) refl
 sign_here-only sign wrong (Err slip) front rest h = rw (h.1.nothing, h.0, h.1.slip_is) refl
@@ -158,7 +172,8 @@ enclosed-inside e d (b ∷ bs) = at (eqb d 0 && ends_enclosed e b) refl (enclose
   here true is h z = h
   here false is h z = absurd (true≢false (sym (eq-eqb d 0 z) ∙ is))
 
-  at : (t : Bool) → (eqb d 0 && ends_enclosed e b) ≡ t → IsInside e (depth_after d b) (take (enclosed_len e (depth_after d b) bs) bs) → IsInside e d (take (cond t 0 (suc (enclosed_len e (depth_after d b) bs))) (b ∷ bs))
+  at : (t : Bool) → (eqb d 0 && ends_enclosed e b) ≡ t → IsInside e (depth_after d b) (take (enclosed_len e (depth_after d b) bs) bs)
+      → IsInside e d (take (cond t 0 (suc (enclosed_len e (depth_after d b) bs))) (b ∷ bs))
   at true is h = tt
   at false is h = (here (eqb d 0) refl is, h)
 
@@ -175,7 +190,8 @@ enclosed-ends e d (b ∷ bs) = at (eqb d 0 && ends_enclosed e b) refl (enclosed-
   on n [] is h = tt
   on n (c ∷ cs) is h = h
 
-  at : (t : Bool) → (eqb d 0 && ends_enclosed e b) ≡ t → EndsAt e (depth_after d b) (take (enclosed_len e (depth_after d b) bs) bs) (drop (enclosed_len e (depth_after d b) bs) bs) →
+  at : (t : Bool) → (eqb d 0 && ends_enclosed e b) ≡ t → EndsAt e (depth_after d b) (take (enclosed_len e (depth_after d b) bs) bs)
+      (drop (enclosed_len e (depth_after d b) bs) bs) →
       EndsAt e d (take (cond t 0 (suc (enclosed_len e (depth_after d b) bs))) (b ∷ bs)) (drop (cond t 0 (suc (enclosed_len e (depth_after d b) bs))) (b ∷ bs))
   at true is h = let parts = and_parts (eqb d 0) (ends_enclosed e b) is in (eqb-true d 0 parts.0, parts.1)
   at false is h = on (enclosed_len e (depth_after d b) bs) _ refl h
@@ -189,7 +205,8 @@ unfolding enclosed_len
 enclosed_len-of e d [] [] i n = refl
 enclosed_len-of e d [] (b ∷ bs) i n = let zero_depth : eqb d 0 ≡ true = eq-eqb d 0 n.0 in rw (zero_depth, n.1) refl
 enclosed_len-of e d (b ∷ bs) rest i n = at (eqb d 0) refl (enclosed_len-of e (depth_after d b) bs rest i.1 (ends_later e d b bs rest n)) where
-  at : (t : Bool) → eqb d 0 ≡ t → enclosed_len e (depth_after d b) (bs ++ rest) ≡ length bs → cond (t && ends_enclosed e b) 0 (suc (enclosed_len e (depth_after d b) (bs ++ rest))) ≡ suc (length bs)
+  at : (t : Bool) → eqb d 0 ≡ t → enclosed_len e (depth_after d b) (bs ++ rest) ≡ length bs
+      → cond (t && ends_enclosed e b) 0 (suc (enclosed_len e (depth_after d b) (bs ++ rest))) ≡ suc (length bs)
   at true is later = let no : ends_enclosed e b ≡ false = i.0 (eqb-true d 0 is) in rw no (ap suc later)
   at false is later = ap suc later
 
@@ -202,11 +219,13 @@ enclosed_in-of e t rest i n =
 with_sign : (text r bs : List ℕ) (b sign : ℕ) → b ≡ sign → text ++ b ∷ r ≡ bs → (text ++ sign ∷ []) ++ r ≡ bs
 with_sign text r bs b sign is e = append_assoc text (sign ∷ []) r ∙ ap (λ c. text ++ c ∷ r) (sym is) ∙ e
 
-group-splits : (text rest bs : List ℕ) → text ++ rest ≡ bs → IsInside Group 0 text → EndsAt Group 0 text rest → Splits PartHere (123 ∷ bs) (closed_part Group text rest)
+group-splits : (text rest bs : List ℕ) → text ++ rest ≡ bs → IsInside Group 0 text → EndsAt Group 0 text rest
+    → Splits PartHere (123 ∷ bs) (closed_part Group text rest)
 group-splits text [] bs e i n = (123 ∷ text, ap (λ t. 123 ∷ t) e, (refl, inr (inl (text, refl, i))))
 group-splits text (b ∷ r) bs e i n = (123 ∷ (text ++ 125 ∷ []), ap (λ t. 123 ∷ t) (with_sign text r bs b 125 (eqb-true b 125 n.1) e), (refl, (i, n.0)))
 
-quotes-splits : (text rest bs : List ℕ) → text ++ rest ≡ bs → IsInside Quotes 0 text → EndsAt Quotes 0 text rest → Splits PartHere (34 ∷ bs) (closed_part Quotes text rest)
+quotes-splits : (text rest bs : List ℕ) → text ++ rest ≡ bs → IsInside Quotes 0 text → EndsAt Quotes 0 text rest
+    → Splits PartHere (34 ∷ bs) (closed_part Quotes text rest)
 quotes-splits text [] bs e i n = (34 ∷ text, ap (λ t. 34 ∷ t) e, (refl, inr (inr (text, refl, i))))
 quotes-splits text (b ∷ r) bs e i n = at (eqb b 34) refl where
   at : (t : Bool) → eqb b 34 ≡ t → Splits PartHere (34 ∷ bs) (cond t (Ok (Quoted text, r)) (Err (Unbalanced, b ∷ r)))
@@ -230,14 +249,21 @@ unfolding part_in
 part_here-total [] = ([], refl, (refl, inl refl))
 part_here-total (b ∷ bs) = at (eqb b 123) (eqb b 34) (is_ascii_digit b) (begins_name b) refl refl refl refl where
   at : (t u v w : Bool) → eqb b 123 ≡ t → eqb b 34 ≡ u → is_ascii_digit b ≡ v → begins_name b ≡ w →
-      Splits PartHere (b ∷ bs) (cond t (enclosed_in Group bs) (cond u (enclosed_in Quotes bs) (cond v (Ok (Digits (longest_run Digit (b ∷ bs)), past Digit (b ∷ bs)))
+      Splits PartHere (b ∷ bs) (cond t (enclosed_in Group bs)
+      (cond u (enclosed_in Quotes bs) (cond v (Ok (Digits (longest_run Digit (b ∷ bs)), past Digit (b ∷ bs)))
       (cond w (Ok (Named (record { name = longest_run NameByte (b ∷ bs); rest = past NameByte (b ∷ bs) }), past NameByte (b ∷ bs))) (Err (NoValue, b ∷ bs))))))
   at true u v w g q d n = subst (λ c. Splits PartHere (c ∷ bs) (enclosed_in Group bs)) (sym (eqb-true b 123 g)) (enclosed-splits bs).0
   at false true v w g q d n = subst (λ c. Splits PartHere (c ∷ bs) (enclosed_in Quotes bs)) (sym (eqb-true b 34 q)) (enclosed-splits bs).1
-  at false false true w g q d n =
-      (longest_run Digit (b ∷ bs), take-append-drop (longest_run_len Digit (b ∷ bs)) (b ∷ bs), record { spelled = refl; begins_well = starts_digit b bs d; run = is_run Digit (b ∷ bs) })
-  at false false false true g q d n =
-      (longest_run NameByte (b ∷ bs), take-append-drop (longest_run_len NameByte (b ∷ bs)) (b ∷ bs), (record { spelled = refl; begins_well = starts (b ∷ bs) n; run = is_run NameByte (b ∷ bs) }, refl))
+  at false false true w g q d n = (
+    longest_run Digit (b ∷ bs),
+    take-append-drop (longest_run_len Digit (b ∷ bs)) (b ∷ bs),
+    record { spelled = refl; begins_well = starts_digit b bs d; run = is_run Digit (b ∷ bs) },
+  )
+  at false false false true g q d n = (
+    longest_run NameByte (b ∷ bs),
+    take-append-drop (longest_run_len NameByte (b ∷ bs)) (b ∷ bs),
+    (record { spelled = refl; begins_well = starts (b ∷ bs) n; run = is_run NameByte (b ∷ bs) }, refl),
+  )
   at false false false false g q d n = ([], refl, (refl, b, bs, refl, rw (n, g, q, d) refl))
 
 not_at : (test : ℕ → Bool) (b sign : ℕ) → test b ≡ true → test sign ≡ false → eqb b sign ≡ false
@@ -258,11 +284,13 @@ not_digit b h = at (is_ascii_digit b) refl where
   at true is = absurd (true≢false (sym (and_parts (is_name_byte b) _ h).1 ∙ ap not is))
   at false is = refl
 
-part_in-named : (t rest : List ℕ) → begins begins_name t ≡ true → IsRun NameByte t rest → part_in (t ++ rest) ≡ Ok (Named (record { name = t; rest = rest }), rest)
+part_in-named : (t rest : List ℕ) → begins begins_name t ≡ true → IsRun NameByte t rest
+    → part_in (t ++ rest) ≡ Ok (Named (record { name = t; rest = rest }), rest)
 unfolding part_in
 part_in-named [] rest h r = cc
 part_in-named (b ∷ bs) rest h r =
-    rw (h, not_at begins_name b 123 h refl, not_at begins_name b 34 h refl, not_digit b h, run-of NameByte (b ∷ bs) rest r, past-of NameByte (b ∷ bs) rest r) refl
+    rw (h, not_at begins_name b 123 h refl, not_at begins_name b 34 h refl, not_digit b h, run-of NameByte (b ∷ bs) rest r, past-of NameByte (b ∷ bs) rest r)
+    refl
 
 or_parts : (x y : Bool) → (x || y) ≡ false → (x ≡ false) × (y ≡ false)
 or_parts true y h = absurd (true≢false h)
@@ -291,7 +319,8 @@ unfolding part_in
 part_here-only (Ok (Braced text)) front rest h = rw (h.0, append_assoc text (125 ∷ []) rest, enclosed_in-of Group text (125 ∷ rest) h.1.0 (h.1.1, refl)) refl
 part_here-only (Ok (Quoted text)) front rest h = rw (h.0, append_assoc text (34 ∷ []) rest, enclosed_in-of Quotes text (34 ∷ rest) h.1.0 (h.1.1, refl)) refl
 part_here-only (Ok (Digits text)) front rest h = rw h.spelled (part_in-digits text rest h.begins_well h.run)
-part_here-only (Ok (Named string)) front rest h = rw (h.0.spelled, ← h.1) (part_in-named string.name string.rest h.0.begins_well (subst (λ t. IsRun NameByte string.name t) (sym h.1) h.0.run))
+part_here-only (Ok (Named string)) front rest h =
+    rw (h.0.spelled, ← h.1) (part_in-named string.name string.rest h.0.begins_well (subst (λ t. IsRun NameByte string.name t) (sym h.1) h.0.run))
 part_here-only (Err slip) front rest h = part_in-wrong slip front rest h
 
 part_here-decides : Decides part_in PartHere
@@ -340,15 +369,30 @@ none-behind_hash [] e = refl
 none-behind_hash (b ∷ bs) e = rw e refl
 
 ends-splits : (n : ℕ) (part : Part) (rest : List ℕ) → next_part rest ≡ None → Splits (AfterPart n part) rest (Ok (part ∷ [], rest))
-ends-splits n part rest e =
-    ([], refl, inl (refl, refl, longest_run Gap rest, past Gap rest, sym (take-append-drop (longest_run_len Gap rest) rest), is_run Gap rest, behind_hash-none (past Gap rest) e))
+ends-splits n part rest e = (
+  [],
+  refl,
+  inl (
+    refl,
+    refl,
+    longest_run Gap rest,
+    past Gap rest,
+    sym (take-append-drop (longest_run_len Gap rest) rest),
+    is_run Gap rest,
+    behind_hash-none (past Gap rest) e,
+  ),
+)
 
-others-splits : (n : ℕ) (part : Part) (t : List ℕ) (q : Parsed (List Part)) → Splits (ValueOf n) t q → Splits (Then (ValueOf n) (λ parts. Gives (part ∷ parts))) t (followed_by q (λ parts end. Ok (part ∷ parts, end)))
-others-splits n part t q h = then-total (ValueOf n) (λ parts. Gives (part ∷ parts)) (λ parts end. Ok (part ∷ parts, end)) (λ parts end. (gives-decides (part ∷ parts)).total end) t q h
+others-splits : (n : ℕ) (part : Part) (t : List ℕ) (q : Parsed (List Part)) → Splits (ValueOf n) t q
+    → Splits (Then (ValueOf n) (λ parts. Gives (part ∷ parts))) t (followed_by q (λ parts end. Ok (part ∷ parts, end)))
+others-splits n part t q h = then-total (ValueOf n) (λ parts. Gives (part ∷ parts)) (λ parts end. Ok (part ∷ parts, end))
+    (λ parts end. (gives-decides (part ∷ parts)).total end) t q h
 
-goes-splits : (n : ℕ) (part : Part) (rest t : List ℕ) (q : Parsed (List Part)) → sign_at 35 NoValue rest ≡ Ok (tt, t) → Splits (ValueOf n) t q → Splits (OthersFollow (ValueOf n) part) rest (followed_by q (λ parts end. Ok (part ∷ parts, end)))
+goes-splits : (n : ℕ) (part : Part) (rest t : List ℕ) (q : Parsed (List Part)) → sign_at 35 NoValue rest ≡ Ok (tt, t) → Splits (ValueOf n) t q
+    → Splits (OthersFollow (ValueOf n) part) rest (followed_by q (λ parts end. Ok (part ∷ parts, end)))
 goes-splits n part rest t q e h =
-    both-second (Spaced (SignHere 35 NoValue)) (λ none. Then (ValueOf n) (λ parts. Gives (part ∷ parts))) rest (tt, t) (followed_by q (λ parts end. Ok (part ∷ parts, end)))
+    both-second (Spaced (SignHere 35 NoValue)) (λ none. Then (ValueOf n) (λ parts. Gives (part ∷ parts))) rest (tt, t)
+    (followed_by q (λ parts end. Ok (part ∷ parts, end)))
     (subst (Splits (Spaced (SignHere 35 NoValue)) rest) e (hash-decides.total rest)) (others-splits n part t q h)
 
 right : (n : ℕ) (part : Part) (s : List ℕ) (q : Parsed (List Part)) → Splits (OthersFollow (ValueOf n) part) s q → Splits (AfterPart n part) s q
@@ -367,18 +411,27 @@ value-total zero s lt = absurd (omega arith)
 value-total (suc m) s lt =
     subst (λ r. (n : ℕ) × Splits (ValueOf n) s r) (sym (value_at-step s))
     (at (part_at s) (part-decides.total s) (part_at-leaves s) (λ t less. value-total m t (omega arith))) where
-      after : (got : Part × List ℕ) → Splits (Spaced PartHere) s (Ok got) → suc (length got.1) ≤ length s → ((t : List ℕ) → length t < length s → (n : ℕ) × Splits (ValueOf n) t (value_at t)) →
+      after : (got : Part × List ℕ) → Splits (Spaced PartHere) s (Ok got) → suc (length got.1) ≤ length s
+          → ((t : List ℕ) → length t < length s → (n : ℕ) × Splits (ValueOf n) t (value_at t)) →
           (o : Option (List ℕ)) → next_part got.1 ≡ o → (n : ℕ) × Splits (ValueOf n) s (joined value_at got.0 got.1 o)
-      after got h l others None e =
-          (1, both-then (Spaced PartHere) (AfterPart 0) s (Ok (got.0 ∷ [], got.1)) (both-second (Spaced PartHere) (AfterPart 0) s got (Ok (got.0 ∷ [], got.1)) h (ends-splits 0 got.0 got.1 e)))
+      after got h l others None e = (
+        1,
+        both-then (Spaced PartHere) (AfterPart 0) s (Ok (got.0 ∷ [], got.1))
+            (both-second (Spaced PartHere) (AfterPart 0) s got (Ok (got.0 ∷ [], got.1)) h (ends-splits 0 got.0 got.1 e)),
+      )
       after got h l others (Some t) e =
           let le : length t ≤ length got.1 = within_next got.1 t e in
           let later = others t (omega arith) in
           let q = followed_by (value_at t) (λ parts end. Ok (got.0 ∷ parts, end)) in
-          let sign = sign_from_hash (sign_at 35 NoValue got.1) t (sym (next_part-sign got.1) ∙ e) in
-          (suc later.0, both-then (Spaced PartHere) (AfterPart later.0) s q (both-second (Spaced PartHere) (AfterPart later.0) s got q h (right later.0 got.0 got.1 q (goes-splits later.0 got.0 got.1 t (value_at t) sign later.1))))
+          let sign = sign_from_hash (sign_at 35 NoValue got.1) t (sym (next_part-sign got.1) ∙ e) in (
+            suc later.0,
+            both-then (Spaced PartHere) (AfterPart later.0) s q
+                (both-second (Spaced PartHere) (AfterPart later.0) s got q h
+                (right later.0 got.0 got.1 q (goes-splits later.0 got.0 got.1 t (value_at t) sign later.1))),
+          )
 
-      at : (r : Parsed Part) → Splits (Spaced PartHere) s r → Leaves (length s) r → ((t : List ℕ) → length t < length s → (n : ℕ) × Splits (ValueOf n) t (value_at t)) →
+      at : (r : Parsed Part) → Splits (Spaced PartHere) s r → Leaves (length s) r
+          → ((t : List ℕ) → length t < length s → (n : ℕ) × Splits (ValueOf n) t (value_at t)) →
           (n : ℕ) × Splits (ValueOf n) s (followed_by r (λ part rest. joined value_at part rest (next_part rest)))
       at (Err wrong) h l others = (1, (h.0, h.1, inl h.2))
       at (Ok got) h l others = after got h l others (next_part got.1) refl
@@ -392,13 +445,15 @@ after-only n part others o front rest (inr h) =
     let text : front ++ rest ≡ h.1 ++ (h.2 ++ rest) = ap (λ t. t ++ rest) h.3 ∙ append_assoc h.1 h.2 rest in
     let sign : sign_at 35 NoValue (front ++ rest) ≡ Ok (h.0, h.2 ++ rest) = ap (sign_at 35 NoValue) text ∙ hash-decides.only (Ok h.0) h.1 (h.2 ++ rest) h.4 in
     let next : next_part (front ++ rest) ≡ Some (h.2 ++ rest) = next_part-sign (front ++ rest) ∙ ap hash_of sign in
-    rw next (then-only (ValueOf n) (λ parts. Gives (part ∷ parts)) value_at (λ parts end. Ok (part ∷ parts, end)) others (λ parts. (gives-decides (part ∷ parts)).only) o h.2 rest h.5)
+    rw next (then-only (ValueOf n) (λ parts. Gives (part ∷ parts)) value_at (λ parts end. Ok (part ∷ parts, end)) others
+    (λ parts. (gives-decides (part ∷ parts)).only) o h.2 rest h.5)
 
 value_of-only : (n : ℕ) → Only value_at (ValueOf n)
 value_of-only zero o front rest h = absurd h
 value_of-only (suc n) o front rest h =
     value_at-step (front ++ rest)
-    ∙ then-only (Spaced PartHere) (AfterPart n) part_at (λ part rest. joined value_at part rest (next_part rest)) part-decides.only (λ part. after-only n part (value_of-only n)) o front rest h
+    ∙ then-only (Spaced PartHere) (AfterPart n) part_at (λ part rest. joined value_at part rest (next_part rest)) part-decides.only
+    (λ part. after-only n part (value_of-only n)) o front rest h
 
 pub value-decides : Decides value_at ValueSpelling
 value-decides = record {

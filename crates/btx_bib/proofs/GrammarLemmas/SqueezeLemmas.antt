@@ -1,5 +1,6 @@
 -- Lemmas on the text of a value: whitespace is made one space while the bytes are read.
-use Rattle.std.proofs.Common.{◌≡◌, ℕ, suc, ◌+◌, ◌<◌, ◌≤◌, Bool, true, false, cond, List, [], ◌∷◌, ◌++◌, length, take, drop, get_or, ◌-◌, ◌&&◌, ◌||◌, not, eqb, refl, sym, ◌∙◌, ap, arith, append_assoc, Err}
+use Rattle.std.proofs.Common.{◌≡◌, ℕ, suc, ◌+◌, ◌<◌, ◌≤◌, Bool, true, false, cond, List, [], ◌∷◌, ◌++◌, length, take, drop, get_or, ◌-◌, ◌&&◌, ◌||◌, not, eqb}
+use Rattle.std.proofs.Common.{refl, sym, ◌∙◌, ap, arith, append_assoc, Err}
 use Rattle.std.proofs.lemmas.List.{append-nil, drop_all, drop_more, length-append, length-take, take_all, take_at, take_more}
 use Rattle.std.proofs.lemmas.Bool.{and_parts, eqb-true, true≢false}
 use Rattle.btx_text.specs.declared.fault.Fault.{Fault}
@@ -12,7 +13,8 @@ use Rattle.btx_bib.specs.language.Grammar.ByteSets.{is_gap, begins, past, longes
 use Rattle.btx_bib.specs.language.Grammar.Values.{Part}
 use Rattle.btx_bib.specs.language.Grammar.ValueTexts.{text_of_part, squeezed, shaped, without_first_space, without_last_space}
 use Rattle.btx_bib.specs.refinement.Grammar.ValueTexts.{GathersWithin, MakesText, joined_text, StringValues}
-use Rattle.btx_bib.specs.refinement.Grammar.Squeezing.{squeezed_after, white_after, stays_squeezed, is_squeezed, ends_in_gap, stands, without_last_gap, without_gaps}
+use Rattle.btx_bib.specs.refinement.Grammar.Squeezing.{squeezed_after, white_after, stays_squeezed, is_squeezed, ends_in_gap, stands, without_last_gap}
+use Rattle.btx_bib.specs.refinement.Grammar.Squeezing.{without_gaps}
 
 both : (s : List ℕ) → (squeezed_after false s ≡ squeezed s) × (squeezed s ≡ cond (begins is_gap s) (32 ∷ squeezed_after true s) (squeezed_after true s))
 unfolding squeezed
@@ -20,7 +22,8 @@ both [] = (refl, refl)
 both (b ∷ bs) = at (is_gap b) (begins is_gap bs) (both bs) where
   at : (t u : Bool) → (squeezed_after false bs ≡ squeezed bs) × (squeezed bs ≡ cond u (32 ∷ squeezed_after true bs) (squeezed_after true bs)) →
       (cond t (32 ∷ squeezed_after true bs) (b ∷ squeezed_after false bs) ≡ cond t (cond u (squeezed bs) (32 ∷ squeezed bs)) (b ∷ squeezed bs)) ×
-      (cond t (cond u (squeezed bs) (32 ∷ squeezed bs)) (b ∷ squeezed bs) ≡ cond t (32 ∷ cond t (squeezed_after true bs) (b ∷ squeezed_after false bs)) (cond t (squeezed_after true bs) (b ∷ squeezed_after false bs)))
+      (cond t (cond u (squeezed bs) (32 ∷ squeezed bs)) (b ∷ squeezed bs) ≡ cond t (32 ∷ cond t (squeezed_after true bs) (b ∷ squeezed_after false bs))
+      (cond t (squeezed_after true bs) (b ∷ squeezed_after false bs)))
   at true true h = (sym h.1, h.1)
   at true false h = (ap (λ x. 32 ∷ x) (sym h.1), ap (λ x. 32 ∷ x) h.1)
   at false u h = (ap (λ x. b ∷ x) h.0, ap (λ x. b ∷ x) (sym h.0))
@@ -31,7 +34,8 @@ squeezed-from s = sym (both s).0
 pub squeezed_after-append : (white : Bool) (s t : List ℕ) → squeezed_after white (s ++ t) ≡ squeezed_after white s ++ squeezed_after (white_after white s) t
 squeezed_after-append white [] t = refl
 squeezed_after-append white (b ∷ bs) t = at (is_gap b) white (squeezed_after-append true bs t) (squeezed_after-append false bs t) where
-  at : (g w : Bool) → squeezed_after true (bs ++ t) ≡ squeezed_after true bs ++ squeezed_after (white_after true bs) t → squeezed_after false (bs ++ t) ≡ squeezed_after false bs ++ squeezed_after (white_after false bs) t →
+  at : (g w : Bool) → squeezed_after true (bs ++ t) ≡ squeezed_after true bs ++ squeezed_after (white_after true bs) t → squeezed_after false (bs ++ t)
+      ≡ squeezed_after false bs ++ squeezed_after (white_after false bs) t →
       cond g (cond w (squeezed_after true (bs ++ t)) (32 ∷ squeezed_after true (bs ++ t))) (b ∷ squeezed_after false (bs ++ t)) ≡
       cond g (cond w (squeezed_after true bs) (32 ∷ squeezed_after true bs)) (b ∷ squeezed_after false bs) ++ squeezed_after (white_after g bs) t
   at true true h k = h
@@ -41,7 +45,8 @@ squeezed_after-append white (b ∷ bs) t = at (is_gap b) white (squeezed_after-a
 -- ---- byte by byte
 
 pub squeezed_after-next : (white : Bool) (s : List ℕ) (i : ℕ) → i < length s →
-    squeezed_after white (drop i s) ≡ cond (is_gap (get_or s i 0)) (cond white (squeezed_after true (drop (i + 1) s)) (32 ∷ squeezed_after true (drop (i + 1) s))) (get_or s i 0 ∷ squeezed_after false (drop (i + 1) s))
+    squeezed_after white (drop i s) ≡ cond (is_gap (get_or s i 0))
+    (cond white (squeezed_after true (drop (i + 1) s)) (32 ∷ squeezed_after true (drop (i + 1) s))) (get_or s i 0 ∷ squeezed_after false (drop (i + 1) s))
 squeezed_after-next white s i h = rw (drop_more s i 0 h) refl
 
 pub white_after-next : (white : Bool) (s : List ℕ) (i : ℕ) → i < length s → white_after white (drop i s) ≡ white_after (is_gap (get_or s i 0)) (drop (i + 1) s)
@@ -60,15 +65,20 @@ pub ruleset squeeze_steps = (squeezed_after-next, white_after-next, squeezed_aft
 -- ---- part by part
 
 -- after a part the text and what is still to come are what they were
-pub part-goes : (strings : StringValues) (text new bytes total : List ℕ) (was white : Bool) (part : Part) (left parts : List Part) → left ≡ part ∷ parts → bytes ≡ text_of_part strings part →
-    new ≡ text ++ squeezed_after was bytes → white ≡ white_after was bytes → text ++ squeezed_after was (joined_text strings left) ≡ total → new ++ squeezed_after white (joined_text strings parts) ≡ total
+pub part-goes : (strings : StringValues) (text new bytes total : List ℕ) (was white : Bool) (part : Part) (left parts : List Part) → left ≡ part ∷ parts
+    → bytes ≡ text_of_part strings part →
+    new ≡ text ++ squeezed_after was bytes → white ≡ white_after was bytes → text ++ squeezed_after was (joined_text strings left) ≡ total
+    → new ++ squeezed_after white (joined_text strings parts) ≡ total
 part-goes strings text new bytes total was white part left parts l b n w e =
     let others = joined_text strings parts in
-    let before : text ++ squeezed_after was (bytes ++ others) ≡ total = ap (λ t. text ++ squeezed_after was (t ++ others)) b ∙ ap (λ ps. text ++ squeezed_after was (joined_text strings ps)) (sym l) ∙ e in
-    rw (n, w) (append_assoc text (squeezed_after was bytes) (squeezed_after (white_after was bytes) others) ∙ ap (λ t. text ++ t) (sym (squeezed_after-append was bytes others)) ∙ before)
+    let before : text ++ squeezed_after was (bytes ++ others) ≡ total = ap (λ t. text ++ squeezed_after was (t ++ others)) b
+    ∙ ap (λ ps. text ++ squeezed_after was (joined_text strings ps)) (sym l) ∙ e in
+    rw (n, w) (append_assoc text (squeezed_after was bytes) (squeezed_after (white_after was bytes) others)
+    ∙ ap (λ t. text ++ t) (sym (squeezed_after-append was bytes others)) ∙ before)
 
 -- a text that is too long before its end is too long at it
-pub part-long : (most : ℕ) (strings : StringValues) (new total : List ℕ) (white : Bool) (parts : List Part) → new ++ squeezed_after white (joined_text strings parts) ≡ total → most < length new → most < length total
+pub part-long : (most : ℕ) (strings : StringValues) (new total : List ℕ) (white : Bool) (parts : List Part)
+    → new ++ squeezed_after white (joined_text strings parts) ≡ total → most < length new → most < length total
 part-long most strings new total white parts e lt =
     let len = ap length e in
     let sum = length-append new (squeezed_after white (joined_text strings parts)) in
@@ -86,7 +96,8 @@ first-space : (s : List ℕ) → squeezed_after true s ≡ without_first_space (
 unfolding squeezed
 first-space [] = refl
 first-space (b ∷ bs) = at (is_gap b) refl (both (b ∷ bs)).1 where
-  at : (t : Bool) → is_gap b ≡ t → squeezed (b ∷ bs) ≡ cond t (32 ∷ squeezed_after true (b ∷ bs)) (squeezed_after true (b ∷ bs)) → squeezed_after true (b ∷ bs) ≡ without_first_space (squeezed (b ∷ bs))
+  at : (t : Bool) → is_gap b ≡ t → squeezed (b ∷ bs) ≡ cond t (32 ∷ squeezed_after true (b ∷ bs)) (squeezed_after true (b ∷ bs)) → squeezed_after true (b ∷ bs)
+      ≡ without_first_space (squeezed (b ∷ bs))
   at true is e = rw e refl
   at false is e = rw (is, gap-space b is) (ap (λ x. b ∷ x) (both bs).0)
 
@@ -104,7 +115,8 @@ last-length s = at (eqb (get_or s (length s - 1) 0) 32) where
 -- ---- values that stand in the file
 
 pub is_squeezed-next : (white : Bool) (s : List ℕ) (i : ℕ) → i < length s →
-    is_squeezed white (drop i s) ≡ cond (is_gap (get_or s i 0)) ((eqb (get_or s i 0) 32 && not white) && is_squeezed true (drop (i + 1) s)) (is_squeezed false (drop (i + 1) s))
+    is_squeezed white (drop i s) ≡ cond (is_gap (get_or s i 0)) ((eqb (get_or s i 0) 32 && not white) && is_squeezed true (drop (i + 1) s))
+    (is_squeezed false (drop (i + 1) s))
 unfolding is_squeezed
 is_squeezed-next white s i h = rw (drop_more s i 0 h) refl
 
@@ -158,7 +170,8 @@ space-snoc : (s : List ℕ) → without_last_space (s ++ 32 ∷ []) ≡ s
 space-snoc s = rw (snoc-last s 32) (snoc-take s 32)
 
 -- one byte of whitespace at the end goes
-last-gap : (u : List ℕ) (g : ℕ) → is_gap g ≡ true → squeezed_after true u ≡ u → ends_in_gap u ≡ false → without_last_space (squeezed_after true (u ++ g ∷ [])) ≡ u
+last-gap : (u : List ℕ) (g : ℕ) → is_gap g ≡ true → squeezed_after true u ≡ u → ends_in_gap u ≡ false → without_last_space (squeezed_after true (u ++ g ∷ []))
+    ≡ u
 last-gap u g is plain ends = rw (squeezed_after-append true u (g ∷ []), plain, is) (at (white_after true u)) where
   at : (w : Bool) → without_last_space (u ++ cond w [] (32 ∷ [])) ≡ u
   at true = rw (append-nil u) (last-no-gap u ends)
@@ -173,14 +186,16 @@ some-last : (t : List ℕ) → ends_in_gap t ≡ true → 0 < length t
 some-last [] e = cc
 some-last (b ∷ bs) e = omega arith
 
-trimmed-inner : (s : List ℕ) → is_squeezed true (without_last_gap s) ≡ true → ends_in_gap (without_last_gap s) ≡ false → without_last_space (squeezed_after true s) ≡ without_last_gap s
+trimmed-inner : (s : List ℕ) → is_squeezed true (without_last_gap s) ≡ true → ends_in_gap (without_last_gap s) ≡ false
+    → without_last_space (squeezed_after true s) ≡ without_last_gap s
 trimmed-inner s = at (ends_in_gap s) refl where
   at : (t : Bool) → ends_in_gap s ≡ t → is_squeezed true (cond t (take (length s - 1) s) s) ≡ true → ends_in_gap (cond t (take (length s - 1) s) s) ≡ false →
       without_last_space (squeezed_after true s) ≡ cond t (take (length s - 1) s) s
   at false is plain ends = rw (squeezed_after-plain true s plain) (last-no-gap s ends)
   at true is plain ends =
       let u = take (length s - 1) s in
-      ap (λ t. without_last_space (squeezed_after true t)) (split-last s (some-last s is)) ∙ last-gap u (get_or s (length s - 1) 0) is (squeezed_after-plain true u plain) ends
+      ap (λ t. without_last_space (squeezed_after true t)) (split-last s (some-last s is))
+      ∙ last-gap u (get_or s (length s - 1) 0) is (squeezed_after-plain true u plain) ends
 
 -- a text that stands as a value gives itself
 pub shaped-stands : (ends : Ends) (s : List ℕ) → stands ends s ≡ true → shaped ends s ≡ s
@@ -221,7 +236,8 @@ squeezed-begins : (s : List ℕ) → is_squeezed false s ≡ true → is_squeeze
 unfolding is_squeezed
 squeezed-begins [] h = refl
 squeezed-begins (b ∷ bs) h = at (is_gap b) (eqb b 32) h where
-  at : (g t : Bool) → cond g ((t && true) && is_squeezed true bs) (is_squeezed false bs) ≡ true → cond g ((t && false) && is_squeezed true bs) (is_squeezed false bs) ≡ not g
+  at : (g t : Bool) → cond g ((t && true) && is_squeezed true bs) (is_squeezed false bs) ≡ true
+      → cond g ((t && false) && is_squeezed true bs) (is_squeezed false bs) ≡ not g
   at true true e = refl
   at true false e = refl
   at false t e = e
@@ -288,7 +304,8 @@ pub squeezed-none : (s : List ℕ) → IsSqueezedTo s 0 true
 unfolding is_squeezed
 squeezed-none s = record { squeezed = refl; last = refl }
 
-pub squeezed-further : (s : List ℕ) (i : ℕ) (white : Bool) (b : ℕ) → i < length s → get_or s i 0 ≡ b → IsSqueezedTo s i white → stays_squeezed white b ≡ true → IsSqueezedTo s (i + 1) (is_gap b)
+pub squeezed-further : (s : List ℕ) (i : ℕ) (white : Bool) (b : ℕ) → i < length s → get_or s i 0 ≡ b → IsSqueezedTo s i white → stays_squeezed white b ≡ true
+    → IsSqueezedTo s (i + 1) (is_gap b)
 squeezed-further s i white b lt is so stays =
     let next : take (i + 1) s ≡ take i s ++ b ∷ [] = take_more s i 0 lt ∙ ap (λ c. take i s ++ c ∷ []) is in
     record {

@@ -12,7 +12,8 @@ squeezed-take white zero [] h = refl
 squeezed-take white (suc n) [] h = refl
 squeezed-take white zero (b ∷ bs) h = refl
 squeezed-take white (suc n) (b ∷ bs) h = at (is_gap b) (eqb b 32 && not white) h (squeezed-take true n bs) (squeezed-take false n bs) where
-  at : (g ok : Bool) → cond g (ok && is_squeezed true bs) (is_squeezed false bs) ≡ true → (is_squeezed true bs ≡ true → is_squeezed true (take n bs) ≡ true) → (is_squeezed false bs ≡ true → is_squeezed false (take n bs) ≡ true) →
+  at : (g ok : Bool) → cond g (ok && is_squeezed true bs) (is_squeezed false bs) ≡ true → (is_squeezed true bs ≡ true → is_squeezed true (take n bs) ≡ true)
+      → (is_squeezed false bs ≡ true → is_squeezed false (take n bs) ≡ true) →
       cond g (ok && is_squeezed true (take n bs)) (is_squeezed false (take n bs)) ≡ true
   at true true h after_white after_other = after_white h
   at true false h after_white after_other = h
@@ -22,7 +23,8 @@ squeezed-less : (s : List ℕ) → is_squeezed true s ≡ true → is_squeezed f
 unfolding is_squeezed
 squeezed-less [] h = refl
 squeezed-less (b ∷ bs) h = at (is_gap b) (eqb b 32) h where
-  at : (g t : Bool) → cond g ((t && false) && is_squeezed true bs) (is_squeezed false bs) ≡ true → cond g ((t && true) && is_squeezed true bs) (is_squeezed false bs) ≡ true
+  at : (g t : Bool) → cond g ((t && false) && is_squeezed true bs) (is_squeezed false bs) ≡ true
+      → cond g ((t && true) && is_squeezed true bs) (is_squeezed false bs) ≡ true
   at true true h = absurd (true≢false (sym h))
   at true false h = absurd (true≢false (sym h))
   at false t h = h
@@ -39,7 +41,8 @@ squeezed-past : (s : List ℕ) → is_squeezed false s ≡ true → is_squeezed 
 unfolding longest_run_len
 squeezed-past [] h = h
 squeezed-past (b ∷ bs) h = at (is_gap b) refl (squeezed-past bs) where
-  at : (g : Bool) → is_gap b ≡ g → (is_squeezed false bs ≡ true → is_squeezed false (past Gap bs) ≡ true) → is_squeezed false (drop (cond g (suc (longest_run_len Gap bs)) 0) (b ∷ bs)) ≡ true
+  at : (g : Bool) → is_gap b ≡ g → (is_squeezed false bs ≡ true → is_squeezed false (past Gap bs) ≡ true)
+      → is_squeezed false (drop (cond g (suc (longest_run_len Gap bs)) 0) (b ∷ bs)) ≡ true
   at true is on = on (squeezed-less bs (squeezed-behind b bs is h))
   at false is on = h
 

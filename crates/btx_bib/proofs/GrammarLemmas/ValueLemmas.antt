@@ -1,5 +1,6 @@
 -- Lemmas on values.
-use Rattle.std.proofs.Common.{◌≡◌, ℕ, zero, suc, ◌<◌, ◌≤◌, Bool, true, false, cond, eqb, List, [], ◌∷◌, length, drop, refl, sym, ap, arith, length-drop, Ok, Err, Some, None, IfOk, IfSome, Result, Option, subst}
+use Rattle.std.proofs.Common.{◌≡◌, ℕ, zero, suc, ◌<◌, ◌≤◌, Bool, true, false, cond, eqb, List, [], ◌∷◌, length, drop, refl, sym, ap, arith, length-drop, Ok}
+use Rattle.std.proofs.Common.{Err, Some, None, IfOk, IfSome, Result, Option, subst}
 use Rattle.std.specs.Option.{option_map}
 use Rattle.btx_bib.specs.declared.grammar.parts.Part.{Part as CodePart}
 use Rattle.btx_bib.specs.refinement.Grammar.PartViews.{part_view}
@@ -15,7 +16,8 @@ use Rattle.btx_bib.specs.declared.grammar.slip.Slip.{Slip}
 use Rattle.btx_bib.specs.declared.grammar.slip.Slip.TheVariants.{NoValue, Unbalanced}
 use Rattle.btx_bib.specs.language.Grammar.Tokens.{Parsed, followed_by}
 use Rattle.btx_bib.specs.refinement.Grammar.Tokens.{seen}
-use Rattle.btx_bib.specs.language.Grammar.Values.{Part, Quoted, Digits, Named, closed_part, enclosed_in, part_in, part_at, behind_hash, next_part, value_within, value_at}
+use Rattle.btx_bib.specs.language.Grammar.Values.{Part, Quoted, Digits, Named, closed_part, enclosed_in, part_in, part_at, behind_hash, next_part, value_within}
+use Rattle.btx_bib.specs.language.Grammar.Values.{value_at}
 use Rattle.btx_bib.specs.refinement.Grammar.Values.{parts_read, value_end, joined}
 use Rattle.std.specs.Char.{is_ascii_digit}
 
@@ -44,7 +46,8 @@ more (Ok got) n h = omega arith
 more (Err wrong) n h = tt
 
 enclosed-leaves : (enclosure : Enclosure) (rest : List ℕ) → Leaves (length rest) (enclosed_in enclosure rest)
-enclosed-leaves enclosure rest = closed-leaves enclosure _ (drop (enclosed_len enclosure 0 rest) rest) (length rest) (omega (arith, length-drop (enclosed_len enclosure 0 rest) rest))
+enclosed-leaves enclosure rest = closed-leaves enclosure _ (drop (enclosed_len enclosure 0 rest) rest) (length rest)
+    (omega (arith, length-drop (enclosed_len enclosure 0 rest) rest))
 
 begins_name-byte : (b : ℕ) → begins_name b ≡ true → is_name_byte b ≡ true
 begins_name-byte b h = (and_parts _ _ h).0
@@ -70,7 +73,8 @@ less (Err wrong) n m le h = tt
 pub part_at-leaves : (text : List ℕ) → Leaves (length text) (part_at text)
 part_at-leaves text = less (part_at text) (length (past Gap text)) (length text) (past-le Gap text) (part_in-leaves (past Gap text))
 
-pub part-shorter : (r : Result (CodePart × Bor (List ℕ)) (Slip × Bor (List ℕ))) (text : List ℕ) → seen part_view r ≡ part_at text → IfOk r (λ got. length got.1.now < length text)
+pub part-shorter : (r : Result (CodePart × Bor (List ℕ)) (Slip × Bor (List ℕ))) (text : List ℕ) → seen part_view r ≡ part_at text
+    → IfOk r (λ got. length got.1.now < length text)
 part-shorter (Ok got) text e = subst (Leaves (length text)) (sym e) (part_at-leaves text)
 part-shorter (Err wrong) text e = tt
 
@@ -85,7 +89,8 @@ behind_hash-within (b ∷ bs) n h = at (eqb b 35) where
   at true = omega arith
   at false = tt
 
-pub next_part-shorter : (r : Option (Bor (List ℕ))) (text : List ℕ) → option_map (λ (rest : Bor (List ℕ)). rest.now) r ≡ next_part text → IfSome r (λ rest. length rest.now ≤ length text)
+pub next_part-shorter : (r : Option (Bor (List ℕ))) (text : List ℕ) → option_map (λ (rest : Bor (List ℕ)). rest.now) r ≡ next_part text
+    → IfSome r (λ rest. length rest.now ≤ length text)
 next_part-shorter None text e = tt
 next_part-shorter (Some rest) text e = subst (Within (length text)) (sym e) (behind_hash-within (past Gap text) (length text) (past-le Gap text))
 
@@ -125,7 +130,8 @@ end-joined : (part : Part) (rest : List ℕ) (r : Parsed (List Part)) → value_
 end-joined part rest (Ok got) = refl
 end-joined part rest (Err wrong) = refl
 
-pub value-goes : (text rest next : List ℕ) (part : Part) → part_at text ≡ Ok (part, rest) → next_part rest ≡ Some next → value_end (value_at text) ≡ value_end (value_at next)
+pub value-goes : (text rest next : List ℕ) (part : Part) → part_at text ≡ Ok (part, rest) → next_part rest ≡ Some next → value_end (value_at text)
+    ≡ value_end (value_at next)
 value-goes text rest next part e n = rw (value_at-step text, e, n) (end-joined part rest (value_at next))
 
 abbrev rest_of : Parsed (Unit {0}) → List ℕ
@@ -150,11 +156,13 @@ pub ruleset value_steps = (value-ends, value-goes, whole_from, wrong_from)
 pub value-one : (text rest : List ℕ) (part : Part) → part_at text ≡ Ok (part, rest) → next_part rest ≡ None → value_at text ≡ Ok (part ∷ [], rest)
 value-one text rest part e n = rw (value_at-step text, e, n) refl
 
-pub value-more : (text rest next end : List ℕ) (part : Part) → part_at text ≡ Ok (part, rest) → next_part rest ≡ Some next → value_end (value_at next) ≡ Ok (tt, end) →
+pub value-more : (text rest next end : List ℕ) (part : Part) → part_at text ≡ Ok (part, rest) → next_part rest ≡ Some next → value_end (value_at next)
+    ≡ Ok (tt, end) →
     value_at text ≡ Ok (part ∷ parts_read (value_at next), end)
 value-more text rest next end part e n w = rw (value_at-step text, e, n, whole_from (value_at next) end w) refl
 
-pub value-more-wrong : (text rest next : List ℕ) (part : Part) (wrong : Slip × List ℕ) → part_at text ≡ Ok (part, rest) → next_part rest ≡ Some next → value_end (value_at next) ≡ Err wrong →
+pub value-more-wrong : (text rest next : List ℕ) (part : Part) (wrong : Slip × List ℕ) → part_at text ≡ Ok (part, rest) → next_part rest ≡ Some next
+    → value_end (value_at next) ≡ Err wrong →
     value_at text ≡ Err wrong
 value-more-wrong text rest next part wrong e n w = rw (value_at-step text, e, n, wrong_from (value_at next) wrong w) refl
 

@@ -1,5 +1,5 @@
 -- What the code keeps while databases are read.
-use Rattle.std.specs.Prelude.{◌≡◌, ℕ, nat_lt, ◌||◌, Bool, true, false, List, [], ◌∷◌, ◌++◌, length, Option, None, Some, is_some, if◌then◌else◌}
+use Rattle.std.specs.Prelude.{◌≡◌, ℕ, nat_lt, ◌≤◌, ◌||◌, Bool, true, false, List, [], ◌∷◌, ◌++◌, length, Option, None, Some, is_some, if◌then◌else◌}
 use Rattle.btx_text.specs.language.Keys.{folded}
 use Rattle.btx_text.specs.language.Limits.{greatest_string}
 use Rattle.btx_aux.specs.language.Names.{is_same_key}
@@ -19,6 +19,7 @@ use Rattle.btx_bib.specs.language.Grammar.ValueTexts.{value_text}
 use Rattle.btx_bib.specs.refinement.Drafts.{place_in, has_entry, standing_at, stored_at}
 use Rattle.btx_bib.specs.refinement.Filling.{blanks}
 use Rattle.btx_bib.specs.refinement.Finding.{changed_at}
+use Rattle.btx_bib.specs.refinement.Grammar.Reads.{left}
 use Rattle.btx_bib.specs.language.Values.{field_value}
 use Rattle.btx_bib.specs.language.Wanted.{Request}
 use Rattle.btx_bib.specs.language.Strings.{defined, other_value, string_value}
@@ -167,6 +168,14 @@ all_kept wanted kept place = kept_along wanted kept (events_with wanted kept pla
 
 abbrev pub all_messages : Request → Database → Gathering → Next × List ℕ → List Message
 all_messages wanted database kept place = kept_messages wanted database kept (events_with wanted kept place.0 place.1)
+
+-- what is kept and logged from a place on is what it is from an earlier one, and no more is left to read
+abbrev pub GoesOn : Request → Gathering → Next × List ℕ → Next × List ℕ → Type 0
+GoesOn wanted kept from to = record {
+  state : all_kept wanted kept to ≡ all_kept wanted kept from;
+  logged : (database : Database) → all_messages wanted database kept to ≡ all_messages wanted database kept from;
+  shorter : left to.0 (length to.1) ≤ left from.0 (length from.1);
+}
 
 -- ---- a field in its plainest form, which is taken or not
 

@@ -1,5 +1,5 @@
 //! The items of a database, read.
-ghost use Rattle.std.specs.Prelude.{◌≡◌};
+ghost use Rattle.std.specs.Prelude.{◌≡◌, None, Ok, IfSome};
 ghost use Rattle.std.specs.Str.{bytes_eq};
 ghost use Rattle.std.specs.Option.{option_map};
 ghost use Rattle.btx_text.specs.language.Keys.{folded};
@@ -10,12 +10,12 @@ ghost use Rattle.btx_bib.specs.language.Grammar.Tokens.{closing_delimiter, sign_
 ghost use Rattle.btx_bib.specs.refinement.Grammar.Tokens.{seen};
 ghost use Rattle.btx_bib.specs.laws.Grammar.Fields.{more_at};
 
-use crate::grammar::byte_sets::Delimiter;
+use crate::grammar::byte_sets::{ByteSet, Delimiter};
 use crate::grammar::commands::{Command, Wanted};
 use crate::grammar::events::Event;
 use crate::grammar::field_readers::read_more;
 use crate::grammar::slip::Slip;
-use crate::grammar::tokens::{Read, closing, key, name, open, sign};
+use crate::grammar::tokens::{Read, closing, key, name, open, past, sign};
 use crate::grammar::values::read_value;
 use btx_text::same_key;
 use memchr::memchr;
@@ -42,6 +42,59 @@ fn command(name: &[u8]) -> Command
         return Command::Definition;
     }
     Command::Entry
+}
+
+/// The type and the key of an entry.
+#[derive(Clone, Copy)]
+pub struct EntryHead<'a> {
+    /// The type.
+    pub kind: &'a [u8],
+    /// The key.
+    pub key: &'a [u8],
+    /// What stands round the entry.
+    pub delimiter: Delimiter,
+    /// The text behind the key.
+    pub rest: &'a [u8],
+}
+
+/// The type and the key of an entry, if they stand behind an `@`.
+#[tactic(auto, unfolding(crate::specs::language::Grammar::Items::head_at, crate::specs::language::Grammar::Items::head_of))]
+#[inline(always)]
+pub fn entry_head(text: &[u8]) -> Option<EntryHead<'_>>
+    ensures { IfSome result (λ head. spec.head_at text.now ≡ Ok ((spec.Entry head.kind.now head.key.now, Wanted.Fields head.delimiter), head.rest.now)) }
+{
+    let (kind, rest) = name(text).ok()?;
+    let Command::Entry = command(kind) else {
+        return None;
+    };
+    let (delimiter, rest) = open(rest).ok()?;
+    let (key, rest) = key(delimiter, rest).ok()?;
+    Some(EntryHead {
+        kind,
+        key,
+        delimiter,
+        rest,
+    })
+}
+
+/// The text behind the end of an entry, with a comma before it or without one, if that stands here.
+#[tactic(auto, unfolding(crate::specs::language::Grammar::Fields::more_in, crate::specs::language::Grammar::Fields::after_comma))]
+#[inline(always)]
+pub fn entry_end(delimiter: Delimiter, text: &[u8]) -> Option<&[u8]>
+    ensures { IfSome result (λ rest. more_at delimiter text.now ≡ Ok (None, rest.now)) }
+{
+    let rest = past(ByteSet::Gap, text);
+    let (&byte, after) = rest.split_first()?;
+    if byte == closing(delimiter) {
+        return Some(after);
+    }
+    if byte != b',' {
+        return None;
+    }
+    match past(ByteSet::Gap, after).split_first() {
+        Some((&byte, after)) if byte == closing(delimiter) => Some(after),
+        _ => None,
+    }
 }
 
 // The value of a preamble.

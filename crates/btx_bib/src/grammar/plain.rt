@@ -1,22 +1,24 @@
 //! What is enclosed in its plainest form, read in one pass.
-ghost use Rattle.std.specs.Prelude.{◌≡◌, ◌+◌, ◌<◌, ◌≤◌, true, length, Ok, IfSome};
+ghost use Rattle.std.specs.Prelude.{◌≡◌, ◌+◌, ◌<◌, ◌≤◌, true, length, drop, Ok, IfSome};
 ghost use Rattle.btx_bib.specs.refinement.Grammar.PlainFields.{enclosed_part};
 ghost use Rattle.btx_bib.specs.refinement.Grammar.Squeezing.{ArePlainBytes, IsSqueezedLen, is_behind_white, lanes_before, stands, stays_squeezed};
+ghost use Rattle.btx_bib.specs.language.Grammar.ByteSets as bytes;
 ghost use Rattle.btx_bib.specs.language.Grammar.Values as spec;
+ghost use Rattle.btx_bib.specs.declared.grammar.byte_sets.ByteSet.TheVariants as set;
 ghost use Rattle.btx_bib.specs.declared.grammar.byte_sets.Enclosure.TheVariants as enclosed_by;
 ghost use Rattle.btx_bib.specs.declared.grammar.value_ends.Ends.TheVariants as ends;
 
-use crate::grammar::byte_sets::{Enclosure, ends_enclosed, ends_in_gap, is_gap};
+use crate::grammar::byte_sets::{ByteSet, Enclosure, ends_enclosed, ends_in_gap, is_gap, run_len};
 use btx_text::depths::depth_after;
 use std::simd::prelude::*;
 
 // Plain bytes are those from `#` to `z`, and a space where no whitespace stands before it: they leave the depth alone, and what is read squeezed. They are
 // passed in blocks of this number of bytes.
-const BLOCK: usize = 16;
+pub(super) const BLOCK: usize = 16;
 
 // How many lanes of a block come before the first whose bit is set.
 #[inline(always)]
-fn lanes_before(bits: u64) -> usize
+pub(super) fn lanes_before(bits: u64) -> usize
     ensures { result ≡ lanes_before bits }
 {
     if bits == 0 {
@@ -24,6 +26,31 @@ fn lanes_before(bits: u64) -> usize
     } else {
         bits.trailing_zeros() as usize
     }
+}
+
+// How many lower-case letters stand first in the block with which a text begins: bytes of a name, which goes on behind them.
+#[inline(always)]
+fn letters_in_block(text: &[u8]) -> usize
+    requires { 16 ≤ length text.now }
+    ensures value { bytes.longest_run_len set.NameByte text.now ≡ result + bytes.longest_run_len set.NameByte (drop result text.now) }
+    ensures bound { result ≤ 16 }
+{
+    let block = u8x16::from_slice(text);
+    let no_letter = (block - u8x16::splat(b'a')).simd_gt(u8x16::splat(b'z' - b'a'));
+    lanes_before(no_letter.to_bitmask())
+}
+
+/// How many bytes of a name a text begins with. Most are lower-case letters, of which those of a block are passed at once.
+#[inline(always)]
+pub fn name_len(text: &[u8]) -> usize
+    ensures value { result ≡ bytes.longest_run_len set.NameByte text.now }
+    ensures bound { result ≤ length text.now }
+{
+    if text.len() < BLOCK {
+        return run_len(ByteSet::NameByte, text);
+    }
+    let letters = letters_in_block(text);
+    letters + run_len(ByteSet::NameByte, &text[letters..])
 }
 
 // With how many plain bytes the block at a place begins. A byte below `#` wraps round to one above `z`, and whitespace is taken to be all up to the space, so

@@ -3,13 +3,15 @@ ghost use Rattle.std.specs.Prelude.{◌≡◌, Some, IfOk, IfSome, OnErr};
 ghost use Rattle.std.specs.Option.{option_map};
 ghost use Rattle.btx_bib.specs.refinement.Grammar.EventViews.{event_view, head_view, step_view};
 ghost use Rattle.btx_bib.specs.language.Grammar.Items as spec;
-ghost use Rattle.btx_bib.specs.refinement.Grammar.PlainFields.{IsPlainPart, part_in_view, plain_step};
+ghost use Rattle.btx_bib.specs.refinement.Grammar.PlainFields.{IsLeft, IsPlainPart, entry_step, part_in_view, plain_step};
 ghost use Rattle.btx_bib.specs.refinement.Grammar.Reads.{IsRead};
 
 use crate::grammar::commands::Wanted;
 use crate::grammar::events::{Event, Placed};
-use crate::grammar::item_readers::{behind_at, read_end, read_field_or_end, read_head};
-use crate::grammar::plain_fields::{PlainField, plain_field};
+use crate::grammar::item_readers::{
+    EntryHead, behind_at, entry_end, entry_head, read_end, read_field_or_end, read_head,
+};
+use crate::grammar::plain_fields::{PlainField, Purpose, plain_field};
 use crate::grammar::slip::Slip;
 use std::alloc::{AllocError, Global};
 use std::marker::Model;
@@ -79,9 +81,59 @@ impl<'a> Reader<'a> {
         ensures plain { IfSome result (λ field. IsPlainPart (part_in_view field.value)) }
     {
         match self.wanted {
-            Wanted::Fields(_) => plain_field(self.rest),
+            Wanted::Fields(_) => plain_field(Purpose::Taking, self.rest),
             Wanted::Item | Wanted::Closing(_) => None,
         }
+    }
+
+    /// The field that stands at the next place, if it has one part. The reader stays where it is.
+    #[inline(always)]
+    #[tactic(auto, unfolding(crate::specs::language::Grammar::Items::expected_step))]
+    pub(crate) fn passed_field(&self) -> Option<PlainField<'a>>
+        ensures { IfSome result (λ field. spec.expected_step self.now.0 self.now.1 ≡ Some (plain_step self.now.0 field)) }
+    {
+        match self.wanted {
+            Wanted::Fields(_) => plain_field(Purpose::Passing, self.rest),
+            Wanted::Item | Wanted::Closing(_) => None,
+        }
+    }
+
+    /// The type and the key of the entry that stands at the next place, if one does. The reader stays where it is.
+    #[inline(always)]
+    #[tactic(auto, unfolding(crate::specs::language::Grammar::Items::expected_step))]
+    pub(crate) fn entry_head(&self) -> Option<EntryHead<'a>>
+        ensures { IfSome result (λ head. spec.expected_step self.now.0 self.now.1 ≡ Some (entry_step head)) }
+    {
+        match self.wanted {
+            Wanted::Item => entry_head(behind_at(self.rest)?),
+            Wanted::Fields(_) | Wanted::Closing(_) => None,
+        }
+    }
+
+    /// Goes on behind the type and the key of an entry.
+    #[inline(always)]
+    pub(crate) fn enter(&mut self, head: &EntryHead<'a>)
+        ensures { self.new ≡ (Wanted.Fields head.now.delimiter, head.now.rest.now) }
+    {
+        self.wanted = Wanted::Fields(head.delimiter);
+        self.rest = head.rest;
+    }
+
+    /// Goes on behind the end of an entry, if it stands at the next place. Answers whether it did.
+    #[inline(always)]
+    #[tactic(auto, unfolding(crate::specs::language::Grammar::Items::expected_step))]
+    pub(crate) fn leave(&mut self) -> bool
+        ensures { IsLeft result self.old self.new }
+    {
+        let Wanted::Fields(delimiter) = self.wanted else {
+            return false;
+        };
+        let Some(rest) = entry_end(delimiter, self.rest) else {
+            return false;
+        };
+        self.wanted = Wanted::Item;
+        self.rest = rest;
+        true
     }
 
     /// Goes on behind a field that stands at the next place, where this is the text from its end on.

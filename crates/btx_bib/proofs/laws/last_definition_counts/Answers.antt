@@ -9,7 +9,8 @@ use Rattle.btx_bib.proofs.laws.last_definition_counts.Goals as goal
 
 gives : GivesOwn
 gives strings name own value same =
-    ap (λ (f : List ℕ). lookup (bytes_eq f) (insert_entry bytes_eq strings (folded own) value)) (folded-same name own same) ∙ lookup-own strings (folded own) value
+    ap (λ (f : List ℕ). lookup (bytes_eq f) (insert_entry bytes_eq strings (folded own) value)) (folded-same name own same)
+    ∙ lookup-own strings (folded own) value
 
 leaves : LeavesOthers
 leaves strings name own value other = lookup-other strings (folded name) (folded own) value other

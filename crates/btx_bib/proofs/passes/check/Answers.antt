@@ -15,8 +15,10 @@ loop-place-preserved c =
     let within : place < length slots = search rules in
     let logs = c.in_ok-check_at.ensures.messages ∙ ap (λ (ms : List Message). c.loop-place.messages ++ ms) (messages_by-here slots (slice_get slots place)) in
     record {
-      named = c.loop-place.invariant.named ∙ sym (names_of-changed slots place (checked slots) (key-checked slots)) ∙ ap lower_keys (sym c.in_ok-check_at.ensures.slots);
+      named = c.loop-place.invariant.named ∙ sym (names_of-changed slots place (checked slots) (key-checked slots))
+          ∙ ap lower_keys (sym c.in_ok-check_at.ensures.slots);
       count = ap (λ (xs : List Slot). length xs) c.in_ok-check_at.ensures.slots ∙ length-changed slots place (checked slots) ∙ c.loop-place.invariant.count;
       pass = passed-next checked slots after place within c.in_ok-check_at.ensures.slots ∙ c.loop-place.invariant.pass;
-      messages = messages-next checked check_messages slots after place c.loop-place.messages c.check_at.new.messages _ within c.in_ok-check_at.ensures.slots logs c.loop-place.invariant.messages;
+      messages = messages-next checked check_messages slots after place c.loop-place.messages c.check_at.new.messages _ within c.in_ok-check_at.ensures.slots
+          logs c.loop-place.invariant.messages;
     }

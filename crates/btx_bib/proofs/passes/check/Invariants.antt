@@ -8,5 +8,6 @@ invariant-loop-place l = record {
   named : l.names ≡ lower_keys l.slots;
   count : length l.slots ≡ length l.initial.slots;
   pass : passed checked (take l.place l.slots) (drop l.place l.slots) ≡ passed checked [] l.initial.slots;
-  messages : l.messages ++ pass_messages checked check_messages (take l.place l.slots) (drop l.place l.slots) ≡ l.initial.messages ++ pass_messages checked check_messages [] l.initial.slots;
+  messages : l.messages ++ pass_messages checked check_messages (take l.place l.slots) (drop l.place l.slots) ≡ l.initial.messages
+      ++ pass_messages checked check_messages [] l.initial.slots;
 }

@@ -31,7 +31,8 @@ returns-in_default-2-clause-messages c =
     let messages = c.args.messages.now in
     let there : slice_get slots c.args.place ≡ Some slot = search rules in
     let alone : parent_at slot ≡ None = search rules in
-    sym (append-nil messages) ∙ ap (λ (ms : List Message). messages ++ ms) (sym (messages-alone slots slot alone)) ∙ ap (λ (o : Option Slot). messages ++ messages_by slots o) (sym there)
+    sym (append-nil messages) ∙ ap (λ (ms : List Message). messages ++ ms) (sym (messages-alone slots slot alone))
+    ∙ ap (λ (o : Option Slot). messages ++ messages_by slots o) (sym there)
 
 pub returns-then-stays-clause-slots : goal.returns-then-stays-clause-slots
 returns-then-stays-clause-slots c =
@@ -43,7 +44,8 @@ returns-then-stays-clause-slots c =
     let found : parent ≡ slot_by slots (first_place (bytes_eq (folded c.in-Some-2.key)) c.args.names.now) = search rules in
     let at = slot_at-by slots c.args.names.now c.in-Some-2.key parent c.requires found in
     let stays : is_parent parent ≡ true = sym c.if-stays.ensures in
-    changed_at-keep slots c.args.place slot (checked slots) there (checked-is slots slot c.in-Some-2.key parent named at ∙ ap (λ (b : Bool). if b then slot else without_crossref slot) stays)
+    changed_at-keep slots c.args.place slot (checked slots) there (checked-is slots slot c.in-Some-2.key parent named at
+    ∙ ap (λ (b : Bool). if b then slot else without_crossref slot) stays)
 
 pub returns-then-stays-clause-messages : goal.returns-then-stays-clause-messages
 returns-then-stays-clause-messages c =
@@ -55,7 +57,8 @@ returns-then-stays-clause-messages c =
     let found : parent ≡ slot_by slots (first_place (bytes_eq (folded c.in-Some-2.key)) c.args.names.now) = search rules in
     let at = slot_at-by slots c.args.names.now c.in-Some-2.key parent c.requires found in
     let messages = c.args.messages.now in
-    c.in_ok-report_parent.ensures ∙ ap (λ (ms : List Message). messages ++ ms) (sym (messages-is slots slot c.in-Some-2.key parent named at)) ∙ ap (λ (o : Option Slot). messages ++ messages_by slots o) (sym there)
+    c.in_ok-report_parent.ensures ∙ ap (λ (ms : List Message). messages ++ ms) (sym (messages-is slots slot c.in-Some-2.key parent named at))
+    ∙ ap (λ (o : Option Slot). messages ++ messages_by slots o) (sym there)
 
 pub returns-clause-slots : goal.returns-clause-slots
 returns-clause-slots c =
@@ -67,7 +70,8 @@ returns-clause-slots c =
     let found : parent ≡ slot_by slots (first_place (bytes_eq (folded c.in-Some-2.key)) c.args.names.now) = search rules in
     let at = slot_at-by slots c.args.names.now c.in-Some-2.key parent c.requires found in
     let leaves : is_parent parent ≡ false = sym c.if-stays.ensures in
-    c.cut.ensures ∙ changed_at-agree slots c.args.place slot without_crossref (checked slots) there (sym (checked-is slots slot c.in-Some-2.key parent named at ∙ ap (λ (b : Bool). if b then slot else without_crossref slot) leaves))
+    c.cut.ensures ∙ changed_at-agree slots c.args.place slot without_crossref (checked slots) there
+    (sym (checked-is slots slot c.in-Some-2.key parent named at ∙ ap (λ (b : Bool). if b then slot else without_crossref slot) leaves))
 
 pub returns-clause-messages : goal.returns-clause-messages
 returns-clause-messages c =
@@ -79,4 +83,5 @@ returns-clause-messages c =
     let found : parent ≡ slot_by slots (first_place (bytes_eq (folded c.in-Some-2.key)) c.args.names.now) = search rules in
     let at = slot_at-by slots c.args.names.now c.in-Some-2.key parent c.requires found in
     let messages = c.args.messages.now in
-    c.in_ok-report_parent.ensures ∙ ap (λ (ms : List Message). messages ++ ms) (sym (messages-is slots slot c.in-Some-2.key parent named at)) ∙ ap (λ (o : Option Slot). messages ++ messages_by slots o) (sym there)
+    c.in_ok-report_parent.ensures ∙ ap (λ (ms : List Message). messages ++ ms) (sym (messages-is slots slot c.in-Some-2.key parent named at))
+    ∙ ap (λ (o : Option Slot). messages ++ messages_by slots o) (sym there)

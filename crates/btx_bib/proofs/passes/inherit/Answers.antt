@@ -12,7 +12,8 @@ loop-place-preserved c =
     let after = c.inherit_at.new.slots in
     let within : place < length slots = search rules in
     record {
-      named = c.loop-place.invariant.named ∙ sym (names_of-changed slots place (inherited slots) (key-inherited slots)) ∙ ap lower_keys (sym c.in_ok-inherit_at.ensures);
+      named = c.loop-place.invariant.named ∙ sym (names_of-changed slots place (inherited slots) (key-inherited slots))
+          ∙ ap lower_keys (sym c.in_ok-inherit_at.ensures);
       count = ap (λ (xs : List Slot). length xs) c.in_ok-inherit_at.ensures ∙ length-changed slots place (inherited slots) ∙ c.loop-place.invariant.count;
       pass = passed-next inherited slots after place within c.in_ok-inherit_at.ensures ∙ c.loop-place.invariant.pass;
     }

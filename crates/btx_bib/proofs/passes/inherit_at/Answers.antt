@@ -32,7 +32,8 @@ returns-in_default-position c =
     let there : slice_get slots c.args.place ≡ Some slot = search rules in
     let named : parent_at slot ≡ Some c.in-Some-2.key = search rules in
     let found : None ≡ slot_by slots (first_place (bytes_eq (folded c.in-Some-2.key)) c.args.names.now) = search rules in
-    changed_at-keep slots c.args.place slot (inherited slots) there (inherited-by slots slot c.in-Some-2.key None named (slot_at-by slots c.args.names.now c.in-Some-2.key None c.requires found))
+    changed_at-keep slots c.args.place slot (inherited slots) there
+    (inherited-by slots slot c.in-Some-2.key None named (slot_at-by slots c.args.names.now c.in-Some-2.key None c.requires found))
 
 pub returns : goal.returns
 returns c =
@@ -46,7 +47,8 @@ returns c =
     let agrees = changed_at-agree slots c.args.place slot (inherited_from parent) (inherited slots) there (sym inherits) in
     IfOk-weaker c.inherit.result _ _ (λ done is. is ∙ agrees) c.inherit.ensures
 
-short : (slots : List Slot) (key : List ℕ) (o : Option Slot) → slot_at slots key ≡ o → length key ≤ greatest_string → IfSome o (λ (slot : Slot). length slot.key ≤ greatest_string)
+short : (slots : List Slot) (key : List ℕ) (o : Option Slot) → slot_at slots key ≡ o → length key ≤ greatest_string
+    → IfSome o (λ (slot : Slot). length slot.key ≤ greatest_string)
 short slots key None at within = tt
 short slots key (Some parent) at within = omega (arith, parent-length slots key parent at)
 

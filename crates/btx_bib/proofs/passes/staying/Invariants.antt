@@ -7,5 +7,6 @@ use Rattle.btx_bib.specs.refinement.Passes.{absence_messages}
 abbrev pub invariant-loop-slot : goal.invariant-loop-slot
 invariant-loop-slot l = record {
   entries : l.entries.items ++ flat_map entry_at l.slot-iterator.rest.items ≡ flat_map entry_at l.initial.slot-iterator.rest.items;
-  messages : l.messages ++ flat_map absence_messages l.slot-iterator.rest.items ≡ l.initial.messages ++ flat_map absence_messages l.initial.slot-iterator.rest.items;
+  messages : l.messages ++ flat_map absence_messages l.slot-iterator.rest.items ≡ l.initial.messages
+      ++ flat_map absence_messages l.initial.slot-iterator.rest.items;
 }

@@ -1,5 +1,5 @@
 -- How the code finds the end of what is enclosed: it skips what can't end it.
-use Rattle.std.specs.Prelude.{ℕ, suc, ◌==◌, ◌||◌, Bool, List, [], ◌∷◌, if◌then◌else◌}
+use Rattle.std.specs.Prelude.{◌≡◌, ℕ, suc, ◌<◌, ◌≤◌, ◌==◌, ◌||◌, Bool, false, List, [], ◌∷◌, slice_index, if◌then◌else◌}
 use Rattle.btx_bib.specs.declared.grammar.byte_sets.Enclosure.{Enclosure}
 use Rattle.btx_bib.specs.declared.grammar.byte_sets.Enclosure.TheVariants.{Group, Quotes}
 use Rattle.std.specs.Int.{is_in_range}
@@ -18,3 +18,7 @@ is_word_byte = is_in_range 35 122
 unfoldable pub unmarked_len : (ℕ → Bool) → List ℕ → ℕ
 unmarked_len test [] = 0
 unmarked_len test (b ∷ bs) = if test b then 0 else suc (unmarked_len test bs)
+
+-- none of the bytes from a place up to another one is a brace or a `"`
+abbrev pub AreUnmarked : List ℕ → ℕ → ℕ → Type 0
+AreUnmarked text from to = (place : ℕ) → from ≤ place → place < to → is_mark Quotes (slice_index text place) ≡ false

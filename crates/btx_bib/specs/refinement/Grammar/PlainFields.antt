@@ -1,5 +1,5 @@
 -- What clauses see of a field in its plainest form: a name, and one part as its value, which is plain.
-use Rattle.std.specs.Prelude.{◌≡◌, ℕ, true, List, [], ◌∷◌, Some, is_some, Ok}
+use Rattle.std.specs.Prelude.{◌≡◌, ℕ, Bool, true, false, List, [], ◌∷◌, Some, is_some, Ok}
 use Rattle.btx_bib.specs.declared.grammar.byte_sets.Delimiter.{Delimiter}
 use Rattle.btx_bib.specs.declared.grammar.byte_sets.Enclosure.{Enclosure}
 use Rattle.btx_bib.specs.declared.grammar.byte_sets.Enclosure.TheVariants.{Group, Quotes}
@@ -7,10 +7,14 @@ use Rattle.btx_bib.specs.declared.grammar.plain_fields.PlainField.{PlainField}
 use Rattle.btx_bib.specs.declared.grammar.plain_fields.PlainKind.{PlainKind}
 use Rattle.btx_bib.specs.declared.grammar.plain_fields.PlainKind.TheVariants as kind
 use Rattle.btx_bib.specs.declared.grammar.plain_fields.PlainValue.{PlainValue}
+use Rattle.btx_bib.specs.declared.grammar.plain_fields.Purpose.{Purpose}
+use Rattle.btx_bib.specs.declared.grammar.plain_fields.Purpose.TheVariants as purpose
+use Rattle.btx_bib.specs.declared.grammar.item_readers.EntryHead.{EntryHead}
+use Rattle.btx_bib.specs.declared.grammar.commands.Wanted.TheVariants.{Item, Fields}
 use Rattle.btx_bib.specs.declared.grammar.value_ends.Ends.TheVariants.{Trimmed}
 use Rattle.btx_bib.specs.declared.grammar.commands.Wanted.{Wanted}
 use Rattle.btx_bib.specs.language.Grammar.Fields.{Field}
-use Rattle.btx_bib.specs.language.Grammar.Items.{FieldOf, Step}
+use Rattle.btx_bib.specs.language.Grammar.Items.{Entry, End, FieldOf, Step, expected_step}
 use Rattle.btx_bib.specs.refinement.Grammar.Squeezing.{stands}
 use Rattle.btx_bib.specs.language.Grammar.Values.{Part, Braced, Quoted, Digits, Named}
 use Rattle.btx_bib.specs.laws.Grammar.Fields.{more_at}
@@ -43,6 +47,17 @@ IsPlainPart (Quoted text) = stands Trimmed text ≡ true
 IsPlainPart (Digits text) = Unit {0}
 IsPlainPart (Named string) = Unit {0}
 
+-- the same where the field may be taken; where it is passed over nothing is said
+abbrev pub FitsText : Purpose → List ℕ → Type 0
+FitsText purpose.Taking text = stands Trimmed text ≡ true
+FitsText purpose.Passing text = Unit {0}
+
+abbrev pub Fits : Purpose → Part → Type 0
+Fits purpose (Braced text) = FitsText purpose text
+Fits purpose (Quoted text) = FitsText purpose text
+Fits purpose (Digits text) = Unit {0}
+Fits purpose (Named string) = Unit {0}
+
 -- where the fields of an entry are wanted, this one stands next in a text, whatever delimiter the entry has
 abbrev pub StandsNext : List ℕ → PlainField → Type 0
 StandsNext text field = (delimiter : Delimiter) → more_at delimiter text ≡ Ok (Some (plain_field_view field), field.value.rest.now)
@@ -50,6 +65,15 @@ StandsNext text field = (delimiter : Delimiter) → more_at delimiter text ≡ O
 -- what the reader reads there: the field, behind which the same is wanted as before it
 abbrev pub plain_step : Wanted → PlainField → Step
 plain_step wanted field = record { event = FieldOf (plain_field_view field); wanted = wanted; rest = field.value.rest.now }
+
+-- what the reader reads where an entry's type and key stand
+abbrev pub entry_step : EntryHead → Step
+entry_step head = record { event = Entry head.kind.now head.key.now; wanted = Fields head.delimiter; rest = head.rest.now }
+
+-- the end of an entry stands next, behind which this text is left; or it doesn't, and the reader stays where it is
+abbrev pub IsLeft : Bool → Wanted × List ℕ → Wanted × List ℕ → Type 0
+IsLeft true old new = (expected_step old.0 old.1 ≡ Some (record { event = End; wanted = Item; rest = new.1 })) × (new.0 ≡ Item)
+IsLeft false old new = new ≡ old
 
 -- a part that is a name has a value
 abbrev pub HasString : StringValues → Part → Type 0

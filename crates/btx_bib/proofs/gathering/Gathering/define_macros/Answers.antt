@@ -13,8 +13,10 @@ loop-index-preserved c =
     let index = c.loop-index.index in
     elim c.match-get.branch [
       | in-Some+in_ok-define_macro w ↦
-          macro-next macros index (index + 1) _ c.loop-index.self c.match-get.self (add-one index) (sym c.get.ensures ∙ ap (option_map macro_pair) w.in-Some.is) (w.self-is ∙ w.in_ok-define_macro.ensures) ∙ c.loop-index.invariant
+          macro-next macros index (index + 1) _ c.loop-index.self c.match-get.self (add-one index) (sym c.get.ensures ∙ ap (option_map macro_pair) w.in-Some.is)
+          (w.self-is ∙ w.in_ok-define_macro.ensures) ∙ c.loop-index.invariant
       | in_default w ↦
           ap (λ (k : Gathering). kept_macros k (drop (index + 1) macros)) w.self-is
-          ∙ macro-none macros index (index + 1) c.loop-index.self (add-one index) (sym c.get.ensures ∙ ap (option_map macro_pair) w.in_default.is) ∙ c.loop-index.invariant
+          ∙ macro-none macros index (index + 1) c.loop-index.self (add-one index) (sym c.get.ensures ∙ ap (option_map macro_pair) w.in_default.is)
+          ∙ c.loop-index.invariant
     ]

@@ -13,8 +13,10 @@ loop-source-preserved c =
     let sources = c.args.sources.now in
     let place = c.loop-source.source-index in
     record {
-      state = all-next asked sources place _ c.loop-source.self c.read_one.new.self c.loop-source-test.true c.in_ok-read_one.ensures.state ∙ c.loop-source.invariant.state;
-      logged = all-logged-next asked sources place _ c.loop-source.self c.read_one.new.self c.loop-source-test.true c.in_ok-read_one.ensures.state c.loop-source.messages c.read_one.new.messages c.in_ok-read_one.ensures.logged ∙ c.loop-source.invariant.logged;
+      state = all-next asked sources place _ c.loop-source.self c.read_one.new.self c.loop-source-test.true c.in_ok-read_one.ensures.state
+          ∙ c.loop-source.invariant.state;
+      logged = all-logged-next asked sources place _ c.loop-source.self c.read_one.new.self c.loop-source-test.true c.in_ok-read_one.ensures.state
+          c.loop-source.messages c.read_one.new.messages c.in_ok-read_one.ensures.logged ∙ c.loop-source.invariant.logged;
     }
 
 pub returns-clause-state : goal.returns-clause-state

@@ -10,5 +10,6 @@ invariant-loop-source l =
     let asked = wanted l.request in
     record {
       state : kept_by_all asked l.self (source_databases (drop l.source-index l.sources)) ≡ kept_by_all asked l.initial.self (source_databases l.sources);
-      logged : l.messages ++ messages_of_all asked l.self (source_databases (drop l.source-index l.sources)) ≡ l.initial.messages ++ messages_of_all asked l.initial.self (source_databases l.sources);
+      logged : l.messages ++ messages_of_all asked l.self (source_databases (drop l.source-index l.sources)) ≡ l.initial.messages
+          ++ messages_of_all asked l.initial.self (source_databases l.sources);
     }

@@ -3,7 +3,7 @@ use Rattle.btx_bib.specs.refinement.Gatherings.{events_with, kept_along, kept_me
 use Rattle.btx_bib.specs.language.Known.{goes_on}
 use Rattle.btx_bib.specs.refinement.Requests.{wanted}
 use Rattle.btx_bib.specs.refinement.Sites.{site_database}
-use Rattle.btx_bib.proofs.GrammarLemmas.LengthLemmas.{left}
+use Rattle.btx_bib.specs.refinement.Grammar.Reads.{left}
 use Rattle.btx_bib.proofs.gathering.Gathering.read_events.Given as goal
 
 -- the events that are left do the rest
@@ -15,7 +15,8 @@ invariant-loop-placed l =
     record {
       whole : goes_on l.self.ending ≡ true;
       state : kept_along asked l.self others ≡ kept_along asked l.initial.self first;
-      logged : l.messages ++ kept_messages asked (site_database l.initial.site) l.self others ≡ l.initial.messages ++ kept_messages asked (site_database l.initial.site) l.initial.self first;
+      logged : l.messages ++ kept_messages asked (site_database l.initial.site) l.self others ≡ l.initial.messages
+          ++ kept_messages asked (site_database l.initial.site) l.initial.self first;
       same : l.site ≡ l.initial.site;
     }
 

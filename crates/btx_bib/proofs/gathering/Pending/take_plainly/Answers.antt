@@ -9,5 +9,6 @@ returns-in_default-clause-logged c taken database rest =
 
 pub returns-in_ok-put-in-Some-2-clause-logged : goal.returns-in_ok-put-in-Some-2-clause-logged
 returns-in_ok-put-in-Some-2-clause-logged c taken database rest =
-    silent-some database c.args.strings.now c.args.self.now (plain_field_view c.args.field.now) rest _ c.in-Some.number (part_in_view c.args.field.now.value) (sym c.in_ok-number.ensures ∙ c.in-Some.is)
+    silent-some database c.args.strings.now c.args.self.now (plain_field_view c.args.field.now) rest _ c.in-Some.number (part_in_view c.args.field.now.value)
+    (sym c.in_ok-number.ensures ∙ c.in-Some.is)
     (sym c.has.ensures ∙ c.if-has.false) refl (rw c.in-Some-2.is at c.in_ok-text.ensures.known)

@@ -17,10 +17,12 @@ loop-byte-preserved c =
     let further = c.unmarked_len-place-in-Some in
     let inside : place < length text = c.in-Some.ensures.lookup.3.0 in
     let here : get_or text place 0 ≡ c.in-Some.field-0.now = sym (c.in-Some.ensures.lookup.4 (omega arith) 0) in
-    let goes_on : (eqb c.loop-byte.depth 0 && ends_enclosed c.args.enclosure (get_or text place 0)) ≡ false = rw here (sym c.ends_enclosed.ensures ∙ c.if-ends_enclosed.false) in
+    let goes_on : (eqb c.loop-byte.depth 0 && ends_enclosed c.args.enclosure (get_or text place 0)) ≡ false =
+    rw here (sym c.ends_enclosed.ensures ∙ c.if-ends_enclosed.false) in
     let rest = take_rest text (place + 1) in
     let mark = further.ensures.value ∙ ap (unmarked_len (is_mark c.args.enclosure)) rest in
-    let whole = enclosed-further c.args.enclosure c.loop-byte.depth text place further.result (enclosed_len c.args.enclosure 0 text) inside goes_on mark c.loop-byte.invariant.0 in (
+    let whole = enclosed-further c.args.enclosure c.loop-byte.depth text place further.result (enclosed_len c.args.enclosure 0 text) inside goes_on mark
+    c.loop-byte.invariant.0 in (
       rw (c.depth_after-depth.ensures, ← here) whole,
       (let le = depth_after-le c.loop-byte.depth c.in-Some.field-0.now in omega (arith, c.depth_after-depth.ensures, c.loop-byte.invariant.1)),
       (let len = ap length rest in omega (arith, further.ensures.bound, length-drop (place + 1) text)),

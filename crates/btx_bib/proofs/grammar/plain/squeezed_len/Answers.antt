@@ -14,7 +14,8 @@ returns-then-ends_enclosed-clause-value c =
     let place = c.loop-byte.place in
     let inside : place < length text = c.in-Some.ensures.lookup.3.0 in
     let here : get_or text place 0 ≡ c.in-Some.field-0.now = sym (c.in-Some.ensures.lookup.4 (omega arith) 0) in
-    let ends : (eqb c.loop-byte.depth 0 && ends_enclosed c.args.enclosure (get_or text place 0)) ≡ true = rw here (sym c.ends_enclosed.ensures ∙ c.if-ends_enclosed.true) in
+    let ends : (eqb c.loop-byte.depth 0 && ends_enclosed c.args.enclosure (get_or text place 0)) ≡ true =
+    rw here (sym c.ends_enclosed.ensures ∙ c.if-ends_enclosed.true) in
     (enclosed-ends c.args.enclosure c.loop-byte.depth text place _ inside ends c.loop-byte.invariant.0.ended, c.loop-byte.invariant.0.squeezed.squeezed)
 
 pub loop-byte-preserved : goal.loop-byte-preserved

@@ -32,7 +32,8 @@ returns g c =
     let text = c.loop-part.text.items in
     let total = squeezed_after c.args.was_white (joined_text strings c.args.value.now) in
     let none : c.loop-part.part-iterator ≡ [] = c.in-None.ensures.steps.0 in
-    let nothing_more : text ++ squeezed_after c.loop-part.white (joined_text strings []) ≡ total = ap (λ ps. text ++ squeezed_after c.loop-part.white (joined_text strings ps)) (sym none) ∙ c.loop-part.invariant.0 in
+    let nothing_more : text ++ squeezed_after c.loop-part.white (joined_text strings []) ≡ total =
+    ap (λ ps. text ++ squeezed_after c.loop-part.white (joined_text strings ps)) (sym none) ∙ c.loop-part.invariant.0 in
     let whole : text ≡ total = sym (append-nil text) ∙ nothing_more in
     let len = ap length whole in
     (whole, omega (arith, c.loop-part.invariant.1))

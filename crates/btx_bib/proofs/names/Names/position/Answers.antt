@@ -5,12 +5,15 @@ use Rattle.btx_bib.proofs.JoinedNameLemmas.{place-append}
 use Rattle.btx_bib.proofs.names.Names.position.Goals as goal
 
 pub returns-in-Some : goal.returns-in-Some
-returns-in-Some c = place-append (bytes_eq c.args.name.now) c.self.inside.cited c.self.inside.more c.args.self.now c.self.view_is _ (first_place (bytes_eq c.args.name.now) c.self.inside.more) c.in-Some.ensures refl
+returns-in-Some c = place-append (bytes_eq c.args.name.now) c.self.inside.cited c.self.inside.more c.args.self.now c.self.view_is _
+    (first_place (bytes_eq c.args.name.now) c.self.inside.more) c.in-Some.ensures refl
 
 pub returns-in-Some-position : goal.returns-in-Some-position
 returns-in-Some-position c =
     ap (λ (n : ℕ). Some (n + c.in-Some-position.place)) c.len.ensures.count
-    ∙ place-append (bytes_eq c.args.name.now) c.self.inside.cited c.self.inside.more c.args.self.now c.self.view_is _ _ c.in-None.ensures c.in-Some-position.ensures.place
+    ∙ place-append (bytes_eq c.args.name.now) c.self.inside.cited c.self.inside.more c.args.self.now c.self.view_is _ _ c.in-None.ensures
+    c.in-Some-position.ensures.place
 
 pub returns-in-None-position : goal.returns-in-None-position
-returns-in-None-position c = place-append (bytes_eq c.args.name.now) c.self.inside.cited c.self.inside.more c.args.self.now c.self.view_is _ _ c.in-None.ensures c.in-None-position.ensures.place
+returns-in-None-position c = place-append (bytes_eq c.args.name.now) c.self.inside.cited c.self.inside.more c.args.self.now c.self.view_is _ _ c.in-None.ensures
+    c.in-None-position.ensures.place

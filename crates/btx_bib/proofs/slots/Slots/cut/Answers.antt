@@ -8,7 +8,8 @@ use Rattle.btx_bib.proofs.slots.Slots.cut.Goals as goal
 pub returns-then-place-len : goal.returns-then-place-len
 returns-then-place-len c =
     let within : c.args.place < length c.self.inside.list.items = search rules in
-    changed_at-set c.self.inside.list.items c.args.place c.index_mut-slot.result.now c.cut.new.self without_crossref c.cut.ensures c.index_mut-slot.ensures.value within
+    changed_at-set c.self.inside.list.items c.args.place c.index_mut-slot.result.now c.cut.new.self without_crossref c.cut.ensures
+    c.index_mut-slot.ensures.value within
     ∙ ap (changed_at c.args.place without_crossref) c.self.view_is
 
 pub returns-else-place-len : goal.returns-else-place-len

@@ -20,7 +20,8 @@ give_values-requires c =
     let slots = c.args.self.now in
     let slot = c.in-Some-at.slot.now in
     let found : slice_get c.take_body.new.self c.args.parent ≡ Some slot = search rules in
-    let there : slice_get (changed_at c.args.place away slots) c.args.parent ≡ Some slot = ap (λ (ts : List Slot). slice_get ts c.args.parent) (sym c.take_body.ensures.slots) ∙ found in
+    let there : slice_get (changed_at c.args.place away slots) c.args.parent ≡ Some slot =
+    ap (λ (ts : List Slot). slice_get ts c.args.parent) (sym c.take_body.ensures.slots) ∙ found in
     away-short slots c.args.place c.args.parent slot greatest_string c.requires there
 
 pub returns : goal.returns
@@ -33,11 +34,13 @@ returns c =
     let there : Some body ≡ body_in (slice_get slots place) = search rules in
     let given : c.match-at.body ≡ record body { values = given_by (slice_get taken parent) body.values } = elim c.match-at.branch [
       | in-Some-at+in_ok-give_values w ↦ (let found : Some w.in-Some-at.slot.now ≡ slice_get taken parent = search rules in
-          w.body-is ∙ ap (λ (values : List (Option (List ℕ))). record body { values = values }) (w.in_ok-give_values.ensures ∙ ap (λ (o : Option Slot). given_by o body.values) found))
+          w.body-is ∙ ap (λ (values : List (Option (List ℕ))). record body { values = values })
+          (w.in_ok-give_values.ensures ∙ ap (λ (o : Option Slot). given_by o body.values) found))
       | in_default-at w ↦ (let found : None ≡ slice_get taken parent = search rules in
           w.body-is ∙ ap (λ (o : Option Slot). record body { values = given_by o body.values }) found)
     ] in
     c.put_body.ensures
     ∙ ap (λ (b : Body). changed_at place (λ (slot : Slot). with_body slot (Some b)) taken) given
-    ∙ ap (λ (ts : List Slot). changed_at place (λ (slot : Slot). with_body slot (Some (record body { values = given_by (slice_get ts parent) body.values }))) ts) c.take_body.ensures.slots
+    ∙ ap (λ (ts : List Slot). changed_at place (λ (slot : Slot). with_body slot (Some (record body { values = given_by (slice_get ts parent) body.values })))
+    ts) c.take_body.ensures.slots
     ∙ given-back slots place parent body there

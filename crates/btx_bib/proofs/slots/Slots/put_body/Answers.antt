@@ -10,7 +10,8 @@ pub returns-then-place-len : goal.returns-then-place-len
 returns-then-place-len c =
     let change = λ (slot : Slot). with_body slot (Some c.args.body) in
     let within : c.args.place < length c.self.inside.list.items = search rules in
-    changed_at-set c.self.inside.list.items c.args.place c.index_mut-slot.result.now c.put_body.new.self change c.put_body.ensures c.index_mut-slot.ensures.value within
+    changed_at-set c.self.inside.list.items c.args.place c.index_mut-slot.result.now c.put_body.new.self change c.put_body.ensures
+    c.index_mut-slot.ensures.value within
     ∙ ap (changed_at c.args.place change) c.self.view_is
 
 pub returns-else-place-len : goal.returns-else-place-len

@@ -10,7 +10,8 @@ pub returns-then-place-len-clause-slots : goal.returns-then-place-len-clause-slo
 returns-then-place-len-clause-slots c =
     let slot = c.index_mut-slot.result.now in
     let within : c.args.place < length c.self.inside.list.items = search rules in
-    changed_at-set c.self.inside.list.items c.args.place slot (with_body slot c.take.new.self) away (ap (with_body slot) c.take.ensures.after) c.index_mut-slot.ensures.value within
+    changed_at-set c.self.inside.list.items c.args.place slot (with_body slot c.take.new.self) away (ap (with_body slot) c.take.ensures.after)
+    c.index_mut-slot.ensures.value within
     ∙ ap (changed_at c.args.place away) c.self.view_is
 
 pub returns-clause-body : goal.returns-clause-body

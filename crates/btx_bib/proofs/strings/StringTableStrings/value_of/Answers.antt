@@ -16,4 +16,5 @@ pub returns-clause-squeezed : goal.returns-clause-squeezed
 returns-clause-squeezed c =
     let pairs = pairs_of c.self.inside.table.entries in
     let name = c.as_bytes.result.now in
-    found-squeezed c.get.result (lookup (bytes_eq name) pairs) (c.get.ensures.value ∙ lookup-pairs c.self.inside.table.entries name) (lookup-squeezed (bytes_eq name) pairs c.self.invariant)
+    found-squeezed c.get.result (lookup (bytes_eq name) pairs) (c.get.ensures.value ∙ lookup-pairs c.self.inside.table.entries name)
+    (lookup-squeezed (bytes_eq name) pairs c.self.invariant)

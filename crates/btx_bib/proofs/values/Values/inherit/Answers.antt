@@ -12,7 +12,8 @@ pub loop-field-init : goal.loop-field-init
 loop-field-init c =
     let key = c.args.key.now in
     let own = c.args.self.now in
-    let first : c.put.new.self ≡ changed_at 0 (λ value. Some key) own = c.in_ok-put.ensures ∙ ap (λ k. changed_at 0 (λ value. Some k) own) c.in_ok-to_text.ensures in
+    let first : c.put.new.self ≡ changed_at 0 (λ value. Some key) own = c.in_ok-put.ensures
+    ∙ ap (λ k. changed_at 0 (λ value. Some k) own) c.in_ok-to_text.ensures in
     (rw first (inherited-first key own c.args.parent.now), omega arith)
 
 pub loop-field-preserved : goal.loop-field-preserved
@@ -31,8 +32,10 @@ returns c =
     let own = c.args.self.now in
     let parents = c.args.parent.now in
     let texts = c.self.inside.texts in
-    let first : c.put.new.self ≡ changed_at 0 (λ value. Some key) own = c.in_ok-put.ensures ∙ ap (λ k. changed_at 0 (λ value. Some k) own) c.in_ok-to_text.ensures in
-    let count : length c.self.inside.places ≡ length c.put.new.self = sym (length-map c.self.inside.places (text_at texts.lent.items texts.made.items)) ∙ ap length c.self.view_is in
+    let first : c.put.new.self ≡ changed_at 0 (λ value. Some key) own = c.in_ok-put.ensures
+    ∙ ap (λ k. changed_at 0 (λ value. Some k) own) c.in_ok-to_text.ensures in
+    let count : length c.self.inside.places ≡ length c.put.new.self = sym (length-map c.self.inside.places (text_at texts.lent.items texts.made.items))
+    ∙ ap length c.self.view_is in
     let past : length c.put.new.self ≤ c.loop-field.field = omega arith in
     rw (c.shrink_to_fit.ensures.items, c.shrink_to_fit-2.ensures.items)
     (c.self-2.view_is
