@@ -30,7 +30,12 @@ goes_on r s t (inl f) (inr g) =
     inr (f.0 ++ g.0, g.1, g.2 ∙ ap (λ l. l ++ (s.pending ++ g.0) ∷ g.1) f.1 ∙ ap (λ l. r.lines ++ l ∷ g.1) (ap (λ l. l ++ g.0) f.2 ∙ twice r.pending f.0 g.0))
 goes_on r s t (inr f) (inl g) = inr (f.0, f.1, g.1 ∙ f.2)
 goes_on r s t (inr f) (inr g) =
-    inr (f.0, f.1 ++ (s.pending ++ g.0) ∷ g.1, g.2 ∙ ap (λ l. l ++ (s.pending ++ g.0) ∷ g.1) f.2 ∙ append_assoc r.lines ((r.pending ++ f.0) ∷ f.1) ((s.pending ++ g.0) ∷ g.1))
+    inr (
+      f.0,
+      f.1 ++ (s.pending ++ g.0) ∷ g.1,
+      g.2 ∙ ap (λ l. l ++ (s.pending ++ g.0) ∷ g.1) f.2
+          ∙ append_assoc r.lines ((r.pending ++ f.0) ∷ f.1) ((s.pending ++ g.0) ∷ g.1),
+    )
 
 pub starts_trans : (r s t : Out) → Starts r s → Starts s t → Starts r t
 starts_trans r s t f g = (goes_on r s t f.0 g.0, begins_trans r.log s.log t.log f.1 g.1)
@@ -39,7 +44,8 @@ starts_trans r s t f g = (goes_on r s t f.0 g.0, begins_trans r.log s.log t.log 
 pub written_begins : (line_length : ℕ) (s t : Out) → 3 ≤ line_length → Grown s t ⊎ Ended s t → IsPrefix (so_far line_length s) (so_far line_length t)
 written_begins line_length s t wide (inl f) = (
   sure_after line_length (left line_length s.pending) f.0,
-  ap (λ lines. written_of line_length lines t.pending) f.1 ∙ ap (λ text. written_of line_length s.lines text) f.2 ∙ written_of-longer line_length s.lines s.pending f.0 wide,
+  ap (λ lines. written_of line_length lines t.pending) f.1 ∙ ap (λ text. written_of line_length s.lines text) f.2
+      ∙ written_of-longer line_length s.lines s.pending f.0 wide,
 )
 written_begins line_length s t wide (inr f) = (
   wrap_after line_length (left line_length s.pending) f.0 ++ written_of line_length f.1 t.pending,

@@ -17,23 +17,29 @@ pub in_step : (old : Work) (budget : ℕ) (c : Outputs) (run : Doing) → FailsW
 in_step old budget c run fails start out h = inr (fails start out h)
 
 -- something failed that takes no step, and that a run without a step does
-pub without_step : (old : Work) (budget : ℕ) (c : Outputs) (run : Doing) (f : State → State) → ((s : State) → Adds (f s) (final_state (run 0 s))) → Fails old c f → FailsInStep old budget c run
+pub without_step : (old : Work) (budget : ℕ) (c : Outputs) (run : Doing) (f : State → State) → ((s : State) → Adds (f s) (final_state (run 0 s)))
+    → Fails old c f → FailsInStep old budget c run
 without_step old budget c run f adds fails start out h =
     let s = state old.store out in
     inl (wider start c out out (f s).out (final_state (run 0 s)).out (starts_self out) (fails start out h) (adds s))
 
 module _ (whole rest next : Doing) (go : ℕ → State → Outcome) (old mid : Work) (c : Outputs) (k left budget : ℕ) (e : left + k ≡ budget)
-    (split : (n : ℕ) (out : Out) → rest n (state mid.store out) ≡ then_do (next n (state mid.store out)) go) (grows : (n : ℕ) (s : State) → Adds s (final_state (go n s))) where
+    (split : (n : ℕ) (out : Out) → rest n (state mid.store out) ≡ then_do (next n (state mid.store out)) go)
+    (grows : (n : ℕ) (s : State) → Adds s (final_state (go n s))) where
   -- with n more steps, the whole run begins with what the next does
-  starts_later : (s t : State) (out : Out) (n m : ℕ) → t ≡ state mid.store out → m ≡ n + k → Reached whole rest k s t → Adds (final_state (next n t)) (final_state (whole m s))
+  starts_later : (s t : State) (out : Out) (n m : ℕ) → t ≡ state mid.store out → m ≡ n + k → Reached whole rest k s t
+      → Adds (final_state (next n t)) (final_state (whole m s))
   starts_later s t out n m is f r =
-      subst (λ o. Adds (final_state (next n t)) (final_state o)) (sym (subst (λ t. rest n t ≡ then_do (next n t) go) (sym is) (split n out)) ∙ r.goes_on n ∙ ap (λ b. whole b s) (sym f))
+      subst (λ o. Adds (final_state (next n t)) (final_state o)) (sym (subst (λ t. rest n t ≡ then_do (next n t) go) (sym is) (split n out)) ∙ r.goes_on n
+      ∙ ap (λ b. whole b s) (sym f))
       (then_appends (final_state (next n t)) (next n t) go (adds_self (final_state (next n t))) grows)
 
-  at_once : (start : Start) (s t : State) (out : Out) (m : ℕ) → m ≡ k → t ≡ state mid.store out → Reached whole rest k s t → Between start c t.out (final_state (next 0 t)).out → m ≤ budget
+  at_once : (start : Start) (s t : State) (out : Out) (m : ℕ) → m ≡ k → t ≡ state mid.store out → Reached whole rest k s t
+      → Between start c t.out (final_state (next 0 t)).out → m ≤ budget
       → Between start c s.out (final_state (whole 0 s)).out ⊎ Within start c budget (λ n. whole n s)
   at_once start s t out zero z is r between le =
-      inl (wider start c s.out t.out (final_state (next 0 t)).out (final_state (whole 0 s)).out r.adds between (starts_later s t out 0 0 is (omega (arith, z)) r))
+      inl (wider start c s.out t.out (final_state (next 0 t)).out (final_state (whole 0 s)).out r.adds between
+      (starts_later s t out 0 0 is (omega (arith, z)) r))
   at_once start s t out (suc m) z is r between le =
       let old = r.before m (sym z) in
       inr (record {
@@ -41,10 +47,12 @@ module _ (whole rest next : Doing) (go : ℕ → State → Outcome) (old mid : W
         fewer = omega (arith, le);
         least = old.least;
         stopped = old.stopped;
-        between = wider start c old.least.out t.out (final_state (next 0 t)).out (final_state (whole (m + 1) s)).out old.starts between (starts_later s t out 0 (m + 1) is (omega (arith, z)) r);
+        between = wider start c old.least.out t.out (final_state (next 0 t)).out (final_state (whole (m + 1) s)).out old.starts between
+            (starts_later s t out 0 (m + 1) is (omega (arith, z)) r);
       })
 
-  later : (start : Start) (s t : State) (out : Out) → t ≡ state mid.store out → Reached whole rest k s t → Between start c t.out (final_state (next 0 t)).out ⊎ Within start c left (λ n. next n t)
+  later : (start : Start) (s t : State) (out : Out) → t ≡ state mid.store out → Reached whole rest k s t → Between start c t.out (final_state (next 0 t)).out
+      ⊎ Within start c left (λ n. next n t)
       → Between start c s.out (final_state (whole 0 s)).out ⊎ Within start c budget (λ n. whole n s)
   later start s t out is r (inl between) = at_once start s t out k refl is r between (omega (arith, e))
   later start s t out is r (inr w) =
@@ -53,8 +61,10 @@ module _ (whole rest next : Doing) (go : ℕ → State → Outcome) (old mid : W
         taken = w.taken + k;
         fewer = omega (arith, w.fewer, e);
         least = w.least;
-        stopped = sym (r.goes_on w.taken) ∙ subst (λ t. rest w.taken t ≡ then_do (next w.taken t) go) (sym is) (split w.taken out) ∙ ap (λ o. then_do o go) w.stopped;
-        between = wider start c w.least.out w.least.out (final_state (next (w.taken + 1) t)).out (final_state (whole (w.taken + k + 1) s)).out (starts_self w.least.out) w.between (starts_later s t out (w.taken + 1) (w.taken + k + 1) is o r);
+        stopped = sym (r.goes_on w.taken) ∙ subst (λ t. rest w.taken t ≡ then_do (next w.taken t) go) (sym is) (split w.taken out)
+            ∙ ap (λ o. then_do o go) w.stopped;
+        between = wider start c w.least.out w.least.out (final_state (next (w.taken + 1) t)).out (final_state (whole (w.taken + k + 1) s)).out
+            (starts_self w.least.out) w.between (starts_later s t out (w.taken + 1) (w.taken + k + 1) is o r);
       })
 
   -- the next piece of work failed

@@ -36,10 +36,14 @@ end_is (ends.Limit kind) t n = refl
 pub not_stopped : ends.Finished ≡ ends.Stopped → ⊥
 not_stopped z = let y : 0 ≡ 1 = ap end_code z in omega (arith, y)
 
-before_as : (whole : Doing) (n : ℕ) (end : Ending) (s0 t : State) (o longer : Outcome) → whole n s0 ≡ o → Tracks 0 1 n o longer → outcome_of end t 0 ≡ longer → StoppedAt whole n s0 t
-before_as whole n end s0 t (Done s c) longer is h e = let z : c + 1 ≡ 0 = sym (ap left_in h.1) ∙ sym (ap left_in e) ∙ none_left end t in absurd (omega (arith, z))
-before_as whole n end s0 t (Stopped s) longer is h e = record { least = s; stopped = is; starts = subst (λ (u : State). Starts s.out u.out) (ap final_state (sym e) ∙ end_is end t 0) h.0 }
-before_as whole n end s0 t (Limit kind s c) longer is h e = let z : c + 1 ≡ 0 = sym (ap left_in h.1) ∙ sym (ap left_in e) ∙ none_left end t in absurd (omega (arith, z))
+before_as : (whole : Doing) (n : ℕ) (end : Ending) (s0 t : State) (o longer : Outcome) → whole n s0 ≡ o → Tracks 0 1 n o longer → outcome_of end t 0 ≡ longer
+    → StoppedAt whole n s0 t
+before_as whole n end s0 t (Done s c) longer is h e = let z : c + 1 ≡ 0 = sym (ap left_in h.1) ∙ sym (ap left_in e) ∙ none_left end t in
+    absurd (omega (arith, z))
+before_as whole n end s0 t (Stopped s) longer is h e =
+    record { least = s; stopped = is; starts = subst (λ (u : State). Starts s.out u.out) (ap final_state (sym e) ∙ end_is end t 0) h.0 }
+before_as whole n end s0 t (Limit kind s c) longer is h e = let z : c + 1 ≡ 0 = sym (ap left_in h.1) ∙ sym (ap left_in e) ∙ none_left end t in
+    absurd (omega (arith, z))
 
 -- a run that took all its steps is stopped with one step less
 pub ended_before : (whole : Doing) (taken : ℕ) (end : Ending) (s t : State) → Lasts 1 whole → outcome_of end t 0 ≡ whole taken s → StoppedBefore whole taken s t
@@ -48,12 +52,14 @@ ended_before whole taken end s t lasts e n is =
     before_as whole n end s t (whole n s) (whole (n + 1) s) refl (lasts n s) (e ∙ ap (λ b. whole b s) (is ∙ z))
 
 -- a piece of work that runs in what remains
-module _ (whole rest next : Doing) (go : ℕ → State → Outcome) (s t : State) (k : ℕ) (r : Reached whole rest k s t) (split : (n : ℕ) → rest n t ≡ then_do (next n t) go) (lasts : Lasts 1 next) (grows : Grows next) where
+module _ (whole rest next : Doing) (go : ℕ → State → Outcome) (s t : State) (k : ℕ) (r : Reached whole rest k s t)
+    (split : (n : ℕ) → rest n t ≡ then_do (next n t) go) (lasts : Lasts 1 next) (grows : Grows next) where
   first_none : (taken : ℕ) (end : Ending) (t' : State) → Runs next taken end t t' → outcome_of end t' 0 ≡ next taken t
   first_none taken end t' runs = let z : 0 + taken ≡ taken = omega arith in runs 0 (λ e. refl) ∙ ap (λ b. next b t) z
 
   pub later_starts : (taken : ℕ) (end : Ending) (t' : State) → Runs next taken end t t' → Starts t.out t'.out
-  later_starts taken end t' runs = subst (λ (u : State). Starts t.out u.out) (ap final_state (sym (first_none taken end t' runs)) ∙ end_is end t' 0) (grows taken t)
+  later_starts taken end t' runs = subst (λ (u : State). Starts t.out u.out) (ap final_state (sym (first_none taken end t' runs)) ∙ end_is end t' 0)
+      (grows taken t)
 
   pub later_before : (taken k' : ℕ) (end : Ending) (t' : State) → k' ≡ k + taken → Runs next taken end t t' → StoppedBefore whole k' s t'
   later_before zero k' end t' e runs n is =
@@ -72,7 +78,8 @@ module _ (whole rest next : Doing) (go : ℕ → State → Outcome) (s t : State
     adds = starts_trans s.out t.out t'.out r.adds (later_starts taken ends.Finished t' runs);
   }
 
-  pub later_ended : (taken k' : ℕ) (end : Ending) (t' : State) → k' ≡ k + taken → (end ≡ ends.Finished → ⊥) → Runs next taken end t t' → RunEnded whole k' end s t'
+  pub later_ended : (taken k' : ℕ) (end : Ending) (t' : State) → k' ≡ k + taken → (end ≡ ends.Finished → ⊥) → Runs next taken end t t'
+      → RunEnded whole k' end s t'
   later_ended taken k' end t' e not runs = record {
     runs = λ n h. let z : n + taken + k ≡ n + k' = omega (arith, e) in
         sym (ends_stay end t' n go not) ∙ ap (λ o. then_do o go) (runs n h) ∙ sym (split (n + taken)) ∙ r.goes_on (n + taken) ∙ ap (λ b. whole b s) z;
@@ -93,20 +100,32 @@ reached_start whole rest work k z same start out h = record {
 }
 
 module _ (whole rest next : Doing) (go : ℕ → State → Outcome) (old mid new : Work) (k taken k' : ℕ) (e : k' ≡ k + taken)
-    (split : (n : ℕ) (out : Out) → rest n (state mid.store out) ≡ then_do (next n (state mid.store out)) go) (lasts : Lasts 1 next) (grows : Grows next) (first : Comes old mid (Reached whole rest k)) where
+    (split : (n : ℕ) (out : Out) → rest n (state mid.store out) ≡ then_do (next n (state mid.store out)) go) (lasts : Lasts 1 next) (grows : Grows next)
+    (first : Comes old mid (Reached whole rest k)) where
   pub reached_on : Comes mid new (Runs next taken ends.Finished) → Comes old new (Reached whole go k')
   reached_on second start out h =
       let l = first start out h in
       let m = second start l.out l.stands in
-      record { out = m.out; stands = m.stands; is = later_reached whole rest next go (state old.store out) (state mid.store l.out) k l.is (λ n. split n l.out) lasts grows taken k' (state new.store m.out) e m.is }
+      record {
+        out = m.out;
+        stands = m.stands;
+        is = later_reached whole rest next go (state old.store out) (state mid.store l.out) k l.is (λ n. split n l.out)
+            lasts grows taken k' (state new.store m.out) e m.is;
+      }
 
   pub reached_ends : (end : Ending) → (end ≡ ends.Finished → ⊥) → Comes mid new (Runs next taken end) → Comes old new (RunEnded whole k' end)
   reached_ends end not second start out h =
       let l = first start out h in
       let m = second start l.out l.stands in
-      record { out = m.out; stands = m.stands; is = later_ended whole rest next go (state old.store out) (state mid.store l.out) k l.is (λ n. split n l.out) lasts grows taken k' end (state new.store m.out) e not m.is }
+      record {
+        out = m.out;
+        stands = m.stands;
+        is = later_ended whole rest next go (state old.store out) (state mid.store l.out) k l.is (λ n. split n l.out)
+            lasts grows taken k' end (state new.store m.out) e not m.is;
+      }
 
-pub reached_all : (whole rest : Doing) (old new : Work) (k : ℕ) → ((n : ℕ) (s : State) → rest n s ≡ Done s n) → Comes old new (Reached whole rest k) → Comes old new (RunEnded whole k ends.Finished)
+pub reached_all : (whole rest : Doing) (old new : Work) (k : ℕ) → ((n : ℕ) (s : State) → rest n s ≡ Done s n) → Comes old new (Reached whole rest k)
+    → Comes old new (RunEnded whole k ends.Finished)
 reached_all whole rest old new k all first start out h =
     let l = first start out h in
     record { out = l.out; stands = l.stands; is = record { runs = λ n z. sym (all n (state new.store l.out)) ∙ l.is.goes_on n; before = l.is.before } }

@@ -6,4 +6,12 @@ use Rattle.btx_machine.specs.laws.WorkedReports.{AreWritten, reports}
 
 pub written : AreWritten reports
 unfolding digits end_word last_line
-written = (refl, refl, (refl, refl, (refl, refl, (refl, refl, (refl, refl, (refl, refl, (refl, refl, (refl, refl, (refl, refl, (refl, refl, (refl, refl, (refl, refl, tt))))))))))))
+written = (
+  refl,
+  refl,
+  (
+    refl,
+    refl,
+    (refl, refl, (refl, refl, (refl, refl, (refl, refl, (refl, refl, (refl, refl, (refl, refl, (refl, refl, (refl, refl, (refl, refl, tt)))))))))),
+  ),
+)

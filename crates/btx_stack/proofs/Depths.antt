@@ -1,5 +1,6 @@
 -- What stands below the top.
-use Rattle.std.proofs.Common.{ℕ, zero, suc, ◌≡◌, ◌≤◌, ◌<◌, ◌+◌, ◌-◌, List, [], ◌∷◌, false, length, take, drop, get_or, Some, None, refl, sym, ap, subst, ◌∙◌, arith, true}
+use Rattle.std.proofs.Common.{ℕ, zero, suc, ◌≡◌, ◌≤◌, ◌<◌, ◌+◌, ◌-◌, List, [], ◌∷◌, false, length, take, drop, get_or, Some, None, refl, sym, ap, subst, ◌∙◌}
+use Rattle.std.proofs.Common.{arith, true}
 use Rattle.std.proofs.lemmas.List.{take_all, take-take, drop_all, drop_more, drop-drop, length-take-le}
 use Rattle.btx_code.specs.refinement.Ops.{callee_of, Runs}
 use Rattle.btx_stack.specs.declared.slot.Kind.{Kind}
@@ -55,33 +56,42 @@ pub record AtDepth (b : Slot) (pool : List ℕ) (end : ℕ) (old : List Content)
   pub low : b.start ≤ end
   pub shown : drop d old ≡ content_of b (drop b.start (take end pool)) ∷ drop (d + 1) old
 
-pub end_above : (slots : List Slot) (top d size : ℕ) (x : Slot) → 0 < d → top + d ≤ length slots → x ≡ get_or slots (top + d - 1) x → x.start ≡ end_of (drop top slots) d size
+pub end_above : (slots : List Slot) (top d size : ℕ) (x : Slot) → 0 < d → top + d ≤ length slots → x ≡ get_or slots (top + d - 1) x
+    → x.start ≡ end_of (drop top slots) d size
 end_above slots top zero size x p l e = absurd (omega (arith, p))
-end_above slots top (suc d) size x p l e = ap (λ (v : Slot). v.start) (e ∙ ap (λ n. get_or slots n x) (omega arith)) ∙ sym (end_is slots top d size x (omega (arith, l)))
+end_above slots top (suc d) size x p l e = ap (λ (v : Slot). v.start) (e ∙ ap (λ n. get_or slots n x) (omega arith))
+    ∙ sym (end_is slots top d size x (omega (arith, l)))
 
 pub end_top : (slots : List Slot) (top d size : ℕ) → d ≡ 0 → size ≡ end_of (drop top slots) d size
 end_top slots top d size e = sym (ap (λ n. end_of (drop top slots) n size) e)
 
-at_depth : (slots : List Slot) (top : ℕ) (b : Slot) (pool : List ℕ) (end : ℕ) (old : List Content) (d : ℕ) → contents_of (drop top slots) pool ≡ old → Stand (drop top slots) (length pool) → top + d < length slots → b ≡ get_or slots (top + d) b → end ≡ end_of (drop top slots) d (length pool) → AtDepth b pool end old d
+at_depth : (slots : List Slot) (top : ℕ) (b : Slot) (pool : List ℕ) (end : ℕ) (old : List Content) (d : ℕ) → contents_of (drop top slots) pool ≡ old
+    → Stand (drop top slots) (length pool) → top + d < length slots → b ≡ get_or slots (top + d) b → end ≡ end_of (drop top slots) d (length pool)
+    → AtDepth b pool end old d
 at_depth slots top b pool end old d o s l e f =
     let u = under (drop top slots) d pool s in
     let here : drop d (drop top slots) ≡ b ∷ drop (top + d + 1) slots = drop-drop d top slots ∙ from_here slots (top + d) b l e in
     let stand : Stand (b ∷ drop (top + d + 1) slots) end = subst (λ vs. Stand vs end) here (subst (Stand (drop d (drop top slots))) (sym f) u.stand) in
     let opened : drop d old ≡ content_of b (drop b.start (take end pool)) ∷ contents_of (drop (top + d + 1) slots) (take b.start (take end pool)) =
-    sym (ap (drop d) o) ∙ (u.shown ∙ (ap (λ n. contents_of (drop d (drop top slots)) (take n pool)) (sym f) ∙ ap (λ vs. contents_of vs (take end pool)) here)) in
+    sym (ap (drop d) o) ∙ (u.shown ∙ (ap (λ n. contents_of (drop d (drop top slots)) (take n pool)) (sym f)
+    ∙ ap (λ vs. contents_of vs (take end pool)) here)) in
     record {
       within = subst (λ n. n ≤ length pool) (sym f) u.within;
       low = stand.0.start;
       shown = rest_is old (contents_of (drop (top + d + 1) slots) (take b.start (take end pool))) (content_of b (drop b.start (take end pool))) d opened;
     }
 
-pub depth_within : (slots : List Slot) (top : ℕ) (pool : List ℕ) (end d : ℕ) → Stand (drop top slots) (length pool) → end ≡ end_of (drop top slots) d (length pool) → end ≤ length pool
+pub depth_within : (slots : List Slot) (top : ℕ) (pool : List ℕ) (end d : ℕ) → Stand (drop top slots) (length pool)
+    → end ≡ end_of (drop top slots) d (length pool) → end ≤ length pool
 depth_within slots top pool end d s f = subst (λ n. n ≤ length pool) (sym f) (under (drop top slots) d pool s).within
 
-pub depth_low : (slots : List Slot) (top : ℕ) (b : Slot) (pool : List ℕ) (end : ℕ) (old : List Content) (d : ℕ) → contents_of (drop top slots) pool ≡ old → Stand (drop top slots) (length pool) → top + d < length slots → b ≡ get_or slots (top + d) b → end ≡ end_of (drop top slots) d (length pool) → b.start ≤ end
+pub depth_low : (slots : List Slot) (top : ℕ) (b : Slot) (pool : List ℕ) (end : ℕ) (old : List Content) (d : ℕ) → contents_of (drop top slots) pool ≡ old
+    → Stand (drop top slots) (length pool) → top + d < length slots → b ≡ get_or slots (top + d) b → end ≡ end_of (drop top slots) d (length pool)
+    → b.start ≤ end
 depth_low slots top b pool end old d o s l e f = (at_depth slots top b pool end old d o s l e f).low
 
-pub depth_text : (slots : List Slot) (top : ℕ) (b : Slot) (pool text : List ℕ) (end : ℕ) (old : List Content) (d : ℕ) → contents_of (drop top slots) pool ≡ old → Stand (drop top slots) (length pool) → top + d < length slots → b ≡ get_or slots (top + d) b → end ≡ end_of (drop top slots) d (length pool) →
+pub depth_text : (slots : List Slot) (top : ℕ) (b : Slot) (pool text : List ℕ) (end : ℕ) (old : List Content) (d : ℕ) → contents_of (drop top slots) pool ≡ old
+    → Stand (drop top slots) (length pool) → top + d < length slots → b ≡ get_or slots (top + d) b → end ≡ end_of (drop top slots) d (length pool) →
     content.Text text ≡ content_of b (drop b.start (take end pool)) → drop d old ≡ content.Text text ∷ drop (d + 1) old
 depth_text slots top b pool text end old d o s l e f g = (at_depth slots top b pool end old d o s l e f).shown ∙ ap (λ x. x ∷ drop (d + 1) old) (sym g)
 
@@ -93,7 +103,8 @@ text_as kind.Lent v made = refl
 text_as kind.Made v made = refl
 text_as kind.Large v made = refl
 
-pub depth_kind : (slots : List Slot) (top : ℕ) (b : Slot) (pool : List ℕ) (old : List Content) (d : ℕ) → contents_of (drop top slots) pool ≡ old → Stand (drop top slots) (length pool) → top + d < length slots → b ≡ get_or slots (top + d) b → is_text_kind b.kind ≡ has_text (drop d old)
+pub depth_kind : (slots : List Slot) (top : ℕ) (b : Slot) (pool : List ℕ) (old : List Content) (d : ℕ) → contents_of (drop top slots) pool ≡ old
+    → Stand (drop top slots) (length pool) → top + d < length slots → b ≡ get_or slots (top + d) b → is_text_kind b.kind ≡ has_text (drop d old)
 depth_kind slots top b pool old d o s l e =
     let end = end_of (drop top slots) d (length pool) in
     sym (ap has_text (at_depth slots top b pool end old d o s l e refl).shown ∙ text_as b.kind b (drop b.start (take end pool)))
@@ -101,28 +112,35 @@ depth_kind slots top b pool old d o s l e =
 large_kind : (k : Kind) (v : Slot) (made : List ℕ) (xs : List Content) → k ≡ kind.Large → large_on (content_as k v made ∷ xs) ≡ Some v.number
 large_kind k v made xs e = ap (λ j. large_on (content_as j v made ∷ xs)) e
 
-pub depth_large : (slots : List Slot) (top : ℕ) (b : Slot) (pool : List ℕ) (old : List Content) (d : ℕ) → contents_of (drop top slots) pool ≡ old → Stand (drop top slots) (length pool) → top + d < length slots → b ≡ get_or slots (top + d) b → b.kind ≡ kind.Large → Some b.number ≡ large_on (drop d old)
+pub depth_large : (slots : List Slot) (top : ℕ) (b : Slot) (pool : List ℕ) (old : List Content) (d : ℕ) → contents_of (drop top slots) pool ≡ old
+    → Stand (drop top slots) (length pool) → top + d < length slots → b ≡ get_or slots (top + d) b → b.kind ≡ kind.Large → Some b.number ≡ large_on (drop d old)
 depth_large slots top b pool old d o s l e k =
     let end = end_of (drop top slots) d (length pool) in
     sym (ap large_on (at_depth slots top b pool end old d o s l e refl).shown ∙ large_kind b.kind b _ _ k)
 
-pub depth_no_large : (slots : List Slot) (top : ℕ) (b : Slot) (pool : List ℕ) (old : List Content) (d : ℕ) → contents_of (drop top slots) pool ≡ old → Stand (drop top slots) (length pool) → top + d < length slots → b ≡ get_or slots (top + d) b → (b.kind ≡ kind.Large → ⊥) → None ≡ large_on (drop d old)
+pub depth_no_large : (slots : List Slot) (top : ℕ) (b : Slot) (pool : List ℕ) (old : List Content) (d : ℕ) → contents_of (drop top slots) pool ≡ old
+    → Stand (drop top slots) (length pool) → top + d < length slots → b ≡ get_or slots (top + d) b → (b.kind ≡ kind.Large → ⊥) → None ≡ large_on (drop d old)
 depth_no_large slots top b pool old d o s l e k =
     let end = end_of (drop top slots) d (length pool) in
     sym (ap large_on (at_depth slots top b pool end old d o s l e refl).shown ∙ no_large_kind b.kind b _ _ k)
 
 -- below the last one
-none_there : (slots : List Slot) (top : ℕ) (pool : List ℕ) (old : List Content) (d : ℕ) → contents_of (drop top slots) pool ≡ old → length slots ≡ 1000 → 1000 - top ≤ d → drop d old ≡ []
+none_there : (slots : List Slot) (top : ℕ) (pool : List ℕ) (old : List Content) (d : ℕ) → contents_of (drop top slots) pool ≡ old → length slots ≡ 1000
+    → 1000 - top ≤ d → drop d old ≡ []
 none_there slots top pool old d o l h = drop_all d old (omega (arith, h, count_is slots top pool old o l))
 
-pub no_text_there : (slots : List Slot) (top : ℕ) (pool : List ℕ) (old : List Content) (d : ℕ) → contents_of (drop top slots) pool ≡ old → length slots ≡ 1000 → 1000 - top ≤ d → has_text (drop d old) ≡ false
+pub no_text_there : (slots : List Slot) (top : ℕ) (pool : List ℕ) (old : List Content) (d : ℕ) → contents_of (drop top slots) pool ≡ old → length slots ≡ 1000
+    → 1000 - top ≤ d → has_text (drop d old) ≡ false
 no_text_there slots top pool old d o l h = ap has_text (none_there slots top pool old d o l h)
 
-pub no_large_there : (slots : List Slot) (top : ℕ) (pool : List ℕ) (old : List Content) (d : ℕ) → contents_of (drop top slots) pool ≡ old → length slots ≡ 1000 → 1000 - top ≤ d → None ≡ large_on (drop d old)
+pub no_large_there : (slots : List Slot) (top : ℕ) (pool : List ℕ) (old : List Content) (d : ℕ) → contents_of (drop top slots) pool ≡ old → length slots ≡ 1000
+    → 1000 - top ≤ d → None ≡ large_on (drop d old)
 no_large_there slots top pool old d o l h = sym (ap large_on (none_there slots top pool old d o l h))
 
 -- a function of the contents from a depth on, by the slot at that depth
-at_kind : {X : Type 0} (f : List Content → X) (slots : List Slot) (top : ℕ) (b : Slot) (pool : List ℕ) (old : List Content) (d : ℕ) → contents_of (drop top slots) pool ≡ old → Stand (drop top slots) (length pool) → top + d < length slots → b ≡ get_or slots (top + d) b → f (drop d old) ≡ f (content_as b.kind b (drop b.start (take (end_of (drop top slots) d (length pool)) pool)) ∷ drop (d + 1) old)
+at_kind : {X : Type 0} (f : List Content → X) (slots : List Slot) (top : ℕ) (b : Slot) (pool : List ℕ) (old : List Content) (d : ℕ)
+    → contents_of (drop top slots) pool ≡ old → Stand (drop top slots) (length pool) → top + d < length slots → b ≡ get_or slots (top + d) b
+    → f (drop d old) ≡ f (content_as b.kind b (drop b.start (take (end_of (drop top slots) d (length pool)) pool)) ∷ drop (d + 1) old)
 at_kind f slots top b pool old d o s l e = ap f (at_depth slots top b pool (end_of (drop top slots) d (length pool)) old d o s l e refl).shown
 
 -- integer_on
@@ -137,13 +155,18 @@ no_integer_kind kind.Lent v made xs n = refl
 no_integer_kind kind.Made v made xs n = refl
 no_integer_kind kind.Large v made xs n = refl
 
-pub depth_integer : (slots : List Slot) (top : ℕ) (b : Slot) (pool : List ℕ) (old : List Content) (d : ℕ) → contents_of (drop top slots) pool ≡ old → Stand (drop top slots) (length pool) → top + d < length slots → b ≡ get_or slots (top + d) b → b.kind ≡ kind.Integer → Some b.integer ≡ integer_on (drop d old)
+pub depth_integer : (slots : List Slot) (top : ℕ) (b : Slot) (pool : List ℕ) (old : List Content) (d : ℕ) → contents_of (drop top slots) pool ≡ old
+    → Stand (drop top slots) (length pool) → top + d < length slots → b ≡ get_or slots (top + d) b → b.kind ≡ kind.Integer
+    → Some b.integer ≡ integer_on (drop d old)
 depth_integer slots top b pool old d o s l e k = sym (at_kind integer_on slots top b pool old d o s l e ∙ integer_kind b.kind b _ _ k)
 
-pub depth_no_integer : (slots : List Slot) (top : ℕ) (b : Slot) (pool : List ℕ) (old : List Content) (d : ℕ) → contents_of (drop top slots) pool ≡ old → Stand (drop top slots) (length pool) → top + d < length slots → b ≡ get_or slots (top + d) b → (b.kind ≡ kind.Integer → ⊥) → None ≡ integer_on (drop d old)
+pub depth_no_integer : (slots : List Slot) (top : ℕ) (b : Slot) (pool : List ℕ) (old : List Content) (d : ℕ) → contents_of (drop top slots) pool ≡ old
+    → Stand (drop top slots) (length pool) → top + d < length slots → b ≡ get_or slots (top + d) b → (b.kind ≡ kind.Integer → ⊥)
+    → None ≡ integer_on (drop d old)
 depth_no_integer slots top b pool old d o s l e k = sym (at_kind integer_on slots top b pool old d o s l e ∙ no_integer_kind b.kind b _ _ k)
 
-pub no_integer_there : (slots : List Slot) (top : ℕ) (pool : List ℕ) (old : List Content) (d : ℕ) → contents_of (drop top slots) pool ≡ old → length slots ≡ 1000 → 1000 - top ≤ d → None ≡ integer_on (drop d old)
+pub no_integer_there : (slots : List Slot) (top : ℕ) (pool : List ℕ) (old : List Content) (d : ℕ) → contents_of (drop top slots) pool ≡ old
+    → length slots ≡ 1000 → 1000 - top ≤ d → None ≡ integer_on (drop d old)
 no_integer_there slots top pool old d o l h = sym (ap integer_on (none_there slots top pool old d o l h))
 
 -- has_function
@@ -158,13 +181,17 @@ no_function_kind kind.Lent v made xs n = refl
 no_function_kind kind.Made v made xs n = refl
 no_function_kind kind.Large v made xs n = refl
 
-pub depth_has_function : (slots : List Slot) (top : ℕ) (b : Slot) (pool : List ℕ) (old : List Content) (d : ℕ) → contents_of (drop top slots) pool ≡ old → Stand (drop top slots) (length pool) → top + d < length slots → b ≡ get_or slots (top + d) b → b.kind ≡ kind.Function → true ≡ has_function (drop d old)
+pub depth_has_function : (slots : List Slot) (top : ℕ) (b : Slot) (pool : List ℕ) (old : List Content) (d : ℕ) → contents_of (drop top slots) pool ≡ old
+    → Stand (drop top slots) (length pool) → top + d < length slots → b ≡ get_or slots (top + d) b → b.kind ≡ kind.Function → true ≡ has_function (drop d old)
 depth_has_function slots top b pool old d o s l e k = sym (at_kind has_function slots top b pool old d o s l e ∙ function_kind b.kind b _ _ k)
 
-pub depth_no_function : (slots : List Slot) (top : ℕ) (b : Slot) (pool : List ℕ) (old : List Content) (d : ℕ) → contents_of (drop top slots) pool ≡ old → Stand (drop top slots) (length pool) → top + d < length slots → b ≡ get_or slots (top + d) b → (b.kind ≡ kind.Function → ⊥) → false ≡ has_function (drop d old)
+pub depth_no_function : (slots : List Slot) (top : ℕ) (b : Slot) (pool : List ℕ) (old : List Content) (d : ℕ) → contents_of (drop top slots) pool ≡ old
+    → Stand (drop top slots) (length pool) → top + d < length slots → b ≡ get_or slots (top + d) b → (b.kind ≡ kind.Function → ⊥)
+    → false ≡ has_function (drop d old)
 depth_no_function slots top b pool old d o s l e k = sym (at_kind has_function slots top b pool old d o s l e ∙ no_function_kind b.kind b _ _ k)
 
-pub no_function_there : (slots : List Slot) (top : ℕ) (pool : List ℕ) (old : List Content) (d : ℕ) → contents_of (drop top slots) pool ≡ old → length slots ≡ 1000 → 1000 - top ≤ d → false ≡ has_function (drop d old)
+pub no_function_there : (slots : List Slot) (top : ℕ) (pool : List ℕ) (old : List Content) (d : ℕ) → contents_of (drop top slots) pool ≡ old
+    → length slots ≡ 1000 → 1000 - top ≤ d → false ≡ has_function (drop d old)
 no_function_there slots top pool old d o l h = sym (ap has_function (none_there slots top pool old d o l h))
 
 -- has_missing
@@ -179,22 +206,29 @@ no_missing_kind kind.Lent v made xs n = refl
 no_missing_kind kind.Made v made xs n = refl
 no_missing_kind kind.Large v made xs n = refl
 
-pub depth_missing : (slots : List Slot) (top : ℕ) (b : Slot) (pool : List ℕ) (old : List Content) (d : ℕ) → contents_of (drop top slots) pool ≡ old → Stand (drop top slots) (length pool) → top + d < length slots → b ≡ get_or slots (top + d) b → b.kind ≡ kind.Missing → true ≡ has_missing (drop d old)
+pub depth_missing : (slots : List Slot) (top : ℕ) (b : Slot) (pool : List ℕ) (old : List Content) (d : ℕ) → contents_of (drop top slots) pool ≡ old
+    → Stand (drop top slots) (length pool) → top + d < length slots → b ≡ get_or slots (top + d) b → b.kind ≡ kind.Missing → true ≡ has_missing (drop d old)
 depth_missing slots top b pool old d o s l e k = sym (at_kind has_missing slots top b pool old d o s l e ∙ missing_kind b.kind b _ _ k)
 
-pub depth_no_missing : (slots : List Slot) (top : ℕ) (b : Slot) (pool : List ℕ) (old : List Content) (d : ℕ) → contents_of (drop top slots) pool ≡ old → Stand (drop top slots) (length pool) → top + d < length slots → b ≡ get_or slots (top + d) b → (b.kind ≡ kind.Missing → ⊥) → false ≡ has_missing (drop d old)
+pub depth_no_missing : (slots : List Slot) (top : ℕ) (b : Slot) (pool : List ℕ) (old : List Content) (d : ℕ) → contents_of (drop top slots) pool ≡ old
+    → Stand (drop top slots) (length pool) → top + d < length slots → b ≡ get_or slots (top + d) b → (b.kind ≡ kind.Missing → ⊥)
+    → false ≡ has_missing (drop d old)
 depth_no_missing slots top b pool old d o s l e k = sym (at_kind has_missing slots top b pool old d o s l e ∙ no_missing_kind b.kind b _ _ k)
 
-pub no_missing_there : (slots : List Slot) (top : ℕ) (pool : List ℕ) (old : List Content) (d : ℕ) → contents_of (drop top slots) pool ≡ old → length slots ≡ 1000 → 1000 - top ≤ d → false ≡ has_missing (drop d old)
+pub no_missing_there : (slots : List Slot) (top : ℕ) (pool : List ℕ) (old : List Content) (d : ℕ) → contents_of (drop top slots) pool ≡ old
+    → length slots ≡ 1000 → 1000 - top ≤ d → false ≡ has_missing (drop d old)
 no_missing_there slots top pool old d o l h = sym (ap has_missing (none_there slots top pool old d o l h))
 
-pub depth_function : (slots : List Slot) (top : ℕ) (b : Slot) (pool : List ℕ) (old : List Content) (d : ℕ) → contents_of (drop top slots) pool ≡ old → Stand (drop top slots) (length pool) → top + d < length slots → b ≡ get_or slots (top + d) b → b.kind ≡ kind.Function → drop d old ≡ content.Function (callee_of b.op b.number) ∷ drop (d + 1) old
+pub depth_function : (slots : List Slot) (top : ℕ) (b : Slot) (pool : List ℕ) (old : List Content) (d : ℕ) → contents_of (drop top slots) pool ≡ old
+    → Stand (drop top slots) (length pool) → top + d < length slots → b ≡ get_or slots (top + d) b → b.kind ≡ kind.Function
+    → drop d old ≡ content.Function (callee_of b.op b.number) ∷ drop (d + 1) old
 depth_function slots top b pool old d o s l e k =
     let end = end_of (drop top slots) d (length pool) in
     (at_depth slots top b pool end old d o s l e refl).shown ∙ ap (λ j. content_as j b (drop b.start (take end pool)) ∷ drop (d + 1) old) k
 
 -- a function has an op that runs it
-pub depth_runs : (slots : List Slot) (top : ℕ) (b : Slot) (pool : List ℕ) (d : ℕ) → Stand (drop top slots) (length pool) → top + d < length slots → b ≡ get_or slots (top + d) b → b.kind ≡ kind.Function → Runs b.op
+pub depth_runs : (slots : List Slot) (top : ℕ) (b : Slot) (pool : List ℕ) (d : ℕ) → Stand (drop top slots) (length pool) → top + d < length slots
+    → b ≡ get_or slots (top + d) b → b.kind ≡ kind.Function → Runs b.op
 depth_runs slots top b pool d s l e k =
     let end = end_of (drop top slots) d (length pool) in
     let here : drop d (drop top slots) ≡ b ∷ drop (top + d + 1) slots = drop-drop d top slots ∙ from_here slots (top + d) b l e in

@@ -12,7 +12,8 @@ two_of f [] l = refl
 two_of f (x ∷ []) l = refl
 two_of f (x ∷ y ∷ xs) l = absurd (omega arith)
 
-pub fewer_than_two : (f : Content → Content → List Content → Option (List Content)) (slots : List Slot) (top : ℕ) (pool : List ℕ) (old : List Content) → contents_of (drop top slots) pool ≡ old → length slots ≡ 1000 → 999 ≤ top → on_two f old ≡ None
+pub fewer_than_two : (f : Content → Content → List Content → Option (List Content)) (slots : List Slot) (top : ℕ) (pool : List ℕ) (old : List Content)
+    → contents_of (drop top slots) pool ≡ old → length slots ≡ 1000 → 999 ≤ top → on_two f old ≡ None
 fewer_than_two f slots top pool old o l t = two_of f old (omega (arith, count_is slots top pool old o l))
 
 none_either : (b : Bool) (y : Option (List Content)) → y ≡ None → cond b None y ≡ None
@@ -23,5 +24,6 @@ full_again : (old : List Content) → 1000 ≤ length old → duplicated old ≡
 full_again [] l = refl
 full_again (x ∷ xs) l = none_either (is_large x) (with_pushed x (x ∷ xs)) (sym (cond_above (length (x ∷ xs)) 1000 (Some (x ∷ x ∷ xs)) None None l refl))
 
-pub no_room_again : (slots : List Slot) (top : ℕ) (pool : List ℕ) (old : List Content) → contents_of (drop top slots) pool ≡ old → length slots ≡ 1000 → top ≡ 0 → duplicated old ≡ None
+pub no_room_again : (slots : List Slot) (top : ℕ) (pool : List ℕ) (old : List Content) → contents_of (drop top slots) pool ≡ old → length slots ≡ 1000 → top ≡ 0
+    → duplicated old ≡ None
 no_room_again slots top pool old o l t = full_again old (omega (arith, count_is slots top pool old o l))

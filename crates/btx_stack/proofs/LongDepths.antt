@@ -1,5 +1,6 @@
 -- Long strings below the top.
-use Rattle.std.proofs.Common.{ℕ, zero, suc, ◌≡◌, ◌≤◌, ◌<◌, ◌+◌, List, [], ◌∷◌, true, false, length, take, drop, get_or, Some, None, refl, sym, ap, subst, ◌∙◌, arith}
+use Rattle.std.proofs.Common.{ℕ, zero, suc, ◌≡◌, ◌≤◌, ◌<◌, ◌+◌, List, [], ◌∷◌, true, false, length, take, drop, get_or, Some, None, refl, sym, ap, subst, ◌∙◌}
+use Rattle.std.proofs.Common.{arith}
 use Rattle.std.proofs.lemmas.List.{take_all, take-take, length-take-le, get_or-take, get_or_default}
 use Rattle.btx_stack.specs.refinement.Content.{Content}
 use Rattle.btx_stack.specs.refinement.Content as content
@@ -39,10 +40,12 @@ under (content.Large i ∷ xs) large (suc d) o =
       shown = u.shown ∙ ap (filled (drop d xs)) (take-take u.count i large few);
     }
 
-pub deep_text : (old : List Content) (large : List (List ℕ)) (was : List Literal) (d : ℕ) (text : List ℕ) → drop d old ≡ content.Text text ∷ drop (d + 1) old → filled old large ≡ was → Owns old (length large) → drop d was ≡ literal.Text text ∷ drop (d + 1) was
+pub deep_text : (old : List Content) (large : List (List ℕ)) (was : List Literal) (d : ℕ) (text : List ℕ) → drop d old ≡ content.Text text ∷ drop (d + 1) old
+    → filled old large ≡ was → Owns old (length large) → drop d was ≡ literal.Text text ∷ drop (d + 1) was
 deep_text old large was d text e o w =
     let u = under old large d w in
-    rest_is was (filled (drop (d + 1) old) (take u.count large)) (literal.Text text) d (sym (ap (drop d) o) ∙ (u.shown ∙ ap (λ xs. filled xs (take u.count large)) e))
+    rest_is was (filled (drop (d + 1) old) (take u.count large)) (literal.Text text) d
+    (sym (ap (drop d) o) ∙ (u.shown ∙ ap (λ xs. filled xs (take u.count large)) e))
 
 -- a long string of a depth is the last one up to there
 opened : (xs : List Content) (i : ℕ) → large_on xs ≡ Some i → xs ≡ content.Large i ∷ steps.below_top xs
@@ -56,7 +59,8 @@ opened (content.Large j ∷ xs) i e = let s : j ≡ i = cc in ap (λ k. content.
 pub deep_within : (old : List Content) (large : List (List ℕ)) (d i : ℕ) → large_on (drop d old) ≡ Some i → Owns old (length large) → i < length large
 deep_within old large d i e w = let u = under old large d w in omega (arith, u.few, large_within (drop d old) u.count i e u.owns)
 
-deep_large : (old : List Content) (large : List (List ℕ)) (was : List Literal) (d i : ℕ) (text : List ℕ) → large_on (drop d old) ≡ Some i → filled old large ≡ was → Owns old (length large) → text ≡ get_or large i [] → drop d was ≡ literal.Text text ∷ drop (d + 1) was
+deep_large : (old : List Content) (large : List (List ℕ)) (was : List Literal) (d i : ℕ) (text : List ℕ) → large_on (drop d old) ≡ Some i
+    → filled old large ≡ was → Owns old (length large) → text ≡ get_or large i [] → drop d was ≡ literal.Text text ∷ drop (d + 1) was
 deep_large old large was d i text e o w g =
     let u = under old large d w in
     let below = steps.below_top (drop d old) in
@@ -65,16 +69,20 @@ deep_large old large was d i text e o w g =
     rest_is was (filled below (take i front)) (literal.Text text) d
     (sym (ap (drop d) o) ∙ (u.shown ∙ (ap (λ xs. filled xs front) (opened (drop d old) i e) ∙ ap (λ t. literal.Text t ∷ filled below (take i front)) read)))
 
-pub deep_long : (old : List Content) (large : List (List ℕ)) (was : List Literal) (d i : ℕ) (text item : List ℕ) → large_on (drop d old) ≡ Some i → filled old large ≡ was → Owns old (length large) → text ≡ item → item ≡ get_or large i item → drop d was ≡ literal.Text text ∷ drop (d + 1) was
-deep_long old large was d i text item e o w t g = deep_large old large was d i text e o w (t ∙ (g ∙ get_or_default large i item [] (deep_within old large d i e w)))
+pub deep_long : (old : List Content) (large : List (List ℕ)) (was : List Literal) (d i : ℕ) (text item : List ℕ) → large_on (drop d old) ≡ Some i
+    → filled old large ≡ was → Owns old (length large) → text ≡ item → item ≡ get_or large i item → drop d was ≡ literal.Text text ∷ drop (d + 1) was
+deep_long old large was d i text item e o w t g =
+    deep_large old large was d i text e o w (t ∙ (g ∙ get_or_default large i item [] (deep_within old large d i e w)))
 
 deep_some : (was below : List Literal) (d : ℕ) (text : List ℕ) → drop d was ≡ literal.Text text ∷ below → true ≡ has_text (drop d was)
 deep_some was below d text e = sym (ap has_text e)
 
-pub deep_large_some : (old : List Content) (large : List (List ℕ)) (was : List Literal) (d i : ℕ) → large_on (drop d old) ≡ Some i → filled old large ≡ was → Owns old (length large) → true ≡ has_text (drop d was)
+pub deep_large_some : (old : List Content) (large : List (List ℕ)) (was : List Literal) (d i : ℕ) → large_on (drop d old) ≡ Some i → filled old large ≡ was
+    → Owns old (length large) → true ≡ has_text (drop d was)
 deep_large_some old large was d i e o w = deep_some was (drop (d + 1) was) d (get_or large i []) (deep_large old large was d i (get_or large i []) e o w refl)
 
-pub deep_none : (old : List Content) (large : List (List ℕ)) (was : List Literal) (d : ℕ) → steps.has_text (drop d old) ≡ false → large_on (drop d old) ≡ None → filled old large ≡ was → Owns old (length large) → has_text (drop d was) ≡ false
+pub deep_none : (old : List Content) (large : List (List ℕ)) (was : List Literal) (d : ℕ) → steps.has_text (drop d old) ≡ false → large_on (drop d old) ≡ None
+    → filled old large ≡ was → Owns old (length large) → has_text (drop d was) ≡ false
 deep_none old large was d e f o w =
     let u = under old large d w in
     no_text (drop d old) (take u.count large) (drop d was) e f (sym (sym (ap (drop d) o) ∙ u.shown))
@@ -87,7 +95,8 @@ integer_filled (content.Function f ∷ xs) large = refl
 integer_filled (content.Missing ∷ xs) large = refl
 integer_filled (content.Large i ∷ xs) large = refl
 
-pub deep_integer : (old : List Content) (large : List (List ℕ)) (was : List Literal) (d : ℕ) → filled old large ≡ was → Owns old (length large) → steps.integer_on (drop d old) ≡ stacks.integer_on (drop d was)
+pub deep_integer : (old : List Content) (large : List (List ℕ)) (was : List Literal) (d : ℕ) → filled old large ≡ was → Owns old (length large)
+    → steps.integer_on (drop d old) ≡ stacks.integer_on (drop d was)
 deep_integer old large was d o w =
     let u = under old large d w in
     integer_filled (drop d old) (take u.count large) ∙ ap stacks.integer_on (sym (sym (ap (drop d) o) ∙ u.shown))
@@ -100,7 +109,8 @@ has_function_filled (content.Function f ∷ xs) large = refl
 has_function_filled (content.Missing ∷ xs) large = refl
 has_function_filled (content.Large i ∷ xs) large = refl
 
-pub deep_has_function : (old : List Content) (large : List (List ℕ)) (was : List Literal) (d : ℕ) → filled old large ≡ was → Owns old (length large) → steps.has_function (drop d old) ≡ stacks.has_function (drop d was)
+pub deep_has_function : (old : List Content) (large : List (List ℕ)) (was : List Literal) (d : ℕ) → filled old large ≡ was → Owns old (length large)
+    → steps.has_function (drop d old) ≡ stacks.has_function (drop d was)
 deep_has_function old large was d o w =
     let u = under old large d w in
     has_function_filled (drop d old) (take u.count large) ∙ ap stacks.has_function (sym (sym (ap (drop d) o) ∙ u.shown))
@@ -113,12 +123,15 @@ missing_filled (content.Function f ∷ xs) large = refl
 missing_filled (content.Missing ∷ xs) large = refl
 missing_filled (content.Large i ∷ xs) large = refl
 
-pub deep_missing : (old : List Content) (large : List (List ℕ)) (was : List Literal) (d : ℕ) → filled old large ≡ was → Owns old (length large) → steps.has_missing (drop d old) ≡ stacks.has_missing (drop d was)
+pub deep_missing : (old : List Content) (large : List (List ℕ)) (was : List Literal) (d : ℕ) → filled old large ≡ was → Owns old (length large)
+    → steps.has_missing (drop d old) ≡ stacks.has_missing (drop d was)
 deep_missing old large was d o w =
     let u = under old large d w in
     missing_filled (drop d old) (take u.count large) ∙ ap stacks.has_missing (sym (sym (ap (drop d) o) ∙ u.shown))
 
-pub deep_function : (old : List Content) (large : List (List ℕ)) (was : List Literal) (d : ℕ) (f : Callee) → drop d old ≡ content.Function f ∷ drop (d + 1) old → filled old large ≡ was → Owns old (length large) → drop d was ≡ literal.Function f ∷ drop (d + 1) was
+pub deep_function : (old : List Content) (large : List (List ℕ)) (was : List Literal) (d : ℕ) (f : Callee) → drop d old ≡ content.Function f ∷ drop (d + 1) old
+    → filled old large ≡ was → Owns old (length large) → drop d was ≡ literal.Function f ∷ drop (d + 1) was
 deep_function old large was d f e o w =
     let u = under old large d w in
-    rest_is was (filled (drop (d + 1) old) (take u.count large)) (literal.Function f) d (sym (ap (drop d) o) ∙ (u.shown ∙ ap (λ xs. filled xs (take u.count large)) e))
+    rest_is was (filled (drop (d + 1) old) (take u.count large)) (literal.Function f) d
+    (sym (ap (drop d) o) ∙ (u.shown ∙ ap (λ xs. filled xs (take u.count large)) e))

@@ -1,5 +1,6 @@
 -- The literals, from what the slots hold and the long strings.
-use Rattle.std.proofs.Common.{ℕ, ◌≡◌, ◌≤◌, ◌<◌, ◌+◌, ◌^◌, suc, Bool, true, false, cond, List, [], ◌∷◌, ◌++◌, length, take, Option, Some, None, refl, sym, ap, subst, ◌∙◌, arith}
+use Rattle.std.proofs.Common.{ℕ, ◌≡◌, ◌≤◌, ◌<◌, ◌+◌, ◌^◌, suc, Bool, true, false, cond, List, [], ◌∷◌, ◌++◌, length, take, Option, Some, None, refl, sym, ap}
+use Rattle.std.proofs.Common.{subst, ◌∙◌, arith}
 use Rattle.std.specs.Prelude.{nat_lt, nat_le, IsTrue}
 use Rattle.std.proofs.lemmas.Bool.Decides.{nat_tests}
 use Rattle.std.proofs.lemmas.List.{take_at, length-append}
@@ -48,7 +49,8 @@ owns_off content.Missing xs n p o = o
 owns_off (content.Large i) xs n p o = cc
 
 filled_plain : (x : Content) (xs : List Content) (large : List (List ℕ)) → is_large x ≡ false → filled (x ∷ xs) large ≡ shown_literal x [] ∷ filled xs large
-filled_plain x xs large p = ap (λ y. y ∷ filled xs (before x large)) (plain_shown x large p) ∙ ap (λ ys. shown_literal x [] ∷ filled xs ys) (plain_before x large p)
+filled_plain x xs large p = ap (λ y. y ∷ filled xs (before x large)) (plain_shown x large p)
+    ∙ ap (λ ys. shown_literal x [] ∷ filled xs ys) (plain_before x large p)
 
 -- a test that was passed
 pub record Passed (b : Bool) (old new : List Content) : Type 0 where
@@ -90,15 +92,18 @@ longer : (n : ℕ) → nat_le n 1024 ≡ true → nat_le n 1000000 ≡ true
 longer n e = grind (arith, nat_tests)
 
 -- pushes
-push_same : (r : Bool) (x : Content) (old new : List Content) (large : List (List ℕ)) → is_large x ≡ false → Steps r old (with_pushed x old) new → Pushes r (shown_literal x []) (filled old large) (filled new large)
+push_same : (r : Bool) (x : Content) (old new : List Content) (large : List (List ℕ)) → is_large x ≡ false → Steps r old (with_pushed x old) new
+    → Pushes r (shown_literal x []) (filled old large) (filled new large)
 push_same true x old new large p e =
     let was = passed (nat_lt (length old) 1000) (x ∷ old) new e in
     (ap (λ xs. filled xs large) (sym was.same) ∙ filled_plain x old large p, omega (arith, length_filled old large, below_limit (length old) was.test))
 push_same false x old new large p e =
     (ap (λ xs. filled xs large) e.0, omega (arith, length_filled old large, at_limit (length old) (failed (nat_lt (length old) 1000) (x ∷ old) e.1)))
 
-pub push_plain : (r : Bool) (x : Content) (old new : List Content) (large : List (List ℕ)) (was : List Literal) (y : Literal) → Steps r old (with_pushed x old) new → filled old large ≡ was → is_large x ≡ false → shown_literal x [] ≡ y → Pushes r y was (filled new large)
-push_plain r x old new large was y e o p s = subst (λ z. Pushes r z was (filled new large)) s (subst (λ xs. Pushes r (shown_literal x []) xs (filled new large)) o (push_same r x old new large p e))
+pub push_plain : (r : Bool) (x : Content) (old new : List Content) (large : List (List ℕ)) (was : List Literal) (y : Literal)
+    → Steps r old (with_pushed x old) new → filled old large ≡ was → is_large x ≡ false → shown_literal x [] ≡ y → Pushes r y was (filled new large)
+push_plain r x old new large was y e o p s =
+    subst (λ z. Pushes r z was (filled new large)) s (subst (λ xs. Pushes r (shown_literal x []) xs (filled new large)) o (push_same r x old new large p e))
 
 pub push_owns : (r : Bool) (x : Content) (old new : List Content) (n : ℕ) → is_large x ≡ false → Steps r old (with_pushed x old) new → Owns old n → Owns new n
 push_owns true x old new n p e o =
@@ -117,29 +122,40 @@ few_owned (content.Large i ∷ xs) n o = omega (arith, o.0, few_owned xs i o.1)
 pub large_small : (xs : List Content) (n : ℕ) → Owns xs n → length xs ≤ 1000 → n < 2 ^ 32
 large_small xs n o l = omega (arith, few_owned xs n o)
 
-true_step : (r : Bool) (x : Content) (old new : List Content) → Steps r old (with_pushed x old) new → (length old < 1000 → IsTrue r) → length old < 1000 → x ∷ old ≡ new
+true_step : (r : Bool) (x : Content) (old new : List Content) → Steps r old (with_pushed x old) new → (length old < 1000 → IsTrue r) → length old < 1000
+    → x ∷ old ≡ new
 true_step true x old new e room l = (passed (nat_lt (length old) 1000) (x ∷ old) new e).same
 true_step false x old new e room l = let t : false ≡ true = room l in cc
 
 -- a long string on top
-filled_large : (old : List Content) (large : List (List ℕ)) (text : List ℕ) → filled (content.Large (length large) ∷ old) (large ++ text ∷ []) ≡ literal.Text text ∷ filled old large
+filled_large : (old : List Content) (large : List (List ℕ)) (text : List ℕ) → filled (content.Large (length large) ∷ old) (large ++ text ∷ [])
+    ≡ literal.Text text ∷ filled old large
 filled_large old large text =
     ap (λ t. literal.Text t ∷ filled old (take (length large) (large ++ text ∷ []))) (get_or-append_seam large text [] [])
     ∙ ap (λ ys. literal.Text text ∷ filled old ys) (take_at large (text ∷ []) (length large) refl)
 
-pub push_large : (r : Bool) (old new : List Content) (large now : List (List ℕ)) (was : List Literal) (text : List ℕ) (count number : ℕ) → Steps r old (with_pushed (content.Large number) old) new → (length old < 1000 → IsTrue r) → filled old large ≡ was → now ≡ large ++ text ∷ [] → number ≡ length large → count ≡ length old → length old ≤ 1000 → (count ≡ 1000 → ⊥) →
+pub push_large : (r : Bool) (old new : List Content) (large now : List (List ℕ)) (was : List Literal) (text : List ℕ) (count number : ℕ)
+    → Steps r old (with_pushed (content.Large number) old) new → (length old < 1000 → IsTrue r) → filled old large ≡ was → now ≡ large ++ text ∷ []
+    → number ≡ length large → count ≡ length old → length old ≤ 1000 → (count ≡ 1000 → ⊥) →
     filled new now ≡ literal.Text text ∷ was
 push_large r old new large now was text count number e room o i m c w n =
     let l : length old < 1000 = omega (arith, c, w, n) in
-    ap (λ ys. filled new ys) i ∙ (ap (λ xs. filled xs (large ++ text ∷ [])) (sym (true_step r (content.Large number) old new e room l)) ∙ (ap (λ k. filled (content.Large k ∷ old) (large ++ text ∷ [])) m ∙ (filled_large old large text ∙ ap (λ xs. literal.Text text ∷ xs) o)))
+    ap (λ ys. filled new ys) i ∙ (ap (λ xs. filled xs (large ++ text ∷ [])) (sym (true_step r (content.Large number) old new e room l))
+    ∙ (ap (λ k. filled (content.Large k ∷ old) (large ++ text ∷ [])) m ∙ (filled_large old large text ∙ ap (λ xs. literal.Text text ∷ xs) o)))
 
-pub large_under : (old : List Content) (large : List (List ℕ)) (was : List Literal) (count : ℕ) → filled old large ≡ was → count ≡ length old → length old ≤ 1000 → (count ≡ 1000 → ⊥) → length was < 1000
+pub large_under : (old : List Content) (large : List (List ℕ)) (was : List Literal) (count : ℕ) → filled old large ≡ was → count ≡ length old
+    → length old ≤ 1000 → (count ≡ 1000 → ⊥) → length was < 1000
 large_under old large was count o c w n = omega (arith, c, w, n, length_filled old large, ap length o)
 
-pub large_owns : (r : Bool) (old new : List Content) (large now : List (List ℕ)) (text : List ℕ) (count number : ℕ) → Steps r old (with_pushed (content.Large number) old) new → (length old < 1000 → IsTrue r) → now ≡ large ++ text ∷ [] → number ≡ length large → count ≡ length old → length old ≤ 1000 → (count ≡ 1000 → ⊥) → Owns old (length large) → Owns new (length now)
+pub large_owns : (r : Bool) (old new : List Content) (large now : List (List ℕ)) (text : List ℕ) (count number : ℕ)
+    → Steps r old (with_pushed (content.Large number) old) new → (length old < 1000 → IsTrue r) → now ≡ large ++ text ∷ [] → number ≡ length large
+    → count ≡ length old → length old ≤ 1000 → (count ≡ 1000 → ⊥) → Owns old (length large) → Owns new (length now)
 large_owns r old new large now text count number e room i m c w n o =
     let l : length old < 1000 = omega (arith, c, w, n) in
-    subst (λ xs. Owns xs (length now)) (true_step r (content.Large number) old new e room l) (omega (arith, ap length i, length-append large (text ∷ []), m), subst (λ k. Owns old k) (sym m) o)
+    subst (λ xs. Owns xs (length now)) (true_step r (content.Large number) old new e room l) (
+      omega (arith, ap length i, length-append large (text ∷ []), m),
+      subst (λ k. Owns old k) (sym m) o,
+    )
 
 pub large_full : (old : List Content) (large : List (List ℕ)) (count : ℕ) → count ≡ length old → count ≡ 1000 → 1000 ≤ length (filled old large)
 large_full old large count c n = omega (arith, length_filled old large)
@@ -178,7 +194,8 @@ pub record LargeOff (old : List Content) (large rest : List (List ℕ)) (text : 
   pub shown : filled old large ≡ literal.Text text ∷ filled (steps.below_top old) rest
   pub owns : Owns (steps.below_top old) (length rest)
 
-pub large_off : (old : List Content) (large rest : List (List ℕ)) (text : List ℕ) (i : ℕ) → large_on old ≡ Some i → Owns old (length large) → large ≡ rest ++ text ∷ [] → LargeOff old large rest text
+pub large_off : (old : List Content) (large rest : List (List ℕ)) (text : List ℕ) (i : ℕ) → large_on old ≡ Some i → Owns old (length large)
+    → large ≡ rest ++ text ∷ [] → LargeOff old large rest text
 large_off [] large rest text i e o l = cc
 large_off (content.Integer m ∷ xs) large rest text i e o l = cc
 large_off (content.Text t ∷ xs) large rest text i e o l = cc
@@ -191,13 +208,16 @@ large_off (content.Large j ∷ xs) large rest text i e o l =
       owns = subst (λ k. Owns xs k) at o.1;
     }
 
-pub large_top : (old : List Content) (large rest : List (List ℕ)) (text : List ℕ) (i : ℕ) → large_on old ≡ Some i → Owns old (length large) → large ≡ rest ++ text ∷ [] → Some (literal.Text text) ≡ top (filled old large)
+pub large_top : (old : List Content) (large rest : List (List ℕ)) (text : List ℕ) (i : ℕ) → large_on old ≡ Some i → Owns old (length large)
+    → large ≡ rest ++ text ∷ [] → Some (literal.Text text) ≡ top (filled old large)
 large_top old large rest text i e o l = sym (ap top (large_off old large rest text i e o l).shown)
 
-pub large_below : (old : List Content) (large rest : List (List ℕ)) (text : List ℕ) (i : ℕ) → large_on old ≡ Some i → Owns old (length large) → large ≡ rest ++ text ∷ [] → filled (steps.below_top old) rest ≡ below_top (filled old large)
+pub large_below : (old : List Content) (large rest : List (List ℕ)) (text : List ℕ) (i : ℕ) → large_on old ≡ Some i → Owns old (length large)
+    → large ≡ rest ++ text ∷ [] → filled (steps.below_top old) rest ≡ below_top (filled old large)
 large_below old large rest text i e o l = sym (ap below_top (large_off old large rest text i e o l).shown)
 
-pub large_below_owns : (old : List Content) (large rest : List (List ℕ)) (text : List ℕ) (i : ℕ) → large_on old ≡ Some i → Owns old (length large) → large ≡ rest ++ text ∷ [] → Owns (steps.below_top old) (length rest)
+pub large_below_owns : (old : List Content) (large rest : List (List ℕ)) (text : List ℕ) (i : ℕ) → large_on old ≡ Some i → Owns old (length large)
+    → large ≡ rest ++ text ∷ [] → Owns (steps.below_top old) (length rest)
 large_below_owns old large rest text i e o l = (large_off old large rest text i e o l).owns
 
 pub large_stands : (old : List Content) (i : ℕ) → large_on old ≡ Some i → 0 < length old
@@ -216,16 +236,19 @@ below_fewer : (old : List Content) → 0 < length old → length (steps.below_to
 below_fewer [] l = absurd (omega arith)
 below_fewer (x ∷ xs) l = omega arith
 
-pub large_room : (old : List Content) (rest : List (List ℕ)) (i : ℕ) → large_on old ≡ Some i → length old ≤ 1000 → length (filled (steps.below_top old) rest) < 1000
+pub large_room : (old : List Content) (rest : List (List ℕ)) (i : ℕ) → large_on old ≡ Some i → length old ≤ 1000 → length (filled (steps.below_top old) rest)
+    < 1000
 large_room old rest i e l = omega (arith, length_filled (steps.below_top old) rest, below_fewer old (large_stands old i e))
 
 -- a step that wasn't done
-pub step_left : (r : Bool) (old new : List Content) (outcome : Option (List Content)) (large : List (List ℕ)) (was : List Literal) → Steps r old outcome new → r ≡ false → filled old large ≡ was → filled new large ≡ was
+pub step_left : (r : Bool) (old new : List Content) (outcome : Option (List Content)) (large : List (List ℕ)) (was : List Literal) → Steps r old outcome new
+    → r ≡ false → filled old large ≡ was → filled new large ≡ was
 step_left false old new outcome large was e t o = ap (λ xs. filled xs large) e.0 ∙ o
 step_left true old new outcome large was e t o = cc
 
 -- `*`
-by_length : (n : ℕ) (xs new : List Content) (ys : List Literal) (large : List (List ℕ)) → cond (nat_le n 1024) (Some xs) None ≡ Some new → filled xs large ≡ ys → cond (nat_le n 1000000) (Some ys) None ≡ Some (filled new large)
+by_length : (n : ℕ) (xs new : List Content) (ys : List Literal) (large : List (List ℕ)) → cond (nat_le n 1024) (Some xs) None ≡ Some new → filled xs large ≡ ys
+    → cond (nat_le n 1000000) (Some ys) None ≡ Some (filled new large)
 by_length n xs new ys large e f =
     let was = passed (nat_le n 1024) xs new e in
     ap (λ b. cond b (Some ys) None) (longer n was.test) ∙ ap Some (sym f ∙ ap (λ vs. filled vs large) was.same)
@@ -233,16 +256,19 @@ by_length n xs new ys large e f =
 joined_is : (old new : List Content) (large : List (List ℕ)) → top_joined old ≡ Some new → stacks.top_joined (filled old large) ≡ Some (filled new large)
 joined_is [] new large e = cc
 joined_is (x ∷ []) new large e = cc
-joined_is (content.Text b ∷ content.Text a ∷ xs) new large e = by_length (length (a ++ b)) (content.Text (a ++ b) ∷ xs) new (literal.Text (a ++ b) ∷ filled xs large) large e refl
+joined_is (content.Text b ∷ content.Text a ∷ xs) new large e =
+    by_length (length (a ++ b)) (content.Text (a ++ b) ∷ xs) new (literal.Text (a ++ b) ∷ filled xs large) large e refl
 joined_is (x ∷ y ∷ xs) new large e = cc
 
 joined_owns : (old new : List Content) (n : ℕ) → top_joined old ≡ Some new → Owns old n → Owns new n
 joined_owns [] new n e o = cc
 joined_owns (x ∷ []) new n e o = cc
-joined_owns (content.Text b ∷ content.Text a ∷ xs) new n e o = subst (λ vs. Owns vs n) (passed (nat_le (length (a ++ b)) 1024) (content.Text (a ++ b) ∷ xs) new e).same o
+joined_owns (content.Text b ∷ content.Text a ∷ xs) new n e o =
+    subst (λ vs. Owns vs n) (passed (nat_le (length (a ++ b)) 1024) (content.Text (a ++ b) ∷ xs) new e).same o
 joined_owns (x ∷ y ∷ xs) new n e o = cc
 
-pub join_done : (r : Bool) (old new : List Content) (large : List (List ℕ)) (was : List Literal) → Steps r old (top_joined old) new → r ≡ true → filled old large ≡ was → stacks.top_joined was ≡ Some (filled new large)
+pub join_done : (r : Bool) (old new : List Content) (large : List (List ℕ)) (was : List Literal) → Steps r old (top_joined old) new → r ≡ true
+    → filled old large ≡ was → stacks.top_joined was ≡ Some (filled new large)
 join_done true old new large was e t o = sym (ap stacks.top_joined o) ∙ joined_is old new large e
 join_done false old new large was e t o = cc
 
@@ -251,7 +277,8 @@ join_owns true old new n e o = joined_owns old new n e o
 join_owns false old new n e o = subst (λ xs. Owns xs n) (sym e.0) o
 
 -- `swap$`
-turned : (x y : Content) (xs : List Content) (large : List (List ℕ)) → are_large x y ≡ false → stacks.swapped (filled (x ∷ y ∷ xs) large) ≡ Some (filled (y ∷ x ∷ xs) large)
+turned : (x y : Content) (xs : List Content) (large : List (List ℕ)) → are_large x y ≡ false → stacks.swapped (filled (x ∷ y ∷ xs) large)
+    ≡ Some (filled (y ∷ x ∷ xs) large)
 turned (content.Integer n) y xs large p = refl
 turned (content.Text t) y xs large p = refl
 turned (content.Function f) y xs large p = refl
@@ -283,7 +310,8 @@ swapped_is (x ∷ y ∷ xs) new large e =
     let was = not_passed (are_large x y) (y ∷ x ∷ xs) new e in
     turned x y xs large was.test ∙ ap (λ vs. Some (filled vs large)) was.same
 
-pub swap_done : (r : Bool) (old new : List Content) (large : List (List ℕ)) (was : List Literal) → Steps r old (swapped old) new → r ≡ true → filled old large ≡ was → stacks.swapped was ≡ Some (filled new large)
+pub swap_done : (r : Bool) (old new : List Content) (large : List (List ℕ)) (was : List Literal) → Steps r old (swapped old) new → r ≡ true
+    → filled old large ≡ was → stacks.swapped was ≡ Some (filled new large)
 swap_done true old new large was e t o = sym (ap stacks.swapped o) ∙ swapped_is old new large e
 swap_done false old new large was e t o = cc
 
@@ -314,10 +342,12 @@ duplicated_is (x ∷ xs) new large e =
     let one : filled (x ∷ xs) large ≡ shown_literal x [] ∷ filled xs large = filled_plain x xs large was.plain in
     let two : filled new large ≡ shown_literal x [] ∷ shown_literal x [] ∷ filled xs large =
     ap (λ vs. filled vs large) (sym was.same) ∙ (filled_plain x (x ∷ xs) large was.plain ∙ ap (λ ys. shown_literal x [] ∷ ys) one) in
-    let room : nat_lt (length (shown_literal x [] ∷ filled xs large)) 1000 ≡ true = is_below (length (shown_literal x [] ∷ filled xs large)) (omega (arith, was.room, length_filled xs large)) in
+    let room : nat_lt (length (shown_literal x [] ∷ filled xs large)) 1000 ≡ true =
+    is_below (length (shown_literal x [] ∷ filled xs large)) (omega (arith, was.room, length_filled xs large)) in
     ap stacks.duplicated one ∙ (ap (λ b. cond b (Some (shown_literal x [] ∷ shown_literal x [] ∷ filled xs large)) None) room ∙ ap Some (sym two))
 
-pub duplicate_done : (r : Bool) (old new : List Content) (large : List (List ℕ)) (was : List Literal) → Steps r old (duplicated old) new → r ≡ true → filled old large ≡ was → stacks.duplicated was ≡ Some (filled new large)
+pub duplicate_done : (r : Bool) (old new : List Content) (large : List (List ℕ)) (was : List Literal) → Steps r old (duplicated old) new → r ≡ true
+    → filled old large ≡ was → stacks.duplicated was ≡ Some (filled new large)
 duplicate_done true old new large was e t o = sym (ap stacks.duplicated o) ∙ duplicated_is old new large e
 duplicate_done false old new large was e t o = cc
 
@@ -329,20 +359,24 @@ duplicate_owns true (x ∷ xs) new n e o =
     subst (λ vs. Owns vs n) was.same (owns_put x (x ∷ xs) n was.plain o)
 
 -- a variable takes the string on top
-gives_off : (old new : List Content) (large : List (List ℕ)) (text : List ℕ) → old ≡ content.Text text ∷ new → filled old large ≡ literal.Text text ∷ filled new large
+gives_off : (old new : List Content) (large : List (List ℕ)) (text : List ℕ) → old ≡ content.Text text ∷ new → filled old large ≡ literal.Text text
+    ∷ filled new large
 gives_off old new large text e = ap (λ xs. filled xs large) e
 
-pub given : (most : ℕ) (old new : List Content) (large : List (List ℕ)) (was : List Literal) (before after : List ℕ) → steps.GivesString true most old new before after → filled old large ≡ was → was ≡ literal.Text after ∷ filled new large
+pub given : (most : ℕ) (old new : List Content) (large : List (List ℕ)) (was : List Literal) (before after : List ℕ)
+    → steps.GivesString true most old new before after → filled old large ≡ was → was ≡ literal.Text after ∷ filled new large
 given most old new large was before after g o = sym o ∙ gives_off old new large after g.0
 
-pub not_given : (r : Bool) (most : ℕ) (old new : List Content) (large : List (List ℕ)) (was : List Literal) (before after : List ℕ) → steps.GivesString r most old new before after → r ≡ false → filled old large ≡ was → filled new large ≡ was
+pub not_given : (r : Bool) (most : ℕ) (old new : List Content) (large : List (List ℕ)) (was : List Literal) (before after : List ℕ)
+    → steps.GivesString r most old new before after → r ≡ false → filled old large ≡ was → filled new large ≡ was
 not_given false most old new large was before after g e o = ap (λ xs. filled xs large) g.0 ∙ o
 not_given true most old new large was before after g e o = cc
 
 pub too_long : (n most : ℕ) → most < n → nat_le n most ≡ false
 too_long n most l = grind (arith, nat_tests)
 
-pub give_owns : (r : Bool) (most n : ℕ) (old new : List Content) (before after : List ℕ) → steps.GivesString r most old new before after → Owns old n → Owns new n
+pub give_owns : (r : Bool) (most n : ℕ) (old new : List Content) (before after : List ℕ) → steps.GivesString r most old new before after → Owns old n
+    → Owns new n
 give_owns true most n old new before after g o = let p : Owns (content.Text after ∷ new) n = subst (λ xs. Owns xs n) g.0 o in p
 give_owns false most n old new before after g o = subst (λ xs. Owns xs n) (sym g.0) o
 
@@ -374,7 +408,8 @@ large_within (content.Function f ∷ xs) n i e o = cc
 large_within (content.Missing ∷ xs) n i e o = cc
 large_within (content.Large j ∷ xs) n i e o = let s : j ≡ i = cc in omega (arith, o.0, s)
 
-pub no_text : (old : List Content) (large : List (List ℕ)) (was : List Literal) → steps.has_text old ≡ false → large_on old ≡ None → filled old large ≡ was → has_text was ≡ false
+pub no_text : (old : List Content) (large : List (List ℕ)) (was : List Literal) → steps.has_text old ≡ false → large_on old ≡ None → filled old large ≡ was
+    → has_text was ≡ false
 no_text [] large was e f o = sym (ap has_text o)
 no_text (content.Integer m ∷ xs) large was e f o = sym (ap has_text o)
 no_text (content.Text t ∷ xs) large was e f o = cc
@@ -396,7 +431,8 @@ two_below [] x e l = cc
 two_below (y ∷ ys) x e l = omega (arith, l)
 
 -- a literal that was popped, shared and copied
-pub pushed_again : (r : Bool) (x : Literal) (old new : List Literal) → top old ≡ Some x → Pushes r x (x ∷ below_top old) new → stacks.Steps r old (stacks.duplicated old) new
+pub pushed_again : (r : Bool) (x : Literal) (old new : List Literal) → top old ≡ Some x → Pushes r x (x ∷ below_top old) new
+    → stacks.Steps r old (stacks.duplicated old) new
 pushed_again r x [] new e p = cc
 pushed_again true x (y ∷ ys) new e p =
     let s : y ≡ x = cc in
@@ -409,5 +445,7 @@ pushed_again false x (y ∷ ys) new e p =
 pub not_joined : (a b : List ℕ) (xs : List Literal) → 1000000 < length a + length b → stacks.top_joined (literal.Text b ∷ literal.Text a ∷ xs) ≡ None
 not_joined a b xs l = ap (λ t. cond t (Some (literal.Text (a ++ b) ∷ xs)) None) (too_long (length (a ++ b)) 1000000 (omega (arith, l, length-append a b)))
 
-pub now_joined : (a b text : List ℕ) (xs : List Literal) → length a + length b ≤ 1000000 → text ≡ a ++ b → stacks.top_joined (literal.Text b ∷ literal.Text a ∷ xs) ≡ Some (literal.Text text ∷ xs)
-now_joined a b text xs l e = ap (λ t. cond t (Some (literal.Text (a ++ b) ∷ xs)) None) (not_long (length (a ++ b)) 1000000 (omega (arith, l, length-append a b))) ∙ ap (λ t. Some (literal.Text t ∷ xs)) (sym e)
+pub now_joined : (a b text : List ℕ) (xs : List Literal) → length a + length b ≤ 1000000 → text ≡ a ++ b
+    → stacks.top_joined (literal.Text b ∷ literal.Text a ∷ xs) ≡ Some (literal.Text text ∷ xs)
+now_joined a b text xs l e = ap (λ t. cond t (Some (literal.Text (a ++ b) ∷ xs)) None)
+    (not_long (length (a ++ b)) 1000000 (omega (arith, l, length-append a b))) ∙ ap (λ t. Some (literal.Text t ∷ xs)) (sym e)

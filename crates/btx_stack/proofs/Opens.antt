@@ -13,7 +13,8 @@ use Rattle.btx_stack.specs.refinement.Steps.{is_large, large_on}
 pub from_here : (slots : List Slot) (at : ℕ) (v : Slot) → at < length slots → v ≡ get_or slots at v → drop at slots ≡ v ∷ drop (at + 1) slots
 from_here slots at v l e = drop_more slots at v l ∙ ap (λ x. x ∷ drop (at + 1) slots) (sym e)
 
-pub two_here : (slots : List Slot) (at : ℕ) (a b : Slot) → at + 1 < length slots → a ≡ get_or slots at a → b ≡ get_or slots (at + 1) b → drop at slots ≡ a ∷ b ∷ drop (at + 2) slots
+pub two_here : (slots : List Slot) (at : ℕ) (a b : Slot) → at + 1 < length slots → a ≡ get_or slots at a → b ≡ get_or slots (at + 1) b
+    → drop at slots ≡ a ∷ b ∷ drop (at + 2) slots
 two_here slots at a b l e f =
     from_here slots at a (omega arith) e ∙ ap (λ xs. a ∷ xs) (from_here slots (at + 1) b l f ∙ ap (λ n. b ∷ drop n slots) (omega arith))
 
@@ -33,22 +34,27 @@ no_large_kind kind.Lent v made xs n = refl
 no_large_kind kind.Made v made xs n = refl
 no_large_kind kind.Large v made xs n = absurd (n refl)
 
-pub no_large : (slots : List Slot) (top : ℕ) (a : Slot) (pool : List ℕ) (old : List Content) → contents_of (drop top slots) pool ≡ old → top < length slots → a ≡ get_or slots top a → (a.kind ≡ kind.Large → ⊥) → None ≡ large_on old
-no_large slots top a pool old o l e k = sym (sym (ap large_on o) ∙ (ap (λ vs. large_on (contents_of vs pool)) (from_here slots top a l e) ∙ no_large_kind a.kind a _ _ k))
+pub no_large : (slots : List Slot) (top : ℕ) (a : Slot) (pool : List ℕ) (old : List Content) → contents_of (drop top slots) pool ≡ old → top < length slots
+    → a ≡ get_or slots top a → (a.kind ≡ kind.Large → ⊥) → None ≡ large_on old
+no_large slots top a pool old o l e k =
+    sym (sym (ap large_on o) ∙ (ap (λ vs. large_on (contents_of vs pool)) (from_here slots top a l e) ∙ no_large_kind a.kind a _ _ k))
 
 -- the two on top
-pub opens_two : (slots : List Slot) (top : ℕ) (a b : Slot) (pool : List ℕ) (old : List Content) → contents_of (drop top slots) pool ≡ old → top + 1 < length slots → a ≡ get_or slots top a → b ≡ get_or slots (top + 1) b → b.start ≤ a.start →
+pub opens_two : (slots : List Slot) (top : ℕ) (a b : Slot) (pool : List ℕ) (old : List Content) → contents_of (drop top slots) pool ≡ old
+    → top + 1 < length slots → a ≡ get_or slots top a → b ≡ get_or slots (top + 1) b → b.start ≤ a.start →
     old ≡ content_of a (drop a.start pool) ∷ content_of b (drop b.start (take a.start pool)) ∷ contents_of (drop (top + 2) slots) (take b.start pool)
 opens_two slots top a b pool old o l e f h =
     sym o ∙ (ap (λ vs. contents_of vs pool) (two_here slots top a b l e f)
-    ∙ ap (λ ys. content_of a (drop a.start pool) ∷ content_of b (drop b.start (take a.start pool)) ∷ contents_of (drop (top + 2) slots) ys) (take-take b.start a.start pool h))
+    ∙ ap (λ ys. content_of a (drop a.start pool) ∷ content_of b (drop b.start (take a.start pool)) ∷ contents_of (drop (top + 2) slots) ys)
+    (take-take b.start a.start pool h))
 
 -- where the two on top begin
 pub record TwoFit (a b : Slot) (size : ℕ) : Type 0 where
   pub top : SlotFits a size
   pub below : SlotFits b a.start
 
-pub two_fit : (slots : List Slot) (top : ℕ) (a b : Slot) (n : ℕ) → Stand (drop top slots) n → top + 1 < length slots → a ≡ get_or slots top a → b ≡ get_or slots (top + 1) b → TwoFit a b n × Stand (drop (top + 2) slots) b.start
+pub two_fit : (slots : List Slot) (top : ℕ) (a b : Slot) (n : ℕ) → Stand (drop top slots) n → top + 1 < length slots → a ≡ get_or slots top a
+    → b ≡ get_or slots (top + 1) b → TwoFit a b n × Stand (drop (top + 2) slots) b.start
 two_fit slots top a b n s l e f =
     let t : Stand (a ∷ b ∷ drop (top + 2) slots) n = subst (λ vs. Stand vs n) (two_here slots top a b l e f) s in
     (record { top = t.0; below = t.1.0 }, t.1.1)

@@ -1,5 +1,6 @@
 -- Either the operands of a function are there and fit, or something is logged.
-use Rattle.std.proofs.Common.{◌≡◌, ◌≢◌, ◌≤◌, ◌+◌, ◌⊎◌, inl, inr, ℕ, zero, suc, List, [], ◌∷◌, ◌++◌, length, take, drop, replicate, Option, Some, None, refl, sym, ap, subst, ◌∙◌, arith}
+use Rattle.std.proofs.Common.{◌≡◌, ◌≢◌, ◌≤◌, ◌+◌, ◌⊎◌, inl, inr, ℕ, zero, suc, List, [], ◌∷◌, ◌++◌, length, take, drop, replicate, Option, Some, None, refl}
+use Rattle.std.proofs.Common.{sym, ap, subst, ◌∙◌, arith}
 use Rattle.std.specs.Prelude.{option_and_then, MatchOption, ⊤}
 use Rattle.btx_bst.specs.declared.built_in.BuiltIn.{BuiltIn}
 use Rattle.btx_bst.specs.declared.built_in.BuiltIn.TheVariants as built_in
@@ -15,13 +16,15 @@ use Rattle.btx_step.specs.language.Answers.{Answer, with_literals}
 use Rattle.btx_step.specs.language.Operands.{Operand, Any, Of, Value, Does, Default, Push, Back, seen_as, applied, absent, wrong, or_else, or_default}
 use Rattle.btx_step.specs.language.Table.{row, runs, runs_missing}
 use Rattle.btx_step.specs.language.Steps.{built_in_run}
-use Rattle.btx_step.specs.laws.Applied.{operand_literal, OperandValues, operand_literals, done_on, IsApplied, AreMissing, IsWrong, by_default, IsReported, FollowsRule, AppliedOrReported}
+use Rattle.btx_step.specs.laws.Applied.{operand_literal, OperandValues, operand_literals, done_on, IsApplied, AreMissing, IsWrong, by_default, IsReported}
+use Rattle.btx_step.specs.laws.Applied.{FollowsRule, AppliedOrReported}
 use Rattle.btx_step.specs.refinement.Operands.{misfit_notes, complaints}
 
 -- ---- one operand
 
 -- a literal is such an operand, or it isn't
-look : (operand : Operand) (x : Literal) → ((value : Value operand) × (x ≡ operand_literal operand value) × (seen_as operand x ≡ Some value)) ⊎ (seen_as operand x ≡ None)
+look : (operand : Operand) (x : Literal) → ((value : Value operand) × (x ≡ operand_literal operand value) × (seen_as operand x ≡ Some value))
+    ⊎ (seen_as operand x ≡ None)
 look Any x = inl (x, refl, refl)
 look (Of wanted.Integer) (literal.Integer n) = inl (n, refl, refl)
 look (Of wanted.Text) (literal.Text text) = inl (text, refl, refl)
@@ -84,7 +87,8 @@ logged_later : (operand : Operand) (more : List Operand) (x : Literal) (xs : Lis
 logged_later Any more x xs value e = refl
 logged_later (Of kind) more x xs value e = ap (λ o. or_else (absent more xs) (misfit_notes o (note.WrongKind x kind) (wrong more xs))) e
 
-module _ (operand : Operand) (more : List Operand) (does : Does (operand ∷ more)) (x : Literal) (xs : List Literal) (value : Value operand) (same : x ≡ operand_literal operand value) (seen : seen_as operand x ≡ Some value) where
+module _ (operand : Operand) (more : List Operand) (does : Does (operand ∷ more)) (x : Literal) (xs : List Literal) (value : Value operand)
+    (same : x ≡ operand_literal operand value) (seen : seen_as operand x ≡ Some value) where
   go_on : applied (operand ∷ more) does (x ∷ xs) ≡ applied more (does value) xs
   go_on = ap (option_and_then (λ value. applied more (does value) xs)) seen
 
@@ -99,7 +103,8 @@ module _ (operand : Operand) (more : List Operand) (does : Does (operand ∷ mor
 
   why_later : AreMissing more xs (complaints more xs) ⊎ IsWrong more xs (complaints more xs)
       → AreMissing (operand ∷ more) (x ∷ xs) (complaints (operand ∷ more) (x ∷ xs)) ⊎ IsWrong (operand ∷ more) (x ∷ xs) (complaints (operand ∷ more) (x ∷ xs))
-  why_later (inl h) = let others = h.others in inl (record { missing = h.missing; some = h.some; others = omega (arith, others); logged = logged_later operand more x xs value seen ∙ h.logged })
+  why_later (inl h) = let others = h.others in
+      inl (record { missing = h.missing; some = h.some; others = omega (arith, others); logged = logged_later operand more x xs value seen ∙ h.logged })
   why_later (inr h) = let there = h.there in inr (record {
     place = suc h.place;
     kind = h.kind;
@@ -120,7 +125,8 @@ module _ (operand : Operand) (more : List Operand) (does : Does (operand ∷ mor
 module _ (kind : Wanted) (more : List Operand) (x : Literal) (xs : List Literal) (none : seen_as (Of kind) x ≡ None) where
   -- it is logged, unless another one isn't there
   logged_here : (notes : List Note) → absent more xs ≡ notes → complaints (Of kind ∷ more) (x ∷ xs) ≡ or_else notes (note.WrongKind x kind ∷ [])
-  logged_here notes e = ap (λ o. or_else (absent more xs) (misfit_notes o (note.WrongKind x kind) (wrong more xs))) none ∙ ap (λ l. or_else l (note.WrongKind x kind ∷ [])) e
+  logged_here notes e = ap (λ o. or_else (absent more xs) (misfit_notes o (note.WrongKind x kind) (wrong more xs))) none
+      ∙ ap (λ l. or_else l (note.WrongKind x kind ∷ [])) e
 
   why_here : Enough more xs ⊎ Few more xs
       → AreMissing (Of kind ∷ more) (x ∷ xs) (complaints (Of kind ∷ more) (x ∷ xs)) ⊎ IsWrong (Of kind ∷ more) (x ∷ xs) (complaints (Of kind ∷ more) (x ∷ xs))
@@ -141,8 +147,10 @@ module _ (kind : Wanted) (more : List Operand) (x : Literal) (xs : List Literal)
 abbrev Verdict : (operands : List Operand) → Does operands → List Literal → Type 0
 Verdict operands does xs = Fits operands does xs ⊎ Fails operands does xs
 
-of_kind : (kind : Wanted) (more : List Operand) (does : Does (Of kind ∷ more)) (x : Literal) (xs : List Literal) → ((value : Value (Of kind)) → Verdict more (does value) xs)
-    → ((value : Value (Of kind)) × (x ≡ operand_literal (Of kind) value) × (seen_as (Of kind) x ≡ Some value)) ⊎ (seen_as (Of kind) x ≡ None) → Verdict (Of kind ∷ more) does (x ∷ xs)
+of_kind : (kind : Wanted) (more : List Operand) (does : Does (Of kind ∷ more)) (x : Literal) (xs : List Literal)
+    → ((value : Value (Of kind)) → Verdict more (does value) xs)
+    → ((value : Value (Of kind)) × (x ≡ operand_literal (Of kind) value) × (seen_as (Of kind) x ≡ Some value)) ⊎ (seen_as (Of kind) x ≡ None)
+    → Verdict (Of kind ∷ more) does (x ∷ xs)
 of_kind kind more does x xs others (inl e) = later (Of kind) more does x xs e.0 e.1 e.2 (others e.0)
 of_kind kind more does x xs others (inr none) =
     inr (record { why = why_here kind more x xs none (enough more xs); is = ap (option_and_then (λ value. applied more (does value) xs)) none })
@@ -150,7 +158,13 @@ of_kind kind more does x xs others (inr none) =
 verdict : (operands : List Operand) (does : Does operands) (xs : List Literal) → Verdict operands does xs
 verdict [] does xs = inl (record { values = tt; below = xs; taken = refl; left = refl; is = refl })
 verdict (operand ∷ more) does [] = inr (record {
-  why = inl (record { missing = suc (length more); some = omega arith; others = omega arith; logged = ap (λ notes. note.EmptyStack ∷ notes) (absent_all more) });
+  why = inl (record {
+    missing = suc (length more);
+    some = omega arith;
+    others = omega arith;
+    logged =
+        ap (λ notes. note.EmptyStack ∷ notes) (absent_all more);
+  });
   is = refl;
 })
 verdict (Any ∷ more) does (x ∷ xs) = later Any more does x xs x refl refl (verdict more (does x) xs)
@@ -158,7 +172,8 @@ verdict (Of kind ∷ more) does (x ∷ xs) = of_kind kind more does x xs (λ val
 
 -- ---- the law
 
-defaulted : (default : Default) (notes : List Note) (seen below : List Literal) (s : Store) → or_default None default notes seen below s ≡ by_default default notes seen below s
+defaulted : (default : Default) (notes : List Note) (seen below : List Literal) (s : Store) → or_default None default notes seen below s
+    ≡ by_default default notes seen below s
 defaulted (Push instead) notes seen below s = refl
 defaulted Back notes seen below s = refl
 
@@ -168,7 +183,8 @@ by_table job f s e = decided (verdict (row f).operands ((row f).does job) s.lite
     answered : Option (Store → Answer) → Answer
     answered o = or_default o (row f).default (complaints (row f).operands s.literals) s.literals (drop (length (row f).operands) s.literals) s
 
-    decided : Fits (row f).operands ((row f).does job) s.literals ⊎ Fails (row f).operands ((row f).does job) s.literals → IsApplied job f s ⊎ IsReported job f s
+    decided : Fits (row f).operands ((row f).does job) s.literals ⊎ Fails (row f).operands ((row f).does job) s.literals → IsApplied job f s
+        ⊎ IsReported job f s
     decided (inl h) = inl (record {
       values = h.values;
       below = h.below;
@@ -181,7 +197,8 @@ by_table job f s e = decided (verdict (row f).operands ((row f).does job) s.lite
       is = e ∙ ap answered h.is ∙ defaulted (row f).default (complaints (row f).operands s.literals) s.literals (drop (length (row f).operands) s.literals) s;
     })
 
-missing_by_table : (job : Job) (s : Store) (current : Option ℕ) → s.current ≡ current → FollowsRule built_in.Missing current → IsApplied job built_in.Missing s ⊎ IsReported job built_in.Missing s
+missing_by_table : (job : Job) (s : Store) (current : Option ℕ) → s.current ≡ current → FollowsRule built_in.Missing current → IsApplied job built_in.Missing s
+    ⊎ IsReported job built_in.Missing s
 unfolding built_in_run
 missing_by_table job s None e follows = absurd follows
 missing_by_table job s (Some entry) e follows = by_table job built_in.Missing s (ap (λ current. runs_missing current s) e)

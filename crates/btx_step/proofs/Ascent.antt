@@ -65,7 +65,8 @@ module _ {X : Type 0} (lt : X → X → Bool) (o : IsStrictWeakOrder lt) where
       ⊎_elim
       (λ below. ap (filter p) (later x y ys below) ∙
       ⊎_elim
-      (λ t. failed p y (inserted lt x ys) (tells x y below t) ∙ more ∙ passed p x ys t ∙ ap (λ l. x ∷ l) (sym (failed p y ys (tells x y below t))) ∙ sym (passed p x (y ∷ ys) t))
+      (λ t. failed p y (inserted lt x ys) (tells x y below t) ∙ more ∙ passed p x ys t ∙ ap (λ l. x ∷ l) (sym (failed p y ys (tells x y below t)))
+      ∙ sym (passed p x (y ∷ ys) t))
       (λ f. ap (λ l. cond (p y) (y ∷ l) l) (more ∙ failed p x ys f) ∙ sym (failed p x (y ∷ ys) f))
       (cases_Bool (p x)))
       (λ f. ap (filter p) (here x y ys f))
@@ -86,7 +87,8 @@ module _ {X : Type 0} (lt : X → X → Bool) (o : IsStrictWeakOrder lt) where
 
   -- a stable sort gives the one list
   pub stable_sort_is : (xs ys : List X) → IsSortedBy lt ys → IsStableBy lt xs ys → ys ≡ sorted_by lt xs
-  stable_sort_is xs ys up stable = one_order lt o ys (sorted_by lt xs) (ascends_from_sorted lt o ys up) (sorted_ascends xs) (λ z. stable z ∙ sym (sorted_ties z xs))
+  stable_sort_is xs ys up stable = one_order lt o ys (sorted_by lt xs) (ascends_from_sorted lt o ys up) (sorted_ascends xs)
+      (λ z. stable z ∙ sym (sorted_ties z xs))
 
 pub by_key_order : {X : Type 0} (key : X → List ℕ) → IsStrictWeakOrder (by_key key)
 by_key_order key = ranks_by nat_list_cmp_total key

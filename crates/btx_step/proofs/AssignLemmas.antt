@@ -38,15 +38,18 @@ untouched changed words s = record { stand = nothing_above s.literals; stays = r
 
 entry_integer : (i entry : ℕ) (v : Literal) (s : Store)
     → Leaves s.literals s.current s.entries s.deepest (Some entry) (variables.stores_integer (variables.with_entry_integer entry i) v s)
-entry_integer i entry (Integer n) s = record { stand = nothing_above s.literals; stays = refl; deep = refl; others = λ other apart. read_other s.entries entry other _ apart }
+entry_integer i entry (Integer n) s =
+    record { stand = nothing_above s.literals; stays = refl; deep = refl; others = λ other apart. read_other s.entries entry other _ apart }
 entry_integer i entry v s = untouched (Some entry) _ s
 
 entry_string : (most i entry : ℕ) (v : Literal) (s : Store)
     → Leaves s.literals s.current s.entries s.deepest (Some entry) (variables.stores_string most (variables.with_entry_string entry i) v s)
-entry_string most i entry (Text text) s = record { stand = nothing_above s.literals; stays = refl; deep = refl; others = λ other apart. read_other s.entries entry other _ apart }
+entry_string most i entry (Text text) s =
+    record { stand = nothing_above s.literals; stays = refl; deep = refl; others = λ other apart. read_other s.entries entry other _ apart }
 entry_string most i entry v s = untouched (Some entry) _ s
 
-in_entry : (go : ℕ → Store → Answer) (current : Option ℕ) (s : Store) → ((entry : ℕ) → Leaves s.literals s.current s.entries s.deepest (Some entry) (go entry s))
+in_entry : (go : ℕ → Store → Answer) (current : Option ℕ) (s : Store)
+    → ((entry : ℕ) → Leaves s.literals s.current s.entries s.deepest (Some entry) (go entry s))
     → Leaves s.literals s.current s.entries s.deepest current (variables.in_entry go current s)
 in_entry go None s h = untouched None _ s
 in_entry go (Some entry) s h = h entry
@@ -67,11 +70,13 @@ assigned_to job (callee.GlobalString i) v s = global_string job.global_max i s.c
 assigned_to job (callee.EntryInteger i) v s =
     in_entry (λ entry. variables.stores_integer (variables.with_entry_integer entry i) v) s.current s (λ entry. entry_integer i entry v s)
 assigned_to job (callee.EntryString i) v s =
-    in_entry (λ entry. variables.stores_string job.entry_max (variables.with_entry_string entry i) v) s.current s (λ entry. entry_string job.entry_max i entry v s)
+    in_entry (λ entry. variables.stores_string job.entry_max (variables.with_entry_string entry i) v) s.current s
+    (λ entry. entry_string job.entry_max i entry v s)
 assigned_to job f v s = untouched s.current _ s
 
 pub assigned : (job : Job) (xs : List Literal) (s : Store)
-    → Leaves (drop 2 xs) s.current s.entries s.deepest s.current (on_operands (row built_in.Assign).operands (row built_in.Assign).default (variables.assigns job) xs s)
+    → Leaves (drop 2 xs) s.current s.entries s.deepest s.current
+    (on_operands (row built_in.Assign).operands (row built_in.Assign).default (variables.assigns job) xs s)
 assigned job [] s = untouched s.current _ (with_literals [] s)
 assigned job (Function f ∷ []) s = untouched s.current _ (with_literals [] s)
 assigned job (x ∷ []) s = untouched s.current _ (with_literals [] s)

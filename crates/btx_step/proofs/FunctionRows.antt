@@ -34,14 +34,96 @@ comparisons-worked = (refl, (refl, (refl, (refl, (refl, (refl, (refl, (refl, (re
 
 pub integers-worked : AreSo (job Bytes) outside_entries one_below row.integers
 unfolding named_lower built_in_of built_ins function_run built_in_run form_of place_of note_text note_kind has_place note_line mark_of digits
-integers-worked = (refl, (refl, (refl, (refl, (refl, (refl, (refl, (refl, (refl, (refl, (refl, (refl, (refl, (refl, (refl, (refl, (refl, (refl, (refl, (refl, (refl, (refl, (refl, tt)))))))))))))))))))))))
+integers-worked = (
+  refl,
+  (
+    refl,
+    (
+      refl,
+      (
+        refl,
+        (
+          refl,
+          (
+            refl,
+            (
+              refl,
+              (
+                refl,
+                (refl, (refl, (refl, (refl, (refl, (refl, (refl, (refl, (refl, (refl, (refl, (refl, (refl, (refl, (refl, tt))))))))))))))),
+              ),
+            ),
+          ),
+        ),
+      ),
+    ),
+  ),
+)
 
 pub strings-worked : AreSo (job Bytes) outside_entries one_below row.strings
-unfolding named_lower built_in_of built_ins function_run built_in_run form_of place_of note_text note_kind has_place note_line mark_of digits elements_of elements_from kind_at group_len class_of control_name glyphs_from glyphs_of letters_of without_white cased_parts cased_control take_characters control_width
-strings-worked = (refl, (refl, (refl, (refl, (refl, (refl, (refl, (refl, (refl, (refl, (refl, (refl, (refl, (refl, (refl, (refl, (refl, (refl, (refl, (refl, (refl, (refl, (refl, (refl, (refl, (refl, (refl, (refl, (refl, (refl, (refl, (refl, (refl, (refl, tt))))))))))))))))))))))))))))))))))
+unfolding named_lower built_in_of built_ins function_run built_in_run form_of place_of note_text note_kind has_place note_line mark_of digits elements_of
+    elements_from kind_at group_len class_of control_name glyphs_from glyphs_of letters_of without_white cased_parts cased_control take_characters control_width
+strings-worked = (
+  refl,
+  (
+    refl,
+    (
+      refl,
+      (
+        refl,
+        (
+          refl,
+          (
+            refl,
+            (
+              refl,
+              (
+                refl,
+                (
+                  refl,
+                  (
+                    refl,
+                    (
+                      refl,
+                      (
+                        refl,
+                        (
+                          refl,
+                          (
+                            refl,
+                            (
+                              refl,
+                              (
+                                refl,
+                                (
+                                  refl,
+                                  (
+                                    refl,
+                                    (refl, (refl, (refl, (refl, (refl, (refl, (refl, (refl, (refl, (refl, (refl, (refl, (refl, (refl, (refl, (refl, tt)))))))))))))))),
+                                  ),
+                                ),
+                              ),
+                            ),
+                          ),
+                        ),
+                      ),
+                    ),
+                  ),
+                ),
+              ),
+            ),
+          ),
+        ),
+      ),
+    ),
+  ),
+)
 
 pub names-worked : AreSo (job Bytes) outside_entries one_below row.names
-unfolding named_lower built_in_of built_ins function_run built_in_run form_of place_of note_text note_kind has_place note_line mark_of digits elements_of elements_from kind_at group_len is_separator pieces_from names_of run_len tokens_from tokens_of letters_of is_lower_special first_is_lower is_von split_at_comma sections_of ends_in_comma before_final up_to_last before_first part_named piece_item inside_item group_item items_from items_of initial_of between_text with_tokens finished piece_text names_before nth_name one_name_text one_name_complaints
+unfolding named_lower built_in_of built_ins function_run built_in_run form_of place_of note_text note_kind has_place note_line mark_of digits elements_of
+    elements_from kind_at group_len is_separator pieces_from names_of run_len tokens_from tokens_of letters_of is_lower_special first_is_lower is_von
+    split_at_comma sections_of ends_in_comma before_final up_to_last before_first part_named piece_item inside_item group_item items_from items_of initial_of
+    between_text with_tokens finished piece_text names_before nth_name one_name_text one_name_complaints
 names-worked = (refl, (refl, (refl, (refl, (refl, (refl, (refl, (refl, (refl, (refl, (refl, tt)))))))))))
 
 pub stack-worked : AreSo (job Bytes) outside_entries one_below row.stack
@@ -54,18 +136,152 @@ choices-worked = (refl, (refl, (refl, (refl, tt))))
 
 pub wrong_operands-worked : AreSo (job Bytes) outside_entries one_below row.wrong_operands
 unfolding named_lower built_in_of built_ins function_run built_in_run form_of place_of note_text note_kind has_place note_line mark_of digits
-wrong_operands-worked = (refl, (refl, (refl, (refl, (refl, (refl, (refl, (refl, (refl, (refl, (refl, (refl, (refl, (refl, (refl, (refl, (refl, (refl, (refl, (refl, (refl, (refl, (refl, (refl, (refl, (refl, (refl, (refl, (refl, (refl, (refl, (refl, (refl, (refl, (refl, (refl, (refl, tt)))))))))))))))))))))))))))))))))))))
+wrong_operands-worked = (
+  refl,
+  (
+    refl,
+    (
+      refl,
+      (
+        refl,
+        (
+          refl,
+          (
+            refl,
+            (
+              refl,
+              (
+                refl,
+                (
+                  refl,
+                  (
+                    refl,
+                    (
+                      refl,
+                      (
+                        refl,
+                        (
+                          refl,
+                          (
+                            refl,
+                            (
+                              refl,
+                              (
+                                refl,
+                                (
+                                  refl,
+                                  (
+                                    refl,
+                                    (
+                                      refl,
+                                      (
+                                        refl,
+                                        (
+                                          refl,
+                                          (
+                                            refl,
+                                            (refl, (refl, (refl, (refl, (refl, (refl, (refl, (refl, (refl, (refl, (refl, (refl, (refl, (refl, (refl, tt))))))))))))))),
+                                          ),
+                                        ),
+                                      ),
+                                    ),
+                                  ),
+                                ),
+                              ),
+                            ),
+                          ),
+                        ),
+                      ),
+                    ),
+                  ),
+                ),
+              ),
+            ),
+          ),
+        ),
+      ),
+    ),
+  ),
+)
 
 pub whole_stacks-worked : AreSo (job Bytes) outside_entries [] row.whole_stacks
 unfolding named_lower built_in_of built_ins function_run built_in_run form_of place_of note_text note_kind has_place note_line mark_of digits
-whole_stacks-worked = (refl, (refl, (refl, (refl, (refl, (refl, (refl, (refl, (refl, (refl, (refl, (refl, (refl, (refl, (refl, (refl, (refl, (refl, (refl, (refl, (refl, (refl, (refl, (refl, (refl, (refl, (refl, (refl, (refl, (refl, (refl, (refl, (refl, (refl, (refl, (refl, tt))))))))))))))))))))))))))))))))))))
+whole_stacks-worked = (
+  refl,
+  (
+    refl,
+    (
+      refl,
+      (
+        refl,
+        (
+          refl,
+          (
+            refl,
+            (
+              refl,
+              (
+                refl,
+                (
+                  refl,
+                  (
+                    refl,
+                    (
+                      refl,
+                      (
+                        refl,
+                        (
+                          refl,
+                          (
+                            refl,
+                            (
+                              refl,
+                              (
+                                refl,
+                                (
+                                  refl,
+                                  (
+                                    refl,
+                                    (
+                                      refl,
+                                      (
+                                        refl,
+                                        (
+                                          refl,
+                                          (
+                                            refl,
+                                            (refl, (refl, (refl, (refl, (refl, (refl, (refl, (refl, (refl, (refl, (refl, (refl, (refl, (refl, tt)))))))))))))),
+                                          ),
+                                        ),
+                                      ),
+                                    ),
+                                  ),
+                                ),
+                              ),
+                            ),
+                          ),
+                        ),
+                      ),
+                    ),
+                  ),
+                ),
+              ),
+            ),
+          ),
+        ),
+      ),
+    ),
+  ),
+)
 
 pub bytes_characters-worked : AreSo (job Bytes) outside_entries one_below row.bytes_characters
-unfolding named_lower built_in_of built_ins function_run built_in_run form_of place_of note_text note_kind has_place note_line mark_of digits elements_of elements_from kind_at group_len take_characters
+unfolding named_lower built_in_of built_ins function_run built_in_run form_of place_of note_text note_kind has_place note_line mark_of digits elements_of
+    elements_from kind_at group_len take_characters
 bytes_characters-worked = (refl, (refl, tt))
 
 pub utf8_characters-worked : AreSo (job Utf8) outside_entries one_below row.utf8_characters
-unfolding named_lower built_in_of built_ins function_run built_in_run form_of place_of note_text note_kind has_place note_line mark_of digits elements_of elements_from kind_at group_len take_characters sequence_size second_fits is_sequence begins_sequence
+unfolding named_lower built_in_of built_ins function_run built_in_run form_of place_of note_text note_kind has_place note_line mark_of digits elements_of
+    elements_from kind_at group_len take_characters sequence_size second_fits is_sequence begins_sequence
 utf8_characters-worked = (refl, (refl, tt))
 
 pub no_entry-worked : AreSo (job Bytes) outside_entries one_below row.no_entry
@@ -100,4 +316,23 @@ pub loop_tests-worked : AreTested assigned.loop_tests
 unfolding named_lower built_in_of built_ins function_run built_in_run form_of place_of note_text note_kind has_place note_line mark_of digits
 loop_tests-worked = ((refl, refl, refl), ((refl, refl, refl), ((refl, refl, refl), ((refl, refl, refl), ((refl, refl, refl), tt)))))
 
-pub ruleset worked_rows = (comparisons-worked, integers-worked, strings-worked, names-worked, stack-worked, choices-worked, wrong_operands-worked, whole_stacks-worked, bytes_characters-worked, utf8_characters-worked, no_entry-worked, of_knuth-worked, of_lamport-worked, of_lamport_without_default-worked, assignments-worked, assignments_of_knuth-worked, assignments_of_lamport-worked, loop_tests-worked)
+pub ruleset worked_rows = (
+  comparisons-worked,
+  integers-worked,
+  strings-worked,
+  names-worked,
+  stack-worked,
+  choices-worked,
+  wrong_operands-worked,
+  whole_stacks-worked,
+  bytes_characters-worked,
+  utf8_characters-worked,
+  no_entry-worked,
+  of_knuth-worked,
+  of_lamport-worked,
+  of_lamport_without_default-worked,
+  assignments-worked,
+  assignments_of_knuth-worked,
+  assignments_of_lamport-worked,
+  loop_tests-worked,
+)

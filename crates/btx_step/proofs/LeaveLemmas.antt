@@ -15,7 +15,8 @@ use Rattle.btx_step.specs.language.Answers.{with_literals}
 use Rattle.btx_step.specs.language.Entries.{finds_missing}
 use Rattle.btx_step.specs.language.Table.{row, runs_missing}
 use Rattle.btx_step.specs.language.Steps.{built_in_run, function_run, step_of}
-use Rattle.btx_step.specs.laws.Leaves.{is_assignment, is_listing, operands_taken, VariablesStay, OtherEntriesStay, CurrentStays, DeepestStays, LowerLiteralsStay, ListingEmpties}
+use Rattle.btx_step.specs.laws.Leaves.{is_assignment, is_listing, operands_taken, VariablesStay, OtherEntriesStay, CurrentStays, DeepestStays}
+use Rattle.btx_step.specs.laws.Leaves.{LowerLiteralsStay, ListingEmpties}
 use Rattle.btx_step.proofs.AssignLemmas.{assigned}
 use Rattle.btx_step.proofs.RuleLemmas.{pushed_by}
 use Rattle.btx_step.proofs.KeepLemmas as keep

@@ -1,5 +1,6 @@
 -- Where no function of the style stands on the stack, a step leaves none there; and what it opens or executes comes of its token alone.
-use Rattle.std.proofs.Common.{◌≡◌, ℕ, ℤ, pos, ◌<◌, Bool, true, false, cond, nat_lt, List, [], ◌∷◌, ◌++◌, length, take, Option, Some, None, refl, arith, sym, subst, negsuc}
+use Rattle.std.proofs.Common.{◌≡◌, ℕ, ℤ, pos, ◌<◌, Bool, true, false, cond, nat_lt, List, [], ◌∷◌, ◌++◌, length, take, Option, Some, None, refl, arith, sym}
+use Rattle.std.proofs.Common.{subst, negsuc}
 use Rattle.std.specs.Prelude.{◌+ℤ◌, ◌-ℤ◌, int_lt, slice_get, slice_index_or, codes}
 use Rattle.std.specs.List.{list_all}
 use Rattle.std.specs.Ordering.{int_eq}
@@ -121,7 +122,8 @@ module _ (r : ℕ) where
   pick false x y h k = k
 
   pushes_low : (words : Said) (v : Literal) (s : Store) → Under 0 v → Free s.literals → Low r (pushes words v s)
-  pushes_low words v s u h = pick (nat_lt (length s.literals) 1000) (says words (with_literals (v ∷ s.literals) s)) (answer (next.End limit.Literals) words s) (tt, (u, h)) (tt, h)
+  pushes_low words v s u h = pick (nat_lt (length s.literals) 1000) (says words (with_literals (v ∷ s.literals) s)) (answer (next.End limit.Literals) words s)
+      (tt, (u, h)) (tt, h)
 
   integer_low : (words : Said) (n : ℤ) (s : Store) → Free s.literals → Low r (pushes words (literal.Integer n) s)
   integer_low words n s h = pushes_low words (literal.Integer n) s tt h
@@ -134,7 +136,8 @@ module _ (r : ℕ) where
   string_low words text s h = pushes_low words (literal.Text text) s tt h
 
   text_low : (words : Said) (text : List ℕ) (s : Store) → Free s.literals → Low r (pushes_text words text s)
-  text_low words text s h = pick (nat_lt greatest_string (length text)) (quiet (next.End limit.String) s) (pushes words (literal.Text text) s) (tt, h) (string_low words text s h)
+  text_low words text s h = pick (nat_lt greatest_string (length text)) (quiet (next.End limit.String) s) (pushes words (literal.Text text) s) (tt, h)
+      (string_low words text s h)
 
   complained_low : (notes : List Note) (instead : StandIn) (s : Store) → Free s.literals → Low r (complained notes instead s)
   complained_low notes stand_in.Nothing s h = (tt, h)
@@ -160,7 +163,8 @@ module _ (r : ℕ) where
   Each_low Q operands does = Each Q Free Lowers operands does
 
   -- so it is by the rule of operands
-  ruled_low : (Q : Literal → Type 0) (operands : List Operand) (instead : StandIn) (does : Does operands) → Each_low Q operands does → (xs : List Literal) (s : Store)
+  ruled_low : (Q : Literal → Type 0) (operands : List Operand) (instead : StandIn) (does : Does operands) → Each_low Q operands does
+      → (xs : List Literal) (s : Store)
       → Taken Q Free Lowers operands xs → Low r (on_operands operands (Push instead) does xs s)
   ruled_low Q operands instead does h xs s t = by_rule Q Free Lowers tt complained_low operands instead does h xs s t
 
@@ -192,7 +196,8 @@ module _ (r : ℕ) where
 
   character_low : (n : ℤ) (s : Store) → Free s.literals → Low r (arithmetic.gives_character n s)
   character_low (pos n) s h =
-      pick (nat_lt n 128) (pushes said.Nothing (literal.Text (n ∷ [])) s) (complains (note.NotAscii (pos n)) stand_in.Empty s) (string_low said.Nothing (n ∷ []) s h) (complains_low (note.NotAscii (pos n)) stand_in.Empty s h)
+      pick (nat_lt n 128) (pushes said.Nothing (literal.Text (n ∷ [])) s) (complains (note.NotAscii (pos n)) stand_in.Empty s)
+      (string_low said.Nothing (n ∷ []) s h) (complains_low (note.NotAscii (pos n)) stand_in.Empty s h)
   character_low (negsuc n) s h = complains_low (note.NotAscii (negsuc n)) stand_in.Empty s h
 
   empty_low : (field : Option (List ℕ)) (s : Store) → Free s.literals → Low r (strings.finds_empty field s)
@@ -203,15 +208,18 @@ module _ (r : ℕ) where
   missing_low None s h = truth_low true s h
   missing_low (Some text) s h = truth_low false s h
 
-  stored_integer_low : (store : ℤ → Store → Store) → ((n : ℤ) (s : Store) → (store n s).literals ≡ s.literals) → (v : Literal) (s : Store) → Free s.literals → Low r (variables.stores_integer store v s)
+  stored_integer_low : (store : ℤ → Store → Store) → ((n : ℤ) (s : Store) → (store n s).literals ≡ s.literals) → (v : Literal) (s : Store) → Free s.literals
+      → Low r (variables.stores_integer store v s)
   stored_integer_low store same (literal.Integer n) s h = (tt, subst Free (sym (same n s)) h)
   stored_integer_low store same v s h = refuses_low v wanted.Integer stand_in.Nothing s h
 
-  stored_string_low : (most : ℕ) (store : List ℕ → Store → Store) → ((text : List ℕ) (s : Store) → (store text s).literals ≡ s.literals) → (v : Literal) (s : Store) → Free s.literals → Low r (variables.stores_string most store v s)
+  stored_string_low : (most : ℕ) (store : List ℕ → Store → Store) → ((text : List ℕ) (s : Store) → (store text s).literals ≡ s.literals)
+      → (v : Literal) (s : Store) → Free s.literals → Low r (variables.stores_string most store v s)
   stored_string_low most store same (literal.Text text) s h = (tt, subst Free (sym (same (take most text) s)) h)
   stored_string_low most store same v s h = refuses_low v wanted.Text stand_in.Nothing s h
 
-  in_entry_low : (go : ℕ → Store → Answer) (current : Option ℕ) (s : Store) → Free s.literals → ((entry : ℕ) → Low r (go entry s)) → Low r (variables.in_entry go current s)
+  in_entry_low : (go : ℕ → Store → Answer) (current : Option ℕ) (s : Store) → Free s.literals → ((entry : ℕ) → Low r (go entry s))
+      → Low r (variables.in_entry go current s)
   in_entry_low go None s h each = outside_low s h
   in_entry_low go (Some entry) s h each = each entry
 
@@ -219,9 +227,11 @@ module _ (r : ℕ) where
   assigned_low job (callee.GlobalInteger i) v s h = stored_integer_low (variables.with_global_integer i) (λ n s. refl) v s h
   assigned_low job (callee.GlobalString i) v s h = stored_string_low job.global_max (variables.with_global_string i) (λ text s. refl) v s h
   assigned_low job (callee.EntryInteger i) v s h =
-      in_entry_low (λ entry. variables.stores_integer (variables.with_entry_integer entry i) v) s.current s h (λ entry. stored_integer_low (variables.with_entry_integer entry i) (λ n s. refl) v s h)
+      in_entry_low (λ entry. variables.stores_integer (variables.with_entry_integer entry i) v) s.current s h
+      (λ entry. stored_integer_low (variables.with_entry_integer entry i) (λ n s. refl) v s h)
   assigned_low job (callee.EntryString i) v s h =
-      in_entry_low (λ entry. variables.stores_string job.entry_max (variables.with_entry_string entry i) v) s.current s h (λ entry. stored_string_low job.entry_max (variables.with_entry_string entry i) (λ text s. refl) v s h)
+      in_entry_low (λ entry. variables.stores_string job.entry_max (variables.with_entry_string entry i) v) s.current s h
+      (λ entry. stored_string_low job.entry_max (variables.with_entry_string entry i) (λ text s. refl) v s h)
   assigned_low job f v s h = complains_low (note.NotAssignable f) stand_in.Nothing s h
 
   entry_integer_low : (i : ℕ) (current : Option ℕ) (s : Store) → Free s.literals → Low r (kept_variables.entry_integer i current s)
@@ -299,12 +309,15 @@ module _ (r : ℕ) where
   row_low job built_in.Assign c = λ f u x v s h. assigned_low job f x s h
   row_low job built_in.AddPeriod c = λ text u s h. text_low said.Nothing (add_period_of text) s h
   row_low job built_in.CallType c = absurd c
-  row_low job built_in.ChangeCase c = λ letter u text v s h. text_low (kept_strings.conversion_said (case_complaints letter).illegal_conversion letter) (change_case_of text letter) s h
+  row_low job built_in.ChangeCase c = λ letter u text v s h. text_low (kept_strings.conversion_said (case_complaints letter).illegal_conversion letter)
+      (change_case_of text letter) s h
   row_low job built_in.ChrToInt c = λ text u s h. code_low text s h
   row_low job built_in.Cite c = λ s h. cites_low job s.current s h
   row_low job built_in.Duplicate c = λ x u s h. pushes_low said.Nothing x (with_literals (x ∷ s.literals) s) u (u, h)
   row_low job built_in.Empty c = λ field u s h. empty_low field s h
-  row_low job built_in.FormatName c = λ format u number v people w s h. text_low (kept_names.name_said (format_name_complaints people number format) people number format) (format_name_text job.mode people number format) s h
+  row_low job built_in.FormatName c =
+      λ format u number v people w s h. text_low (kept_names.name_said (format_name_complaints people number format) people number format)
+      (format_name_text job.mode people number format) s h
   row_low job built_in.If c = λ f u g v n w s h. (chosen_below (control.is_positive n) g f (below_more r g v) (below_more r f u), h)
   row_low job built_in.IntToChr c = λ n u s h. character_low n s h
   row_low job built_in.IntToStr c = λ n u s h. string_low said.Nothing (signed_decimal n) s h
@@ -333,7 +346,8 @@ module _ (r : ℕ) where
   built_in_low job built_in.Missing s c h = runs_missing_low s.current s h
   built_in_low job built_in.Swap s c h = swaps_low s.literals s h
   built_in_low job f s c h =
-      ruled_low (Under 0) (row f).operands (pushed_by (row f).default) ((row f).does job) (row_low job f c) s.literals s (free_taken (row f).operands s.literals h)
+      ruled_low (Under 0) (row f).operands (pushed_by (row f).default) ((row f).does job) (row_low job f c) s.literals s
+      (free_taken (row f).operands s.literals h)
 
   run_low : (job : Job) (f : Callee) (s : Store) → Below r f → Free s.literals → Low r (function_run job f s)
   unfolding function_run
@@ -346,13 +360,16 @@ module _ (r : ℕ) where
   run_low job (callee.GlobalString i) s b h = string_low said.Nothing (kept_variables.string_in (slice_get s.strings i)) s h
 
   -- an `if$` or a `while$`, over two of the first functions
-  pub choice_low : (job : Job) (f : BuiltIn) (s : Store) → So (is_choice (Some (token.Run (callee.BuiltIn f)))) → TwoUnder s.literals → Low r (step_of job (token.Run (callee.BuiltIn f)) s)
+  pub choice_low : (job : Job) (f : BuiltIn) (s : Store) → So (is_choice (Some (token.Run (callee.BuiltIn f)))) → TwoUnder s.literals
+      → Low r (step_of job (token.Run (callee.BuiltIn f)) s)
   unfolding is_choice step_of function_run built_in_run
   choice_low job built_in.If s is u =
-      ruled_low (Under r) (row built_in.If).operands stand_in.Nothing kept_control.chooses (λ f p g q n t s h. (chosen_below (control.is_positive n) g f q p, h)) s.literals s
+      ruled_low (Under r) (row built_in.If).operands stand_in.Nothing kept_control.chooses
+      (λ f p g q n t s h. (chosen_below (control.is_positive n) g f q p, h)) s.literals s
       (choice_taken s.literals u)
   choice_low job built_in.While s is u =
-      ruled_low (Under r) (row built_in.While).operands stand_in.Nothing kept_control.loops (λ body p test q s h. ((q, p), h)) s.literals s (loop_taken s.literals u)
+      ruled_low (Under r) (row built_in.While).operands stand_in.Nothing kept_control.loops (λ body p test q s h. ((q, p), h)) s.literals s
+      (loop_taken s.literals u)
   choice_low job f s is u = absurd is
 
   -- a token that stands alone: what it executes is one of the first functions, and what it quotes executes none

@@ -1,5 +1,6 @@
 -- The order of keys: `sorted` gives the only list in it.
-use Rattle.std.proofs.Common.{◌≡◌, ℕ, true, false, not, ◌&&◌, List, [], ◌∷◌, filter, Ordering, Less, Equal, Greater, nat_cmp, nat_eq, is_lt, ⊎_elim, sym, ap, subst, refl, ◌∙◌, arith, true≢false}
+use Rattle.std.proofs.Common.{◌≡◌, ℕ, true, false, not, ◌&&◌, List, [], ◌∷◌, filter, Ordering, Less, Equal, Greater, nat_cmp, nat_eq, is_lt, ⊎_elim, sym, ap}
+use Rattle.std.proofs.Common.{subst, refl, ◌∙◌, arith, true≢false}
 use Rattle.std.specs.Cmp.Lexicographic.{slice_cmp, pointwise}
 use Rattle.std.specs.List.{AllByRecursion}
 use Rattle.std.specs.List.Sorted.{ties}
@@ -59,7 +60,8 @@ ascends_back key (y ∷ ys) up = (none_before_back key y ys up.0, ascends_back k
 tells : (key : ℕ → List ℕ) (wanted : List ℕ) (x y : ℕ) → by_key key y x ≡ true → bytes_eq (key x) wanted ≡ true → bytes_eq (key y) wanted ≡ false
 tells key wanted x y below one =
     ⊎_elim
-    (λ t. absurd (true≢false (sym below ∙ ap (λ k. precedes k (key x)) ((bytes_eq-Decides (key y) wanted).0 t ∙ sym ((bytes_eq-Decides (key x) wanted).0 one)) ∙ order.not_below_itself (by_key key) (by_key_order key) x)))
+    (λ t. absurd (true≢false (sym below ∙ ap (λ k. precedes k (key x)) ((bytes_eq-Decides (key y) wanted).0 t ∙ sym ((bytes_eq-Decides (key x) wanted).0 one))
+    ∙ order.not_below_itself (by_key key) (by_key_order key) x)))
     (λ f. f)
     (cases_Bool (bytes_eq (key y) wanted))
 
@@ -77,6 +79,7 @@ same_ties key xs ys in_order z =
 
 pub sorted_once : SortedOnce
 sorted_once key xs ys = (
-  λ in_order. order.one_order (by_key key) (by_key_order key) ys (sorted key xs) (ascends_back key ys in_order.ascends) (sorted_ascends (by_key key) (by_key_order key) xs) (same_ties key xs ys in_order),
+  λ in_order. order.one_order (by_key key) (by_key_order key) ys (sorted key xs) (ascends_back key ys in_order.ascends)
+      (sorted_ascends (by_key key) (by_key_order key) xs) (same_ties key xs ys in_order),
   λ e. subst (IsInOrder key xs) (sym e) (is_in_order key xs),
 )

@@ -32,14 +32,16 @@ swap_twice job x y xs s e =
 -- a literal that has room is pushed
 pushed_done : (v : Literal) (s : Store) → length s.literals < 1000 → pushed v s ≡ done (with_literals (v ∷ s.literals) s)
 pushed_done v s room =
-    ap (λ b. cond b (says said.Nothing (with_literals (v ∷ s.literals) s)) (answer (next.End limit.Literals) said.Nothing s)) (lt-ltb (length s.literals) 1000 room)
+    ap (λ b. cond b (says said.Nothing (with_literals (v ∷ s.literals) s)) (answer (next.End limit.Literals) said.Nothing s))
+    (lt-ltb (length s.literals) 1000 room)
 
 pub duplicate_pop : DuplicatePop
 unfolding built_in_run
 duplicate_pop job x xs s e room =
     let inside : length (x ∷ xs) < 1000 = subst (λ l. length l < 1000) e room in
     let after : Answer → Answer = λ a. runs built_in.Pop (λ v. done) a.store in
-    ap after (ap (λ l. on_operands (row built_in.Duplicate).operands (row built_in.Duplicate).default duplicates l s) e ∙ pushed_done x (with_literals (x ∷ xs) s) inside)
+    ap after (ap (λ l. on_operands (row built_in.Duplicate).operands (row built_in.Duplicate).default duplicates l s) e
+    ∙ pushed_done x (with_literals (x ∷ xs) s) inside)
     ∙ ap (λ l. done (with_literals l s)) (sym e)
 
 -- ---- the limit of strings
@@ -50,7 +52,8 @@ text_ended text s long =
     ap (λ b. cond b (quiet (next.End limit.String) s) (pushed (Text text) s)) (lt-ltb 1000000 (length text) long)
 
 -- and another one is pushed where it has room
-text_done : (text : List ℕ) (s : Store) → length text ≤ 1000000 → length s.literals < 1000 → pushed_text text s ≡ done (with_literals (Text text ∷ s.literals) s)
+text_done : (text : List ℕ) (s : Store) → length text ≤ 1000000 → length s.literals < 1000
+    → pushed_text text s ≡ done (with_literals (Text text ∷ s.literals) s)
 text_done text s short room =
     ap (λ b. cond b (quiet (next.End limit.String) s) (pushed (Text text) s)) (le-ltb 1000000 (length text) short) ∙ pushed_done (Text text) s room
 
@@ -73,7 +76,8 @@ all_kept : (most : ℕ) (text : List ℕ) → length text ≤ most → take most
 all_kept most text short = take_all most text short
 
 -- the values of an entry that was written
-written_values : (entries : List EntryVariables) (entry : ℕ) (values : EntryVariables) → entry < length entries → variables.values_of (slice_set entries entry values) entry ≡ values
+written_values : (entries : List EntryVariables) (entry : ℕ) (values : EntryVariables) → entry < length entries
+    → variables.values_of (slice_set entries entry values) entry ≡ values
 written_values entries entry values within = ap kept_variables.values_in (read_at entries entry values within)
 
 entry_integer_back : (job : Job) (i : ℕ) (n : ℤ) (xs : List Literal) (s : Store) (entry : ℕ) → length xs < 1000
@@ -81,7 +85,8 @@ entry_integer_back : (job : Job) (i : ℕ) (n : ℤ) (xs : List Literal) (s : St
     → (kept_variables.entry_integer i (Some entry) (variables.with_entry_integer entry i n (with_literals xs s))).store.literals ≡ Integer n ∷ xs
 entry_integer_back job i n xs s entry room within inside =
     on_top _ (variables.with_entry_integer entry i n (with_literals xs s)) room
-    ∙ ap (λ m. Integer m ∷ xs) (ap (λ (values : EntryVariables). kept_variables.integer_in (slice_get values.integers i)) (written_values s.entries entry _ within)
+    ∙ ap (λ m. Integer m ∷ xs) (ap (λ (values : EntryVariables). kept_variables.integer_in (slice_get values.integers i))
+    (written_values s.entries entry _ within)
     ∙ ap kept_variables.integer_in (read_at (variables.values_of s.entries entry).integers i n inside))
 
 entry_string_back : (job : Job) (i : ℕ) (text : List ℕ) (xs : List Literal) (s : Store) (entry : ℕ) → length xs < 1000
@@ -94,10 +99,12 @@ entry_string_back job i text xs s entry room within inside =
 
 -- what is stored in a variable of an entry, by the current entry
 integer_stored : ℕ → ℤ → List Literal → Store → Option ℕ → Store
-integer_stored i n xs s current = (variables.in_entry (λ entry. variables.stores_integer (variables.with_entry_integer entry i) (Integer n)) current (with_literals xs s)).store
+integer_stored i n xs s current = (variables.in_entry (λ entry. variables.stores_integer (variables.with_entry_integer entry i) (Integer n)) current
+    (with_literals xs s)).store
 
 string_stored : ℕ → ℕ → List ℕ → List Literal → Store → Option ℕ → Store
-string_stored most i text xs s current = (variables.in_entry (λ entry. variables.stores_string most (variables.with_entry_string entry i) (Text text)) current (with_literals xs s)).store
+string_stored most i text xs s current =
+    (variables.in_entry (λ entry. variables.stores_string most (variables.with_entry_string entry i) (Text text)) current (with_literals xs s)).store
 
 integer_back : (job : Job) (i : ℕ) (n : ℤ) (xs : List Literal) (s : Store) (entry : Option ℕ) → s.current ≡ entry → length xs < 1000
     → InEntry entry (λ entry. (entry < length s.entries) × (i < length (variables.values_of s.entries entry).integers))
@@ -111,13 +118,15 @@ integer_back job i n xs s (Some entry) e room takes =
 
 string_back : (job : Job) (i : ℕ) (text : List ℕ) (xs : List Literal) (s : Store) (entry : Option ℕ) → s.current ≡ entry → length xs < 1000
     → InEntry entry (λ entry. (entry < length s.entries) × (i < length (variables.values_of s.entries entry).strings) × (length text ≤ job.entry_max))
-    → (kept_variables.entry_string i (string_stored job.entry_max i text xs s s.current).current (string_stored job.entry_max i text xs s s.current)).store.literals ≡ Text text ∷ xs
+    → (kept_variables.entry_string i (string_stored job.entry_max i text xs s s.current).current
+    (string_stored job.entry_max i text xs s s.current)).store.literals ≡ Text text ∷ xs
 unfolding string_stored
 string_back job i text xs s None e room takes = absurd takes
 string_back job i text xs s (Some entry) e room takes =
     ap (λ c. (kept_variables.entry_string i (string_stored job.entry_max i text xs s c).current (string_stored job.entry_max i text xs s c)).store.literals) e
     ∙ ap (λ c. (kept_variables.entry_string i c (variables.with_entry_string entry i (take job.entry_max text) (with_literals xs s))).store.literals) e
-    ∙ ap (λ t. (kept_variables.entry_string i (Some entry) (variables.with_entry_string entry i t (with_literals xs s))).store.literals) (all_kept job.entry_max text takes.2)
+    ∙ ap (λ t. (kept_variables.entry_string i (Some entry) (variables.with_entry_string entry i t (with_literals xs s))).store.literals)
+    (all_kept job.entry_max text takes.2)
     ∙ entry_string_back job i text xs s entry room takes.0 takes.1
 
 -- `:=` on these literals

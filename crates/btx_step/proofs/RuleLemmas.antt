@@ -29,7 +29,8 @@ module _ (Q : Literal → Type 0) (R : List Literal → Type 0) (P : Store → A
   IfApplied None = Unit {0}
   IfApplied (Some go) = (s : Store) → R s.literals → P s (go s)
 
-  if_applied : (operands : List Operand) (does : Does operands) → Each operands does → (xs : List Literal) → Taken operands xs → IfApplied (applied operands does xs)
+  if_applied : (operands : List Operand) (does : Does operands) → Each operands does → (xs : List Literal) → Taken operands xs
+      → IfApplied (applied operands does xs)
   if_applied [] does h xs t = h
   if_applied (operand ∷ more) does h [] t = tt
   if_applied (Any ∷ more) does h (x ∷ xs) t = if_applied more (does x) (h x t.0) xs t.1

@@ -10,13 +10,31 @@ pub returns-in_err-code-clause-err : goal.returns-in_err-code-clause-err
 returns-in_err-code-clause-err g c = on_err c.from_residual.result (all_at_rest c.args.job.now [] (items_view c.args.items.now) c.args.work.now c.args.left.now)
 
 pub returns-in_err-marks-clause-err : goal.returns-in_err-marks-clause-err
-returns-in_err-marks-clause-err g c = on_err c.from_residual-in_err-marks.result (all_at_rest c.args.job.now [] (items_view c.args.items.now) c.args.work.now c.args.left.now)
+returns-in_err-marks-clause-err g c =
+    on_err c.from_residual-in_err-marks.result (all_at_rest c.args.job.now [] (items_view c.args.items.now) c.args.work.now c.args.left.now)
 
 pub returns-in_err-end-clause-err : goal.returns-in_err-end-clause-err
-returns-in_err-end-clause-err g c = on_err c.from_residual-in_err-end.result (item_fails c.args.job.now (item_view _) (items_view (drop c.loop-item.item-index c.args.items.now)) (items_view (drop (c.loop-item.item-index + 1) c.args.items.now)) (items_view c.args.items.now) c.loop-item.list.items c.args.work.now c.loop-item.work c.do_item.new.work.outputs (c.args.left.now - c.loop-item.left) (ap items_view (drop_step c.args.items.now c.loop-item.item-index _ (omega arith))) c.loop-item.invariant.same c.loop-item.left c.args.left.now (omega (arith, c.loop-item.invariant.fewer)) c.in_err-end.ensures.err)
+returns-in_err-end-clause-err g c =
+    on_err c.from_residual-in_err-end.result (item_fails c.args.job.now (item_view _) (items_view (drop c.loop-item.item-index c.args.items.now))
+    (items_view (drop (c.loop-item.item-index + 1) c.args.items.now)) (items_view c.args.items.now) c.loop-item.list.items c.args.work.now c.loop-item.work
+    c.do_item.new.work.outputs (c.args.left.now - c.loop-item.left) (ap items_view (drop_step c.args.items.now c.loop-item.item-index _ (omega arith)))
+    c.loop-item.invariant.same c.loop-item.left c.args.left.now (omega (arith, c.loop-item.invariant.fewer)) c.in_err-end.ensures.err)
 
 pub returns-in_default : goal.returns-in_default
-returns-in_default g c = record { outcome = item_ends c.args.job.now (item_view _) (items_view (drop c.loop-item.item-index c.args.items.now)) (items_view (drop (c.loop-item.item-index + 1) c.args.items.now)) (items_view c.args.items.now) c.loop-item.list.items c.args.work.now c.loop-item.work c.do_item.new.work.outputs (c.args.left.now - c.loop-item.left) (ap items_view (drop_step c.args.items.now c.loop-item.item-index _ (omega arith))) c.loop-item.invariant.same c.do_item.new.work (c.loop-item.left - c.do_item.new.left) (c.args.left.now - c.do_item.new.left) (omega (arith, c.loop-item.invariant.fewer, c.do_item.ensures.fewer)) c.in_ok-end.end c.in_default.not-Finished c.in_ok-end.ensures.outcome; spent = c.in_ok-end.ensures.spent; fewer = omega (arith, c.loop-item.invariant.fewer, c.do_item.ensures.fewer); err = tt; writes = search rules; counts = search rules }
+returns-in_default g c = record {
+  outcome = item_ends c.args.job.now (item_view _) (items_view (drop c.loop-item.item-index c.args.items.now))
+      (items_view (drop (c.loop-item.item-index + 1) c.args.items.now)) (items_view c.args.items.now) c.loop-item.list.items c.args.work.now c.loop-item.work
+      c.do_item.new.work.outputs (c.args.left.now - c.loop-item.left) (ap items_view (drop_step c.args.items.now c.loop-item.item-index _ (omega arith)))
+      c.loop-item.invariant.same c.do_item.new.work (c.loop-item.left - c.do_item.new.left) (c.args.left.now - c.do_item.new.left)
+      (omega (arith, c.loop-item.invariant.fewer, c.do_item.ensures.fewer)) c.in_ok-end.end c.in_default.not-Finished c.in_ok-end.ensures.outcome;
+  spent =
+      c.in_ok-end.ensures.spent;
+  fewer = omega (arith, c.loop-item.invariant.fewer, c.do_item.ensures.fewer);
+  err = tt;
+  writes = search rules;
+  counts =
+      search rules;
+}
 
 pub loop-item-preserved : goal.loop-item-preserved
 loop-item-preserved g c = record {
@@ -26,8 +44,15 @@ loop-item-preserved g c = record {
   log_counts = search rules;
   marks = c.in_ok-end.ensures.cleared c.in-Finished.is;
   fewer = omega (arith, c.loop-item.invariant.fewer, c.do_item.ensures.fewer);
-  same = item_done c.args.job.now (item_view _) (items_view (drop c.loop-item.item-index c.args.items.now)) (items_view (drop (c.loop-item.item-index + 1) c.args.items.now)) (items_view c.args.items.now) c.loop-item.list.items c.args.work.now c.loop-item.work c.do_item.new.work.outputs (c.args.left.now - c.loop-item.left) (ap items_view (drop_step c.args.items.now c.loop-item.item-index _ (omega arith))) c.loop-item.invariant.same c.do_item.new.work (c.loop-item.left - c.do_item.new.left) (c.args.left.now - c.do_item.new.left) (omega (arith, c.loop-item.invariant.fewer, c.do_item.ensures.fewer)) c.do_item.new.list.items (c.in_ok-end.ensures.list c.in-Finished.is) (rw c.in-Finished.is at c.in_ok-end.ensures.outcome);
+  same = item_done c.args.job.now (item_view _) (items_view (drop c.loop-item.item-index c.args.items.now))
+      (items_view (drop (c.loop-item.item-index + 1) c.args.items.now)) (items_view c.args.items.now) c.loop-item.list.items c.args.work.now c.loop-item.work
+      c.do_item.new.work.outputs (c.args.left.now - c.loop-item.left) (ap items_view (drop_step c.args.items.now c.loop-item.item-index _ (omega arith)))
+      c.loop-item.invariant.same c.do_item.new.work (c.loop-item.left - c.do_item.new.left) (c.args.left.now - c.do_item.new.left)
+      (omega (arith, c.loop-item.invariant.fewer, c.do_item.ensures.fewer)) c.do_item.new.list.items (c.in_ok-end.ensures.list c.in-Finished.is)
+      (rw c.in-Finished.is at c.in_ok-end.ensures.outcome);
 }
 
 pub returns-clause-outcome : goal.returns-clause-outcome
-returns-clause-outcome g c = items_done c.args.job.now (items_view (drop c.loop-item.item-index c.args.items.now)) (items_view c.args.items.now) c.loop-item.list.items c.args.work.now c.loop-item.work (c.args.left.now - c.loop-item.left) (ap items_view (drop_all c.loop-item.item-index c.args.items.now (omega arith))) c.loop-item.invariant.same
+returns-clause-outcome g c = items_done c.args.job.now (items_view (drop c.loop-item.item-index c.args.items.now)) (items_view c.args.items.now)
+    c.loop-item.list.items c.args.work.now c.loop-item.work (c.args.left.now - c.loop-item.left)
+    (ap items_view (drop_all c.loop-item.item-index c.args.items.now (omega arith))) c.loop-item.invariant.same

@@ -9,10 +9,24 @@ use Rattle.btx_machine.proofs.run.do_all.Goals as goal
 use Rattle.btx_machine.specs.laws.Reports.{log_counts}
 
 pub returns-in_err-end-clause-err : goal.returns-in_err-end-clause-err
-returns-in_err-end-clause-err g c = on_err c.from_residual.result (items_fail c.args.job.now (log_counts c.args.work.now.outputs.log.warnings c.args.work.now.outputs.log.errors) c.args.work.now.outputs.breaker.line_length c.requires.range c.args.work.now (received c.args.work.now.outputs) c.requires.store (new_stands c.args.work.now.outputs.breaker.line_length c.requires.range c.args.work.now.outputs c.requires.fresh) c.do_items.new.work.outputs c.args.budget (items_view c.items.result.now) (c.items.ensures ∙ ap (λ (style : Style). style.items) c.style.ensures) c.in_err-end.ensures.err)
+returns-in_err-end-clause-err g c =
+    on_err c.from_residual.result (items_fail c.args.job.now (log_counts c.args.work.now.outputs.log.warnings c.args.work.now.outputs.log.errors)
+    c.args.work.now.outputs.breaker.line_length c.requires.range c.args.work.now (received c.args.work.now.outputs) c.requires.store
+    (new_stands c.args.work.now.outputs.breaker.line_length c.requires.range c.args.work.now.outputs c.requires.fresh) c.do_items.new.work.outputs c.args.budget
+    (items_view c.items.result.now) (c.items.ensures ∙ ap (λ (style : Style). style.items) c.style.ensures) c.in_err-end.ensures.err)
 
 pub returns-clause-ok : goal.returns-clause-ok
-returns-clause-ok g c = ok_both (λ report is closed. closes c.args.job.now (log_counts c.args.work.now.outputs.log.warnings c.args.work.now.outputs.log.errors) c.args.work.now.outputs.breaker.line_length c.requires.range c.args.work.now (received c.args.work.now.outputs) c.requires.store (new_stands c.args.work.now.outputs.breaker.line_length c.requires.range c.args.work.now.outputs c.requires.fresh) c.do_items.new.work c.in_ok-end.end c.do_items.new.left (c.args.budget - c.do_items.new.left) c.args.budget (omega (arith, c.do_items.ensures.fewer)) c.in_ok-end.ensures.spent (items_view c.items.result.now) (c.items.ensures ∙ ap (λ (style : Style). style.items) c.style.ensures) c.in_ok-end.ensures.outcome c.conclude.new.work.outputs report is closed) c.conclude.result c.conclude.ensures.report c.conclude.ensures.ok
+returns-clause-ok g c = ok_both (λ report is closed. closes c.args.job.now (log_counts c.args.work.now.outputs.log.warnings c.args.work.now.outputs.log.errors)
+    c.args.work.now.outputs.breaker.line_length c.requires.range c.args.work.now (received c.args.work.now.outputs) c.requires.store
+    (new_stands c.args.work.now.outputs.breaker.line_length c.requires.range c.args.work.now.outputs c.requires.fresh) c.do_items.new.work c.in_ok-end.end
+    c.do_items.new.left (c.args.budget - c.do_items.new.left) c.args.budget (omega (arith, c.do_items.ensures.fewer)) c.in_ok-end.ensures.spent
+    (items_view c.items.result.now) (c.items.ensures ∙ ap (λ (style : Style). style.items) c.style.ensures) c.in_ok-end.ensures.outcome
+    c.conclude.new.work.outputs report is closed) c.conclude.result c.conclude.ensures.report c.conclude.ensures.ok
 
 pub returns-clause-err : goal.returns-clause-err
-returns-clause-err g c = err_map (close_fails c.args.job.now (log_counts c.args.work.now.outputs.log.warnings c.args.work.now.outputs.log.errors) c.args.work.now.outputs.breaker.line_length c.requires.range c.args.work.now (received c.args.work.now.outputs) c.requires.store (new_stands c.args.work.now.outputs.breaker.line_length c.requires.range c.args.work.now.outputs c.requires.fresh) c.do_items.new.work c.in_ok-end.end c.do_items.new.left (c.args.budget - c.do_items.new.left) c.args.budget (omega (arith, c.do_items.ensures.fewer)) c.in_ok-end.ensures.spent (items_view c.items.result.now) (c.items.ensures ∙ ap (λ (style : Style). style.items) c.style.ensures) c.in_ok-end.ensures.outcome c.conclude.new.work.outputs) c.conclude.result c.conclude.ensures.err
+returns-clause-err g c = err_map (close_fails c.args.job.now (log_counts c.args.work.now.outputs.log.warnings c.args.work.now.outputs.log.errors)
+    c.args.work.now.outputs.breaker.line_length c.requires.range c.args.work.now (received c.args.work.now.outputs) c.requires.store
+    (new_stands c.args.work.now.outputs.breaker.line_length c.requires.range c.args.work.now.outputs c.requires.fresh) c.do_items.new.work c.in_ok-end.end
+    c.do_items.new.left (c.args.budget - c.do_items.new.left) c.args.budget (omega (arith, c.do_items.ensures.fewer)) c.in_ok-end.ensures.spent
+    (items_view c.items.result.now) (c.items.ensures ∙ ap (λ (style : Style). style.items) c.style.ensures) c.in_ok-end.ensures.outcome
+    c.conclude.new.work.outputs) c.conclude.result c.conclude.ensures.err

@@ -11,28 +11,45 @@ use Rattle.btx_machine.proofs.run.execute_style.Goals as goal
 use Rattle.btx_machine.specs.laws.Reports.{log_counts}
 
 pub returns-in_err-store-clause-err : goal.returns-in_err-store-clause-err
-returns-in_err-store-clause-err g c = on_err c.from_residual.result (nothing_written (g.W.Sink.received c.args.bbl.now, g.L.Sink.received c.args.log.now) (style_product c.args.job.now c.args.counts c.args.line) c.args.budget)
+returns-in_err-store-clause-err g c =
+    on_err c.from_residual.result (nothing_written (g.W.Sink.received c.args.bbl.now, g.L.Sink.received c.args.log.now)
+    (style_product c.args.job.now c.args.counts c.args.line) c.args.budget)
 
 pub returns-clause-ok : goal.returns-clause-ok
 returns-clause-ok g c =
-    of_equals (λ a b counts line_length. IfOk c.do_all-result.result (λ report. Completes report a b (style_product c.args.job.now counts line_length c.args.budget))) _ _ _ _ _ _ _ _
+    of_equals (λ a b counts line_length. IfOk c.do_all-result.result
+    (λ report. Completes report a b (style_product c.args.job.now counts line_length c.args.budget))) _ _ _ _ _ _ _ _
     (pair_is _ _ _ _ c.new-outputs.ensures.received (ap (λ (log : Journal). log.sink.received) c.new-outputs.ensures.log ∙ c.new-2.ensures.received))
-    (pair_is _ _ _ _ (ends_as g.W.Sink.received _ c.into_sinks-list.result.0 _ c.do_all-result.new.work.outputs.bbl.received (c.into_sinks-list.ensures.bbl_name ∙ c.do_all-result.ensures.counts.0.0 ∙ c.new-outputs.ensures.name) c.into_sinks-list.ensures.bbl_received (search rules)) (ends_as g.L.Sink.received _ c.into_sinks-list.result.1 _ c.do_all-result.new.work.outputs.log.sink.received (c.into_sinks-list.ensures.log_name ∙ c.do_all-result.ensures.counts.0.1 ∙ ap (λ (log : Journal). log.sink.name) c.new-outputs.ensures.log ∙ c.new-2.ensures.name) c.into_sinks-list.ensures.log_received (search rules)))
-    (ap (λ (log : Journal). log_counts log.warnings log.errors) c.new-outputs.ensures.log ∙ ap (λ n. log_counts n c.new-2.result.errors) c.new-2.ensures.warnings ∙ ap (log_counts c.args.counts.warnings) c.new-2.ensures.errors)
+    (pair_is _ _ _ _ (ends_as g.W.Sink.received _ c.into_sinks-list.result.0 _ c.do_all-result.new.work.outputs.bbl.received (c.into_sinks-list.ensures.bbl_name
+    ∙ c.do_all-result.ensures.counts.0.0 ∙ c.new-outputs.ensures.name) c.into_sinks-list.ensures.bbl_received (search rules))
+    (ends_as g.L.Sink.received _ c.into_sinks-list.result.1 _ c.do_all-result.new.work.outputs.log.sink.received (c.into_sinks-list.ensures.log_name
+    ∙ c.do_all-result.ensures.counts.0.1 ∙ ap (λ (log : Journal). log.sink.name) c.new-outputs.ensures.log ∙ c.new-2.ensures.name)
+    c.into_sinks-list.ensures.log_received (search rules)))
+    (ap (λ (log : Journal). log_counts log.warnings log.errors) c.new-outputs.ensures.log
+    ∙ ap (λ n. log_counts n c.new-2.result.errors) c.new-2.ensures.warnings ∙ ap (log_counts c.args.counts.warnings) c.new-2.ensures.errors)
     (ap (λ (held : Held). held.line_length) c.new-outputs.ensures.breaker) c.do_all-result.ensures.ok
 
 pub returns-clause-err : goal.returns-clause-err
 returns-clause-err g c =
-    of_equals (λ a b counts line_length. OnErr c.do_all-result.result (AtFault a b (style_product c.args.job.now counts line_length) c.args.budget)) _ _ _ _ _ _ _ _
+    of_equals (λ a b counts line_length. OnErr c.do_all-result.result (AtFault a b (style_product c.args.job.now counts line_length) c.args.budget)) _ _ _ _ _ _
+    _ _
     (pair_is _ _ _ _ c.new-outputs.ensures.received (ap (λ (log : Journal). log.sink.received) c.new-outputs.ensures.log ∙ c.new-2.ensures.received))
-    (pair_is _ _ _ _ (ends_as g.W.Sink.received _ c.into_sinks-list.result.0 _ c.do_all-result.new.work.outputs.bbl.received (c.into_sinks-list.ensures.bbl_name ∙ c.do_all-result.ensures.counts.0.0 ∙ c.new-outputs.ensures.name) c.into_sinks-list.ensures.bbl_received (search rules)) (ends_as g.L.Sink.received _ c.into_sinks-list.result.1 _ c.do_all-result.new.work.outputs.log.sink.received (c.into_sinks-list.ensures.log_name ∙ c.do_all-result.ensures.counts.0.1 ∙ ap (λ (log : Journal). log.sink.name) c.new-outputs.ensures.log ∙ c.new-2.ensures.name) c.into_sinks-list.ensures.log_received (search rules)))
-    (ap (λ (log : Journal). log_counts log.warnings log.errors) c.new-outputs.ensures.log ∙ ap (λ n. log_counts n c.new-2.result.errors) c.new-2.ensures.warnings ∙ ap (log_counts c.args.counts.warnings) c.new-2.ensures.errors)
+    (pair_is _ _ _ _ (ends_as g.W.Sink.received _ c.into_sinks-list.result.0 _ c.do_all-result.new.work.outputs.bbl.received (c.into_sinks-list.ensures.bbl_name
+    ∙ c.do_all-result.ensures.counts.0.0 ∙ c.new-outputs.ensures.name) c.into_sinks-list.ensures.bbl_received (search rules))
+    (ends_as g.L.Sink.received _ c.into_sinks-list.result.1 _ c.do_all-result.new.work.outputs.log.sink.received (c.into_sinks-list.ensures.log_name
+    ∙ c.do_all-result.ensures.counts.0.1 ∙ ap (λ (log : Journal). log.sink.name) c.new-outputs.ensures.log ∙ c.new-2.ensures.name)
+    c.into_sinks-list.ensures.log_received (search rules)))
+    (ap (λ (log : Journal). log_counts log.warnings log.errors) c.new-outputs.ensures.log
+    ∙ ap (λ n. log_counts n c.new-2.result.errors) c.new-2.ensures.warnings ∙ ap (log_counts c.args.counts.warnings) c.new-2.ensures.errors)
     (ap (λ (held : Held). held.line_length) c.new-outputs.ensures.breaker) c.do_all-result.ensures.err
 
 pub returns-clause-counts : goal.returns-clause-counts
 returns-clause-counts g c =
     of_equals (λ list list' log log'. CountsOfTwo c.do_all-result.result (list, list') (log, log')) _ _ _ _ _ _ _ _
     c.new-outputs.ensures.failures
-    (ends_as g.W.Sink.failures _ c.into_sinks-list.result.0 _ c.do_all-result.new.work.outputs.bbl.failures (c.into_sinks-list.ensures.bbl_name ∙ c.do_all-result.ensures.counts.0.0 ∙ c.new-outputs.ensures.name) c.into_sinks-list.ensures.bbl_failures (search rules))
+    (ends_as g.W.Sink.failures _ c.into_sinks-list.result.0 _ c.do_all-result.new.work.outputs.bbl.failures (c.into_sinks-list.ensures.bbl_name
+    ∙ c.do_all-result.ensures.counts.0.0 ∙ c.new-outputs.ensures.name) c.into_sinks-list.ensures.bbl_failures (search rules))
     (ap (λ (log : Journal). log.sink.failures) c.new-outputs.ensures.log ∙ c.new-2.ensures.failures)
-    (ends_as g.L.Sink.failures _ c.into_sinks-list.result.1 _ c.do_all-result.new.work.outputs.log.sink.failures (c.into_sinks-list.ensures.log_name ∙ c.do_all-result.ensures.counts.0.1 ∙ ap (λ (log : Journal). log.sink.name) c.new-outputs.ensures.log ∙ c.new-2.ensures.name) c.into_sinks-list.ensures.log_failures (search rules)) c.do_all-result.ensures.counts.1
+    (ends_as g.L.Sink.failures _ c.into_sinks-list.result.1 _ c.do_all-result.new.work.outputs.log.sink.failures (c.into_sinks-list.ensures.log_name
+    ∙ c.do_all-result.ensures.counts.0.1 ∙ ap (λ (log : Journal). log.sink.name) c.new-outputs.ensures.log ∙ c.new-2.ensures.name)
+    c.into_sinks-list.ensures.log_failures (search rules)) c.do_all-result.ensures.counts.1

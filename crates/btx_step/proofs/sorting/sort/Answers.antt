@@ -9,4 +9,5 @@ returns-clause-ok c =
     let key = sort_key c.args.store.now c.args.variable in
     let lt = by_key key in
     let answers = always_returns_same _ _ _ (λ a r q k. search rules) in
-    stable_sort_is lt (by_key_order key) _ _ (c.in_ok-sort_by.ensures.sorted lt (by_key_order key) answers) (c.in_ok-sort_by.ensures.stable lt (by_key_order key) answers)
+    stable_sort_is lt (by_key_order key) _ _ (c.in_ok-sort_by.ensures.sorted lt (by_key_order key) answers)
+    (c.in_ok-sort_by.ensures.stable lt (by_key_order key) answers)

@@ -7,10 +7,19 @@ use Rattle.btx_machine.proofs.SayLemmas.{logging_at}
 use Rattle.btx_machine.proofs.outputs.Outputs.log_messages.Goals as goal
 
 pub loop-message-init : goal.loop-message-init
-loop-message-init g c = record { breaker = refl; sinks = (refl, refl); bbl_counts = refl; log_counts = refl; same = by.logs_first c.args.self.now (map message_line (drop 0 c.args.messages.now)) (map message_line c.args.messages.now) refl }
+loop-message-init g c = record {
+  breaker = refl;
+  sinks = (refl, refl);
+  bbl_counts = refl;
+  log_counts = refl;
+  same =
+      by.logs_first c.args.self.now (map message_line (drop 0 c.args.messages.now)) (map message_line c.args.messages.now) refl;
+}
 
 pub returns-in_err-line-clause-err : goal.returns-in_err-line-clause-err
-returns-in_err-line-clause-err g c = on_err c.from_residual.result (by.logs_none c.args.self.now c.loop-message.self (map message_line (drop c.loop-message.message-index c.args.messages.now)) (map message_line c.args.messages.now) c.loop-message.invariant.same)
+returns-in_err-line-clause-err g c =
+    on_err c.from_residual.result (by.logs_none c.args.self.now c.loop-message.self (map message_line (drop c.loop-message.message-index c.args.messages.now))
+    (map message_line c.args.messages.now) c.loop-message.invariant.same)
 
 pub loop-message-preserved : goal.loop-message-preserved
 loop-message-preserved g c = record {
@@ -18,13 +27,23 @@ loop-message-preserved g c = record {
   sinks = (search rules, search rules);
   bbl_counts = search rules;
   log_counts = search rules;
-  same = by.logs_more c.args.self.now c.loop-message.self c.log_one.new.self c.in_ok-line.line (map message_line (drop c.loop-message.message-index c.args.messages.now)) (map message_line (drop (c.loop-message.message-index + 1) c.args.messages.now)) (map message_line c.args.messages.now)
-      (logging_at c.args.messages.now c.loop-message.message-index c.message-item.result c.message-item.is (omega arith) c.in_ok-line.line c.in_ok-line.ensures) c.loop-message.invariant.same c.in_ok-log_one.ensures.ok;
+  same = by.logs_more c.args.self.now c.loop-message.self c.log_one.new.self c.in_ok-line.line
+      (map message_line (drop c.loop-message.message-index c.args.messages.now))
+      (map message_line (drop (c.loop-message.message-index + 1) c.args.messages.now)) (map message_line c.args.messages.now)
+      (logging_at c.args.messages.now c.loop-message.message-index c.message-item.result c.message-item.is (omega arith) c.in_ok-line.line c.in_ok-line.ensures)
+      c.loop-message.invariant.same c.in_ok-log_one.ensures.ok;
 }
 
 pub returns-in_err-log_one-clause-err : goal.returns-in_err-log_one-clause-err
-returns-in_err-log_one-clause-err g c = on_err c.from_residual-in_err-log_one.result (by.logs_part c.args.self.now c.loop-message.self c.log_one.new.self c.in_ok-line.line (map message_line (drop c.loop-message.message-index c.args.messages.now)) (map message_line (drop (c.loop-message.message-index + 1) c.args.messages.now)) (map message_line c.args.messages.now)
-    (logging_at c.args.messages.now c.loop-message.message-index c.message-item.result c.message-item.is (omega arith) c.in_ok-line.line c.in_ok-line.ensures) c.loop-message.invariant.same c.in_err-log_one.ensures.err)
+returns-in_err-log_one-clause-err g c =
+    on_err c.from_residual-in_err-log_one.result
+    (by.logs_part c.args.self.now c.loop-message.self c.log_one.new.self c.in_ok-line.line
+    (map message_line (drop c.loop-message.message-index c.args.messages.now)) (map message_line (drop (c.loop-message.message-index + 1) c.args.messages.now))
+    (map message_line c.args.messages.now)
+    (logging_at c.args.messages.now c.loop-message.message-index c.message-item.result c.message-item.is (omega arith) c.in_ok-line.line c.in_ok-line.ensures)
+    c.loop-message.invariant.same c.in_err-log_one.ensures.err)
 
 pub returns-clause-ok : goal.returns-clause-ok
-returns-clause-ok g c = by.logs_all c.args.self.now c.loop-message.self (map message_line (drop c.loop-message.message-index c.args.messages.now)) (map message_line c.args.messages.now) (ap (map message_line) (drop_all c.loop-message.message-index c.args.messages.now (omega arith))) c.loop-message.invariant.same
+returns-clause-ok g c = by.logs_all c.args.self.now c.loop-message.self (map message_line (drop c.loop-message.message-index c.args.messages.now))
+    (map message_line c.args.messages.now) (ap (map message_line) (drop_all c.loop-message.message-index c.args.messages.now (omega arith)))
+    c.loop-message.invariant.same

@@ -7,10 +7,21 @@ use Rattle.btx_machine.proofs.outputs.Outputs.note_all.Goals as goal
 use Rattle.btx_machine.specs.refinement.Saying.{note_lines}
 
 pub loop-note-init : goal.loop-note-init
-loop-note-init g c = record { breaker = refl; sinks = (refl, refl); bbl_counts = refl; log_counts = refl; same = by.logs_first c.args.self.now (note_lines c.args.job.now c.args.executed.now c.args.current (drop 0 c.args.notes.now)) (note_lines c.args.job.now c.args.executed.now c.args.current c.args.notes.now) refl }
+loop-note-init g c = record {
+  breaker = refl;
+  sinks = (refl, refl);
+  bbl_counts = refl;
+  log_counts = refl;
+  same =
+      by.logs_first c.args.self.now (note_lines c.args.job.now c.args.executed.now c.args.current (drop 0 c.args.notes.now))
+      (note_lines c.args.job.now c.args.executed.now c.args.current c.args.notes.now) refl;
+}
 
 pub returns-in_err-line-clause-err : goal.returns-in_err-line-clause-err
-returns-in_err-line-clause-err g c = on_err c.from_residual.result (by.logs_none c.args.self.now c.loop-note.self (note_lines c.args.job.now c.args.executed.now c.args.current (drop c.loop-note.note-index c.args.notes.now)) (note_lines c.args.job.now c.args.executed.now c.args.current c.args.notes.now) c.loop-note.invariant.same)
+returns-in_err-line-clause-err g c =
+    on_err c.from_residual.result (by.logs_none c.args.self.now c.loop-note.self
+    (note_lines c.args.job.now c.args.executed.now c.args.current (drop c.loop-note.note-index c.args.notes.now))
+    (note_lines c.args.job.now c.args.executed.now c.args.current c.args.notes.now) c.loop-note.invariant.same)
 
 pub loop-note-preserved : goal.loop-note-preserved
 loop-note-preserved g c = record {
@@ -18,13 +29,29 @@ loop-note-preserved g c = record {
   sinks = (search rules, search rules);
   bbl_counts = search rules;
   log_counts = search rules;
-  same = by.logs_more c.args.self.now c.loop-note.self c.log_one.new.self c.in_ok-line.line (note_lines c.args.job.now c.args.executed.now c.args.current (drop c.loop-note.note-index c.args.notes.now)) (note_lines c.args.job.now c.args.executed.now c.args.current (drop (c.loop-note.note-index + 1) c.args.notes.now)) (note_lines c.args.job.now c.args.executed.now c.args.current c.args.notes.now)
-      (noting_at c.args.job.now c.args.executed.now c.args.current c.args.notes.now c.loop-note.note-index c.note-item.result c.note-item.is (omega arith) c.in_ok-line.line c.style.result.now c.style.ensures _ c.key_at-key.ensures c.in_ok-line.ensures) c.loop-note.invariant.same c.in_ok-log_one.ensures.ok;
+  same = by.logs_more c.args.self.now c.loop-note.self c.log_one.new.self c.in_ok-line.line
+      (note_lines c.args.job.now c.args.executed.now c.args.current (drop c.loop-note.note-index c.args.notes.now))
+      (note_lines c.args.job.now c.args.executed.now c.args.current (drop (c.loop-note.note-index + 1) c.args.notes.now))
+      (note_lines c.args.job.now c.args.executed.now c.args.current c.args.notes.now)
+      (noting_at c.args.job.now c.args.executed.now c.args.current c.args.notes.now c.loop-note.note-index c.note-item.result c.note-item.is (omega arith)
+      c.in_ok-line.line c.style.result.now c.style.ensures _ c.key_at-key.ensures c.in_ok-line.ensures) c.loop-note.invariant.same
+      c.in_ok-log_one.ensures.ok;
 }
 
 pub returns-in_err-log_one-clause-err : goal.returns-in_err-log_one-clause-err
-returns-in_err-log_one-clause-err g c = on_err c.from_residual-in_err-log_one.result (by.logs_part c.args.self.now c.loop-note.self c.log_one.new.self c.in_ok-line.line (note_lines c.args.job.now c.args.executed.now c.args.current (drop c.loop-note.note-index c.args.notes.now)) (note_lines c.args.job.now c.args.executed.now c.args.current (drop (c.loop-note.note-index + 1) c.args.notes.now)) (note_lines c.args.job.now c.args.executed.now c.args.current c.args.notes.now)
-    (noting_at c.args.job.now c.args.executed.now c.args.current c.args.notes.now c.loop-note.note-index c.note-item.result c.note-item.is (omega arith) c.in_ok-line.line c.style.result.now c.style.ensures _ c.key_at-key.ensures c.in_ok-line.ensures) c.loop-note.invariant.same c.in_err-log_one.ensures.err)
+returns-in_err-log_one-clause-err g c =
+    on_err c.from_residual-in_err-log_one.result
+    (by.logs_part c.args.self.now c.loop-note.self c.log_one.new.self c.in_ok-line.line
+    (note_lines c.args.job.now c.args.executed.now c.args.current (drop c.loop-note.note-index c.args.notes.now))
+    (note_lines c.args.job.now c.args.executed.now c.args.current (drop (c.loop-note.note-index + 1) c.args.notes.now))
+    (note_lines c.args.job.now c.args.executed.now c.args.current c.args.notes.now)
+    (noting_at c.args.job.now c.args.executed.now c.args.current c.args.notes.now c.loop-note.note-index c.note-item.result c.note-item.is (omega arith)
+    c.in_ok-line.line c.style.result.now c.style.ensures _ c.key_at-key.ensures c.in_ok-line.ensures) c.loop-note.invariant.same
+    c.in_err-log_one.ensures.err)
 
 pub returns-clause-ok : goal.returns-clause-ok
-returns-clause-ok g c = by.logs_all c.args.self.now c.loop-note.self (note_lines c.args.job.now c.args.executed.now c.args.current (drop c.loop-note.note-index c.args.notes.now)) (note_lines c.args.job.now c.args.executed.now c.args.current c.args.notes.now) (ap (note_lines c.args.job.now c.args.executed.now c.args.current) (drop_all c.loop-note.note-index c.args.notes.now (omega arith))) c.loop-note.invariant.same
+returns-clause-ok g c = by.logs_all c.args.self.now c.loop-note.self
+    (note_lines c.args.job.now c.args.executed.now c.args.current (drop c.loop-note.note-index c.args.notes.now))
+    (note_lines c.args.job.now c.args.executed.now c.args.current c.args.notes.now)
+    (ap (note_lines c.args.job.now c.args.executed.now c.args.current) (drop_all c.loop-note.note-index c.args.notes.now (omega arith)))
+    c.loop-note.invariant.same

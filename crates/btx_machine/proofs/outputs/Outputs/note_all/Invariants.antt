@@ -11,5 +11,6 @@ invariant-loop-note g l = record {
   sinks : SameSinks l.fn.self l.self;
   bbl_counts : l.self.bbl.failures.count ≡ l.fn.self.bbl.failures.count;
   log_counts : l.self.log.sink.failures.count ≡ l.fn.self.log.sink.failures.count;
-  same : Logs l.fn.self l.self (note_lines l.fn.job l.fn.executed l.fn.current (drop l.note-index l.notes)) (note_lines l.fn.job l.fn.executed l.fn.current l.notes);
+  same : Logs l.fn.self l.self (note_lines l.fn.job l.fn.executed l.fn.current (drop l.note-index l.notes))
+      (note_lines l.fn.job l.fn.executed l.fn.current l.notes);
 }
